@@ -1,0 +1,15 @@
+use Rattle.std.proofs.Common.{◌≡◌, List, ℕ, Result, Ok, Err, MatchResult, IfOk}
+use Rattle.u_name.specs.NameReader as reader
+use Rattle.u_name.specs.NameLaws.{IsFrame, IsTail, frame_fine, tail_fine}
+use Rattle.u_name.specs.Values.{frame_value, tail_value}
+use Rattle.u_name.specs.declared.name_text.Frame.{Frame}
+use Rattle.u_name.specs.declared.name_text.Tail.{Tail}
+use Rattle.u_name.specs.declared.name_text.Stuck.{Stuck}
+
+pub frame_is_fine : (r : Result Frame Stuck) (bs rest : List ℕ) → MatchResult r (λ f. reader.frame_at bs ≡ Ok (frame_value f, rest)) (λ _. reader.frame_at bs ≡ Err rest) → IfOk r (λ f. IsFrame (frame_value f))
+frame_is_fine (Ok f) bs rest h = frame_fine bs (frame_value f) rest h
+frame_is_fine (Err e) bs rest h = tt
+
+pub tail_is_fine : (r : Result Tail Stuck) (bs rest : List ℕ) → MatchResult r (λ f. reader.tail_at bs ≡ Ok (tail_value f, rest)) (λ _. reader.tail_at bs ≡ Err rest) → IfOk r (λ f. IsTail (tail_value f))
+tail_is_fine (Ok f) bs rest h = tail_fine bs (tail_value f) rest h
+tail_is_fine (Err e) bs rest h = tt

@@ -1,0 +1,29 @@
+use Rattle.std.proofs.Common.{◌≡◌, ℕ, zero, suc, ◌+◌, ◌-◌, ◌<◌, Bool, true, false, cond, List, [], ◌∷◌, refl, sym, ◌∙◌, ap, arith, rules, length, eqb, drop}
+use Rattle.std.proofs.lemmas.Bool.Decides.{nat_tests}
+use Rattle.u_name.specs.NameSteps.{paren_span}
+
+pub paren_step : (len c : ℕ) (cs : List ℕ) → len < 65 → c ≡ 40 → paren_span (65 - len) (c ∷ cs) ≡ paren_span (65 - (len + 1)) cs + 1
+paren_step len c cs lt h =
+    let e : 65 - len ≡ suc (65 - (len + 1)) = omega arith in
+    ap (λ n. paren_span n (c ∷ cs)) e ∙ ap (λ i. cond (eqb i 40) (suc (paren_span (65 - (len + 1)) cs)) 0) h ∙ omega arith
+
+other : (c : ℕ) → (c ≡ 40 → ⊥) → eqb c 40 ≡ false
+other c h = grind (arith, nat_tests)
+
+pub paren_stop : (room c : ℕ) (cs : List ℕ) → (c ≡ 40 → ⊥) → paren_span room (c ∷ cs) ≡ 0
+paren_stop zero c cs h = refl
+paren_stop (suc n) c cs h = ap (λ t. cond t (suc (paren_span n cs)) 0) (other c h)
+
+pub paren_full : (len : ℕ) (cs : List ℕ) → len ≡ 65 → paren_span (65 - len) cs ≡ 0
+paren_full len cs h = ap (λ n. paren_span (65 - n) cs) h
+
+pub paren_empty : (room : ℕ) (cs : List ℕ) → length cs ≡ 0 → paren_span room cs ≡ 0
+paren_empty zero cs h = refl
+paren_empty (suc n) [] h = refl
+paren_empty (suc n) (c ∷ cs) h = absurd (omega arith)
+
+pub drop_turn : (n c : ℕ) (xs cs : List ℕ) → c ∷ cs ≡ drop n xs → cs ≡ drop (n + 1) xs
+drop_turn zero c [] cs h = cc
+drop_turn zero c (x ∷ xs) cs h = cc
+drop_turn (suc n) c [] cs h = cc
+drop_turn (suc n) c (x ∷ xs) cs h = let e : suc n + 1 ≡ suc (n + 1) = omega arith in drop_turn n c xs cs h ∙ ap (λ k. drop k (x ∷ xs)) (sym e)

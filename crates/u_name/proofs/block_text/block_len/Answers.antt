@@ -1,0 +1,7 @@
+use Rattle.std.proofs.Common.{◌≡◌, List, ℕ, ◌-◌, length, arith, rules, ap, ◌∙◌}
+use Rattle.u_name.specs.BlockText.{block_span}
+use Rattle.u_name.proofs.Spans.{span_empty}
+use Rattle.u_name.proofs.block_text.block_len.Goals as goal
+
+pub returns-in_default-clause-value : goal.returns-in_default-clause-value
+returns-in_default-clause-value c = omega (arith, span_empty (16 - c.loop-byte.len) c.loop-byte.rest.now (search rules), c.loop-byte.invariant.1)

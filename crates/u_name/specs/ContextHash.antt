@@ -1,0 +1,28 @@
+-- What a context feeds to a hasher.
+use Rattle.std.specs.Prelude.{ℕ, List, ◌++◌, Bool, true, IsTrue, ◌≡◌}
+use Rattle.std.proofs.Common.{ap}
+use Rattle.std.specs.Hash as fed
+use Rattle.std.specs.Hash.{HashWrites}
+use Rattle.std.specs.Ordering.{eq_by_cmp, is_eq}
+use Rattle.std.specs.declared.cmp.Ordering.{Ordering}
+use Rattle.std.specs.declared.cmp.Ordering.TheVariants.{Less, Equal, Greater}
+use Rattle.std.specs.Prelude.{refl}
+use Rattle.u_name.specs.Context.{Tree, Top, InLoop, InCall}
+use Rattle.u_name.specs.ContextOrder.{context_cmp}
+use Rattle.u_name.specs.ContextLaws.{context_cmp_ties}
+
+abbrev pub context_hash : Tree → HashWrites
+context_hash Top = fed.u8 0
+context_hash (InLoop outer block number initiation) = fed.u8 1 ++ context_hash outer ++ fed.slice fed.u8 block ++ fed.u8 number ++ fed.u32 initiation
+context_hash (InCall outer block statement initiation) = fed.u8 2 ++ context_hash outer ++ fed.slice fed.u8 block ++ fed.u16 statement ++ fed.u32 initiation
+
+tied : (r : Ordering) → is_eq r ≡ true → r ≡ Equal
+tied Less h = cc
+tied Equal h = refl
+tied Greater h = cc
+
+pub same_context : (x y : Tree) → eq_by_cmp context_cmp x y ≡ true → x ≡ y
+same_context x y h = context_cmp_ties x y (tied _ h)
+
+pub hashes_alike : (x y : Tree) → IsTrue (eq_by_cmp context_cmp x y) → context_hash x ≡ context_hash y
+hashes_alike x y h = ap context_hash (same_context x y h)

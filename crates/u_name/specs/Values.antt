@@ -1,0 +1,17 @@
+use Rattle.std.specs.Prelude.{ℕ, ◌⊎◌, List}
+use Rattle.std.proofs.Common.{inl, inr}
+use Rattle.u_name.specs.declared.name_text.Step.{Step}
+use Rattle.u_name.specs.declared.name_text.Step.TheVariants.{Loop, Call}
+use Rattle.u_name.specs.declared.name_text.Frame.{Frame}
+use Rattle.u_name.specs.declared.name_text.Tail.{Tail}
+use Rattle.u_name.specs.NameReader as reader
+
+abbrev pub step_value : Step → ℕ ⊎ ℕ
+step_value (Loop n) = inl n
+step_value (Call n) = inr n
+
+abbrev pub frame_value : Frame → reader.Frame
+frame_value f = (f.block, (step_value f.step, (f.initiation, tt)))
+
+abbrev pub tail_value : Tail → reader.Tail
+tail_value f = (f.block, (f.statement, f.initiation))

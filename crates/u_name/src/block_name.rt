@@ -1,0 +1,117 @@
+// The name of a block, held in place.
+ghost use Rattle.std.specs.Prelude.{◌≡◌, ◌≤◌, ◌<◌, ◌↔◌, IfOk, IfSome, IfNone, IsTrue, ◌==◌, List, ℕ, false};
+ghost use Rattle.std.proofs.Common.{rules};
+ghost use Rattle.std.specs.Cmp.Lexicographic.{slice_cmp};
+ghost use Rattle.std.specs.Cmp.{partial_order_from_own_ties};
+ghost use Rattle.std.specs.Cmp.Rules.{comparing, hashing};
+ghost use Rattle.std.specs.Ordering.{nat_cmp, as_partial_cmp};
+ghost use Rattle.std.specs.Hash as fed;
+ghost use Rattle.std.proofs.lemmas.Cmp.{nat_list_cmp_total, nat_list_eq_equiv};
+ghost use Rattle.u_name.specs.Block.{IsBlock};
+ghost use lib.Pointwise.{pointwise};
+
+use std::alloc::AllocError;
+use std::cmp::Ordering;
+use std::hash::{Hash, Hasher};
+use std::marker::Model;
+
+#[derive(Drop)]
+pub struct BlockName {
+    bytes: [u8; 16],
+    len: u8,
+}
+
+impl Model for BlockName {
+    ghost use Rattle.std.specs.Prelude.{List, ℕ};
+
+    ghost Value = { List ℕ };
+
+    ghost use Rattle.u_name.specs.Block.{name_of, LiesWell, laid_out};
+    ghost use Rattle.u_name.specs.BlockLaws.{laid_out-name_of};
+
+    ghost view = { name_of };
+
+    ghost invariant = { LiesWell };
+
+    ghost inverse = { laid_out };
+
+    ghost inverse_ok = { laid_out-name_of };
+}
+
+impl Clone for BlockName {
+    fn clone(&self) -> Result<BlockName, AllocError> {
+        Ok(*self)
+    }
+}
+
+impl Copy for BlockName {}
+
+impl BlockName {
+    #[tactic(auto, using(crate::specs::BlockLaws::lies_well))]
+    pub fn new(name: &[u8]) -> BlockName
+        requires { IsBlock name.now }
+        ensures { result ≡ name.now }
+    {
+        let mut bytes = [0; 16];
+        bytes[..name.len()].copy_from_slice(name);
+        BlockName {
+            bytes,
+            len: name.len() as u8,
+        }
+    }
+
+    pub fn as_bytes(&self) -> &[u8]
+        ensures value { result.now ≡ self.now }
+        ensures block { IsBlock self.now }
+    {
+        &self.bytes[..self.len as usize]
+    }
+}
+
+impl PartialEq for BlockName {
+    ghost eq = { pointwise ◌==◌ };
+
+    ghost laws = { Prim.search (comparing, rules) };
+
+    fn eq(&self, other: &BlockName) -> bool {
+        self.as_bytes() == other.as_bytes()
+    }
+}
+
+impl Eq for BlockName {
+    ghost laws = { Prim.search (comparing, rules) };
+}
+
+impl Ord for BlockName {
+    ghost cmp = { slice_cmp nat_cmp };
+
+    ghost total = { Prim.search (comparing, rules) };
+
+    ghost matches_partial_cmp = { Prim.search (comparing, rules) };
+
+    ghost matches_eq = { Prim.search (comparing, rules) };
+
+    fn cmp(&self, other: &BlockName) -> Ordering {
+        self.as_bytes().cmp(other.as_bytes())
+    }
+}
+
+impl PartialOrd for BlockName {
+    ghost partial_cmp = { as_partial_cmp (slice_cmp nat_cmp) };
+
+    ghost laws = { partial_order_from_own_ties (Prim.search (comparing, rules)) (Prim.search (comparing, rules)) };
+
+    fn partial_cmp(&self, other: &BlockName) -> Option<Ordering> {
+        Some(self.cmp(other))
+    }
+}
+
+impl Hash for BlockName {
+    ghost hash_input = { λ a. fed.slice fed.u8 a };
+
+    ghost respects_eq = { Prim.search (hashing, rules) };
+
+    fn hash<H: Hasher>(&self, state: &mut H) {
+        self.as_bytes().hash(state);
+    }
+}

@@ -1,0 +1,236 @@
+// Names of activities.
+ghost use Rattle.std.specs.Prelude.{◌≡◌, ◌≤◌, ◌<◌, ◌+◌, IfOk, MatchResult, OnOk, IsTrue, ◌↔◌};
+ghost use Rattle.u_name.specs.Context.{depth, IsBetween, Tree};
+ghost use Rattle.u_name.specs.Name.{Activity, activity, loop_context, call_context, IsInLoop, left};
+ghost use Rattle.std.proofs.Common.{rules};
+ghost use Rattle.std.specs.Prelude.{◌++◌};
+ghost use Rattle.std.specs.Cmp.{partial_order_from_own_ties};
+ghost use Rattle.std.specs.Cmp.Rules.{comparing, hashing};
+ghost use Rattle.std.specs.Ordering.{eq_by_cmp, as_partial_cmp};
+ghost use Rattle.std.proofs.lemmas.Cmp.{eq_by_cmp_equiv};
+ghost use Rattle.u_name.specs.NameOrder.{name_cmp, name_cmp_total, name_hash, names_hash_alike};
+ghost use Rattle.u_name.specs.Refusal.{RefusesAt};
+ghost use Rattle.u_name.specs.declared.name.NameError.TheVariants.{NoMemory, Deep, Initiation};
+
+use crate::block_name::BlockName;
+use crate::context::{Context, Node};
+use std::alloc::{AllocError, AllocFailed, Global};
+use std::cmp::Ordering;
+use std::hash::{Hash, Hasher};
+use std::marker::Model;
+use std::sync::Arc;
+
+#[derive(Debug, Drop, PartialEq, Eq)]
+pub enum NameError {
+    Deep,
+    Initiation,
+    NoMemory,
+}
+
+impl From<AllocError> for NameError {
+    ghost from_gives = { λ _ e. e ≡ NoMemory };
+
+    fn from(_: AllocError) -> NameError {
+        NameError::NoMemory
+    }
+}
+
+impl<T: Drop> From<AllocFailed<T>> for NameError {
+    ghost from_gives = { λ _ e. e ≡ NoMemory };
+
+    fn from(_: AllocFailed<T>) -> NameError {
+        NameError::NoMemory
+    }
+}
+
+#[derive(Drop)]
+pub struct Name {
+    context: Context,
+    block: BlockName,
+    statement: u16,
+    initiation: u32,
+}
+
+impl Model for Name {
+    ghost use Rattle.u_name.specs.Name.{Activity, activity, IsName, activity_code};
+
+    ghost Value = { Activity };
+
+    ghost coded = { activity_code };
+
+    ghost view = { λ n. activity n.context n.block n.statement n.initiation };
+
+    ghost invariant = { λ n. IsName (activity n.context n.block n.statement n.initiation) };
+}
+
+impl Name {
+    pub fn new(context: Context, block: BlockName, statement: u16, initiation: u32) -> Name
+        requires statement_in { IsBetween 1 statement 999 }
+        requires initiation_in { IsBetween 1 initiation 4294967295 }
+        ensures { result ≡ activity context block statement initiation }
+    {
+        let _ = context.depth();
+        let _ = block.as_bytes();
+        Name {
+            context,
+            block,
+            statement,
+            initiation,
+        }
+    }
+
+    fn compare(&self, other: &Name) -> Ordering
+        ensures { result ≡ name_cmp self.now other.now }
+    {
+        self.context.cmp(&other.context).then(
+            self.block.cmp(&other.block).then(
+                self.statement
+                    .cmp(&other.statement)
+                    .then(self.initiation.cmp(&other.initiation)),
+            ),
+        )
+    }
+
+    pub fn copy(&self) -> Result<Name, AllocError>
+        ensures { IfOk result (λ n. n ≡ self.now) }
+    {
+        Ok(Name {
+            context: self.context.copy()?,
+            block: self.block,
+            statement: self.statement,
+            initiation: self.initiation,
+        })
+    }
+
+    /// u.c.t.i
+    pub fn plain(&self, statement: u16) -> Result<Name, NameError>
+        requires { IsBetween 1 statement 999 }
+        ensures { MatchResult result
+            (λ n. n ≡ activity self.now.context self.now.block statement self.now.initiation)
+            (λ e. e ≡ NoMemory) }
+    {
+        Ok(Name {
+            context: self.context.copy()?,
+            block: self.block,
+            statement,
+            initiation: self.initiation,
+        })
+    }
+
+    /// `Loop(u, c, l, i)`.c.t.1
+    pub fn enter(&self, alloc: Global, number: u8, statement: u16) -> Result<Name, NameError>
+        requires number_in { IsBetween 1 number 99 }
+        requires statement_in { IsBetween 1 statement 999 }
+        ensures value { IfOk result
+            (λ n. n ≡ activity (loop_context self.now number) self.now.block statement 1) }
+        ensures refusal { MatchResult result (λ _. depth self.now.context < 64)
+            (λ e. RefusesAt e Deep (depth self.now.context ≡ 64)) }
+    {
+        if self.context.depth() == 64 {
+            return Err(NameError::Deep);
+        }
+        let outer = Arc::new(alloc, self.context.copy()?)?;
+        Ok(Name {
+            context: Context::in_loop(outer, self.block, number, self.initiation),
+            block: self.block,
+            statement,
+            initiation: 1,
+        })
+    }
+
+    pub fn next(&self, statement: u16) -> Result<Name, NameError>
+        requires { IsBetween 1 statement 999 }
+        ensures value { IfOk result
+            (λ n. n ≡ activity self.now.context self.now.block statement (self.now.initiation + 1)) }
+        ensures refusal { MatchResult result (λ _. self.now.initiation < 4294967295)
+            (λ e. RefusesAt e Initiation (self.now.initiation ≡ 4294967295)) }
+    {
+        if self.initiation == u32::MAX {
+            return Err(NameError::Initiation);
+        }
+        Ok(Name {
+            context: self.context.copy()?,
+            block: self.block,
+            statement,
+            initiation: self.initiation + 1,
+        })
+    }
+
+    pub fn in_loop(&self) -> bool
+        ensures { IsTrue result ↔ IsInLoop self.now.context }
+    {
+        matches!(self.context.node(), Node::Loop { .. })
+    }
+
+    pub fn leave(&self, statement: u16) -> Result<Name, NameError>
+        requires statement_in { IsBetween 1 statement 999 }
+        requires in_loop { IsInLoop self.now.context }
+        ensures { MatchResult result (λ n. n ≡ left self.now statement) (λ e. e ≡ NoMemory) }
+    {
+        match self.context.node() {
+            Node::Loop {
+                outer,
+                block,
+                initiation,
+                ..
+            } => Ok(Name {
+                context: outer.copy()?,
+                block: *block,
+                statement,
+                initiation: *initiation,
+            }),
+            _ => unreachable!(),
+        }
+    }
+}
+
+impl PartialEq for Name {
+    ghost eq = { eq_by_cmp name_cmp };
+
+    ghost laws = { Prim.search (comparing, rules, name_cmp_total, eq_by_cmp_equiv) };
+
+    fn eq(&self, other: &Name) -> bool {
+        self.compare(other).is_eq()
+    }
+}
+
+impl Eq for Name {
+    ghost laws = { eq_by_cmp_equiv name_cmp_total };
+}
+
+impl Ord for Name {
+    ghost cmp = { name_cmp };
+
+    ghost total = { name_cmp_total };
+
+    ghost matches_partial_cmp = { Prim.search (comparing, rules) };
+
+    ghost matches_eq = { Prim.search (comparing, rules) };
+
+    fn cmp(&self, other: &Name) -> Ordering {
+        self.compare(other)
+    }
+}
+
+impl PartialOrd for Name {
+    ghost partial_cmp = { as_partial_cmp name_cmp };
+
+    ghost laws = { partial_order_from_own_ties (Prim.search (comparing, rules, name_cmp_total)) (Prim.search (comparing, rules)) };
+
+    fn partial_cmp(&self, other: &Name) -> Option<Ordering> {
+        Some(self.compare(other))
+    }
+}
+
+impl Hash for Name {
+    ghost hash_input = { name_hash };
+
+    ghost respects_eq = { names_hash_alike };
+
+    fn hash<H: Hasher>(&self, state: &mut H) {
+        self.context.hash(state);
+        self.block.hash(state);
+        self.statement.hash(state);
+        self.initiation.hash(state);
+    }
+}

@@ -1,0 +1,308 @@
+// Names read from bytes.
+ghost use Rattle.std.specs.Prelude.{◌≡◌, ◌≤◌, ◌<◌, ◌^◌, Ok, Err, MatchResult, IfOk, length, ◌∷◌, drop};
+ghost use Rattle.u_name.specs.Context.{depth, IsContext, Top};
+ghost use Rattle.u_name.specs.Block.{IsBlock};
+ghost use Rattle.u_text.specs.Number.{number};
+ghost use Rattle.u_name.specs.BlockText.{block_at, begins_with_letter};
+ghost use Rattle.u_text.specs.Parts.{after_byte};
+ghost use Rattle.u_name.specs.NameReader as reader;
+ghost use Rattle.u_name.specs.Values.{step_value, frame_value, tail_value};
+ghost use Rattle.u_name.specs.Public.{IsNameAt, IsFaultAt};
+ghost use Rattle.u_name.specs.Faults.{Fails, FailsAt, IsFine};
+ghost use Rattle.u_name.specs.NameLaws.{IsFrame, IsTail};
+ghost use Rattle.u_name.specs.NameSteps.{dash_at, paren_span, frames_from, name_steps};
+ghost use Rattle.u_name.specs.declared.name_text.ReadFault.TheVariants as faults;
+
+use crate::block_name::BlockName;
+use crate::block_text::{begins_with_letter, block_len};
+use crate::context::Context;
+use crate::name::Name;
+use std::alloc::{AllocError, AllocFailed, Global};
+use std::sync::Arc;
+use u_text::number_at;
+
+#[derive(Clone, Copy)]
+enum Step {
+    Loop(u8),
+    Call(u16),
+}
+
+#[derive(Clone, Copy)]
+struct Frame {
+    block: BlockName,
+    step: Step,
+    initiation: u32,
+}
+
+/// The next byte is one that no text allows.
+#[derive(Debug, Drop)]
+struct Stuck;
+
+/// What is left to read. Where a read answers `Stuck`, it is what begins with the byte that no text allows.
+#[derive(Drop)]
+struct Cursor<'a> {
+    rest: &'a [u8],
+}
+
+impl<'a> Cursor<'a> {
+    fn byte(&mut self, wanted: u8) -> Result<(), Stuck>
+        ensures { MatchResult result
+            (λ _. after_byte wanted self.old.rest.now ≡ Ok (tt, self.new.rest.now))
+            (λ _. after_byte wanted self.old.rest.now ≡ Err self.new.rest.now) }
+    {
+        match self.rest.split_first() {
+            Some((first, rest)) if *first == wanted => {
+                self.rest = rest;
+                Ok(())
+            }
+            _ => Err(Stuck),
+        }
+    }
+
+    fn number(&mut self, max: u32) -> Result<u32, Stuck>
+        requires { 9 ≤ max }
+        ensures value { MatchResult result
+            (λ n. number max self.old.rest.now ≡ Ok (n, self.new.rest.now))
+            (λ _. number max self.old.rest.now ≡ Err self.new.rest.now) }
+    {
+        match number_at(self.rest, max) {
+            Ok((n, rest)) => {
+                self.rest = rest;
+                Ok(n)
+            }
+            Err(_) => Err(Stuck),
+        }
+    }
+
+    #[tactic(auto, using(crate::specs::BlockText::is_read_block))]
+    fn block(&mut self) -> Result<BlockName, Stuck>
+        ensures { MatchResult result
+            (λ block. block_at self.old.rest.now ≡ Ok (block, self.new.rest.now))
+            (λ _. block_at self.old.rest.now ≡ Err self.new.rest.now) }
+    {
+        let bytes = self.rest;
+        if !begins_with_letter(bytes) {
+            return Err(Stuck);
+        }
+        let (name, rest) = bytes.split_at(block_len(bytes));
+        self.rest = rest;
+        Ok(BlockName::new(name))
+    }
+
+    #[tactic(auto, using(u_text::specs::Number::number_bound))]
+    fn step(&mut self) -> Result<Step, Stuck>
+        ensures { MatchResult result
+            (λ step. reader.step_at self.old.rest.now ≡ Ok (step_value step, self.new.rest.now))
+            (λ _. reader.step_at self.old.rest.now ≡ Err self.new.rest.now) }
+    {
+        match self.rest.split_first() {
+            Some((b'L', rest)) => {
+                self.rest = rest;
+                let number = self.number(99)?;
+                Ok(Step::Loop(number as u8))
+            }
+            _ => {
+                let statement = self.number(999)?;
+                Ok(Step::Call(statement as u16))
+            }
+        }
+    }
+
+    fn frame(&mut self) -> Result<Frame, Stuck>
+        ensures fine { IfOk result (λ frame. IsFrame (frame_value frame)) }
+        ensures value { MatchResult result
+            (λ frame. reader.frame_at self.old.rest.now ≡ Ok (frame_value frame, self.new.rest.now))
+            (λ _. reader.frame_at self.old.rest.now ≡ Err self.new.rest.now) }
+    {
+        self.frame_parts()
+    }
+
+    /// `.c.Ll.i)` or `.c.s.i)`
+    fn frame_parts(&mut self) -> Result<Frame, Stuck>
+        ensures { MatchResult result
+            (λ frame. reader.frame_at self.old.rest.now ≡ Ok (frame_value frame, self.new.rest.now))
+            (λ _. reader.frame_at self.old.rest.now ≡ Err self.new.rest.now) }
+    {
+        self.byte(b'.')?;
+        let block = self.block()?;
+        self.byte(b'.')?;
+        let step = self.step()?;
+        self.byte(b'.')?;
+        let initiation = self.number(u32::MAX)?;
+        self.byte(b')')?;
+        Ok(Frame {
+            block,
+            step,
+            initiation,
+        })
+    }
+
+    /// `.c.s.i`
+    fn tail(&mut self) -> Result<Tail, Stuck>
+        ensures fine { IfOk result (λ tail. IsTail (tail_value tail)) }
+        ensures value { MatchResult result
+            (λ tail. reader.tail_at self.old.rest.now ≡ Ok (tail_value tail, self.new.rest.now))
+            (λ _. reader.tail_at self.old.rest.now ≡ Err self.new.rest.now) }
+    {
+        self.tail_parts()
+    }
+
+    fn tail_parts(&mut self) -> Result<Tail, Stuck>
+        ensures { MatchResult result
+            (λ tail. reader.tail_at self.old.rest.now ≡ Ok (tail_value tail, self.new.rest.now))
+            (λ _. reader.tail_at self.old.rest.now ≡ Err self.new.rest.now) }
+    {
+        self.byte(b'.')?;
+        let block = self.block()?;
+        self.byte(b'.')?;
+        let statement = self.number(999)?;
+        self.byte(b'.')?;
+        let initiation = self.number(u32::MAX)?;
+        Ok(Tail {
+            block,
+            statement,
+            initiation,
+        })
+    }
+
+    /// How many `(` stand at the front, 65 at most.
+    #[tactic(auto, using(crate::proofs::Parens::paren_step, crate::proofs::Parens::paren_stop, crate::proofs::Parens::paren_full, crate::proofs::Parens::paren_empty, crate::proofs::Parens::drop_turn))]
+    fn parens(&mut self) -> u32
+        ensures value { result ≡ paren_span 65 self.old.rest.now }
+        ensures rest { self.new.rest.now ≡ drop result self.old.rest.now }
+    {
+        let mut count = 0;
+        while let Some((byte, others)) = self.rest.split_first() {
+            if count == 65 || *byte != b'(' {
+                break;
+            }
+            count += 1;
+            self.rest = others;
+        }
+        count
+    }
+
+    #[tactic(auto, using(crate::specs::NameSteps::opens_ok, crate::specs::NameSteps::opens_err))]
+    fn opens(&mut self) -> Result<u32, ReadFault>
+        ensures { MatchResult result
+            (λ depth. IsFine (paren_span 65 self.old.rest.now) × (depth ≤ 64) × (dash_at self.old.rest.now ≡ Ok (depth, self.new.rest.now)))
+            (λ fault. FailsAt fault (paren_span 65 self.old.rest.now) (dash_at self.old.rest.now) self.new.rest.now) }
+    {
+        let depth = self.parens();
+        if depth > 64 {
+            return Err(ReadFault::Deep);
+        }
+        self.byte(b'-')?;
+        Ok(depth)
+    }
+
+    #[tactic(auto, using(crate::specs::NameSteps::frames_turn, crate::specs::NameSteps::frames_stuck))]
+    fn frames(&mut self, alloc: Global, count: u32) -> Result<Context, ReadFault>
+        requires { count ≤ 64 }
+        ensures { MatchResult result
+            (λ context. frames_from count Top self.old.rest.now ≡ Ok (context, self.new.rest.now))
+            (λ fault. Fails fault (frames_from count Top self.old.rest.now) self.new.rest.now) }
+    {
+        let mut context = Context::root();
+        let mut left = count;
+        while left > 0 {
+            let frame = self.frame()?;
+            context = extended(alloc, context, frame)?;
+            left -= 1;
+        }
+        Ok(context)
+    }
+
+    fn name(&mut self, alloc: Global) -> Result<Name, ReadFault>
+        ensures { MatchResult result
+            (λ name. IsFine (paren_span 65 self.old.rest.now) × (name_steps self.old.rest.now ≡ Ok (name, self.new.rest.now)))
+            (λ fault. FailsAt fault (paren_span 65 self.old.rest.now) (name_steps self.old.rest.now) self.new.rest.now) }
+    {
+        let depth = self.opens()?;
+        let context = self.frames(alloc, depth)?;
+        let tail = self.tail()?;
+        Ok(Name::new(context, tail.block, tail.statement as u16, tail.initiation))
+    }
+}
+
+fn extended(alloc: Global, outer: Context, frame: Frame) -> Result<Context, AllocError>
+    requires shallow { depth outer < 64 }
+    requires fine { IsFrame (frame_value frame) }
+    ensures { IfOk result (λ context. context ≡ reader.framed outer (frame_value frame)) }
+{
+    let outer = Arc::new(alloc, outer)?;
+    Ok(match frame.step {
+        Step::Loop(number) => Context::in_loop(outer, frame.block, number, frame.initiation),
+        Step::Call(statement) => Context::in_call(outer, frame.block, statement, frame.initiation),
+    })
+}
+
+#[derive(Clone, Copy)]
+struct Tail {
+    block: BlockName,
+    statement: u32,
+    initiation: u32,
+}
+
+#[derive(Debug, Drop)]
+enum ReadFault {
+    Stuck,
+    Deep,
+    NoMemory,
+}
+
+impl From<Stuck> for ReadFault {
+    ghost from_gives = { λ _ e. e ≡ faults.Stuck };
+
+    fn from(_: Stuck) -> ReadFault {
+        ReadFault::Stuck
+    }
+}
+
+impl From<AllocError> for ReadFault {
+    ghost from_gives = { λ _ e. e ≡ faults.NoMemory };
+
+    fn from(_: AllocError) -> ReadFault {
+        ReadFault::NoMemory
+    }
+}
+
+impl<T: Drop> From<AllocFailed<T>> for ReadFault {
+    ghost from_gives = { λ _ e. e ≡ faults.NoMemory };
+
+    fn from(_: AllocFailed<T>) -> ReadFault {
+        ReadFault::NoMemory
+    }
+}
+
+#[derive(Debug, Drop)]
+pub enum NameFault {
+    /// Where the first byte stands that no name's text allows.
+    BadName(usize),
+    Deep,
+    NoMemory,
+}
+
+/// The longest name that begins at the offset, and its end.
+pub fn read_at(alloc: Global, bytes: &[u8], offset: usize) -> Result<(Name, usize), NameFault>
+    requires { offset ≤ length bytes.now }
+    ensures { MatchResult result
+        (λ found. IsNameAt bytes.now offset found.0 found.1)
+        (λ fault. IsFaultAt bytes.now offset fault) }
+{
+    let rest = behind(bytes, offset);
+    let mut cursor = Cursor { rest };
+    match cursor.name(alloc) {
+        Ok(name) => Ok((name, bytes.len() - cursor.rest.len())),
+        Err(ReadFault::Stuck) => Err(NameFault::BadName(bytes.len() - cursor.rest.len())),
+        Err(ReadFault::Deep) => Err(NameFault::Deep),
+        Err(ReadFault::NoMemory) => Err(NameFault::NoMemory),
+    }
+}
+
+fn behind(bytes: &[u8], offset: usize) -> &[u8]
+    requires { offset ≤ length bytes.now }
+    ensures { drop offset bytes.now ≡ result.now }
+{
+    &bytes[offset..]
+}

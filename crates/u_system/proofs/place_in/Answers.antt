@@ -1,0 +1,18 @@
+use Rattle.std.proofs.Common.{◌≡◌, arith, Contains, ◌<◌, ◌≤◌, length, get_or, ℕ, refl}
+use Rattle.std.specs.declared.cmp.Ordering.TheVariants.{Less, Greater}
+use Rattle.u_system.proofs.Sorted.{searchable, Ascending-insert}
+use Rattle.u_system.proofs.Places.{absent, inserted}
+use Rattle.u_system.proofs.place_in.Goals as goal
+
+pub returns-in_ok-insert-in-Err-clause-rises : goal.returns-in_ok-insert-in-Err-clause-rises
+returns-in_ok-insert-in-Err-clause-rises g c =
+    let p = (rw c.deref.ensures.value at c.in-Err.ensures.position) (searchable g.T.Ord.cmp g.met.T.Ord.total c.args.list.now.items c.args.item c.requires.rises) in
+    rw c.in_ok-insert-in-Err.ensures.items (Ascending-insert g.T.Ord.cmp g.met.T.Ord.total c.args.list.now.items c.in-Err.place c.args.item (rw c.deref.ensures.value at c.in-Err.ensures.bound) (λ k d h. p.0 k d (omega arith) h) p.1 c.requires.rises)
+
+pub returns-in_ok-insert-in-Err-clause-ok : goal.returns-in_ok-insert-in-Err-clause-ok
+returns-in_ok-insert-in-Err-clause-ok g c = rw c.in_ok-insert-in-Err.ensures.items (inserted c.args.list.now.items c.in-Err.place c.args.item)
+
+pub returns-in_ok-insert-in-Err-clause-new : goal.returns-in_ok-insert-in-Err-clause-new
+returns-in_ok-insert-in-Err-clause-new g c =
+    let p = (rw c.deref.ensures.value at c.in-Err.ensures.position) (searchable g.T.Ord.cmp g.met.T.Ord.total c.args.list.now.items c.args.item c.requires.rises) in
+    ((λ z. absent g.T.Ord.cmp g.met.T.Ord.total c.args.list.now.items c.in-Err.place c.args.item (λ k d h. p.0 k d (omega (arith, rw c.deref.ensures.value at c.in-Err.ensures.bound)) h) p.1), λ z. refl)

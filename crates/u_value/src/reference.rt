@@ -1,0 +1,65 @@
+//! References to structures.
+ghost use Rattle.std.specs.Prelude.{◌≡◌, ◌≤◌, IfOk};
+ghost use Rattle.u_value.specs.Pointer.{pointer, IsPointer};
+
+use std::alloc::AllocError;
+use std::marker::Model;
+
+use u_name::Name;
+
+/// A structure: the name of the activity that made it, and its length, 0 to 1000000.
+#[derive(PartialEq, Eq, PartialOrd, Ord, Hash, Drop)]
+pub struct Reference {
+    name: Name,
+    length: u32,
+}
+
+impl Model for Reference {
+    ghost use Rattle.u_value.specs.Pointer.{Pointer, pointer, IsPointer, pointer_code};
+
+    ghost Value = { Pointer };
+
+    ghost coded = { pointer_code };
+
+    ghost view = { λ r. pointer r.name r.length };
+
+    ghost invariant = { λ r. IsPointer (pointer r.name r.length) };
+
+    ghost inverse = { λ p. record { name = p.name; length = p.length } };
+}
+
+impl Reference {
+    /// The structure of that name and length.
+    pub fn new(name: Name, length: u32) -> Reference
+        requires { length ≤ 1000000 }
+        ensures { result ≡ pointer name length }
+    {
+        Reference { name, length }
+    }
+
+    /// The name of the activity that made it.
+    pub fn name(&self) -> &Name
+        ensures { result.now ≡ self.now.name }
+    {
+        &self.name
+    }
+
+    /// How many cells it has.
+    pub fn length(&self) -> u32
+        ensures value { result ≡ self.now.length }
+        ensures bound { IsPointer self.now }
+    {
+        self.length
+    }
+
+    /// An equal reference.
+    pub fn copy(&self) -> Result<Reference, AllocError>
+        ensures { IfOk result (λ r. r ≡ self.now) }
+    {
+        let name = self.name.copy()?;
+        Ok(Reference {
+            name,
+            length: self.length,
+        })
+    }
+}
