@@ -17,3 +17,4 @@ pub mod Values
 pub mod NameSteps
 pub mod Faults
 pub mod Public
+pub mod Cell

@@ -1,7 +1,7 @@
 // Names of activities.
 ghost use Rattle.std.specs.Prelude.{◌≡◌, ◌≤◌, ◌<◌, ◌+◌, IfOk, MatchResult, OnOk, IsTrue, ◌↔◌};
 ghost use Rattle.u_name.specs.Context.{depth, IsBetween, Tree};
-ghost use Rattle.u_name.specs.Name.{Activity, activity, loop_context, call_context, IsInLoop, left};
+ghost use Rattle.u_name.specs.Name.{Activity, activity, IsName, loop_context, call_context, IsInLoop, left};
 ghost use Rattle.std.proofs.Common.{rules};
 ghost use Rattle.std.specs.Prelude.{◌++◌};
 ghost use Rattle.std.specs.Cmp.{partial_order_from_own_ties};
@@ -77,6 +77,36 @@ impl Name {
             statement,
             initiation,
         }
+    }
+
+    /// The context of the activity.
+    pub fn context(&self) -> &Context
+        ensures { result.now ≡ self.now.context }
+    {
+        &self.context
+    }
+
+    /// The block that the activity belongs to.
+    pub fn block(&self) -> &BlockName
+        ensures { result.now ≡ self.now.block }
+    {
+        &self.block
+    }
+
+    /// The number of the statement, 1 to 999.
+    pub fn statement(&self) -> u16
+        ensures value { result ≡ self.now.statement }
+        ensures bounds { IsName self.now }
+    {
+        self.statement
+    }
+
+    /// The number of the initiation, 1 to 4294967295.
+    pub fn initiation(&self) -> u32
+        ensures value { result ≡ self.now.initiation }
+        ensures bounds { IsName self.now }
+    {
+        self.initiation
     }
 
     fn compare(&self, other: &Name) -> Ordering
