@@ -1,8 +1,16 @@
 //! The values of a firing.
 ghost use Rattle.std.specs.Prelude.{◌≡◌, ◌≤◌, ◌<◌, ◌+◌, ◌++◌, [], ◌∷◌, IfOk, OnErr, length};
+ghost use Rattle.std.proofs.Common.{rules};
+ghost use Rattle.std.specs.Cmp.{partial_order_from_own_ties};
+ghost use Rattle.std.specs.Cmp.Rules.{comparing};
+ghost use Rattle.std.specs.Ordering.{eq_by_cmp, as_partial_cmp};
+ghost use Rattle.std.proofs.lemmas.Cmp.{eq_by_cmp_equiv};
 ghost use Rattle.u_rule.specs.Parts.{IsValueList};
+ghost use Rattle.u_rule.specs.ValuesOrder.{values_order, values_order_total, values_hash, values_hash_alike};
 
-use std::alloc::{AllocError, AllocFailed, Global};
+use std::alloc::{AllocError, Global};
+use std::cmp::Ordering;
+use std::hash::{Hash, Hasher};
 use std::marker::Model;
 
 use u_value::Value;
@@ -51,5 +59,74 @@ impl Values {
         ensures count { IsValueList self.now }
     {
         &self.all
+    }
+}
+
+impl Values {
+    /// An equal list.
+    pub fn copy(&self, alloc: Global) -> Result<Values, AllocError>
+        ensures { IfOk result (λ v. v ≡ self.now) }
+    {
+        let all = copies(alloc, &self.all)?;
+        Ok(Values { all })
+    }
+}
+
+/// Equal values, in order.
+fn copies(alloc: Global, values: &[Value]) -> Result<Vec<Value>, AllocError>
+    ensures { IfOk result (λ v. v.items ≡ values.now) }
+{
+    let mut all = Vec::new(alloc);
+    for value in values {
+        all.push(value.copy()?)?;
+    }
+    Ok(all)
+}
+
+impl PartialEq for Values {
+    ghost eq = { eq_by_cmp values_order };
+
+    ghost laws = { Prim.search (comparing, rules, values_order_total, eq_by_cmp_equiv) };
+
+    fn eq(&self, other: &Values) -> bool {
+        self.as_slice().cmp(other.as_slice()).is_eq()
+    }
+}
+
+impl Eq for Values {
+    ghost laws = { eq_by_cmp_equiv values_order_total };
+}
+
+impl Ord for Values {
+    ghost cmp = { values_order };
+
+    ghost total = { values_order_total };
+
+    ghost matches_partial_cmp = { Prim.search (comparing, rules) };
+
+    ghost matches_eq = { Prim.search (comparing, rules) };
+
+    fn cmp(&self, other: &Values) -> Ordering {
+        self.as_slice().cmp(other.as_slice())
+    }
+}
+
+impl PartialOrd for Values {
+    ghost partial_cmp = { as_partial_cmp values_order };
+
+    ghost laws = { partial_order_from_own_ties (Prim.search (comparing, rules, values_order_total)) (Prim.search (comparing, rules)) };
+
+    fn partial_cmp(&self, other: &Values) -> Option<Ordering> {
+        Some(self.cmp(other))
+    }
+}
+
+impl Hash for Values {
+    ghost hash_input = { values_hash };
+
+    ghost respects_eq = { values_hash_alike };
+
+    fn hash<H: Hasher>(&self, state: &mut H) {
+        self.as_slice().hash(state);
     }
 }
