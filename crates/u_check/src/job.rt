@@ -42,6 +42,14 @@ impl Model for Job {
 }
 
 impl Checked {
+    /// A program that breaks no rule.
+    pub(crate) fn of(program: Program) -> Checked
+        requires { IsChecked program }
+        ensures { result ≡ program }
+    {
+        Checked { program }
+    }
+
     /// The program.
     pub fn program(&self) -> &Program
         ensures program { result.now ≡ self.now }

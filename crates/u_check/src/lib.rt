@@ -1,6 +1,11 @@
 //! The checker of programs, and jobs.
 #![tactic(auto)]
 
+mod checker;
 mod job;
+mod keeps;
+mod rule;
 
+pub use checker::{Refused, check};
 pub use job::{Checked, Job};
+pub use rule::{Breach, Rule};

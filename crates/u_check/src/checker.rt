@@ -1,0 +1,109 @@
+//! The checker.
+ghost use Rattle.std.specs.Prelude.{◌≡◌, ℕ, ◌↔◌, IsOk, IfOk, IfErr, IfSome, IfNone, ◌<◌};
+ghost use Rattle.u_check.specs.Rules.{IsChecked, Breaches, StatementBreaks, IsFirstOfRule, IsFirstBreach};
+
+use u_program::{Block, Program, Statement};
+
+use crate::job::Checked;
+use crate::keeps::{block_keeps, program_keeps, statement_keeps};
+use crate::rule::{Breach, Rule};
+
+/// The rules, in the order of their numbers.
+const RULES: [Rule; 10] = [
+    Rule::BlockNamesDiffer,
+    Rule::MainExists,
+    Rule::BeginComesFirst,
+    Rule::RegionExists,
+    Rule::DestinationExists,
+    Rule::BeginTakesNothing,
+    Rule::ConstantNamesBlock,
+    Rule::EndInOuterRegion,
+    Rule::OwnRegion,
+    Rule::PortsAreFed,
+];
+
+/// A program that breaks a rule, handed back, and the first breach.
+#[derive(Drop)]
+pub struct Refused {
+    /// The program, as it was given.
+    pub program: Program,
+    /// The first rule that it breaks, by number, and the first place where it does.
+    pub breach: Breach,
+}
+
+/// The number of the first statement that breaks the rule.
+fn first_statement(rule: Rule, blocks: &[Block], statements: &[Statement]) -> Option<usize>
+    ensures breach { IfSome result (λ n. StatementBreaks blocks.now rule statements.now n) }
+    ensures first { IfSome result
+        (λ n. (m : ℕ) → m < n → StatementBreaks blocks.now rule statements.now m → ⊥) }
+    ensures none { IfNone result ((m : ℕ) → StatementBreaks blocks.now rule statements.now m → ⊥) }
+{
+    for (i, statement) in statements.iter().enumerate() {
+        if !statement_keeps(rule, blocks, statements, i + 1, statement) {
+            return Some(i + 1);
+        }
+    }
+    None
+}
+
+/// The first place where the program breaks the rule.
+fn first_of_rule(rule: Rule, blocks: &[Block]) -> Option<Breach>
+    ensures rule { IfSome result (λ e. e.rule ≡ rule) }
+    ensures first { IfSome result (λ e. IsFirstOfRule blocks.now rule e.block e.statement) }
+    ensures none { IfNone result ((b s : ℕ) → Breaches blocks.now rule b s → ⊥) }
+{
+    if !program_keeps(rule, blocks) {
+        return Some(Breach {
+            rule,
+            block: 0,
+            statement: 0,
+        });
+    }
+    for (i, block) in blocks.iter().enumerate() {
+        if !block_keeps(rule, blocks, i + 1, block) {
+            return Some(Breach {
+                rule,
+                block: i + 1,
+                statement: 0,
+            });
+        }
+        if let Some(statement) = first_statement(rule, blocks, block.statements()) {
+            return Some(Breach {
+                rule,
+                block: i + 1,
+                statement,
+            });
+        }
+    }
+    None
+}
+
+/// The first breach, by the rule's number, then the block, then the statement.
+fn first_breach(blocks: &[Block]) -> Option<Breach>
+    ensures first { IfSome result (λ e. IsFirstBreach blocks.now e.rule e.block e.statement) }
+    ensures none { IfNone result (IsChecked blocks.now) }
+{
+    for rule in RULES {
+        if let Some(breach) = first_of_rule(rule, blocks) {
+            return Some(breach);
+        }
+    }
+    None
+}
+
+/// The program as a checked one, where it breaks no rule.
+///
+/// # Errors
+/// The program itself and its first breach. The check takes no memory.
+pub fn check(program: Program) -> Result<Checked, Refused>
+    ensures exact { IsOk result ↔ IsChecked program }
+    ensures ok { IfOk result (λ c. c ≡ program) }
+    ensures back { IfErr result (λ e. e.program ≡ program) }
+    ensures first { IfErr result
+        (λ e. IsFirstBreach program e.breach.rule e.breach.block e.breach.statement) }
+{
+    match first_breach(program.blocks()) {
+        Some(breach) => Err(Refused { program, breach }),
+        None => Ok(Checked::of(program)),
+    }
+}

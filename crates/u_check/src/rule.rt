@@ -1,0 +1,72 @@
+//! The rules of the checker, and where a program breaks one.
+ghost use Rattle.std.specs.Prelude.{◌≡◌};
+ghost use Rattle.u_check.specs.Rules.{number_of};
+
+use std::fmt;
+
+/// What the checker demands of a program.
+#[derive(Clone, Copy, Debug, PartialEq, Eq)]
+pub enum Rule {
+    /// The names of the blocks differ. Broken by the later block.
+    BlockNamesDiffer,
+    /// A block `main` exists. Broken by the program.
+    MainExists,
+    /// Statement 1 of a block is `begin` in region 0, and no other is `begin`.
+    BeginComesFirst,
+    /// A statement's region is 0 or a loop of its block.
+    RegionExists,
+    /// A destination names a statement of the block and a port of it. Broken by the sender.
+    DestinationExists,
+    /// No destination is a `begin`. Broken by the sender.
+    BeginTakesNothing,
+    /// The procedure of a `const` names a block.
+    ConstantNamesBlock,
+    /// An `end` lies in region 0.
+    EndInOuterRegion,
+    /// A statement sends into its own region. Broken by the sender.
+    OwnRegion,
+    /// Every port of every statement but `begin` is some destination of the block.
+    PortsAreFed,
+}
+
+impl Rule {
+    /// The rule's number, by which rules are ordered: 1 to 6, 10, and 14 to 16.
+    pub fn number(self) -> u8
+        ensures { result ≡ number_of self }
+    {
+        match self {
+            Rule::BlockNamesDiffer => 1,
+            Rule::MainExists => 2,
+            Rule::BeginComesFirst => 3,
+            Rule::RegionExists => 4,
+            Rule::DestinationExists => 5,
+            Rule::BeginTakesNothing => 6,
+            Rule::ConstantNamesBlock => 10,
+            Rule::EndInOuterRegion => 14,
+            Rule::OwnRegion => 15,
+            Rule::PortsAreFed => 16,
+        }
+    }
+}
+
+/// A rule that a program breaks, and where. It prints as `rule 5 block 1 statement 2`.
+#[derive(Clone, Copy, Debug, PartialEq, Eq)]
+pub struct Breach {
+    /// The rule.
+    pub rule: Rule,
+    /// The block's number from 1, or 0 where the rule names no block.
+    pub block: usize,
+    /// The statement's number from 1, or 0 where the rule names no statement.
+    pub statement: usize,
+}
+
+impl fmt::Display for Breach {
+    ghost use Rattle.std.specs.Prelude.{Some};
+    ghost use Rattle.u_check.specs.Messages.{breach_text};
+
+    ghost output = { λ e. Some (breach_text e) };
+
+    fn fmt<W: fmt::Write>(&self, f: &mut fmt::Formatter<W>) -> fmt::Result {
+        write!(f, "rule {} block {} statement {}", self.rule.number(), self.block, self.statement)
+    }
+}
