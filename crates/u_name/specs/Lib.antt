@@ -13,7 +13,8 @@ pub mod BlockText
 pub mod NameText
 pub mod NameReader
 pub mod NameLaws
-pub mod Values
+pub mod ReaderValues
 pub mod NameSteps
-pub mod Faults
-pub mod Public
+pub mod ReaderFaults
+pub mod NameReading
+pub mod Cell

@@ -17,7 +17,7 @@ pub record IsName (n : Activity) : Type 0 where
   pub statement : IsBetween 1 n.statement 999
   pub initiation : IsBetween 1 n.initiation 4294967295
 
--- The loop's context, for this name.
+-- the context of a loop that this activity enters, and of a call that it makes
 abbrev pub loop_context : Activity → ℕ → Tree
 loop_context n number = InLoop n.context n.block number n.initiation
 
@@ -32,9 +32,18 @@ IsInLoop Top = ⊥
 IsInLoop (InLoop outer block number initiation) = Unit {0}
 IsInLoop (InCall outer block statement initiation) = ⊥
 
+abbrev pub IsInCall : Tree → Type 0
+IsInCall Top = ⊥
+IsInCall (InLoop outer block number initiation) = ⊥
+IsInCall (InCall outer block statement initiation) = Unit {0}
+
 -- v.d.t.j where the context is Loop(v, d, l, j); elsewhere it says nothing.
 abbrev pub left : Activity → ℕ → Activity
 left n t = elim n.context [ Top ↦ n | InLoop v d l j ↦ activity v d t j | InCall v d s j ↦ n ]
+
+-- v.d.t.j where the context is Call(v, d, s, j); elsewhere it says nothing.
+abbrev pub returned : Activity → ℕ → Activity
+returned n t = elim n.context [ Top ↦ n | InLoop v d l j ↦ n | InCall v d s j ↦ activity v d t j ]
 
 abbrev pub activity_code : Coded Activity
 activity_code =

@@ -1,5 +1,5 @@
-// The name of a block, held in place.
-ghost use Rattle.std.specs.Prelude.{◌≡◌, ◌≤◌, ◌<◌, ◌↔◌, IfOk, IfSome, IfNone, IsTrue, ◌==◌, List, ℕ, false};
+//! Names of blocks, held in place.
+ghost use Rattle.std.specs.Prelude.{◌≡◌, ◌≤◌, ◌<◌, ◌↔◌, MatchOption, IsTrue, ◌==◌, List, ℕ, false};
 ghost use Rattle.std.proofs.Common.{rules};
 ghost use Rattle.std.specs.Cmp.Lexicographic.{slice_cmp};
 ghost use Rattle.std.specs.Cmp.{partial_order_from_own_ties};
@@ -10,11 +10,14 @@ ghost use Rattle.std.proofs.lemmas.Cmp.{nat_list_cmp_total, nat_list_eq_equiv};
 ghost use Rattle.u_name.specs.Block.{IsBlock};
 ghost use lib.Pointwise.{pointwise};
 
+use crate::block_text::{begins_with_letter, block_len};
 use std::alloc::AllocError;
 use std::cmp::Ordering;
 use std::hash::{Hash, Hasher};
 use std::marker::Model;
 
+/// The name of a block: 1 to 16 bytes of `a-z`, `0-9` and `_`, the first a letter. Names are ordered
+/// by their bytes.
 #[derive(Drop)]
 pub struct BlockName {
     bytes: [u8; 16],
@@ -47,6 +50,7 @@ impl Clone for BlockName {
 impl Copy for BlockName {}
 
 impl BlockName {
+    /// The block's name with these bytes.
     #[tactic(auto, using(crate::specs::BlockLaws::lies_well))]
     pub fn new(name: &[u8]) -> BlockName
         requires { IsBlock name.now }
@@ -60,6 +64,20 @@ impl BlockName {
         }
     }
 
+    /// The block's name where the bytes are one.
+    #[tactic(auto, using(crate::proofs::Spans::whole_block, crate::proofs::Spans::block_begins, crate::proofs::Spans::block_spans))]
+    pub fn read(bytes: &[u8]) -> Option<BlockName>
+        ensures { MatchOption result (¬ IsBlock bytes.now)
+            (λ name. IsBlock bytes.now × (name ≡ bytes.now)) }
+    {
+        if begins_with_letter(bytes) && block_len(bytes) == bytes.len() {
+            Some(BlockName::new(bytes))
+        } else {
+            None
+        }
+    }
+
+    /// The bytes of the name.
     pub fn as_bytes(&self) -> &[u8]
         ensures value { result.now ≡ self.now }
         ensures block { IsBlock self.now }

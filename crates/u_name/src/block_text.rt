@@ -28,6 +28,7 @@ fn is_block_byte(byte: u8) -> bool
     matches!(byte, b'a'..=b'z' | b'0'..=b'9' | b'_')
 }
 
+/// Whether a letter stands at the front.
 pub fn begins_with_letter(bytes: &[u8]) -> bool
     ensures { result ≡ begins_with_letter bytes.now }
 {

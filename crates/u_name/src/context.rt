@@ -1,4 +1,4 @@
-// Contexts, as trees.
+//! Contexts, as trees.
 ghost use Rattle.std.specs.Prelude.{◌≡◌, ◌≤◌, ◌<◌, ◌↔◌, IfOk, IsTrue};
 ghost use Rattle.u_name.specs.Context.{Top, InLoop, InCall, depth, IsContext, IsBetween};
 ghost use Rattle.std.proofs.Common.{rules};
@@ -18,26 +18,41 @@ use std::hash::{Hash, Hasher};
 use std::marker::Model;
 use std::sync::Arc;
 
+/// A context: the root, or what a loop or a call makes in an outer context, at most 64 deep. The
+/// outer contexts are shared. The root comes before loops, and loops before calls; the same kind goes
+/// by outer context, block, loop or statement, and initiation.
 #[cycle(context)]
 #[derive(Drop)]
 pub struct Context {
     node: Node,
 }
 
+/// What a context is.
 #[cycle(context)]
 #[derive(Drop)]
 pub enum Node {
+    /// The context in which a program begins.
     Root,
+    /// The context of a loop that was entered.
     Loop {
+        /// The context of the activity that entered it.
         outer: Arc<Context, Global>,
+        /// The block of that activity.
         block: BlockName,
+        /// The loop's number, 1 to 99.
         number: u8,
+        /// The initiation of that activity, 1 to 4294967295.
         initiation: u32,
     },
+    /// The context of a call.
     Call {
+        /// The context of the activity that called.
         outer: Arc<Context, Global>,
+        /// The block of that activity.
         block: BlockName,
+        /// The statement of that activity, 1 to 999.
         statement: u16,
+        /// The initiation of that activity, 1 to 4294967295.
         initiation: u32,
     },
 }
@@ -63,12 +78,14 @@ impl Model for Context {
 }
 
 impl Context {
+    /// The context in which a program begins.
     pub fn root() -> Context
         ensures { result ≡ Top }
     {
         Context { node: Node::Root }
     }
 
+    /// What the context is, with its parts.
     pub fn node(&self) -> &Node
         ensures tree { tree_of result.now ≡ self.now }
         ensures bound { IsContext self.now }
@@ -76,6 +93,7 @@ impl Context {
         &self.node
     }
 
+    /// The context of a loop, in an outer context that is less than 64 deep.
     pub fn in_loop(
         outer: Arc<Context, Global>,
         block: BlockName,
@@ -99,6 +117,7 @@ impl Context {
         }
     }
 
+    /// The context of a call, in an outer context that is less than 64 deep.
     pub fn in_call(
         outer: Arc<Context, Global>,
         block: BlockName,
@@ -122,6 +141,7 @@ impl Context {
         }
     }
 
+    /// How many loops and calls it is in, 0 to 64.
     pub fn depth(&self) -> u32
         ensures value { result ≡ depth self.now }
         ensures bound { IsContext self.now }
@@ -133,6 +153,7 @@ impl Context {
         }
     }
 
+    /// An equal context. The outer contexts are shared.
     pub fn copy(&self) -> Result<Context, AllocError>
         ensures { IfOk result (λ c. c ≡ self.now) }
     {

@@ -1,13 +1,16 @@
-//! Names of activities.
+//! Names of activities: blocks, contexts, names and cells, with their orders and texts.
 #![tactic(auto)]
 
 mod block_name;
 mod block_text;
+mod cell;
 mod context;
 mod name;
-mod name_text;
+mod reading;
 mod writing;
 
 pub use block_name::BlockName;
+pub use cell::Cell;
 pub use context::{Context, Node};
 pub use name::{Name, NameError};
+pub use reading::NameTextError;

@@ -1,7 +1,10 @@
-// Names of activities.
+//! Names of activities, and the linkage calls on them.
+//!
+//! Below, `u.c.s.i` is the name with the context `u`, the block `c`, the statement `s` and the
+//! initiation `i`.
 ghost use Rattle.std.specs.Prelude.{◌≡◌, ◌≤◌, ◌<◌, ◌+◌, IfOk, MatchResult, OnOk, IsTrue, ◌↔◌};
 ghost use Rattle.u_name.specs.Context.{depth, IsBetween, Tree};
-ghost use Rattle.u_name.specs.Name.{Activity, activity, loop_context, call_context, IsInLoop, left};
+ghost use Rattle.u_name.specs.Name.{Activity, activity, IsName, loop_context, call_context, IsInLoop, IsInCall, left, returned};
 ghost use Rattle.std.proofs.Common.{rules};
 ghost use Rattle.std.specs.Prelude.{◌++◌};
 ghost use Rattle.std.specs.Cmp.{partial_order_from_own_ties};
@@ -19,11 +22,19 @@ use std::cmp::Ordering;
 use std::hash::{Hash, Hasher};
 use std::marker::Model;
 use std::sync::Arc;
+use thiserror::Error;
 
-#[derive(Debug, Drop, PartialEq, Eq)]
+/// Why a linkage call gives no name.
+#[derive(Debug, Drop, PartialEq, Eq, Error)]
 pub enum NameError {
+    /// The new context would be deeper than 64.
+    #[error("the context would be deeper than 64")]
     Deep,
+    /// The initiation is 4294967295, the greatest one.
+    #[error("the initiation is the greatest one already")]
     Initiation,
+    /// A growth was refused.
+    #[error("no memory")]
     NoMemory,
 }
 
@@ -43,6 +54,8 @@ impl<T: Drop> From<AllocFailed<T>> for NameError {
     }
 }
 
+/// The name of an activity: its context, the block and the number of its statement, 1 to 999, and
+/// the number of its initiation, 1 to 4294967295. Names are ordered by these parts in turn.
 #[derive(Drop)]
 pub struct Name {
     context: Context,
@@ -64,6 +77,7 @@ impl Model for Name {
 }
 
 impl Name {
+    /// The name with these parts.
     pub fn new(context: Context, block: BlockName, statement: u16, initiation: u32) -> Name
         requires statement_in { IsBetween 1 statement 999 }
         requires initiation_in { IsBetween 1 initiation 4294967295 }
@@ -79,6 +93,44 @@ impl Name {
         }
     }
 
+    /// The context of the activity.
+    pub fn context(&self) -> &Context
+        ensures { result.now ≡ self.now.context }
+    {
+        &self.context
+    }
+
+    /// The block that the activity belongs to.
+    pub fn block(&self) -> &BlockName
+        ensures { result.now ≡ self.now.block }
+    {
+        &self.block
+    }
+
+    /// The number of the statement, 1 to 999.
+    pub fn statement(&self) -> u16
+        ensures value { result ≡ self.now.statement }
+        ensures bounds { IsName self.now }
+    {
+        self.statement
+    }
+
+    /// The number of the initiation, 1 to 4294967295.
+    pub fn initiation(&self) -> u32
+        ensures value { result ≡ self.now.initiation }
+        ensures bounds { IsName self.now }
+    {
+        self.initiation
+    }
+
+    /// How deep the context is, 0 to 64.
+    pub fn depth(&self) -> u32
+        ensures value { result ≡ depth self.now.context }
+        ensures bound { depth self.now.context ≤ 64 }
+    {
+        self.context.depth()
+    }
+
     fn compare(&self, other: &Name) -> Ordering
         ensures { result ≡ name_cmp self.now other.now }
     {
@@ -91,6 +143,7 @@ impl Name {
         )
     }
 
+    /// An equal name. The outer contexts are shared.
     pub fn copy(&self) -> Result<Name, AllocError>
         ensures { IfOk result (λ n. n ≡ self.now) }
     {
@@ -102,7 +155,7 @@ impl Name {
         })
     }
 
-    /// u.c.t.i
+    /// `u.c.t.i` for `u.c.s.i`: another statement of the same context.
     pub fn plain(&self, statement: u16) -> Result<Name, NameError>
         requires { IsBetween 1 statement 999 }
         ensures { MatchResult result
@@ -117,7 +170,8 @@ impl Name {
         })
     }
 
-    /// `Loop(u, c, l, i)`.c.t.1
+    /// `(u.c.Ll.i).c.t.1` for `u.c.s.i`: a statement of a loop that is entered. `Deep` where the
+    /// context has the depth 64.
     pub fn enter(&self, alloc: Global, number: u8, statement: u16) -> Result<Name, NameError>
         requires number_in { IsBetween 1 number 99 }
         requires statement_in { IsBetween 1 statement 999 }
@@ -138,6 +192,8 @@ impl Name {
         })
     }
 
+    /// `u.c.t.(i + 1)` for `u.c.s.i`: a statement in the next turn of a loop. `Initiation` where the
+    /// initiation is 4294967295.
     pub fn next(&self, statement: u16) -> Result<Name, NameError>
         requires { IsBetween 1 statement 999 }
         ensures value { IfOk result
@@ -156,12 +212,56 @@ impl Name {
         })
     }
 
+    /// `u.c.t.1` for `u.c.s.i`: a statement behind the last turn of a loop.
+    pub fn last(&self, statement: u16) -> Result<Name, NameError>
+        requires { IsBetween 1 statement 999 }
+        ensures { MatchResult result
+            (λ n. n ≡ activity self.now.context self.now.block statement 1)
+            (λ e. e ≡ NoMemory) }
+    {
+        Ok(Name {
+            context: self.context.copy()?,
+            block: self.block,
+            statement,
+            initiation: 1,
+        })
+    }
+
+    /// `(u.c.s.i).b.1.1` for `u.c.s.i`: the first statement of a block `b` that is called. `Deep`
+    /// where the context has the depth 64.
+    pub fn call(&self, alloc: Global, block: BlockName) -> Result<Name, NameError>
+        ensures value { IfOk result (λ n. n ≡ activity (call_context self.now) block 1 1) }
+        ensures refusal { MatchResult result (λ _. depth self.now.context < 64)
+            (λ e. RefusesAt e Deep (depth self.now.context ≡ 64)) }
+    {
+        if self.context.depth() == 64 {
+            return Err(NameError::Deep);
+        }
+        let _ = block.as_bytes();
+        let outer = Arc::new(alloc, self.context.copy()?)?;
+        Ok(Name {
+            context: Context::in_call(outer, self.block, self.statement, self.initiation),
+            block,
+            statement: 1,
+            initiation: 1,
+        })
+    }
+
+    /// Whether the context is a loop's.
     pub fn in_loop(&self) -> bool
         ensures { IsTrue result ↔ IsInLoop self.now.context }
     {
         matches!(self.context.node(), Node::Loop { .. })
     }
 
+    /// Whether the context is a call's.
+    pub fn in_call(&self) -> bool
+        ensures { IsTrue result ↔ IsInCall self.now.context }
+    {
+        matches!(self.context.node(), Node::Call { .. })
+    }
+
+    /// `v.d.t.j` for a name whose context is the loop's `(v.d.Ll.j)`: a statement outside the loop.
     pub fn leave(&self, statement: u16) -> Result<Name, NameError>
         requires statement_in { IsBetween 1 statement 999 }
         requires in_loop { IsInLoop self.now.context }
@@ -169,6 +269,28 @@ impl Name {
     {
         match self.context.node() {
             Node::Loop {
+                outer,
+                block,
+                initiation,
+                ..
+            } => Ok(Name {
+                context: outer.copy()?,
+                block: *block,
+                statement,
+                initiation: *initiation,
+            }),
+            _ => unreachable!(),
+        }
+    }
+
+    /// `v.d.t.j` for a name whose context is the call's `(v.d.s.j)`: a statement of the caller.
+    pub fn back(&self, statement: u16) -> Result<Name, NameError>
+        requires statement_in { IsBetween 1 statement 999 }
+        requires in_call { IsInCall self.now.context }
+        ensures { MatchResult result (λ n. n ≡ returned self.now statement) (λ e. e ≡ NoMemory) }
+    {
+        match self.context.node() {
+            Node::Call {
                 outer,
                 block,
                 initiation,

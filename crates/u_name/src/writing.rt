@@ -1,10 +1,13 @@
-// Names written as bytes.
+//! Contexts, names and cells written as bytes.
 ghost use Rattle.std.specs.Prelude.{◌≡◌, ◌≤◌, ◌<◌, ◌^◌, ◌++◌, [], ◌∷◌, OnOk, OnErr, vec_len};
 ghost use Rattle.std.specs.Fmt.{decimal};
-ghost use Rattle.u_name.specs.NameText.{context_text, loop_part, call_part};
+ghost use Rattle.u_name.specs.NameText.{context_text, name_text, loop_part, call_part};
+ghost use Rattle.u_name.specs.Cell.{cell_text};
 
 use crate::block_name::BlockName;
+use crate::cell::Cell;
 use crate::context::{Context, Node};
+use crate::name::Name;
 use std::alloc::AllocError;
 use u_text::{push_behind, push_number};
 
@@ -47,38 +50,65 @@ fn push_call(
     Ok(())
 }
 
-#[tactic(auto, using(crate::proofs::Written::in_loop_more, crate::proofs::Written::in_call_more, crate::proofs::Written::root_text))]
-pub fn push_context(out: &mut Vec<u8>, context: &Context) -> Result<(), AllocError>
-    ensures { OnOk result (out.new.items ≡ out.old.items ++ context_text context.now) }
-{
-    match context.node() {
-        Node::Root => {
-            out.push(b'-')?;
-            Ok(())
+impl Context {
+    /// Appends the text of the context.
+    #[tactic(auto, using(crate::proofs::Written::in_loop_more, crate::proofs::Written::in_call_more, crate::proofs::Written::root_text))]
+    pub fn write_text(&self, out: &mut Vec<u8>) -> Result<(), AllocError>
+        ensures { OnOk result (out.new.items ≡ out.old.items ++ context_text self.now) }
+    {
+        match self.node() {
+            Node::Root => {
+                out.push(b'-')?;
+                Ok(())
+            }
+            Node::Loop {
+                outer,
+                block,
+                number,
+                initiation,
+            } => {
+                out.push(b'(')?;
+                outer.write_text(out)?;
+                push_loop(out, block, *number, *initiation)?;
+                out.push(b')')?;
+                Ok(())
+            }
+            Node::Call {
+                outer,
+                block,
+                statement,
+                initiation,
+            } => {
+                out.push(b'(')?;
+                outer.write_text(out)?;
+                push_call(out, block, *statement, *initiation)?;
+                out.push(b')')?;
+                Ok(())
+            }
         }
-        Node::Loop {
-            outer,
-            block,
-            number,
-            initiation,
-        } => {
-            out.push(b'(')?;
-            push_context(out, outer)?;
-            push_loop(out, block, *number, *initiation)?;
-            out.push(b')')?;
-            Ok(())
-        }
-        Node::Call {
-            outer,
-            block,
-            statement,
-            initiation,
-        } => {
-            out.push(b'(')?;
-            push_context(out, outer)?;
-            push_call(out, block, *statement, *initiation)?;
-            out.push(b')')?;
-            Ok(())
-        }
+    }
+}
+
+impl Name {
+    /// Appends the text of the name.
+    #[tactic(auto, using(crate::proofs::Written::name_more))]
+    pub fn write_text(&self, out: &mut Vec<u8>) -> Result<(), AllocError>
+        ensures { OnOk result (out.new.items ≡ out.old.items ++ name_text self.now) }
+    {
+        self.context().write_text(out)?;
+        push_call(out, self.block(), self.statement(), self.initiation())
+    }
+}
+
+impl Cell {
+    /// Appends the text of the cell.
+    #[tactic(auto, using(crate::proofs::Written::cell_more))]
+    pub fn write_text(&self, out: &mut Vec<u8>) -> Result<(), AllocError>
+        ensures { OnOk result (out.new.items ≡ out.old.items ++ cell_text self.now) }
+    {
+        self.name().write_text(out)?;
+        push_behind(out, b'[', self.index())?;
+        out.push(b']')?;
+        Ok(())
     }
 }

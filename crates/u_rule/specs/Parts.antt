@@ -1,8 +1,10 @@
--- Tokens.
-use Rattle.std.specs.Prelude.{ℕ}
+-- Tokens, and the values of a firing.
+use Rattle.std.specs.Prelude.{◌≡◌, ℕ, List, length, refl}
+use Rattle.std.specs.Coded.{Coded, code_by, coded×, coded_ℕ, coded_list}
 use Rattle.u_name.specs.Context.{IsBetween}
-use Rattle.u_name.specs.Name.{Activity}
+use Rattle.u_name.specs.Name.{Activity, activity_code}
 use Rattle.u_value.specs.declared.value.Value.{Value}
+use Rattle.u_value.specs.contracts.value.Value as values
 
 -- a value at a port of an activity
 pub record TokenParts : Type 0 where
@@ -15,3 +17,21 @@ token activity port value = record { activity = activity; port = port; value = v
 
 pub record IsToken (t : TokenParts) : Type 0 where
   pub port : IsBetween 1 t.port 3
+
+-- how values and tokens are stored
+abbrev pub value_code : Coded Value
+value_code = values.the_row.coded
+
+abbrev pub token_code : Coded TokenParts
+token_code =
+    code_by (Activity × (ℕ × Value)) (coded× activity_code (coded× coded_ℕ value_code)) (λ t. (t.activity, (t.port, t.value))) (λ p. token p.0 p.1.0 p.1.1) (λ _. refl)
+
+-- the values at an activity's ports
+abbrev pub ValueList : Type 0
+ValueList = List Value
+
+abbrev pub value_list_code : Coded ValueList
+value_list_code = coded_list value_code
+
+pub record IsValueList (vs : ValueList) : Type 0 where
+  pub count : IsBetween 1 (length vs) 3

@@ -1,4 +1,8 @@
 //! Entries.
+ghost use Rattle.std.specs.Prelude.{◌≡◌, IfOk};
+
+use std::alloc::AllocError;
+
 use u_value::Value;
 
 use crate::parts::{Fault, Token, Write};
@@ -14,4 +18,18 @@ pub enum Entry {
     Fault(Fault),
     /// What the program answers.
     Answer(Value),
+}
+
+impl Entry {
+    /// An equal entry.
+    pub fn copy(&self) -> Result<Entry, AllocError>
+        ensures { IfOk result (λ e. e ≡ self.now) }
+    {
+        Ok(match self {
+            Entry::Token(token) => Entry::Token(token.copy()?),
+            Entry::Write(write) => Entry::Write(write.copy()?),
+            Entry::Fault(fault) => Entry::Fault(fault.copy()?),
+            Entry::Answer(value) => Entry::Answer(value.copy()?),
+        })
+    }
 }

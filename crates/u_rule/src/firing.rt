@@ -1,4 +1,9 @@
 //! Firings.
+ghost use Rattle.std.specs.Prelude.{◌≡◌, IfOk, None};
+ghost use Rattle.u_rule.specs.declared.firing.Firing.{Firing};
+
+use std::alloc::{AllocError, Global};
+
 use u_name::Name;
 use u_value::Value;
 
@@ -14,7 +19,8 @@ pub struct Written {
 }
 
 /// A firing: an activity, one value for each of its ports, and for a read of a cell one write.
-#[derive(Drop)]
+/// Firings are ordered by activity, then by the list of values, then by the write, where none comes first.
+#[derive(PartialEq, Eq, PartialOrd, Ord, Hash, Drop)]
 pub struct Firing {
     /// The activity that fires.
     pub activity: Name,
@@ -22,4 +28,35 @@ pub struct Firing {
     pub values: Values,
     /// The write that it read.
     pub write: Option<Written>,
+}
+
+impl Written {
+    /// An equal write.
+    pub fn copy(&self) -> Result<Written, AllocError>
+        ensures { IfOk result (λ w. w ≡ self.now) }
+    {
+        Ok(Written {
+            writer: self.writer.copy()?,
+            value: self.value.copy()?,
+        })
+    }
+}
+
+impl Firing {
+    /// An equal firing.
+    pub fn copy(&self, alloc: Global) -> Result<Firing, AllocError>
+        ensures { IfOk result (λ f. f ≡ self.now) }
+    {
+        let activity = self.activity.copy()?;
+        let values = self.values.copy(alloc)?;
+        let write = match &self.write {
+            None => None,
+            Some(write) => Some(write.copy()?),
+        };
+        Ok(Firing {
+            activity,
+            values,
+            write,
+        })
+    }
 }

@@ -18,15 +18,64 @@ pub struct Token {
 }
 
 impl Model for Token {
-    ghost use Rattle.u_rule.specs.Parts.{TokenParts, token, IsToken};
+    ghost use Rattle.u_rule.specs.Parts.{TokenParts, token, IsToken, token_code};
 
     ghost Value = { TokenParts };
+
+    ghost coded = { token_code };
 
     ghost view = { λ t. token t.activity t.port t.value };
 
     ghost invariant = { λ t. IsToken (token t.activity t.port t.value) };
 
     ghost inverse = { λ t. record { activity = t.activity; port = t.port; value = t.value } };
+}
+
+impl Token {
+    /// The token of that value at that port, 1 to 3.
+    pub fn new(activity: Name, port: u8, value: Value) -> Token
+        requires { IsBetween 1 port 3 }
+        ensures { result ≡ token activity port value }
+    {
+        Token {
+            activity,
+            port,
+            value,
+        }
+    }
+
+    /// The activity.
+    pub fn activity(&self) -> &Name
+        ensures { result.now ≡ self.now.activity }
+    {
+        &self.activity
+    }
+
+    /// The port, 1 to 3.
+    pub fn port(&self) -> u8
+        ensures port { result ≡ self.now.port }
+        ensures range { IsToken self.now }
+    {
+        self.port
+    }
+
+    /// The value.
+    pub fn value(&self) -> &Value
+        ensures { result.now ≡ self.now.value }
+    {
+        &self.value
+    }
+
+    /// An equal token.
+    pub fn copy(&self) -> Result<Token, AllocError>
+        ensures { IfOk result (λ t. t ≡ self.now) }
+    {
+        Ok(Token {
+            activity: self.activity.copy()?,
+            port: self.port,
+            value: self.value.copy()?,
+        })
+    }
 }
 
 /// A value that an activity wrote into a cell.
@@ -40,6 +89,19 @@ pub struct Write {
     pub value: Value,
 }
 
+impl Write {
+    /// An equal write.
+    pub fn copy(&self) -> Result<Write, AllocError>
+        ensures { IfOk result (λ w. w ≡ self.now) }
+    {
+        Ok(Write {
+            cell: self.cell.copy()?,
+            writer: self.writer.copy()?,
+            value: self.value.copy()?,
+        })
+    }
+}
+
 /// That an activity could not give a value.
 #[derive(PartialEq, Eq, PartialOrd, Ord, Hash, Drop)]
 pub struct Fault {
@@ -47,4 +109,16 @@ pub struct Fault {
     pub activity: Name,
     /// Why it could not.
     pub kind: FaultKind,
+}
+
+impl Fault {
+    /// An equal fault.
+    pub fn copy(&self) -> Result<Fault, AllocError>
+        ensures { IfOk result (λ f. f ≡ self.now) }
+    {
+        Ok(Fault {
+            activity: self.activity.copy()?,
+            kind: self.kind,
+        })
+    }
 }

@@ -1,7 +1,16 @@
 //! The values of a firing.
-ghost use Rattle.std.specs.Prelude.{◌≡◌, ◌≤◌, IfOk, length};
+ghost use Rattle.std.specs.Prelude.{◌≡◌, ◌≤◌, ◌<◌, ◌+◌, ◌++◌, [], ◌∷◌, IfOk, OnErr, length};
+ghost use Rattle.std.proofs.Common.{rules};
+ghost use Rattle.std.specs.Cmp.{partial_order_from_own_ties};
+ghost use Rattle.std.specs.Cmp.Rules.{comparing};
+ghost use Rattle.std.specs.Ordering.{eq_by_cmp, as_partial_cmp};
+ghost use Rattle.std.proofs.lemmas.Cmp.{eq_by_cmp_equiv};
+ghost use Rattle.u_rule.specs.Parts.{IsValueList};
+ghost use Rattle.u_rule.specs.ValuesOrder.{values_order, values_order_total, values_hash, values_hash_alike};
 
 use std::alloc::{AllocError, Global};
+use std::cmp::Ordering;
+use std::hash::{Hash, Hasher};
 use std::marker::Model;
 
 use u_value::Value;
@@ -13,13 +22,111 @@ pub struct Values {
 }
 
 impl Model for Values {
-    ghost use Rattle.std.specs.Prelude.{List, ◌≤◌, length};
-    ghost use Rattle.u_value.specs.declared.value.Value.{Value};
-    ghost use Rattle.u_name.specs.Context.{IsBetween};
+    ghost use Rattle.u_rule.specs.Parts.{ValueList, value_list_code, IsValueList};
 
-    ghost Value = { List Value };
+    ghost Value = { ValueList };
+
+    ghost coded = { value_list_code };
 
     ghost view = { λ v. v.all.items };
 
-    ghost invariant = { λ v. IsBetween 1 (length v.all.items) 3 };
+    ghost invariant = { λ v. IsValueList v.all.items };
+}
+
+impl Values {
+    /// One value.
+    pub fn one(alloc: Global, first: Value) -> Result<Values, AllocError>
+        ensures { IfOk result (λ v. v ≡ first ∷ []) }
+    {
+        let mut all = Vec::new(alloc);
+        all.push(first)?;
+        Ok(Values { all })
+    }
+
+    /// Two values.
+    pub fn two(alloc: Global, first: Value, second: Value) -> Result<Values, AllocError>
+        ensures { IfOk result (λ v. v ≡ first ∷ second ∷ []) }
+    {
+        let mut all = Vec::new(alloc);
+        all.push(first)?;
+        all.push(second)?;
+        Ok(Values { all })
+    }
+
+    /// The values, in the order of the ports.
+    pub fn as_slice(&self) -> &[Value]
+        ensures values { result.now ≡ self.now }
+        ensures count { IsValueList self.now }
+    {
+        &self.all
+    }
+}
+
+impl Values {
+    /// An equal list.
+    pub fn copy(&self, alloc: Global) -> Result<Values, AllocError>
+        ensures { IfOk result (λ v. v ≡ self.now) }
+    {
+        let all = copies(alloc, &self.all)?;
+        Ok(Values { all })
+    }
+}
+
+/// Equal values, in order.
+fn copies(alloc: Global, values: &[Value]) -> Result<Vec<Value>, AllocError>
+    ensures { IfOk result (λ v. v.items ≡ values.now) }
+{
+    let mut all = Vec::new(alloc);
+    for value in values {
+        all.push(value.copy()?)?;
+    }
+    Ok(all)
+}
+
+impl PartialEq for Values {
+    ghost eq = { eq_by_cmp values_order };
+
+    ghost laws = { Prim.search (comparing, rules, values_order_total, eq_by_cmp_equiv) };
+
+    fn eq(&self, other: &Values) -> bool {
+        self.as_slice().cmp(other.as_slice()).is_eq()
+    }
+}
+
+impl Eq for Values {
+    ghost laws = { eq_by_cmp_equiv values_order_total };
+}
+
+impl Ord for Values {
+    ghost cmp = { values_order };
+
+    ghost total = { values_order_total };
+
+    ghost matches_partial_cmp = { Prim.search (comparing, rules) };
+
+    ghost matches_eq = { Prim.search (comparing, rules) };
+
+    fn cmp(&self, other: &Values) -> Ordering {
+        self.as_slice().cmp(other.as_slice())
+    }
+}
+
+impl PartialOrd for Values {
+    ghost partial_cmp = { as_partial_cmp values_order };
+
+    ghost laws = { partial_order_from_own_ties (Prim.search (comparing, rules, values_order_total)) (Prim.search (comparing, rules)) };
+
+    fn partial_cmp(&self, other: &Values) -> Option<Ordering> {
+        Some(self.cmp(other))
+    }
+}
+
+impl Hash for Values {
+    ghost hash_input = { values_hash };
+
+    ghost respects_eq = { values_hash_alike };
+
+    fn hash<H: Hasher>(&self, state: &mut H) {
+        self.as_slice().hash(state);
+    }
 }

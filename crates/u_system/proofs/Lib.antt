@@ -9,3 +9,4 @@ pub mod Determinate
 pub mod Sorted
 pub mod PlainFrom
 pub mod Places
+pub mod Keys

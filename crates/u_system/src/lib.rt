@@ -1,6 +1,10 @@
 // Sorted lists without repeats.
 #![tactic(auto)]
 
+mod ordered_set;
+
+pub use ordered_set::OrderedSet;
+
 ghost use Rattle.std.specs.Prelude.{◌≡◌, ◌↔◌, OnOk, OnErr, IfOk, IfErr, Contains, ◌⊎◌, IsTrue, IsFalse, length, ◌<◌};
 ghost use Rattle.u_system.specs.Rising.{Rises, IsExact, IsWith, IsUnion};
 

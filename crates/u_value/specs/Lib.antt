@@ -1,1 +1,4 @@
+pub mod FaultKinds
+pub mod Operators
 pub mod Pointer
+pub mod Values

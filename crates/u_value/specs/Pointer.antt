@@ -1,5 +1,5 @@
 -- References to structures: the name of the activity that made one, and its length.
-use Rattle.std.specs.Prelude.{◌≡◌, ℕ, ◌≤◌, refl}
+use Rattle.std.specs.Prelude.{ℕ, ◌≤◌, refl}
 use Rattle.std.specs.Coded.{Coded, code_by, coded×, coded_ℕ}
 use Rattle.u_name.specs.Name.{Activity, activity_code}
 

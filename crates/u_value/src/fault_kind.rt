@@ -1,4 +1,6 @@
 //! Why a firing gives a fault.
+ghost use Rattle.std.specs.Prelude.{◌≡◌};
+ghost use Rattle.u_value.specs.FaultKinds.{fault_kind_text};
 
 /// Why a firing gives a fault and no value, in the order in which faults are listed.
 #[derive(Clone, Copy, Debug, PartialEq, Eq, PartialOrd, Ord, Hash)]
@@ -17,4 +19,21 @@ pub enum FaultKind {
     Length,
     /// The index is below 0 or not below the length.
     Bounds,
+}
+
+impl FaultKind {
+    /// The word for the kind, as a report has it.
+    pub fn text(self) -> &'static str
+        ensures { result.now ≡ fault_kind_text self }
+    {
+        match self {
+            FaultKind::Kind => "kind",
+            FaultKind::Overflow => "overflow",
+            FaultKind::Zero => "zero",
+            FaultKind::Deep => "deep",
+            FaultKind::Initiation => "initiation",
+            FaultKind::Length => "length",
+            FaultKind::Bounds => "bounds",
+        }
+    }
 }

@@ -1,11 +1,12 @@
 //! References to structures.
-ghost use Rattle.std.specs.Prelude.{◌≡◌, ◌≤◌, IfOk};
+ghost use Rattle.std.specs.Prelude.{◌≡◌, ◌≤◌, ◌++◌, IfOk, OnOk};
+ghost use Rattle.u_value.specs.Values.{pointer_text};
 ghost use Rattle.u_value.specs.Pointer.{pointer, IsPointer};
 
 use std::alloc::AllocError;
 use std::marker::Model;
-
 use u_name::Name;
+use u_text::push_behind;
 
 /// A structure: the name of the activity that made it, and its length, 0 to 1000000.
 #[derive(PartialEq, Eq, PartialOrd, Ord, Hash, Drop)]
@@ -61,5 +62,15 @@ impl Reference {
             name,
             length: self.length,
         })
+    }
+
+    /// Appends the text of the reference: `&name#length`.
+    #[tactic(auto, using(crate::proofs::Written::pointer_more))]
+    pub fn write_text(&self, out: &mut Vec<u8>) -> Result<(), AllocError>
+        ensures { OnOk result (out.new.items ≡ out.old.items ++ pointer_text self.now) }
+    {
+        out.push(b'&')?;
+        self.name().write_text(out)?;
+        push_behind(out, b'#', self.length())
     }
 }

@@ -1,11 +1,11 @@
 //! Values.
-ghost use Rattle.std.specs.Prelude.{◌≡◌, IfOk};
-
-use std::alloc::AllocError;
-
-use u_name::BlockName;
+ghost use Rattle.std.specs.Prelude.{◌≡◌, ◌++◌, ◌∷◌, IfOk, OnOk};
+ghost use Rattle.u_value.specs.Values.{value_text};
 
 use crate::reference::Reference;
+use crate::writing::push_signed;
+use std::alloc::AllocError;
+use u_name::BlockName;
 
 /// A value, as a token carries one. The kinds come in this order, and then the values by number,
 /// false before true, the bytes of the block's name, and the reference's name and length.
@@ -33,4 +33,27 @@ impl Value {
             Value::Ref(reference) => Value::Ref(reference.copy()?),
         })
     }
+
+    /// Appends the text of the value: `-7`, `true`, `@block` or `&name#length`.
+    #[tactic(auto, unfolding(crate::specs::Values::value_text))]
+    pub fn write_text(&self, out: &mut Vec<u8>) -> Result<(), AllocError>
+        ensures { OnOk result (out.new.items ≡ out.old.items ++ value_text self.now) }
+    {
+        match self {
+            Value::Int(number) => push_signed(out, *number),
+            Value::Bool(true) => out.extend_from_slice(b"true"),
+            Value::Bool(false) => out.extend_from_slice(b"false"),
+            Value::Proc(block) => push_block(out, block),
+            Value::Ref(reference) => reference.write_text(out),
+        }
+    }
+}
+
+/// `@block`
+#[tactic(auto, using(crate::proofs::Written::proc_more))]
+fn push_block(out: &mut Vec<u8>, block: &BlockName) -> Result<(), AllocError>
+    ensures { OnOk result (out.new.items ≡ out.old.items ++ (64 ∷ block.now)) }
+{
+    out.push(b'@')?;
+    out.extend_from_slice(block.as_bytes())
 }

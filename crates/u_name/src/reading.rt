@@ -1,4 +1,4 @@
-// Names read from bytes.
+//! Names read from bytes.
 ghost use Rattle.std.specs.Prelude.{◌≡◌, ◌≤◌, ◌<◌, ◌^◌, Ok, Err, MatchResult, IfOk, length, ◌∷◌, drop};
 ghost use Rattle.u_name.specs.Context.{depth, IsContext, Top};
 ghost use Rattle.u_name.specs.Block.{IsBlock};
@@ -6,12 +6,12 @@ ghost use Rattle.u_text.specs.Number.{number};
 ghost use Rattle.u_name.specs.BlockText.{block_at, begins_with_letter};
 ghost use Rattle.u_text.specs.Parts.{after_byte};
 ghost use Rattle.u_name.specs.NameReader as reader;
-ghost use Rattle.u_name.specs.Values.{step_value, frame_value, tail_value};
-ghost use Rattle.u_name.specs.Public.{IsNameAt, IsFaultAt};
-ghost use Rattle.u_name.specs.Faults.{Fails, FailsAt, IsFine};
+ghost use Rattle.u_name.specs.ReaderValues.{step_value, frame_value, tail_value};
+ghost use Rattle.u_name.specs.NameReading.{IsNameAt, IsNameErrorAt};
+ghost use Rattle.u_name.specs.ReaderFaults.{Fails, FailsAt, IsFine};
 ghost use Rattle.u_name.specs.NameLaws.{IsFrame, IsTail};
 ghost use Rattle.u_name.specs.NameSteps.{dash_at, paren_span, frames_from, name_steps};
-ghost use Rattle.u_name.specs.declared.name_text.ReadFault.TheVariants as faults;
+ghost use Rattle.u_name.specs.declared.reading.ReadFault.TheVariants as faults;
 
 use crate::block_name::BlockName;
 use crate::block_text::{begins_with_letter, block_len};
@@ -19,14 +19,17 @@ use crate::context::Context;
 use crate::name::Name;
 use std::alloc::{AllocError, AllocFailed, Global};
 use std::sync::Arc;
+use thiserror::Error;
 use u_text::number_at;
 
+/// What a context was entered by: a loop's number, or the number of the statement that called.
 #[derive(Clone, Copy)]
 enum Step {
     Loop(u8),
     Call(u16),
 }
 
+/// The part of a context's text behind the outer context's.
 #[derive(Clone, Copy)]
 struct Frame {
     block: BlockName,
@@ -225,6 +228,7 @@ impl<'a> Cursor<'a> {
     }
 }
 
+/// The context that the frame has around the outer one.
 fn extended(alloc: Global, outer: Context, frame: Frame) -> Result<Context, AllocError>
     requires shallow { depth outer < 64 }
     requires fine { IsFrame (frame_value frame) }
@@ -237,6 +241,7 @@ fn extended(alloc: Global, outer: Context, frame: Frame) -> Result<Context, Allo
     })
 }
 
+/// The part of a name's text behind the context's.
 #[derive(Clone, Copy)]
 struct Tail {
     block: BlockName,
@@ -244,6 +249,8 @@ struct Tail {
     initiation: u32,
 }
 
+/// Why a cursor gives no name. Where it is stuck, its rest begins with the byte that no name's text
+/// allows.
 #[derive(Debug, Drop)]
 enum ReadFault {
     Stuck,
@@ -275,28 +282,41 @@ impl<T: Drop> From<AllocFailed<T>> for ReadFault {
     }
 }
 
-#[derive(Debug, Drop)]
-pub enum NameFault {
-    /// Where the first byte stands that no name's text allows.
+/// Why no name is read.
+#[derive(Debug, Drop, PartialEq, Eq, Error)]
+pub enum NameTextError {
+    /// No name's text begins there. It holds the offset, in all the bytes, of the first byte with
+    /// which what begins there is no longer the front of a name's text.
+    #[error("byte {0}: no name is written so")]
     BadName(usize),
+    /// The text begins with 65 or more `(`.
+    #[error("the context is deeper than 64")]
     Deep,
+    /// A growth was refused.
+    #[error("no memory")]
     NoMemory,
 }
 
-/// The longest name that begins at the offset, and its end.
-pub fn read_at(alloc: Global, bytes: &[u8], offset: usize) -> Result<(Name, usize), NameFault>
-    requires { offset ≤ length bytes.now }
-    ensures { MatchResult result
-        (λ found. IsNameAt bytes.now offset found.0 found.1)
-        (λ fault. IsFaultAt bytes.now offset fault) }
-{
-    let rest = behind(bytes, offset);
-    let mut cursor = Cursor { rest };
-    match cursor.name(alloc) {
-        Ok(name) => Ok((name, bytes.len() - cursor.rest.len())),
-        Err(ReadFault::Stuck) => Err(NameFault::BadName(bytes.len() - cursor.rest.len())),
-        Err(ReadFault::Deep) => Err(NameFault::Deep),
-        Err(ReadFault::NoMemory) => Err(NameFault::NoMemory),
+impl Name {
+    /// The name of the longest text of a name that begins at the offset, and the offset behind it.
+    pub fn read_at(
+        alloc: Global,
+        bytes: &[u8],
+        offset: usize,
+    ) -> Result<(Name, usize), NameTextError>
+        requires { offset ≤ length bytes.now }
+        ensures { MatchResult result
+            (λ found. IsNameAt bytes.now offset found.0 found.1)
+            (λ error. IsNameErrorAt bytes.now offset error) }
+    {
+        let rest = behind(bytes, offset);
+        let mut cursor = Cursor { rest };
+        match cursor.name(alloc) {
+            Ok(name) => Ok((name, bytes.len() - cursor.rest.len())),
+            Err(ReadFault::Stuck) => Err(NameTextError::BadName(bytes.len() - cursor.rest.len())),
+            Err(ReadFault::Deep) => Err(NameTextError::Deep),
+            Err(ReadFault::NoMemory) => Err(NameTextError::NoMemory),
+        }
     }
 }
 

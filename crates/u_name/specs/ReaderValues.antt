@@ -1,9 +1,9 @@
 use Rattle.std.specs.Prelude.{ℕ, ◌⊎◌, List}
 use Rattle.std.proofs.Common.{inl, inr}
-use Rattle.u_name.specs.declared.name_text.Step.{Step}
-use Rattle.u_name.specs.declared.name_text.Step.TheVariants.{Loop, Call}
-use Rattle.u_name.specs.declared.name_text.Frame.{Frame}
-use Rattle.u_name.specs.declared.name_text.Tail.{Tail}
+use Rattle.u_name.specs.declared.reading.Step.{Step}
+use Rattle.u_name.specs.declared.reading.Step.TheVariants.{Loop, Call}
+use Rattle.u_name.specs.declared.reading.Frame.{Frame}
+use Rattle.u_name.specs.declared.reading.Tail.{Tail}
 use Rattle.u_name.specs.NameReader as reader
 
 abbrev pub step_value : Step → ℕ ⊎ ℕ

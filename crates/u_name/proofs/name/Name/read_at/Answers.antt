@@ -1,7 +1,7 @@
 use Rattle.std.proofs.Common.{◌∙◌, ap, sym, subst, ◌≤◌, List, ℕ}
 use Rattle.u_name.specs.NameSteps.{name_steps, paren_span}
-use Rattle.u_name.specs.Public.{name_found, name_refused, found_within, refused_within}
-use Rattle.u_name.proofs.name_text.read_at.Goals as goal
+use Rattle.u_name.specs.NameReading.{name_found, name_refused, found_within, refused_within}
+use Rattle.u_name.proofs.name.Name.read_at.Goals as goal
 
 pub overflow_sub-result : goal.overflow_sub-result
 overflow_sub-result c = found_within c.args.bytes.now c.args.offset c.in-Ok.name c.name.new.self.rest.now (ap name_steps c.behind-rest.ensures ∙ c.in-Ok.ensures.1)

@@ -1,5 +1,5 @@
 use Rattle.u_name.proofs.Fine.{tail_is_fine}
-use Rattle.u_name.proofs.name_text.Cursor.tail.Goals as goal
+use Rattle.u_name.proofs.reading.Cursor.tail.Goals as goal
 
 pub returns-clause-fine : goal.returns-clause-fine
 returns-clause-fine c = tail_is_fine c.tail_parts.result c.args.self.now.rest.now c.tail_parts.new.self.rest.now c.tail_parts.ensures

@@ -1,6 +1,6 @@
 use Rattle.std.specs.Prelude.{◌≡◌, ℕ, ◌<◌, ◌≤◌, List, Result, Err}
-use Rattle.u_name.specs.declared.name_text.ReadFault.{ReadFault}
-use Rattle.u_name.specs.declared.name_text.ReadFault.TheVariants.{Stuck, Deep, NoMemory}
+use Rattle.u_name.specs.declared.reading.ReadFault.{ReadFault}
+use Rattle.u_name.specs.declared.reading.ReadFault.TheVariants.{Stuck, Deep, NoMemory}
 
 -- stuck where the reader is, or out of memory
 abbrev pub Fails : {Y : Type 0} → ReadFault → Result Y (List ℕ) → List ℕ → Type 0

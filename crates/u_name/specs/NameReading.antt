@@ -1,23 +1,22 @@
+-- What reading a name at an offset answers.
 use Rattle.std.specs.Prelude.{◌≡◌, ℕ, ◌+◌, ◌-◌, ◌<◌, ◌≤◌, List, drop, length, Result, Ok, Err}
 use Rattle.std.proofs.Common.{arith, subst, ap, sym, length-drop, length-append, ◌∙◌}
 use Rattle.u_name.specs.Name.{Activity, IsName}
 use Rattle.u_name.specs.NameText.{name_text}
 use Rattle.u_name.specs.NameSteps.{name_steps, name_steps_Reads, paren_span}
 use Rattle.u_text.specs.Longest.{IsLongest, IsRefusedAt, is_longest, is_refused_at}
-use Rattle.u_name.specs.declared.name_text.NameFault.{NameFault}
-use Rattle.u_name.specs.declared.name_text.NameFault.TheVariants.{BadName, Deep, NoMemory}
-
-abbrev pub IsTooDeep : List ℕ → Type 0
-IsTooDeep bytes = paren_span 65 bytes ≡ 65
+use Rattle.u_name.specs.declared.reading.NameTextError.{NameTextError}
+use Rattle.u_name.specs.declared.reading.NameTextError.TheVariants.{BadName, Deep, NoMemory}
 
 -- the name of the longest text that begins at the offset, and its end
 abbrev pub IsNameAt : List ℕ → ℕ → Activity → ℕ → Type 0
 IsNameAt bytes offset name end = (offset ≤ end) × IsLongest name_text IsName (drop offset bytes) name (end - offset)
 
-abbrev pub IsFaultAt : List ℕ → ℕ → NameFault → Type 0
-IsFaultAt bytes offset (BadName k) = (offset ≤ k) × IsRefusedAt name_text IsName (drop offset bytes) (k - offset) × (paren_span 65 (drop offset bytes) ≤ 64)
-IsFaultAt bytes offset Deep = 64 < paren_span 65 (drop offset bytes)
-IsFaultAt bytes offset NoMemory = Unit {0}
+-- no name's text begins at the offset, and k is where the longest front of one ends; or 65 `(` stand there; or a growth was refused
+abbrev pub IsNameErrorAt : List ℕ → ℕ → NameTextError → Type 0
+IsNameErrorAt bytes offset (BadName k) = (offset ≤ k) × IsRefusedAt name_text IsName (drop offset bytes) (k - offset) × (paren_span 65 (drop offset bytes) ≤ 64)
+IsNameErrorAt bytes offset Deep = 64 < paren_span 65 (drop offset bytes)
+IsNameErrorAt bytes offset NoMemory = Unit {0}
 
 ends : (bytes : List ℕ) (offset left : ℕ) → offset ≤ length bytes → left ≤ length (drop offset bytes) → (offset ≤ length bytes - left) × (length bytes - left - offset ≡ length (drop offset bytes) - left)
 ends bytes offset left h k = (omega (arith, length-drop offset bytes), omega (arith, length-drop offset bytes))
@@ -29,7 +28,7 @@ name_found bytes offset name rest h e =
     let n = ends bytes offset (length rest) h l in
     (n.0, subst (λ k. IsLongest name_text IsName (drop offset bytes) name k) (sym n.1) (is_longest name_steps_Reads (drop offset bytes) name rest e))
 
-pub name_refused : (bytes : List ℕ) (offset : ℕ) (rest : List ℕ) → offset ≤ length bytes → name_steps (drop offset bytes) ≡ Err rest → paren_span 65 (drop offset bytes) ≤ 64 → IsFaultAt bytes offset (BadName (length bytes - length rest))
+pub name_refused : (bytes : List ℕ) (offset : ℕ) (rest : List ℕ) → offset ≤ length bytes → name_steps (drop offset bytes) ≡ Err rest → paren_span 65 (drop offset bytes) ≤ 64 → IsNameErrorAt bytes offset (BadName (length bytes - length rest))
 name_refused bytes offset rest h e d =
     let s = name_steps_Reads.viable (drop offset bytes) rest e in
     let l : length rest ≤ length (drop offset bytes) = omega (arith, ap length s.3, length-append s.0 rest) in

@@ -1,0 +1,82 @@
+-- What a set of keys in order has, and what an insert makes of it.
+use Rattle.std.proofs.Common.{◌≡◌, ◌↔◌, ◌⊎◌, inl, inr, List, [], ◌∷◌, Bool, true, false, ◌||◌, IsTrue, Contains, subst, sym, ◌∙◌, ap, refl, Ordering, not}
+use Rattle.std.specs.Cmp.{IsTotalOrder, tied_itself}
+use Rattle.std.specs.List.{list_any}
+use Rattle.std.specs.Ordering.{is_eq, match_ordering, ordering_reverse}
+use Rattle.std.specs.BTreeMap.{is_at}
+use Rattle.std.specs.BTreeSet.{insert_key}
+use Rattle.std.specs.declared.cmp.Ordering.TheVariants.{Less, Equal, Greater}
+use Rattle.u_system.proofs.Member.{Contains-nil, Contains-head, Contains-tail, Contains-cons_cases}
+use Rattle.u_system.specs.Rising.{Rises, IsExact, IsWith}
+
+module _ {X : Type 0} (R : X → X → Ordering) (o : IsTotalOrder R) (exact : IsExact R) where
+  is_equal : (r : Ordering) → is_eq r ≡ true → r ≡ Equal
+  is_equal Less h = cc
+  is_equal Equal h = refl
+  is_equal Greater h = cc
+
+  or_true : (a b : Bool) → (a || b) ≡ true → (a ≡ true) ⊎ (b ≡ true)
+  or_true true b h = inl refl
+  or_true false b h = inr h
+
+  true_or : (a b : Bool) → b ≡ true → (a || b) ≡ true
+  true_or true b h = refl
+  true_or false b h = h
+
+  pub found : (xs : List X) (x : X) → list_any (is_at (R x)) xs ≡ true → Contains xs x
+  found [] x h = cc
+  found (y ∷ ys) x h =
+      elim (or_true (is_at (R x) y) (list_any (is_at (R x)) ys) h)
+        [ inl e ↦ subst (λ (z : X). Contains (y ∷ ys) z) (sym (exact x y (is_equal (R x y) e))) (Contains-head y ys)
+        | inr k ↦ Contains-tail y x ys (found ys x k) ]
+
+  pub finds : (xs : List X) (x : X) → Contains xs x → list_any (is_at (R x)) xs ≡ true
+  finds [] x m = absurd (Contains-nil x m)
+  finds (y ∷ ys) x m =
+      elim (Contains-cons_cases y x ys m)
+        [ inl e ↦ ap (λ t. is_eq t || list_any (is_at (R x)) ys) (subst (λ (z : X). R x z ≡ Equal) (sym e) (tied_itself o x))
+        | inr k ↦ true_or (is_at (R x) y) (list_any (is_at (R x)) ys) (finds ys x k) ]
+
+  -- the set with x besides
+  pub inserts : (xs : List X) (x : X) → IsWith xs x (insert_key R xs x)
+  inserts [] x z = ((λ m. elim (Contains-cons_cases x z [] m) [ inl e ↦ inr e | inr n ↦ inl n ]), λ s. elim s [ inl n ↦ absurd (Contains-nil z n) | inr e ↦ subst (λ (w : X). Contains (x ∷ []) w) e (Contains-head x []) ])
+  inserts (y ∷ ys) x z = at (inserts ys x) (R x y) refl
+    where
+      at : IsWith ys x (insert_key R ys x) → (r : Ordering) → R x y ≡ r → Contains (match_ordering r (x ∷ y ∷ ys) (y ∷ ys) (y ∷ insert_key R ys x)) z ↔ (Contains (y ∷ ys) z ⊎ (x ≡ z))
+      at rest Less e = ((λ m. elim (Contains-cons_cases x z (y ∷ ys) m) [ inl p ↦ inr p | inr n ↦ inl n ]), λ s. elim s [ inl n ↦ Contains-tail x z (y ∷ ys) n | inr p ↦ subst (λ (w : X). Contains (x ∷ y ∷ ys) w) p (Contains-head x (y ∷ ys)) ])
+      at rest Equal e = ((λ m. inl m), λ s. elim s [ inl n ↦ n | inr p ↦ subst (λ (w : X). Contains (y ∷ ys) w) (sym (exact x y e) ∙ p) (Contains-head y ys) ])
+      at rest Greater e = (to, back)
+        where
+          to : Contains (y ∷ insert_key R ys x) z → Contains (y ∷ ys) z ⊎ (x ≡ z)
+          to m =
+              elim (Contains-cons_cases y z (insert_key R ys x) m)
+                [ inl p ↦ inl (subst (λ (w : X). Contains (y ∷ ys) w) p (Contains-head y ys))
+                | inr n ↦ elim ((rest z).0 n) [ inl k ↦ inl (Contains-tail y z ys k) | inr k ↦ inr k ] ]
+          back : Contains (y ∷ ys) z ⊎ (x ≡ z) → Contains (y ∷ insert_key R ys x) z
+          back (inl m) =
+              elim (Contains-cons_cases y z ys m)
+                [ inl p ↦ subst (λ (w : X). Contains (y ∷ insert_key R ys x) w) p (Contains-head y (insert_key R ys x))
+                | inr n ↦ Contains-tail y z (insert_key R ys x) ((rest z).1 (inl n)) ]
+          back (inr e) = Contains-tail y z (insert_key R ys x) ((rest z).1 (inr e))
+
+  turn : (x y : X) → R x y ≡ Greater → R y x ≡ Less
+  turn x y e = o.antisymm y x ∙ ap ordering_reverse e
+
+  pub rises_still : (xs : List X) (x : X) → Rises R xs → Rises R (insert_key R xs x)
+  rises_still [] x r = ((λ y m. absurd (Contains-nil y m)), tt)
+  rises_still (y ∷ ys) x r = at (rises_still ys x r.1) (R x y) refl
+    where
+      at : Rises R (insert_key R ys x) → (t : Ordering) → R x y ≡ t → Rises R (match_ordering t (x ∷ y ∷ ys) (y ∷ ys) (y ∷ insert_key R ys x))
+      at still Less e =
+          ((λ z m. elim (Contains-cons_cases y z ys m) [ inl p ↦ subst (λ (w : X). R x w ≡ Less) p e | inr n ↦ o.trans x y z e (r.0 z n) ]), r)
+      at still Equal e = r
+      at still Greater e =
+          ((λ z m. elim ((inserts ys x z).0 m) [ inl n ↦ r.0 z n | inr p ↦ subst (λ (w : X). R y w ≡ Less) p (turn x y e) ]), still)
+
+  -- whether x was not there
+  pub was_new : (xs : List X) (x : X) (b : Bool) → b ≡ not (list_any (is_at (R x)) xs) → IsTrue b ↔ (Contains xs x → ⊥)
+  was_new xs x b h = at (list_any (is_at (R x)) xs) refl
+    where
+      at : (t : Bool) → list_any (is_at (R x)) xs ≡ t → IsTrue b ↔ (Contains xs x → ⊥)
+      at true e = let f : b ≡ false = h ∙ ap not e in ((λ g. cc), λ n. absurd (n (found xs x e)))
+      at false e = let f : b ≡ true = h ∙ ap not e in ((λ g m. let k = finds xs x m in cc), λ n. f)
