@@ -1,5 +1,6 @@
 //! Reports.
 ghost use Rattle.std.specs.Prelude.{◌≡◌, ◌++◌, Contains, OnOk, IfOk, codes, decimal, length};
+ghost use Rattle.u_name.specs.Context.{IsBetween};
 ghost use Rattle.u_history.specs.Says.{IsOutcome};
 ghost use Rattle.u_history.specs.Verdicts.{judgement};
 ghost use Rattle.u_history.specs.Report.{texts, count_line, state_line, answer_line, cell_line, port_line, fault_line, verdict_line, counts_text, outcome_text, report_text, IsReportOf};
@@ -206,8 +207,6 @@ pub fn report_text(
 
 #[cfg(test)]
 mod tests {
-    ghost use Rattle.u_name.specs.Context.{IsBetween};
-
     use super::*;
     use std::alloc::AllocError;
     use std::test::Fail;

@@ -16,4 +16,4 @@ along r P es fs e h = subst (λ (gs : List Entry). IfOk r (P gs)) e h
 pub returns : goal.returns
 returns c =
     along c.of.result (λ (es : List Entry) (o : Outcome). IsOutcome (Contains es) o.answers.items o.cell_clashes.items o.port_clashes.items o.faults.items) (lent c.deref.result.now) c.args.self.now
-      (ap lent c.deref.ensures.value ∙ c.in_ok-entries.ensures.all) c.of.ensures
+    (ap lent c.deref.ensures.value ∙ c.in_ok-entries.ensures.all) c.of.ensures
