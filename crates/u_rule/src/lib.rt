@@ -10,5 +10,5 @@ mod values;
 pub use entry::Entry;
 pub use firing::{Firing, Written};
 pub use parts::{Fault, Token, Write};
-pub use rule::is_firing;
+pub use rule::{RuleError, gives, is_firing, needs, start};
 pub use values::Values;
