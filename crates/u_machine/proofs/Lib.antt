@@ -4,3 +4,6 @@ pub mod Blank
 pub mod JoinLaws
 pub mod Neighbours
 pub mod ScanLaws
+pub mod States
+pub mod Runs
+pub mod Same

@@ -3,7 +3,9 @@
 
 mod answer;
 mod entering;
+mod machine;
 mod scan;
 
 pub use answer::{Ran, Refusal, Step};
-
+pub use machine::Machine;
+pub use scan::enabled_firings;
