@@ -5,3 +5,5 @@ pub mod Choice
 pub mod Number
 pub mod Longest
 pub mod Pieces
+pub mod WholeWords
+pub mod Spaced
