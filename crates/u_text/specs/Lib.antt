@@ -7,3 +7,4 @@ pub mod Longest
 pub mod Pieces
 pub mod WholeWords
 pub mod Spaced
+pub mod Appending
