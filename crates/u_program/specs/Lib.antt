@@ -4,3 +4,6 @@ pub mod Text
 pub mod Laws
 pub mod Reading
 pub mod Refuses
+pub mod Begun
+pub mod Faults
+pub mod Answer

@@ -2,9 +2,12 @@
 #![tactic(auto)]
 
 mod kind_words;
+mod part;
 mod program;
 mod read_error;
 mod reading;
+mod text;
 
 pub use program::{Block, Constant, Destination, Kind, Program, Statement};
 pub use read_error::ReadError;
+pub use text::read;
