@@ -6,3 +6,4 @@ pub mod Steps
 pub mod Whole
 pub mod Same
 pub mod Refused
+pub mod Written

@@ -24,7 +24,7 @@ pub blocks_lines-append : (done : List BlockParts) (b : BlockParts) → blocks_l
 blocks_lines-append [] b = append-nil (block_lines b)
 blocks_lines-append (d ∷ ds) b = ap (λ t. block_lines d ++ t) (blocks_lines-append ds b) ∙ sym (append_assoc (block_lines d) (blocks_lines ds) (block_lines b))
 
-statement_lines-append : (n : ℕ) (ss : List StatementParts) (s : StatementParts) → statement_lines n (ss ++ (s ∷ [])) ≡ statement_lines n ss ++ (statement_line (n + length ss) s ∷ [])
+pub statement_lines-append : (n : ℕ) (ss : List StatementParts) (s : StatementParts) → statement_lines n (ss ++ (s ∷ [])) ≡ statement_lines n ss ++ (statement_line (n + length ss) s ∷ [])
 statement_lines-append n [] s = let e : n ≡ n + 0 = omega arith in ap (λ m. statement_line m s ∷ []) e
 statement_lines-append n (t ∷ ts) s = let e : suc n + length ts ≡ n + suc (length ts) = omega arith in ap (λ u. statement_line n t ∷ u) (statement_lines-append (suc n) ts s ∙ ap (λ m. statement_lines (suc n) ts ++ (statement_line m s ∷ [])) e)
 

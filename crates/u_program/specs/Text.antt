@@ -38,9 +38,13 @@ argument_words k = []
 abbrev pub destination_word : Destination → List ℕ
 destination_word d = decimal d.statement ++ (46 ∷ decimal d.port)
 
+-- what stands behind a statement's region
+abbrev pub tail_words : Kind → List Destination → List (List ℕ)
+tail_words kind to = kind_word kind ∷ (argument_words kind ++ (arrow ∷ map destination_word to))
+
 -- what stands behind a statement's number
 abbrev pub statement_words : StatementParts → List (List ℕ)
-statement_words s = decimal s.region ∷ kind_word s.kind ∷ (argument_words s.kind ++ (arrow ∷ map destination_word s.to))
+statement_words s = decimal s.region ∷ tail_words s.kind s.to
 
 -- `block NAME`
 unfoldable pub block_line : List ℕ → List ℕ

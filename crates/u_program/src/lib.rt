@@ -7,6 +7,7 @@ mod program;
 mod read_error;
 mod reading;
 mod text;
+mod writing;
 
 pub use program::{Block, Constant, Destination, Kind, Program, Statement};
 pub use read_error::ReadError;

@@ -53,3 +53,14 @@ pub fn push_behind(out: &mut Vec<u8>, byte: u8, n: u32) -> Result<(), AllocError
     push_number(out, n)?;
     Ok(())
 }
+
+/// Appends a space and a word. On an error a part of it may stand there.
+#[tactic(auto, using(crate::specs::Appending::extends_same, crate::specs::Appending::extends_behind, std::proofs::Common::append_assoc))]
+pub fn push_spaced(out: &mut Vec<u8>, word: &[u8]) -> Result<(), AllocError>
+    ensures ok { OnOk result (out.new.items ≡ out.old.items ++ (32 ∷ word.now)) }
+    ensures err { OnErr result (Extends out.old.items out.new.items) }
+{
+    out.push(b' ')?;
+    out.extend_from_slice(word)?;
+    Ok(())
+}
