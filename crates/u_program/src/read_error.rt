@@ -5,7 +5,7 @@ use std::alloc::{AllocError, AllocFailed};
 use thiserror::Error;
 
 /// Why no program was read. Lines are counted from 1.
-#[derive(Debug, Drop, Error, PartialEq, Eq)]
+#[derive(Clone, Copy, Debug, PartialEq, Eq, Error)]
 pub enum ReadError {
     /// The first line that is not allowed where it stands.
     #[error("program line {0} not allowed")]

@@ -12,7 +12,14 @@ use crate::part::{LineFault, Part};
 use crate::program::Program;
 use crate::read_error::ReadError;
 
-/// The program whose text the bytes are.
+/// The program whose text the bytes are. Each program has one text, which `Program::write_text`
+/// writes, so the two are inverse to each other.
+///
+/// A line ends with a newline. Lines are judged from the first one, and the first that no program
+/// could have there is named: by `BadLine`, or by `TooMany` where the line is right but for the number
+/// of blocks (64), of statements of a block (999) or of destinations of a statement (16). Where
+/// no such line is found, and the bytes are no program's text, the answer is `Truncated`, whatever
+/// stands behind the last newline. The text of a program is refused for want of memory alone.
 #[tactic(auto, using(crate::proofs::Same::read_back))]
 pub fn read(alloc: Global, bytes: &[u8]) -> Result<Program, ReadError>
     ensures answer { MatchResult result (λ program. IsTextOf bytes.now program) (λ fault. IsReadError bytes.now fault) }
@@ -21,6 +28,7 @@ pub fn read(alloc: Global, bytes: &[u8]) -> Result<Program, ReadError>
     read_lines(alloc, bytes)
 }
 
+/// Reads line by line: the two first lines, and then what may follow them.
 fn read_lines(alloc: Global, bytes: &[u8]) -> Result<Program, ReadError>
     ensures { MatchResult result (λ program. IsTextOf bytes.now program) (λ fault. IsReadError bytes.now fault) }
 {
@@ -53,6 +61,7 @@ fn read_lines(alloc: Global, bytes: &[u8]) -> Result<Program, ReadError>
     Ok(part.finish()?)
 }
 
+/// The fault of a line, with the line's number.
 fn at_line(fault: LineFault, line: usize) -> ReadError
     ensures { result ≡ fault_at fault line }
 {
