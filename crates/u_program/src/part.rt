@@ -44,6 +44,7 @@ impl<T: Drop> From<AllocFailed<T>> for LineFault {
 }
 
 impl Part {
+    /// The part with the line that begins a block.
     #[tactic(auto, using(crate::proofs::Steps::block_closed, crate::proofs::Steps::block_over, crate::proofs::Steps::block_taken))]
     fn with_block(self, alloc: Global, name: BlockName) -> Result<Part, LineFault>
         requires part { IsPart the_limits self.done.items self.last }
@@ -66,6 +67,7 @@ impl Part {
         })
     }
 
+    /// The part with the line of a statement.
     #[tactic(auto, using(crate::proofs::Steps::number_wrong, crate::proofs::Steps::statement_over, crate::proofs::Steps::statement_taken))]
     fn with_statement(self, number: u32, statement: Statement) -> Result<Part, LineFault>
         requires part { IsPart the_limits self.done.items self.last }
@@ -85,6 +87,7 @@ impl Part {
         Ok(Part { done, last })
     }
 
+    /// The part with one more line, which says why where it may not go on so.
     #[tactic(auto, using(crate::proofs::LineLaws::line_sound, crate::proofs::Steps::no_line))]
     pub fn with_line(self, alloc: Global, text: &[u8]) -> Result<Part, LineFault>
         requires part { IsPart the_limits self.done.items self.last }
@@ -103,7 +106,7 @@ impl Part {
         }
     }
 
-    /// A part with one line behind the header.
+    /// The part that one line behind the header begins.
     #[tactic(auto, using(crate::proofs::Whole::first_part))]
     pub fn first(alloc: Global, text: &[u8]) -> Result<Part, LineFault>
         ensures { MatchResult result

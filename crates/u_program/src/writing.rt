@@ -2,6 +2,7 @@
 ghost use Rattle.std.specs.Prelude.{◌≡◌, ◌+◌, ◌<◌, ◌^◌, ◌++◌, ◌∷◌, [], map, OnOk, OnErr};
 ghost use Rattle.u_text.specs.Appending.{Extends};
 ghost use Rattle.u_text.specs.Spaced.{spaced, ended};
+ghost use Rattle.u_program.specs.Limits.{IsProgram, the_limits};
 ghost use Rattle.u_program.specs.Text.{kind_word, constant_word, argument_words, destination_word, tail_words, statement_line, statement_lines, block_lines, blocks_lines, program_text};
 
 use std::alloc::AllocError;
@@ -128,9 +129,11 @@ impl Program {
     pub fn write_text(&self, out: &mut Vec<u8>) -> Result<(), AllocError>
         ensures ok { OnOk result (out.new.items ≡ out.old.items ++ program_text self.now) }
         ensures err { OnErr result (Extends out.old.items out.new.items) }
+        ensures limits { IsProgram the_limits self.now }
     {
+        let blocks = self.blocks();
         out.extend_from_slice(b"u-program 1\n")?;
-        push_blocks(out, self.blocks())?;
+        push_blocks(out, blocks)?;
         Ok(())
     }
 }
