@@ -243,5 +243,8 @@ module _ (max : ℕ) (low : 9 ≤ max) (high : max < 2 ^ 64) where
 pub number_bound : (max : ℕ) (bs : List ℕ) (x : ℕ) (rest : List ℕ) → 9 ≤ max → max < 2 ^ 64 → number max bs ≡ Ok (x, rest) → x ≤ max
 number_bound max bs x rest low high h = ((number_Reads max low high).sound bs x rest h).0.1
 
+pub number_least : (max : ℕ) (bs : List ℕ) (x : ℕ) (rest : List ℕ) → 9 ≤ max → max < 2 ^ 64 → number max bs ≡ Ok (x, rest) → 1 ≤ x
+number_least max bs x rest low high h = ((number_Reads max low high).sound bs x rest h).0.0
+
 pub decimal_digits : (n : ℕ) → n < 2 ^ 64 → AllDigit (decimal n)
 decimal_digits n h = all_digits (decimal n) (digits_decimal own n h)
