@@ -23,7 +23,7 @@ lies : (name : List ℕ) → IsBlock name → LiesWell (inside (name ++ drop (le
 lies name b =
     let t = take-append_seam name (drop (length name) (replicate 16 0)) in
     let d = drop-append_seam name (drop (length name) (replicate 16 0)) in
-    let r = drop-replicate (length name) 16 0 in
+    let r : drop (length name) (replicate 16 0) ≡ replicate (16 - length name) 0 = drop-replicate (length name) 16 0 in
     record {
       whole = simp (length-append, length-drop, length-replicate) (omega (arith, b.short));
       name = subst IsBlock (sym t) b;
