@@ -78,51 +78,56 @@ fn a_name_ends_where_no_more_belongs_to_it(rt: HostRuntime) -> Result<(), Fail> 
     Ok(())
 }
 
+/// The text of what a linkage call gave.
+fn shown(alloc: Global, name: Result<Name, NameError>) -> Result<Vec<u8>, Fail> {
+    written(alloc, &name?)
+}
+
 #[test]
-fn linkage_names_what_comes_next(rt: HostRuntime) -> Result<(), Fail> {
+fn enter_goes_into_a_loop(rt: HostRuntime) -> Result<(), Fail> {
     let alloc = rt.alloc();
-    let plain = read(alloc, "-.main.1.1")?.plain(3)?;
-    assert_eq!(rt;
-        written(alloc, &plain)?.as_slice(),
-        b"-.main.3.1".as_slice()
-    );
-    let entered = read(alloc, "-.main.2.1")?.enter(alloc, 1, 5)?;
-    assert_eq!(rt;
-        written(alloc, &entered)?.as_slice(),
-        b"(-.main.L1.1).main.5.1".as_slice()
-    );
-    let next = read(alloc, "(-.main.L1.1).main.13.2")?.next(5)?;
-    assert_eq!(rt;
-        written(alloc, &next)?.as_slice(),
-        b"(-.main.L1.1).main.5.3".as_slice()
-    );
-    let last = read(alloc, "(-.main.L1.1).main.15.4")?.last(16)?;
-    assert_eq!(rt;
-        written(alloc, &last)?.as_slice(),
-        b"(-.main.L1.1).main.16.1".as_slice()
-    );
+    let name = read(alloc, "-.main.2.1")?;
+    let text = shown(alloc, name.enter(alloc, 1, 5))?;
+    assert_eq!(rt; text.as_slice(), b"(-.main.L1.1).main.5.1".as_slice());
     Ok(())
 }
 
 #[test]
-fn linkage_goes_in_and_out_of_contexts(rt: HostRuntime) -> Result<(), Fail> {
+fn next_goes_on_counting(rt: HostRuntime) -> Result<(), Fail> {
     let alloc = rt.alloc();
-    let inside = read(alloc, "(-.main.L1.1).main.16.1")?;
-    assert!(rt; inside.in_loop(), "the context is a loop's");
-    let outside = inside.leave(17)?;
-    assert_eq!(rt;
-        written(alloc, &outside)?.as_slice(),
-        b"-.main.17.1".as_slice()
-    );
+    let name = read(alloc, "(-.main.L1.1).main.13.2")?;
+    let text = shown(alloc, name.next(5))?;
+    assert_eq!(rt; text.as_slice(), b"(-.main.L1.1).main.5.3".as_slice());
+    Ok(())
+}
+
+#[test]
+fn leave_goes_out_of_a_loop(rt: HostRuntime) -> Result<(), Fail> {
+    let alloc = rt.alloc();
+    let name = read(alloc, "(-.main.L1.1).main.16.1")?;
+    assert!(rt; name.in_loop());
+    let text = shown(alloc, name.leave(17))?;
+    assert_eq!(rt; text.as_slice(), b"-.main.17.1".as_slice());
+    Ok(())
+}
+
+#[test]
+fn call_goes_into_a_block(rt: HostRuntime) -> Result<(), Fail> {
+    let alloc = rt.alloc();
+    let name = read(alloc, "-.main.3.1")?;
     let block = BlockName::read(b"fact").ok_or("no block")?;
-    let called = read(alloc, "-.main.3.1")?.call(alloc, block)?;
-    assert_eq!(rt;
-        written(alloc, &called)?.as_slice(),
-        b"(-.main.3.1).fact.1.1".as_slice()
-    );
-    assert!(rt; called.in_call(), "the context is a call's");
-    let back = called.back(4)?;
-    assert_eq!(rt; written(alloc, &back)?.as_slice(), b"-.main.4.1".as_slice());
+    let text = shown(alloc, name.call(alloc, block))?;
+    assert_eq!(rt; text.as_slice(), b"(-.main.3.1).fact.1.1".as_slice());
+    Ok(())
+}
+
+#[test]
+fn back_goes_to_the_caller(rt: HostRuntime) -> Result<(), Fail> {
+    let alloc = rt.alloc();
+    let name = read(alloc, "(-.main.3.1).fact.9.1")?;
+    assert!(rt; name.in_call());
+    let text = shown(alloc, name.back(4))?;
+    assert_eq!(rt; text.as_slice(), b"-.main.4.1".as_slice());
     Ok(())
 }
 
