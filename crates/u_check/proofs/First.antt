@@ -1,14 +1,14 @@
 -- The first place that breaks a rule.
-use Rattle.std.proofs.Common.{◌≡◌, ℕ, ◌+◌, ◌-◌, ◌<◌, ◌≤◌, ◌⊎◌, inl, inr, refl, sym, ap, ◌∙◌, subst, arith, true, false, List, length, Option, Some, None, below_more}
+use Rattle.std.proofs.Common.{◌≡◌, ℕ, ◌+◌, ◌-◌, ◌<◌, ◌≤◌, inl, inr, refl, sym, ap, ◌∙◌, subst, arith, true, false, List, length, Some}
 use Rattle.std.specs.Prelude.{slice_get}
 use Rattle.std.proofs.lemmas.Bool.{false≢true}
 use Rattle.std.proofs.lemmas.Option.{slice_get_within}
 use Rattle.u_program.specs.Parts.{StatementParts, BlockParts}
 use Rattle.u_check.specs.declared.rule.Rule.{Rule}
-use Rattle.u_check.specs.Rules.{statement_at, program_keeps, block_keeps, statement_keeps, ProgramBreaks, BlockBreaks, StatementBreaks, InBlockBreaks, Breaches, IsEarlier, IsFirstOfRule}
+use Rattle.u_check.specs.Rules.{program_keeps, block_keeps, statement_keeps, StatementBreaks, Breaches, IsFirstOfRule}
 
 -- the place of number i + 1
-at_place : {X : Type 0} (xs : List X) (i : ℕ) → slice_get xs (i + 1 - 1) ≡ slice_get xs i
+pub at_place : {X : Type 0} (xs : List X) (i : ℕ) → slice_get xs (i + 1 - 1) ≡ slice_get xs i
 at_place xs i = let e : i + 1 - 1 ≡ i = omega arith in ap (slice_get xs) e
 
 one_of : {X : Type 0} (xs : List X) (i : ℕ) (x y : X) → slice_get xs i ≡ Some x → slice_get xs (i + 1 - 1) ≡ Some y → x ≡ y
@@ -58,21 +58,21 @@ module _ (p : List BlockParts) (rule : Rule) where
 
   pub first_at_program : program_keeps rule p ≡ false → IsFirstOfRule p rule 0 0
   first_at_program k = record {
-      breach = inl (record { broken = k; no_block = refl; no_statement = refl });
-      first = λ b s w e. elim e [ inl h ↦ omega arith | inr h ↦ omega (arith, h.1) ]
-    }
+    breach = inl (record { broken = k; no_block = refl; no_statement = refl });
+    first = λ b s w e. elim e [ inl h ↦ omega arith | inr h ↦ omega (arith, h.1) ];
+  }
 
   pub first_at_block : (i : ℕ) (it : BlockParts) → slice_get p i ≡ Some it → block_keeps rule p (i + 1) it ≡ false → ((b s : ℕ) → b < i + 1 → Breaches p rule b s → ⊥) → IsFirstOfRule p rule (i + 1) 0
   first_at_block i it at k before = record {
-      breach = inr (inl (record { counts = omega arith; it = it; stands = at_place p i ∙ at; broken = k; no_statement = refl }));
-      first = λ b s w e. elim e [ inl h ↦ before b s h w | inr h ↦ omega (arith, h.1) ]
-    }
+    breach = inr (inl (record { counts = omega arith; it = it; stands = at_place p i ∙ at; broken = k; no_statement = refl }));
+    first = λ b s w e. elim e [ inl h ↦ before b s h w | inr h ↦ omega (arith, h.1) ];
+  }
 
   pub first_at_statement : (i : ℕ) (it : BlockParts) (n : ℕ) → slice_get p i ≡ Some it → program_keeps rule p ≡ true → block_keeps rule p (i + 1) it ≡ true → StatementBreaks p rule it.statements n → ((m : ℕ) → m < n → StatementBreaks p rule it.statements m → ⊥) → ((b s : ℕ) → b < i + 1 → Breaches p rule b s → ⊥) → IsFirstOfRule p rule (i + 1) n
   first_at_statement i it n at k bk w earlier before = record {
-      breach = inr (inr (record { counts = omega arith; it = it; stands = at_place p i ∙ at; breach = w }));
-      first = λ b s v e. elim e [ inl h ↦ before b s h v | inr h ↦ here b s h.0 h.1 v ]
-    }
+    breach = inr (inr (record { counts = omega arith; it = it; stands = at_place p i ∙ at; breach = w }));
+    first = λ b s v e. elim e [ inl h ↦ before b s h v | inr h ↦ here b s h.0 h.1 v ];
+  }
     where
       here : (b s : ℕ) → b ≡ i + 1 → s < n → Breaches p rule b s → ⊥
       here b s e lt (inl v) = false≢true (sym v.broken ∙ k)

@@ -1,2 +1,4 @@
+pub mod Blocks
+pub mod Facts
 pub mod First
 pub mod Order

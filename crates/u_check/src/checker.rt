@@ -2,11 +2,10 @@
 ghost use Rattle.std.specs.Prelude.{◌≡◌, ℕ, ◌↔◌, IsOk, IfOk, IfErr, IfSome, IfNone, ◌<◌};
 ghost use Rattle.u_check.specs.Rules.{IsChecked, Breaches, StatementBreaks, IsFirstOfRule, IsFirstBreach};
 
-use u_program::{Block, Program, Statement};
-
 use crate::job::Checked;
 use crate::keeps::{block_keeps, program_keeps, statement_keeps};
 use crate::rule::{Breach, Rule};
+use u_program::{Block, Program, Statement};
 
 /// The rules, in the order of their numbers.
 const RULES: [Rule; 10] = [

@@ -5,7 +5,6 @@ ghost use Rattle.u_check.specs.Rules.{IsChecked};
 ghost use Rattle.u_program.specs.Limits.{IsProgram, the_limits};
 
 use std::marker::Model;
-
 use u_program::{Block, Program};
 
 /// A program that breaks no rule of the checker.

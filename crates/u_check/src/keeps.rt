@@ -4,10 +4,9 @@ ghost use Rattle.std.specs.List.{list_all};
 ghost use Rattle.u_program.specs.declared.program.Destination.{Destination};
 ghost use Rattle.u_check.specs.Rules.{ports_of, is_begin, is_end, is_outer, main_name, names_block, statement_at, begins_well, has_port, reaches, takes_tokens, lies_in, gives_block, sends_to, is_fed, is_whole, program_keeps, block_keeps, statement_keeps};
 
+use crate::rule::Rule;
 use u_name::BlockName;
 use u_program::{Block, Constant, Destination, Kind, Statement};
-
-use crate::rule::Rule;
 
 /// Whether a block of the list has that name.
 fn names_block(blocks: &[Block], name: &BlockName) -> bool
@@ -144,10 +143,8 @@ fn gives_block(blocks: &[Block], kind: &Kind) -> bool
 fn sends_to(statement: &Statement, number: usize, port: usize) -> bool
     ensures { result ≡ sends_to statement.now number port }
 {
-    statement
-        .destinations()
-        .iter()
-        .any(|d| usize::from(d.statement) == number && usize::from(d.port) == port)
+    statement.destinations().iter().any(|d| usize::from(d.statement) == number
+        && usize::from(d.port) == port)
 }
 
 /// Whether some statement sends to that port of the statement of that number.

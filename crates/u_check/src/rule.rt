@@ -67,6 +67,12 @@ impl fmt::Display for Breach {
     ghost output = { λ e. Some (breach_text e) };
 
     fn fmt<W: fmt::Write>(&self, f: &mut fmt::Formatter<W>) -> fmt::Result {
-        write!(f, "rule {} block {} statement {}", self.rule.number(), self.block, self.statement)
+        write!(
+            f,
+            "rule {} block {} statement {}",
+            self.rule.number(),
+            self.block,
+            self.statement
+        )
     }
 }

@@ -1,4 +1,3 @@
-use Rattle.std.proofs.Common.{◌≡◌}
 use Rattle.u_check.proofs.checker.check.Goals as goal
 
 pub returns-in-Some-clause-exact : goal.returns-in-Some-clause-exact

@@ -1,5 +1,5 @@
-use Rattle.std.proofs.Common.{◌≡◌, ℕ, arith, sym, subst}
-use Rattle.u_check.specs.Rules.{Breaches, IsFirstOfRule, IsFirstBreach}
+use Rattle.std.proofs.Common.{ℕ, arith, sym, subst}
+use Rattle.u_check.specs.Rules.{Breaches, IsFirstBreach}
 use Rattle.u_check.specs.declared.rule.Rule.{Rule}
 use Rattle.u_check.proofs.Order.{place_below, one_more, before_rule}
 use Rattle.u_check.proofs.checker.first_breach.Goals as goal

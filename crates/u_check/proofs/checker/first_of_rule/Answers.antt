@@ -1,7 +1,6 @@
-use Rattle.std.proofs.Common.{◌≡◌, ℕ, ◌+◌, arith, refl, sym, ◌∙◌, ap, below_more, subst}
+use Rattle.std.proofs.Common.{ℕ, ◌+◌, arith, refl, below_more}
 use Rattle.std.proofs.lemmas.Option.{slice_get_read}
-use Rattle.u_check.specs.Rules.{StatementBreaks, Breaches}
-use Rattle.u_check.specs.declared.rule.Rule.{Rule}
+use Rattle.u_check.specs.Rules.{Breaches}
 use Rattle.u_check.proofs.First.{block_passes, all_pass, first_at_statement}
 use Rattle.u_check.proofs.checker.first_of_rule.Goals as goal
 

@@ -1,0 +1,6 @@
+pub mod Exact
+pub mod Listed
+pub mod Neighbours
+pub mod Reports
+pub mod Sets
+pub mod Texts

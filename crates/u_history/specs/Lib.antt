@@ -1,0 +1,5 @@
+pub mod Stored
+pub mod Orders
+pub mod Says
+pub mod Verdicts
+pub mod Report

@@ -1,0 +1,111 @@
+//! Sets of entries.
+ghost use Rattle.std.specs.Prelude.{◌≡◌, ◌↔◌, [], OnOk, OnErr, IfOk, IfErr, Contains, ◌⊎◌, IsTrue, length, map};
+ghost use Rattle.std.specs.Map.Iter.{ShowsInOrder, deref};
+ghost use Rattle.u_system.specs.Rising.{Rises, IsWith};
+ghost use Rattle.u_rule.specs.EntryOrder.{entry_cmp};
+ghost use Rattle.u_rule.specs.declared.entry.Entry.{Entry};
+
+use std::alloc::{AllocError, AllocFailed, Global};
+use std::collections::BTreeSet;
+use std::collections::btree_set::Iter;
+use std::marker::Model;
+use u_rule::Entry;
+
+/// A set of entries. Contracts see it as the list of its entries, in order.
+#[derive(Drop)]
+pub struct History {
+    alloc: Global,
+    entries: BTreeSet<Entry>,
+}
+
+impl Model for History {
+    ghost use Rattle.std.specs.Prelude.{List};
+    ghost use Rattle.u_rule.specs.declared.entry.Entry.{Entry};
+    ghost use Rattle.u_history.specs.Stored.{entries_code};
+
+    ghost Value = { List Entry };
+
+    ghost coded = { entries_code };
+
+    ghost use Rattle.u_system.specs.Rising.{Rises};
+    ghost use Rattle.u_rule.specs.EntryOrder.{entry_cmp};
+
+    ghost view = { λ h. h.entries.keys };
+
+    ghost invariant = { λ h. Rises entry_cmp h.entries.keys };
+}
+
+impl History {
+    /// The empty set. It takes no memory.
+    pub fn new(alloc: Global) -> History
+        ensures { result ≡ [] }
+    {
+        History {
+            alloc,
+            entries: BTreeSet::new(alloc),
+        }
+    }
+
+    /// The allocator.
+    pub(crate) fn allocator(&self) -> Global {
+        self.alloc
+    }
+
+    /// How many entries there are.
+    pub fn len(&self) -> usize
+        ensures len { result ≡ length self.now }
+        ensures rises { Rises entry_cmp self.now }
+    {
+        self.entries.len()
+    }
+
+    /// Whether the entry is there.
+    pub fn contains(&self, entry: &Entry) -> bool
+        ensures { IsTrue result ↔ Contains self.now entry.now }
+    {
+        self.entries.contains(entry)
+    }
+
+    /// Puts the entry in. Answers whether it was new.
+    ///
+    /// # Errors
+    /// The entry is handed back where memory runs out, and the set stays as it was.
+    pub fn insert(&mut self, entry: Entry) -> Result<bool, AllocFailed<Entry>>
+        ensures ok { OnOk result (IsWith self.old entry self.new) }
+        ensures new { IfOk result (λ b. IsTrue b ↔ (Contains self.old entry → ⊥)) }
+        ensures still { IfOk result (λ b. (IsTrue b → ⊥) → self.new ≡ self.old) }
+        ensures err { OnErr result (self.new ≡ self.old) }
+        ensures back { IfErr result (λ e. e.value ≡ entry) }
+    {
+        self.entries.insert(entry)
+    }
+
+    /// The entries, in order.
+    pub fn iter(&self) -> Iter<'_, Entry>
+        ensures rest { result ≡ self.now }
+        ensures runs { ShowsInOrder (deref {X = Entry}) }
+        ensures rises { Rises entry_cmp self.now }
+    {
+        self.entries.iter()
+    }
+
+    /// References to the entries, in order.
+    pub fn references(&self) -> Result<Vec<&Entry>, AllocError>
+        ensures all { IfOk result (λ v. map (deref {X = Entry}) v.items ≡ self.now) }
+        ensures rises { Rises entry_cmp self.now }
+    {
+        self.entries.iter().collect(self.alloc)
+    }
+
+    /// Copies of the entries, in order.
+    pub fn entries(&self) -> Result<Vec<Entry>, AllocError>
+        ensures all { IfOk result (λ v. v.items ≡ self.now) }
+        ensures rises { Rises entry_cmp self.now }
+    {
+        let mut all = Vec::new(self.alloc);
+        for entry in self.entries.iter() {
+            all.push(entry.copy()?)?;
+        }
+        Ok(all)
+    }
+}

@@ -1,0 +1,12 @@
+//! Histories: sets of entries, what they say, and the report of it.
+#![tactic(auto)]
+
+mod history;
+mod outcome;
+mod report;
+mod verdict;
+
+pub use history::History;
+pub use outcome::Outcome;
+pub use report::{State, report_text};
+pub use verdict::Verdict;

@@ -1,0 +1,306 @@
+//! Reports.
+ghost use Rattle.std.specs.Prelude.{◌≡◌, ◌++◌, Contains, OnOk, IfOk, codes, decimal, length};
+ghost use Rattle.u_history.specs.Says.{IsOutcome};
+ghost use Rattle.u_history.specs.Verdicts.{judgement};
+ghost use Rattle.u_history.specs.Report.{texts, count_line, state_line, answer_line, cell_line, port_line, fault_line, verdict_line, counts_text, outcome_text, report_text, IsReportOf};
+
+use crate::history::History;
+use crate::outcome::Outcome;
+use crate::verdict::Verdict;
+use itoa::Buffer;
+use std::alloc::{AllocError, Global};
+use u_rule::{Fault, Token, Write};
+use u_value::Value;
+
+/// Whether a run ended.
+#[derive(Clone, Copy, Debug, PartialEq, Eq)]
+pub enum State {
+    /// Nothing is ready to fire.
+    Quiet,
+    /// The run stopped while something was ready to fire.
+    Paused,
+}
+
+/// Puts the text at the end.
+fn put(out: &mut Vec<u8>, text: &[u8]) -> Result<(), AllocError>
+    ensures { OnOk result (out.new.items ≡ out.old.items ++ text.now) }
+{
+    out.extend_from_slice(text)
+}
+
+/// Puts the number at the end.
+fn put_number(out: &mut Vec<u8>, number: usize) -> Result<(), AllocError>
+    ensures { OnOk result (out.new.items ≡ out.old.items ++ decimal number) }
+{
+    let mut buffer = Buffer::new();
+    out.extend_from_slice(buffer.format(number).as_bytes())
+}
+
+/// Puts a word, a number and a newline at the end.
+#[tactic(auto, unfolding(crate::specs::Report::count_line), using(crate::proofs::Texts::join3))]
+fn put_count(out: &mut Vec<u8>, word: &[u8], number: usize) -> Result<(), AllocError>
+    ensures { OnOk result (out.new.items ≡ out.old.items ++ count_line word.now number) }
+{
+    put(out, word)?;
+    put_number(out, number)?;
+    put(out, b"\n")
+}
+
+#[tactic(auto, unfolding(crate::specs::Report::state_line))]
+fn put_state(out: &mut Vec<u8>, state: State) -> Result<(), AllocError>
+    ensures { OnOk result (out.new.items ≡ out.old.items ++ state_line state) }
+{
+    match state {
+        State::Quiet => put(out, b"state quiet\n"),
+        State::Paused => put(out, b"state paused\n"),
+    }
+}
+
+#[tactic(auto, unfolding(crate::specs::Report::counts_text), using(crate::proofs::Texts::join3))]
+fn put_counts(
+    out: &mut Vec<u8>,
+    firings: usize,
+    parked: usize,
+    entries: usize,
+) -> Result<(), AllocError>
+    ensures { OnOk result (out.new.items ≡ out.old.items ++ counts_text firings parked entries) }
+{
+    put_count(out, b"firings ", firings)?;
+    put_count(out, b"parked ", parked)?;
+    put_count(out, b"entries ", entries)
+}
+
+#[tactic(auto, unfolding(crate::specs::Report::answer_line), using(crate::proofs::Texts::join3))]
+fn put_answer(out: &mut Vec<u8>, answer: &Value) -> Result<(), AllocError>
+    ensures { OnOk result (out.new.items ≡ out.old.items ++ answer_line answer.now) }
+{
+    put(out, b"answer ")?;
+    answer.write_text(out)?;
+    put(out, b"\n")
+}
+
+#[tactic(auto, unfolding(crate::specs::Report::cell_line), using(crate::proofs::Texts::join7))]
+fn put_cell(out: &mut Vec<u8>, write: &Write) -> Result<(), AllocError>
+    ensures { OnOk result (out.new.items ≡ out.old.items ++ cell_line write.now) }
+{
+    put(out, b"cell ")?;
+    write.cell.write_text(out)?;
+    put(out, b" ")?;
+    write.writer.write_text(out)?;
+    put(out, b" ")?;
+    write.value.write_text(out)?;
+    put(out, b"\n")
+}
+
+#[tactic(auto, unfolding(crate::specs::Report::port_line), using(crate::proofs::Texts::join7))]
+fn put_port(out: &mut Vec<u8>, token: &Token) -> Result<(), AllocError>
+    ensures { OnOk result (out.new.items ≡ out.old.items ++ port_line token.now) }
+{
+    put(out, b"port ")?;
+    token.activity().write_text(out)?;
+    put(out, b" ")?;
+    put_number(out, usize::from(token.port()))?;
+    put(out, b" ")?;
+    token.value().write_text(out)?;
+    put(out, b"\n")
+}
+
+#[tactic(auto, unfolding(crate::specs::Report::fault_line), using(crate::proofs::Texts::join5))]
+fn put_fault(out: &mut Vec<u8>, fault: &Fault) -> Result<(), AllocError>
+    ensures { OnOk result (out.new.items ≡ out.old.items ++ fault_line fault.now) }
+{
+    put(out, b"fault ")?;
+    fault.activity.write_text(out)?;
+    put(out, b" ")?;
+    put(out, fault.kind.text().as_bytes())?;
+    put(out, b"\n")
+}
+
+fn put_answers(out: &mut Vec<u8>, answers: &[Value]) -> Result<(), AllocError>
+    ensures { OnOk result (out.new.items ≡ out.old.items ++ texts answer_line answers.now) }
+{
+    for answer in answers {
+        put_answer(out, answer)?;
+    }
+    Ok(())
+}
+
+fn put_cells(out: &mut Vec<u8>, clashes: &[Write]) -> Result<(), AllocError>
+    ensures { OnOk result (out.new.items ≡ out.old.items ++ texts cell_line clashes.now) }
+{
+    for write in clashes {
+        put_cell(out, write)?;
+    }
+    Ok(())
+}
+
+fn put_ports(out: &mut Vec<u8>, clashes: &[Token]) -> Result<(), AllocError>
+    ensures { OnOk result (out.new.items ≡ out.old.items ++ texts port_line clashes.now) }
+{
+    for token in clashes {
+        put_port(out, token)?;
+    }
+    Ok(())
+}
+
+fn put_faults(out: &mut Vec<u8>, faults: &[Fault]) -> Result<(), AllocError>
+    ensures { OnOk result (out.new.items ≡ out.old.items ++ texts fault_line faults.now) }
+{
+    for fault in faults {
+        put_fault(out, fault)?;
+    }
+    Ok(())
+}
+
+#[tactic(auto, using(crate::proofs::Texts::join2))]
+fn put_answer_verdict(out: &mut Vec<u8>, answer: &Value) -> Result<(), AllocError>
+    ensures { OnOk result (out.new.items ≡ out.old.items ++ (codes "verdict " ++ answer_line answer.now)) }
+{
+    put(out, b"verdict ")?;
+    put_answer(out, answer)
+}
+
+#[tactic(auto, unfolding(crate::specs::Report::verdict_line))]
+fn put_verdict(out: &mut Vec<u8>, verdict: Verdict<'_>) -> Result<(), AllocError>
+    ensures { OnOk result (out.new.items ≡ out.old.items ++ verdict_line (judgement verdict.entry)) }
+{
+    match verdict {
+        Verdict::Clashed => put(out, b"verdict clashed\n"),
+        Verdict::Faulted => put(out, b"verdict faulted\n"),
+        Verdict::Answer(answer) => put_answer_verdict(out, answer),
+        Verdict::NoAnswer => put(out, b"verdict none\n"),
+    }
+}
+
+#[tactic(auto, unfolding(crate::specs::Report::outcome_text), using(crate::proofs::Texts::join5))]
+fn put_outcome(out: &mut Vec<u8>, outcome: &Outcome) -> Result<(), AllocError>
+    ensures { OnOk result (out.new.items ≡ out.old.items ++ outcome_text outcome.now.answers.items outcome.now.cell_clashes.items outcome.now.port_clashes.items outcome.now.faults.items) }
+{
+    put_answers(out, &outcome.answers)?;
+    put_cells(out, &outcome.cell_clashes)?;
+    put_ports(out, &outcome.port_clashes)?;
+    put_faults(out, &outcome.faults)?;
+    put_verdict(out, outcome.verdict())
+}
+
+/// The report of a history: the state; how many firings, parked firings and entries there are; all
+/// answers; all that clashes; all faults; the verdict. Each line ends with a newline, and each kind
+/// of line is in order.
+#[tactic(auto, unfolding(crate::specs::Report::report_text), using(crate::proofs::Texts::join3))]
+pub fn report_text(
+    alloc: Global,
+    state: State,
+    firings: usize,
+    parked: usize,
+    history: &History,
+) -> Result<Vec<u8>, AllocError>
+    ensures { IfOk result (λ v. IsReportOf (Contains history.now) state firings parked v.items) }
+{
+    let outcome = history.outcome()?;
+    let mut out = Vec::new(alloc);
+    put_state(&mut out, state)?;
+    put_counts(&mut out, firings, parked, history.len())?;
+    put_outcome(&mut out, &outcome)?;
+    Ok(out)
+}
+
+#[cfg(test)]
+mod tests {
+    ghost use Rattle.u_name.specs.Context.{IsBetween};
+
+    use super::*;
+    use std::alloc::AllocError;
+    use std::test::Fail;
+    use u_name::{BlockName, Cell, Context, Name};
+    use u_rule::{Entry, Fault, Token, Write};
+    use u_value::{FaultKind, Value};
+
+    fn name(statement: u16) -> Name
+        requires { IsBetween 1 statement 999 }
+    {
+        Name::new(Context::root(), BlockName::new(b"main"), statement, 1)
+    }
+
+    fn put_in(history: &mut History, entry: Entry) -> Result<bool, AllocError> {
+        match history.insert(entry) {
+            Ok(new) => Ok(new),
+            Err(refused) => Err(AllocError::from(refused)),
+        }
+    }
+
+    /// Two writes of one cell, and the two tokens and answers that reads of it give.
+    fn two_writes(alloc: Global) -> Result<History, AllocError> {
+        let mut history = History::new(alloc);
+        put_in(&mut history, Entry::Answer(Value::Int(20)))?;
+        put_in(&mut history, Entry::Answer(Value::Int(10)))?;
+        for (writer, value) in [(8, 20), (7, 10)] {
+            let write = Write {
+                cell: Cell::new(name(6), 0),
+                writer: name(writer),
+                value: Value::Int(value),
+            };
+            put_in(&mut history, Entry::Write(write))?;
+            put_in(
+                &mut history,
+                Entry::Token(Token::new(name(10), 1, Value::Int(value))),
+            )?;
+            put_in(
+                &mut history,
+                Entry::Token(Token::new(name(writer), 3, Value::Int(value))),
+            )?;
+        }
+        Ok(history)
+    }
+
+    #[test]
+    fn clashes_are_listed_with_all_their_values(rt: HostRuntime) -> Result<(), Fail> {
+        let history = two_writes(rt.alloc())?;
+        let text = report_text(rt.alloc(), State::Quiet, 12, 0, &history)?;
+        assert_eq!(rt;
+            text.as_slice(),
+            b"state quiet\nfirings 12\nparked 0\nentries 8\nanswer 10\nanswer 20\ncell -.main.6.1[0] -.main.7.1 10\ncell -.main.6.1[0] -.main.8.1 20\nport -.main.10.1 1 10\nport -.main.10.1 1 20\nverdict clashed\n".as_slice()
+        );
+        Ok(())
+    }
+
+    #[test]
+    fn a_fault_goes_before_the_answer(rt: HostRuntime) -> Result<(), Fail> {
+        let mut history = History::new(rt.alloc());
+        let empty = report_text(rt.alloc(), State::Paused, 0, 1, &history)?;
+        assert_eq!(rt;
+            empty.as_slice(),
+            b"state paused\nfirings 0\nparked 1\nentries 0\nverdict none\n".as_slice()
+        );
+        assert!(rt; put_in(&mut history, Entry::Answer(Value::Int(8)))?);
+        assert!(rt; !put_in(&mut history, Entry::Answer(Value::Int(8)))?);
+        let one = report_text(rt.alloc(), State::Quiet, 3, 0, &history)?;
+        assert_eq!(rt;
+            one.as_slice(),
+            b"state quiet\nfirings 3\nparked 0\nentries 1\nanswer 8\nverdict answer 8\n".as_slice()
+        );
+        let fault = Fault {
+            activity: name(2),
+            kind: FaultKind::Overflow,
+        };
+        put_in(&mut history, Entry::Fault(fault))?;
+        let both = report_text(rt.alloc(), State::Quiet, 2, 0, &history)?;
+        assert_eq!(rt;
+            both.as_slice(),
+            b"state quiet\nfirings 2\nparked 0\nentries 2\nanswer 8\nfault -.main.2.1 overflow\nverdict faulted\n".as_slice()
+        );
+        Ok(())
+    }
+
+    #[test]
+    fn entries_are_listed_in_order(rt: HostRuntime) -> Result<(), Fail> {
+        let history = two_writes(rt.alloc())?;
+        let entries = history.entries()?;
+        assert_eq!(rt; entries.len(), 8);
+        for (entry, same) in history.iter().zip(entries.iter()) {
+            assert!(rt; entry == same);
+            assert!(rt; history.contains(same));
+        }
+        assert!(rt; !history.contains(&Entry::Answer(Value::Int(11))));
+        Ok(())
+    }
+}
