@@ -7,3 +7,4 @@ pub mod ScanLaws
 pub mod States
 pub mod Runs
 pub mod Same
+pub mod Fresh

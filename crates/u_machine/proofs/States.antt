@@ -128,12 +128,12 @@ module _ (a b : State) (f : Firing) (p : Applies a b) (new : Taken b f → ⊥) 
 
 -- what is ready on a settled machine
 module _ (m : State) (is : IsMachine m) (st : IsSettled m) where
-  ready_of : (f : Firing) → Enabled (system_of m.job) (Contains m.history) f × (Contains m.log f → ⊥) → IsReady m f
+  pub ready_of : (f : Firing) → Enabled (system_of m.job) (Contains m.history) f × (Contains m.log f → ⊥) → IsReady m f
   ready_of f (en, new) =
       (Enabled-mono (system_of m.job) (Contains m.history) (Cl (system_of m.job) (Taken m)) (λ e. ((settled_is_Cl m is st).0 e).0) f en,
         λ t. elim (Contains-append_cases m.log m.parked f t) [ inl a ↦ new a | inr b ↦ st.none f b en ])
 
-  over_history : (f : Firing) → Enabled (system_of m.job) (Cl (system_of m.job) (Taken m)) f → Enabled (system_of m.job) (Contains m.history) f
+  pub over_history : (f : Firing) → Enabled (system_of m.job) (Cl (system_of m.job) (Taken m)) f → Enabled (system_of m.job) (Contains m.history) f
   over_history f = Enabled-mono (system_of m.job) (Cl (system_of m.job) (Taken m)) (Contains m.history) (λ e. ((settled_is_Cl m is st).0 e).1) f
 
   pub are_ready : (found v : List Firing) → ((f : Firing) → Contains found f ↔ Enabled (system_of m.job) (Contains m.history) f) → ((f : Firing) → Contains v f → Contains found f × (Contains m.log f → ⊥)) → ((f : Firing) → Contains found f → Contains v f ⊎ Contains m.log f) → Rises firing_cmp v → AreReady m v
@@ -164,7 +164,7 @@ abbrev pub with_logged : State → Firing → State
 with_logged m f = record { job = m.job; limit = m.limit; log = m.log ++ f ∷ []; done = m.done; parked = m.parked; history = m.history }
 
 module _ (m : State) (f : Firing) where
-  logged_push : (g : Firing) → Taken (with_logged m f) g ↔ (Taken m g ⊎ (f ≡ g))
+  pub logged_push : (g : Firing) → Taken (with_logged m f) g ↔ (Taken m g ⊎ (f ≡ g))
   logged_push g = (to g, back g)
     where
       to : (g : Firing) → Taken (with_logged m f) g → Taken m g ⊎ (f ≡ g)

@@ -8,4 +8,4 @@ mod scan;
 
 pub use answer::{Ran, Refusal, Step};
 pub use machine::Machine;
-pub use scan::enabled_firings;
+pub use scan::{enabled_firings, ready_firings};

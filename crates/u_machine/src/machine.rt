@@ -17,7 +17,7 @@ use u_system::OrderedSet;
 
 use crate::answer::{Ran, Refusal, Step};
 use crate::entering::{given_by, insert_all, push_into_room};
-use crate::scan::{enabled_firings, not_among};
+use crate::scan::ready_firings;
 
 /// A job with its taken firings and its history.
 ///
@@ -57,6 +57,7 @@ impl<'a> Machine<'a> {
     {
         let mut history = History::new(alloc);
         history.insert(start(job))?;
+        let _count = history.len();
         Ok(Machine {
             alloc,
             job,
@@ -169,10 +170,8 @@ impl<'a> Machine<'a> {
         requires { IsSettled self.now }
         ensures { IfOk result (λ v. AreReady self.now v.items) }
     {
-        let entries = self.history.entries()?;
-        let found = enabled_firings(self.alloc, self.job, &entries)?;
-        let rest = not_among(self.alloc, &found, &self.taken)?;
-        Ok(rest)
+        let ready = ready_firings(self.alloc, self.job, &self.history, &self.taken)?;
+        Ok(ready)
     }
 
     fn log_len(&self) -> usize

@@ -15,6 +15,7 @@ ghost use Rattle.u_system.specs.Rising.{Rises};
 use std::alloc::{AllocError, Global};
 
 use u_check::Job;
+use u_history::History;
 use u_rule::{Entry, Firing, Token, Values, is_firing};
 use u_system::{OrderedSet, place_in};
 
@@ -221,4 +222,21 @@ fn add_new(
     let copy = firing.copy(alloc)?;
     place_in(rest, copy)?;
     Ok(())
+}
+
+/// The firings that are enabled over the history and not in the set, in order.
+pub fn ready_firings(
+    alloc: Global,
+    job: &Job,
+    history: &History,
+    taken: &OrderedSet<Firing>,
+) -> Result<Vec<Firing>, AllocError>
+    ensures exact { IfOk result (λ v. (f : Firing) → Contains v.items f → Enabled (system_of job.now) (Contains history.now) f × (Contains taken.now f → ⊥)) }
+    ensures all { IfOk result (λ v. (f : Firing) → Enabled (system_of job.now) (Contains history.now) f → Contains v.items f ⊎ Contains taken.now f) }
+    ensures rises { IfOk result (λ v. Rises firing_cmp v.items) }
+{
+    let entries = history.entries()?;
+    let found = enabled_firings(alloc, job, &entries)?;
+    let ready = not_among(alloc, &found, taken)?;
+    Ok(ready)
 }

@@ -18,13 +18,16 @@ within c = subst (λ g. (x : Entry) → Contains c.insert_all.new.history x → 
 pub invariant_of-self : goal.invariant_of-self
 invariant_of-self c =
     let a = (goal.at.invariant_of-self c).After-insert_all in
-    partly _ c.insert_all.new.history c.index.result.now c.self.invariant.is (below a) (within a) c.insert_all.ensures.kept
+    record { is = partly _ c.insert_all.new.history c.index.result.now c.self.invariant.is (below a) (within a) c.insert_all.ensures.kept; same = c.self.invariant.same }
 
 pub invariant_of-self-2 : goal.invariant_of-self-2
 invariant_of-self-2 c =
     let a = (goal.at.invariant_of-self-2 c).After-insert_all in
-    entered _ c.insert_all.new.history c.index.result.now c.self.invariant.is (below a) (within a) c.insert_all.ensures.kept
-      (subst (λ g. (x : Entry) → Contains g x → Contains c.insert_all.new.history x) (given_is a) c.in_ok-insert_all.ensures.ok)
+    record {
+      is = entered _ c.insert_all.new.history c.index.result.now c.self.invariant.is (below a) (within a) c.insert_all.ensures.kept
+        (subst (λ g. (x : Entry) → Contains g x → Contains c.insert_all.new.history x) (given_is a) c.in_ok-insert_all.ensures.ok);
+      same = c.self.invariant.same
+    }
 
 pub returns-in_err-insert_all-clause-applies : goal.returns-in_err-insert_all-clause-applies
 returns-in_err-insert_all-clause-applies c = rw (← c.self.view_is) (Applies-history _ _ _ c.insert_all.ensures.kept)

@@ -5,6 +5,7 @@ use Rattle.u_machine.specs.States.{State, Applies, Takes, Taken, IsSettled, IsMa
 use Rattle.u_rule.specs.Rule.{system_of, is_firing_of}
 use Rattle.u_rule.specs.declared.firing.Firing.{Firing}
 use Rattle.u_machine.proofs.States.{takes_between, room_before, fire_no_memory, ready_before, are_ready_before, nothing_before, nothing_ready, quiet_whole, ready_enabled}
+use Rattle.u_machine.proofs.Blank.{blank_firing}
 use Rattle.u_machine.proofs.Lists.{slice_get_at, slice_get_mid, slice_get_Contains}
 use Rattle.u_machine.proofs.machine.Machine.fire.Goals as goal
 use Rattle.u_machine.proofs.machine.Machine.fire.Goals.{After-len-count, After-index-firing}
@@ -25,7 +26,7 @@ returns-then-count-eq0-clause-whole c _ =
 pub returns-then-is_full-clause-answer : goal.returns-then-is_full-clause-answer
 returns-then-is_full-clause-answer c =
     let a = (goal.at.returns-then-is_full-clause-answer c).After-len-count in
-    let d : Firing = record { activity = 0; first = 0; second = 0 } in
+    let d : Firing = blank_firing in
     let e = length_is a in
     ((get_or c.in_ok-ready.ready.items 0 d, ready_before c.args.self.now c.settle.new.self c.settle.ensures.applies _ (c.in_ok-ready.ensures.0 _ (Contains-get_or c.in_ok-ready.ready.items 0 d (omega arith)))),
       sym c.settle.ensures.applies.count ∙ c.if-is_full.ensures.full refl ∙ c.settle.ensures.applies.limit, c.settle.ensures.applies, c.in_ok-settle.ensures.ok)

@@ -1,16 +1,10 @@
-use Rattle.std.proofs.Common.{subst, ◌≡◌, Contains, ◌⊎◌, List, ◌↔◌}
-use Rattle.u_rule.specs.declared.firing.Firing.{Firing}
-use Rattle.u_rule.specs.declared.entry.Entry.{Entry}
-use Rattle.u_rule.specs.Rule.{system_of}
-use Rattle.u_system.specs.Firing.{Enabled}
-use Rattle.u_machine.proofs.States.{are_ready}
+use Rattle.std.proofs.Common.{[]}
+use Rattle.u_machine.specs.States.{state}
+use Rattle.u_machine.proofs.Fresh.{ready_by}
 use Rattle.u_machine.proofs.machine.Machine.ready.Goals as goal
 
 pub returns : goal.returns
 returns c =
     rw (← c.self.view_is)
-      (are_ready _ c.self.invariant.is (rw (← c.self.view_is) at c.requires) c.in_ok-found.found.items c.in_ok-rest.rest.items
-        (subst (λ (h : List Entry). (f : Firing) → Contains c.in_ok-found.found.items f ↔ Enabled (system_of c.self.inside.job.now) (Contains h) f) c.entries.ensures.entries c.in_ok-found.ensures)
-        (rw (c.deref.ensures.value, c.deref-2.ensures.value) at c.in_ok-rest.ensures.exact)
-        (rw (c.deref.ensures.value, c.deref-2.ensures.value) at c.in_ok-rest.ensures.all)
-        c.in_ok-rest.ensures.rises)
+      (ready_by (state c.self.inside.job.now c.self.inside.limit c.self.inside.log.items c.self.inside.done [] c.self.inside.history) c.self.inside.taken c.in_ok-ready.ready.items c.self.invariant (rw (← c.self.view_is) at c.requires)
+        c.in_ok-ready.ensures.exact c.in_ok-ready.ensures.all c.in_ok-ready.ensures.rises)

@@ -1,7 +1,8 @@
-use Rattle.std.proofs.Common.{◌≡◌, ◌≤◌, arith, length, ◌∙◌, refl, subst, Ok}
+use Rattle.u_machine.proofs.States.{Applies-refl}
+use Rattle.std.proofs.Common.{[], ◌≡◌, ◌≤◌, arith, length, ◌∙◌, refl, subst, Ok}
 use Rattle.u_machine.specs.declared.answer.Step.{Step}
 use Rattle.u_machine.specs.States.{FireAnswer}
-use Rattle.u_machine.proofs.Runs.{run_fails, run_quiet, run_fired, Runs-applies, fails_with}
+use Rattle.u_machine.proofs.Runs.{run_fails, run_quiet, run_fired, Runs-applies, Runs-nil, fails_with}
 use Rattle.u_machine.proofs.machine.Machine.run.Goals as goal
 
 pub returns-in_err-fired : goal.returns-in_err-fired
@@ -42,3 +43,6 @@ pub returns-else-quiet : goal.returns-else-quiet
 returns-else-quiet c =
     let (gs, r, n) = c.loop-made.invariant in
     (gs, Runs-applies c.args.self.now c.loop-made.self c.settle.new.self gs r c.settle.ensures.applies, omega (arith, n), c.in_ok-settle.ensures.ok, c.in_ok-quiet.ensures.ready c.if-quiet.false)
+
+pub loop-made-init : goal.loop-made-init
+loop-made-init c = ([], Runs-nil c.args.self.now c.args.self.now (Applies-refl c.args.self.now), refl)
