@@ -6,13 +6,11 @@ ghost use Rattle.u_name.specs.Block.{is_letter, is_block_byte};
 ghost use Rattle.u_name.specs.BlockText.{begins_with_letter};
 ghost use Rattle.u_text.specs.Pieces.{words};
 
-use std::alloc::{AllocFailed, Global};
-
-use u_name::BlockName;
-use u_text::{BadWord, Words, after, number_at, number_word, number0_word, signed_word};
-
 use crate::kind_words::{has_list, kind_word};
 use crate::program::{Constant, Destination, Kind, Statement};
+use std::alloc::{AllocFailed, Global};
+use u_name::BlockName;
+use u_text::{BadWord, Words, after, number_at, number_word, number0_word, signed_word};
 
 /// Why a line was not read: it is of no allowed form, or there is no memory.
 #[derive(Debug, Drop)]
