@@ -108,19 +108,31 @@ fn constant(word: &[u8]) -> Result<Constant, BadWord>
     Ok(Constant::Int(signed_word(word)?))
 }
 
+/// The first of these kinds that has this word.
 #[tactic(auto, unfolding(crate::specs::Reading::kind_among))]
+fn kind_among(kinds: &[Kind], word: &[u8]) -> Result<Kind, BadWord>
+    ensures { MatchResult result
+        (λ k. kind_among kinds.now word.now ≡ Some k)
+        (λ _. kind_among kinds.now word.now ≡ None) }
+{
+    let mut rest = kinds;
+    while let Some((kind, others)) = rest.split_first() {
+        if word == kind_word(kind) {
+            return Ok(*kind);
+        }
+        rest = others;
+    }
+    Err(BadWord)
+}
+
+/// The kind without an argument that has this word.
 fn plain_kind(word: &[u8]) -> Result<Kind, BadWord>
     ensures { MatchResult result
         (λ k. kind_among plain_kinds word.now ≡ Some k)
         (λ _. kind_among plain_kinds word.now ≡ None) }
 {
     let kinds = [Kind::Begin, Kind::Add, Kind::End];
-    for kind in &kinds {
-        if word == kind_word(kind) {
-            return Ok(*kind);
-        }
-    }
-    Err(BadWord)
+    kind_among(&kinds, word)
 }
 
 #[tactic(auto, unfolding(crate::specs::Reading::kind_at))]
