@@ -1,5 +1,5 @@
 -- The reader of lines reads exactly their texts.
-use Rattle.std.specs.Prelude.{◌≡◌, ℕ, suc, ◌+◌, ◌^◌, ◌≤◌, ◌<◌, ◌⊎◌, Bool, true, false, cond, List, [], ◌∷◌, ◌++◌, map, length, codes, Option, Some, None, IsTrue, refl}
+use Rattle.std.specs.Prelude.{◌≡◌, ℕ, ◌^◌, ◌<◌, Bool, true, false, cond, List, [], ◌∷◌, ◌++◌, map, codes, Some, None, IsTrue, refl}
 use Rattle.std.specs.List.{AllByRecursion}
 use Rattle.std.proofs.Common.{sym, ◌∙◌, ap, subst, arith, inl, inr}
 use Rattle.std.specs.Fmt.{decimal}
@@ -97,8 +97,8 @@ numbered_sound w ws l h =
 line_sound_at : (w : List ℕ) (ws : Words) (l : Line) → line_at (w ∷ ws) ≡ Some l → IsLine l × (w ++ spaced ws ≡ line_text l)
 line_sound_at w ws l h =
     elim (told w (codes "block") (is w (codes "block")) refl) [
-      inl a ↦ let s = name_line_sound ws l (ap (λ b. cond b (name_line ws) (numbered w ws)) (sym a.0) ∙ h) in (s.0, s.1 w a.1)
-    | inr a ↦ numbered_sound w ws l (ap (λ b. cond b (name_line ws) (numbered w ws)) (sym a) ∙ h)
+      | inl a ↦ let s = name_line_sound ws l (ap (λ b. cond b (name_line ws) (numbered w ws)) (sym a.0) ∙ h) in (s.0, s.1 w a.1)
+      | inr a ↦ numbered_sound w ws l (ap (λ b. cond b (name_line ws) (numbered w ws)) (sym a) ∙ h)
     ]
 
 pub line_sound : (text : List ℕ) (l : Line) → line_at (words text) ≡ Some l → IsLine l × (text ≡ line_text l)
@@ -111,8 +111,8 @@ line_sound text l h = at (words text) refl h
 not_block : (n : ℕ) → IsUpTo 1000 n → is (decimal n) (codes "block") ≡ false
 not_block n v =
     elim (told (decimal n) (codes "block") (is (decimal n) (codes "block")) refl) [
-      inl a ↦ let d : AllDigit (codes "block") = subst AllDigit a.1 (decimal_digits n (omega (arith, v.1))) in absurd (omega (arith, d.0.1))
-    | inr a ↦ a
+      | inl a ↦ let d : AllDigit (codes "block") = subst AllDigit a.1 (decimal_digits n (omega (arith, v.1))) in absurd (omega (arith, d.0.1))
+      | inr a ↦ a
     ]
 
 pub line_complete : (l : Line) → IsLine l → line_at (words (line_text l)) ≡ Some l

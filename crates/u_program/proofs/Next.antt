@@ -1,21 +1,14 @@
 -- What a line can be that goes on behind a program of which a part was read.
-use Rattle.std.specs.Prelude.{◌≡◌, ℕ, zero, suc, ◌+◌, ◌^◌, ◌≤◌, ◌<◌, ◌⊎◌, List, [], ◌∷◌, ◌++◌, length, Option, Some, None, Result, Ok, Err, MatchResult, codes, refl}
-use Rattle.std.proofs.Common.{sym, ◌∙◌, ap, subst, arith, inl, inr, append_assoc, length-append}
-use Rattle.std.proofs.lemmas.List.{append-nil}
+use Rattle.std.specs.Prelude.{◌≡◌, ℕ, suc, ◌+◌, ◌≤◌, List, [], ◌∷◌, ◌++◌, length, Option, Some, None, refl}
+use Rattle.std.proofs.Common.{sym, ◌∙◌, ap, arith, append_assoc}
 use Rattle.std.specs.List.{AllByRecursion}
 use Rattle.u_name.specs.Block.{IsBlock}
 use Rattle.u_text.specs.Number.{number_first}
-use Rattle.u_text.specs.Pieces.{pieces, Free, glued, glued-pieces, lines, words}
-use Rattle.u_text.specs.Spaced.{spaced, AllFree, all_free_append, pieces-ended, glued-ended}
-use Rattle.u_program.specs.declared.program.Kind.TheVariants.{Begin}
-use Rattle.u_program.specs.declared.reading.Line.{Line}
-use Rattle.u_program.specs.declared.reading.Line.TheVariants.{Block, Statement}
-use Rattle.u_program.specs.Parts.{StatementParts, BlockParts, statement, block}
-use Rattle.u_program.specs.Limits.{Limits, AtMost, IsStatement, IsBlockOf, IsProgram, the_limits, no_limits}
-use Rattle.u_program.specs.Text.{block_line, statement_line, statement_lines, block_lines, blocks_lines, program_lines, program_text, header, statement_words}
-use Rattle.u_program.specs.Laws.{Begins, IsFirstBad, IsBadLine, IsTooMany, IsTruncated}
-use Rattle.u_program.specs.Reading.{Words, line_at}
-use Rattle.u_program.specs.Begun.{IsLine, part_lines, IsPart, IsRead}
+use Rattle.u_text.specs.Spaced.{spaced}
+use Rattle.u_program.specs.Parts.{StatementParts, BlockParts}
+use Rattle.u_program.specs.Limits.{Limits, AtMost, IsStatement, IsBlockOf}
+use Rattle.u_program.specs.Text.{block_line, statement_line, statement_lines, block_lines, blocks_lines, statement_words}
+use Rattle.u_program.specs.Begun.{part_lines}
 use Rattle.u_program.proofs.Lists.{heads, tails, empty_is}
 
 pub down : (m : Option ℕ) (a b : ℕ) → b ≤ a → AtMost m a → AtMost m b
@@ -88,10 +81,10 @@ next limits k (d ∷ ds) last l more (q ∷ ps) a b v few h =
     let e : (statement_lines 1 d.statements ++ blocks_lines ds) ++ block_lines last ≡ statement_lines 1 d.statements ++ part_lines ds last = append_assoc (statement_lines 1 d.statements) (blocks_lines ds) (block_lines last) in
     let f : statement_lines 1 q.statements ++ blocks_lines ps ≡ statement_lines 1 d.statements ++ Y = tails h ∙ ap (λ t. t ++ (l ∷ more)) e ∙ append_assoc (statement_lines 1 d.statements) (part_lines ds last) (l ∷ more) in
     elim (cuts limits 1 q.statements (blocks_lines ps) d.statements Y v.0.each (blocks_headed ps) (omega arith) (omega arith) f) [
-      ended i j ↦ skipped limits k d ds last l (next limits (suc k) ds last l more ps a.1 b v.1 (down limits.blocks (k + suc (length ps)) (suc k + length ps) (omega arith) few) j)
-    | longer s u t i j ↦
-        let g = part_headed ds last (l ∷ more) in
-        absurd (lines_differ g.0 (1 + length d.statements) s (omega arith) (omega arith) (heads (sym g.2 ∙ i)))
+      | ended i j ↦ skipped limits k d ds last l (next limits (suc k) ds last l more ps a.1 b v.1 (down limits.blocks (k + suc (length ps)) (suc k + length ps) (omega arith) few) j)
+      | longer s u t i j ↦
+          let g = part_headed ds last (l ∷ more) in
+          absurd (lines_differ g.0 (1 + length d.statements) s (omega arith) (omega arith) (heads (sym g.2 ∙ i)))
     ]
 
 -- before the first block

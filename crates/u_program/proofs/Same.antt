@@ -1,28 +1,20 @@
 -- Two programs with one text are one, and a program's text is refused for want of memory alone.
-use Rattle.std.specs.Prelude.{◌≡◌, ℕ, zero, suc, ◌+◌, ◌^◌, ◌≤◌, ◌<◌, ◌⊎◌, List, [], ◌∷◌, ◌++◌, length, Option, Some, None, Result, Ok, Err, MatchResult, codes, refl}
-use Rattle.std.proofs.Common.{sym, ◌∙◌, ap, subst, arith, inl, inr, append_assoc, length-append}
-use Rattle.std.proofs.lemmas.List.{append-nil}
+use Rattle.std.specs.Prelude.{◌≡◌, ℕ, suc, ◌+◌, ◌≤◌, List, [], ◌∷◌, ◌++◌, length, Result, Ok, Err, MatchResult, refl}
+use Rattle.std.proofs.Common.{sym, ◌∙◌, ap, arith, append_assoc}
 use Rattle.std.specs.List.{AllByRecursion}
-use Rattle.u_name.specs.Block.{IsBlock}
-use Rattle.u_text.specs.Number.{number_first}
-use Rattle.u_text.specs.Pieces.{pieces, Free, glued, glued-pieces, lines, words}
-use Rattle.u_text.specs.Spaced.{spaced, ended, AllFree, all_free_append, pieces-ended, glued-ended}
-use Rattle.u_program.specs.declared.program.Kind.TheVariants.{Begin}
-use Rattle.u_program.specs.declared.reading.Line.{Line}
+use Rattle.u_text.specs.Pieces.{pieces}
 use Rattle.u_program.specs.declared.reading.Line.TheVariants.{Block, Statement}
-use Rattle.u_program.specs.Parts.{StatementParts, BlockParts, statement, block}
-use Rattle.u_program.specs.Limits.{Limits, AtMost, IsStatement, IsBlockOf, IsProgram, the_limits, no_limits}
-use Rattle.u_program.specs.Text.{block_line, statement_line, statement_lines, block_lines, blocks_lines, program_lines, program_text, header, statement_words}
-use Rattle.u_program.specs.Laws.{Begins, IsFirstBad, IsBadLine, IsTooMany, IsTruncated}
-use Rattle.u_program.specs.Reading.{Words, line_at}
-use Rattle.u_program.specs.Begun.{IsLine, part_lines, IsPart, IsRead}
+use Rattle.u_program.specs.Parts.{StatementParts, BlockParts, block}
+use Rattle.u_program.specs.Limits.{IsStatement, IsBlockOf, IsProgram, the_limits, no_limits}
+use Rattle.u_program.specs.Text.{statement_line, statement_lines, blocks_lines, program_lines, program_text}
+use Rattle.u_program.specs.Laws.{IsFirstBad}
 use Rattle.u_program.specs.declared.read_error.ReadError.{ReadError}
 use Rattle.u_program.specs.declared.read_error.ReadError.TheVariants as errors
 use Rattle.u_program.specs.Answer.{IsTextOf, IsReadError}
 use Rattle.u_program.proofs.Lists.{heads, tails, empty_is}
-use Rattle.u_program.proofs.LineLaws.{block_line_free, statement_line_free, line_none, line_same, line_sound}
-use Rattle.u_program.proofs.Next.{IsShort, NextLine, new_block, new_statement, next, first, down, lines_differ}
-use Rattle.u_program.proofs.Whole.{pieces-program_text, bad_line, too_many}
+use Rattle.u_program.proofs.LineLaws.{line_same}
+use Rattle.u_program.proofs.Next.{lines_differ}
+use Rattle.u_program.proofs.Whole.{pieces-program_text}
 
 no_statement : (ps : List BlockParts) (n : ℕ) (s : StatementParts) (t : List (List ℕ)) → 1 ≤ n → n ≤ 1000 → blocks_lines ps ≡ statement_line n s ∷ t → ⊥
 no_statement [] n s t low high h = empty_is h

@@ -1,24 +1,21 @@
 -- Parts of programs, and the next line.
-use Rattle.std.specs.Prelude.{◌≡◌, ℕ, zero, suc, ◌+◌, ◌^◌, ◌≤◌, ◌<◌, ◌⊎◌, List, [], ◌∷◌, ◌++◌, length, Option, Some, None, Result, Ok, Err, MatchResult, codes, refl}
+use Rattle.std.specs.Prelude.{◌≡◌, ℕ, suc, ◌+◌, ◌≤◌, ◌<◌, ◌⊎◌, List, [], ◌∷◌, ◌++◌, length, Option, Some, None, refl}
 use Rattle.std.proofs.Common.{sym, ◌∙◌, ap, subst, arith, inl, inr, append_assoc, length-append}
 use Rattle.std.proofs.lemmas.List.{append-nil}
 use Rattle.std.specs.List.{AllByRecursion}
 use Rattle.u_name.specs.Block.{IsBlock}
-use Rattle.u_text.specs.Number.{number_first}
-use Rattle.u_text.specs.Pieces.{pieces, Free, glued, glued-pieces, lines, words}
-use Rattle.u_text.specs.Spaced.{spaced, ended, AllFree, all_free_append, pieces-ended, glued-ended}
+use Rattle.u_text.specs.Pieces.{words}
 use Rattle.u_program.specs.declared.program.Kind.TheVariants.{Begin}
-use Rattle.u_program.specs.declared.reading.Line.{Line}
 use Rattle.u_program.specs.declared.reading.Line.TheVariants.{Block, Statement}
 use Rattle.u_program.specs.Parts.{StatementParts, BlockParts, statement, block}
-use Rattle.u_program.specs.Limits.{Limits, AtMost, IsStatement, IsBlockOf, IsProgram, the_limits, no_limits}
-use Rattle.u_program.specs.Text.{block_line, statement_line, statement_lines, block_lines, blocks_lines, program_lines, program_text, header, statement_words}
-use Rattle.u_program.specs.Laws.{Begins, IsFirstBad, IsBadLine, IsTooMany, IsTruncated}
-use Rattle.u_program.specs.Reading.{Words, line_at}
-use Rattle.u_program.specs.Begun.{IsLine, part_lines, IsPart, IsRead}
-use Rattle.u_program.proofs.Lists.{heads, tails, empty_is}
-use Rattle.u_program.proofs.LineLaws.{block_line_free, statement_line_free, line_none, line_same, line_sound}
-use Rattle.u_program.proofs.Next.{IsShort, NextLine, new_block, new_statement, next, first, down, lines_differ}
+use Rattle.u_program.specs.Limits.{Limits, AtMost, IsStatement, IsBlockOf, the_limits, no_limits}
+use Rattle.u_program.specs.Text.{block_line, statement_line, statement_lines, block_lines, blocks_lines, header}
+use Rattle.u_program.specs.Laws.{Begins}
+use Rattle.u_program.specs.Reading.{line_at}
+use Rattle.u_program.specs.Begun.{IsLine, part_lines, IsPart}
+use Rattle.u_program.proofs.Lists.{tails}
+use Rattle.u_program.proofs.LineLaws.{line_none, line_same}
+use Rattle.u_program.proofs.Next.{IsShort, NextLine, new_block, new_statement, next, lines_differ}
 
 pub blocks_lines-append : (done : List BlockParts) (b : BlockParts) → blocks_lines (done ++ (b ∷ [])) ≡ part_lines done b
 blocks_lines-append [] b = append-nil (block_lines b)
@@ -48,8 +45,9 @@ completes limits done last v = at last.statements refl
       program = done ++ (b ∷ []);
       more = more;
       valid = record { each = all_append (IsBlockOf limits) done b v.each w; few = subst (AtMost limits.blocks) (sym (length-append done (b ∷ []))) v.blocks; some = omega (arith, length-append done (b ∷ [])) };
-      there = ap (λ t. header ∷ t) (blocks_lines-append done b ∙ ap (λ t. blocks_lines done ++ t) e ∙ sym (append_assoc (blocks_lines done) (block_lines last) more))
+      there = ap (λ t. header ∷ t) (blocks_lines-append done b ∙ ap (λ t. blocks_lines done ++ t) e ∙ sym (append_assoc (blocks_lines done) (block_lines last) more));
     }
+
     at : (ss : List StatementParts) → last.statements ≡ ss → Begins limits (header ∷ part_lines done last)
     at [] e = whole (block last.name (statement 0 Begin [] ∷ [])) (statement_line 1 (statement 0 Begin []) ∷ []) (record { name = v.name; each = (first_statement limits, tt); few = v.one; some = omega arith }) (ap (λ ss. block_line last.name ∷ (statement_lines 1 ss ++ (statement_line 1 (statement 0 Begin []) ∷ []))) (sym e))
     at (s ∷ ss) e = whole last [] (record { name = v.name; each = v.statements; few = v.few; some = let f = ap length e in omega arith }) (sym (append-nil (block_lines last)))
@@ -79,8 +77,8 @@ blocks_lifted limits (b ∷ bs) v = (record { name = v.0.name; each = each_lifte
 pub no_line : (done : List BlockParts) (last : BlockParts) (text : List ℕ) → IsPart the_limits done last → line_at (words text) ≡ None → Begins no_limits ((header ∷ part_lines done last) ++ (text ∷ [])) → ⊥
 no_line done last text v h b =
     elim (next_of no_limits done last text v b) [
-      new_block name w e f g ↦ line_none text h (Block name) w e
-    | new_statement s w e f ↦ line_none text h (Statement (suc (length last.statements)) s) ((omega arith, (let n = v.few in omega arith)), w) e
+      | new_block name w e f g ↦ line_none text h (Block name) w e
+      | new_statement s w e f ↦ line_none text h (Statement (suc (length last.statements)) s) ((omega arith, (let n = v.few in omega arith)), w) e
     ]
 
 block_not_statement : (name : List ℕ) (last : BlockParts) (s : StatementParts) → length last.statements ≤ 999 → block_line name ≡ statement_line (suc (length last.statements)) s → ⊥
@@ -89,8 +87,8 @@ block_not_statement name last s h e = lines_differ name (suc (length last.statem
 pub block_closed : (done : List BlockParts) (last : BlockParts) (name : List ℕ) → IsPart the_limits done last → length last.statements ≡ 0 → Begins no_limits ((header ∷ part_lines done last) ++ (block_line name ∷ [])) → ⊥
 block_closed done last name v h b =
     elim (next_of no_limits done last (block_line name) v b) [
-      new_block other w e f g ↦ omega arith
-    | new_statement s w e f ↦ block_not_statement name last s v.few e
+      | new_block other w e f g ↦ omega arith
+      | new_statement s w e f ↦ block_not_statement name last s v.few e
     ]
 
 part_lines-block : (done : List BlockParts) (last : BlockParts) (name : List ℕ) → part_lines (done ++ (last ∷ [])) (block name []) ≡ part_lines done last ++ (block_line name ∷ [])
@@ -100,12 +98,13 @@ closed : (limits : Limits) (done : List BlockParts) (last : BlockParts) (name : 
 closed limits done last name n v w z o f = record { each = all_append (IsBlockOf limits) done last v w; name = n; statements = tt; few = z; one = o; blocks = subst (AtMost limits.blocks) (let e : length done + 2 ≡ length (done ++ (last ∷ [])) + 1 = omega (arith, length-append done (last ∷ [])) in e) f }
 
 pub block_over : (done : List BlockParts) (last : BlockParts) (name : List ℕ) → IsPart the_limits done last → IsBlock name → 1 ≤ length last.statements → length done ≡ 63 → Begins no_limits ((header ∷ part_lines done last) ++ (block_line name ∷ [])) × (Begins the_limits ((header ∷ part_lines done last) ++ (block_line name ∷ [])) → ⊥)
-block_over done last name v n some h =
-    (subst (λ ls. Begins no_limits (header ∷ ls)) (part_lines-block done last name) (completes no_limits (done ++ (last ∷ [])) (block name []) (closed no_limits done last name n (blocks_lifted the_limits done v.each) (record { name = v.name; each = each_lifted the_limits last.statements v.statements; few = tt; some = some }) tt tt tt)),
-      λ b. elim (next_of the_limits done last (block_line name) v b) [
-        new_block other w e f g ↦ omega arith
-      | new_statement s w e f ↦ block_not_statement name last s v.few e
-      ])
+block_over done last name v n some h = (
+  subst (λ ls. Begins no_limits (header ∷ ls)) (part_lines-block done last name) (completes no_limits (done ++ (last ∷ [])) (block name []) (closed no_limits done last name n (blocks_lifted the_limits done v.each) (record { name = v.name; each = each_lifted the_limits last.statements v.statements; few = tt; some = some }) tt tt tt)),
+  λ b. elim (next_of the_limits done last (block_line name) v b) [
+    | new_block other w e f g ↦ omega arith
+    | new_statement s w e f ↦ block_not_statement name last s v.few e
+  ],
+)
 
 pub block_taken : (done : List BlockParts) (last : BlockParts) (name : List ℕ) → IsPart the_limits done last → IsBlock name → 1 ≤ length last.statements → length done < 63 → IsPart the_limits (done ++ (last ∷ [])) (block name []) × (part_lines (done ++ (last ∷ [])) (block name []) ≡ part_lines done last ++ (block_line name ∷ []))
 block_taken done last name v n some h = (closed the_limits done last name n v.each (record { name = v.name; each = v.statements; few = v.few; some = some }) (omega arith) (omega arith) (omega arith), part_lines-block done last name)
@@ -116,11 +115,11 @@ statements_same n m s t v w e = let f = line_same (Statement n s) (Statement m t
 pub number_wrong : (done : List BlockParts) (last : BlockParts) (n : ℕ) (s : StatementParts) → IsPart the_limits done last → IsLine (Statement n s) → (n ≡ length last.statements + 1 → ⊥) → Begins no_limits ((header ∷ part_lines done last) ++ (statement_line n s ∷ [])) → ⊥
 number_wrong done last n s v l h b =
     elim (next_of no_limits done last (statement_line n s) v b) [
-      new_block name w e f g ↦ lines_differ name n s l.0.0 l.0.1 (sym e)
-    | new_statement t w e f ↦
-        let c = v.few in
-        let g = statements_same n (suc (length last.statements)) s t l ((omega arith, omega arith), w) e in
-        h (omega (arith, g.0))
+      | new_block name w e f g ↦ lines_differ name n s l.0.0 l.0.1 (sym e)
+      | new_statement t w e f ↦
+          let c = v.few in
+          let g = statements_same n (suc (length last.statements)) s t l ((omega arith, omega arith), w) e in
+          h (omega (arith, g.0))
     ]
 
 part_lines-statement : (done : List BlockParts) (last : BlockParts) (n : ℕ) (s : StatementParts) → n ≡ length last.statements + 1 → part_lines done (block last.name (last.statements ++ (s ∷ []))) ≡ part_lines done last ++ (statement_line n s ∷ [])
@@ -130,15 +129,16 @@ part_lines-statement done last n s h =
     ∙ sym (append_assoc (blocks_lines done) (block_lines last) (statement_line n s ∷ []))
 
 pub statement_over : (done : List BlockParts) (last : BlockParts) (n : ℕ) (s : StatementParts) → IsPart the_limits done last → IsLine (Statement n s) → n ≡ length last.statements + 1 → (999 < n) ⊎ (16 < length s.to) → Begins no_limits ((header ∷ part_lines done last) ++ (statement_line n s ∷ [])) × (Begins the_limits ((header ∷ part_lines done last) ++ (statement_line n s ∷ [])) → ⊥)
-statement_over done last n s v l h over =
-    (subst (λ ls. Begins no_limits (header ∷ ls)) (part_lines-statement done last n s h) (completes no_limits done (block last.name (last.statements ++ (s ∷ []))) (record { each = blocks_lifted the_limits done v.each; name = v.name; statements = all_append (IsStatement no_limits) last.statements s (each_lifted the_limits last.statements v.statements) l.1; few = tt; one = tt; blocks = tt })),
-      λ b. elim (next_of the_limits done last (statement_line n s) v b) [
-        new_block name w e f g ↦ lines_differ name n s l.0.0 l.0.1 (sym e)
-      | new_statement t w e f ↦
-          let c = v.few in
-          let g = statements_same n (suc (length last.statements)) s t l ((omega arith, omega arith), lifted the_limits t w) e in
-          elim over [ inl o ↦ omega arith | inr o ↦ let k : length t.to ≤ 16 = w.few in let i = ap (λ (s : StatementParts). length s.to) g.1 in omega arith ]
-      ])
+statement_over done last n s v l h over = (
+  subst (λ ls. Begins no_limits (header ∷ ls)) (part_lines-statement done last n s h) (completes no_limits done (block last.name (last.statements ++ (s ∷ []))) (record { each = blocks_lifted the_limits done v.each; name = v.name; statements = all_append (IsStatement no_limits) last.statements s (each_lifted the_limits last.statements v.statements) l.1; few = tt; one = tt; blocks = tt })),
+  λ b. elim (next_of the_limits done last (statement_line n s) v b) [
+    | new_block name w e f g ↦ lines_differ name n s l.0.0 l.0.1 (sym e)
+    | new_statement t w e f ↦
+        let c = v.few in
+        let g = statements_same n (suc (length last.statements)) s t l ((omega arith, omega arith), lifted the_limits t w) e in
+        elim over [ inl o ↦ omega arith | inr o ↦ let k : length t.to ≤ 16 = w.few in let i = ap (λ (s : StatementParts). length s.to) g.1 in omega arith ]
+  ],
+)
 
 pub statement_taken : (done : List BlockParts) (last : BlockParts) (n : ℕ) (s : StatementParts) → IsPart the_limits done last → IsLine (Statement n s) → n ≡ length last.statements + 1 → n ≤ 999 → length s.to ≤ 16 → IsPart the_limits done (block last.name (last.statements ++ (s ∷ []))) × (part_lines done (block last.name (last.statements ++ (s ∷ []))) ≡ part_lines done last ++ (statement_line n s ∷ []))
 statement_taken done last n s v l h low few =

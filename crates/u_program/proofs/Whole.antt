@@ -1,24 +1,22 @@
 -- Whole texts of programs.
-use Rattle.std.specs.Prelude.{◌≡◌, ℕ, zero, suc, ◌+◌, ◌^◌, ◌≤◌, ◌<◌, ◌⊎◌, List, [], ◌∷◌, ◌++◌, length, Option, Some, None, Result, Ok, Err, MatchResult, codes, refl}
-use Rattle.std.proofs.Common.{sym, ◌∙◌, ap, subst, arith, inl, inr, append_assoc, length-append}
+use Rattle.std.specs.Prelude.{◌≡◌, ℕ, suc, ◌+◌, ◌≤◌, List, [], ◌∷◌, ◌++◌, length, Some, None, refl}
+use Rattle.std.proofs.Common.{sym, ◌∙◌, ap, subst, arith, append_assoc, length-append}
 use Rattle.std.proofs.lemmas.List.{append-nil}
 use Rattle.std.specs.List.{AllByRecursion}
 use Rattle.u_name.specs.Block.{IsBlock}
-use Rattle.u_text.specs.Number.{number_first}
-use Rattle.u_text.specs.Pieces.{pieces, Free, glued, glued-pieces, lines, words}
-use Rattle.u_text.specs.Spaced.{spaced, ended, AllFree, all_free_append, pieces-ended, glued-ended}
+use Rattle.u_text.specs.Pieces.{pieces, Free, glued, glued-pieces, words}
+use Rattle.u_text.specs.Spaced.{ended, AllFree, all_free_append, pieces-ended, glued-ended}
 use Rattle.u_program.specs.declared.program.Kind.TheVariants.{Begin}
-use Rattle.u_program.specs.declared.reading.Line.{Line}
 use Rattle.u_program.specs.declared.reading.Line.TheVariants.{Block, Statement}
 use Rattle.u_program.specs.Parts.{StatementParts, BlockParts, statement, block}
 use Rattle.u_program.specs.Limits.{Limits, AtMost, IsStatement, IsBlockOf, IsProgram, the_limits, no_limits}
-use Rattle.u_program.specs.Text.{block_line, statement_line, statement_lines, block_lines, blocks_lines, program_lines, program_text, header, statement_words}
+use Rattle.u_program.specs.Text.{block_line, statement_lines, block_lines, blocks_lines, program_lines, program_text, header}
 use Rattle.u_program.specs.Laws.{Begins, IsFirstBad, IsBadLine, IsTooMany, IsTruncated}
-use Rattle.u_program.specs.Reading.{Words, line_at}
-use Rattle.u_program.specs.Begun.{IsLine, part_lines, IsPart, IsRead}
-use Rattle.u_program.proofs.Lists.{heads, tails, empty_is}
-use Rattle.u_program.proofs.LineLaws.{block_line_free, statement_line_free, line_none, line_same, line_sound}
-use Rattle.u_program.proofs.Next.{IsShort, NextLine, new_block, new_statement, next, first, down, lines_differ}
+use Rattle.u_program.specs.Reading.{line_at}
+use Rattle.u_program.specs.Begun.{part_lines, IsPart, IsRead}
+use Rattle.u_program.proofs.Lists.{heads, tails}
+use Rattle.u_program.proofs.LineLaws.{block_line_free, statement_line_free, line_none, line_sound}
+use Rattle.u_program.proofs.Next.{first, lines_differ}
 use Rattle.u_program.proofs.Steps.{completes, block_closed, blocks_lifted, first_statement, blocks_lines-append, all_append}
 
 -- the numbers of statements of a program are small
@@ -89,7 +87,7 @@ is_truncated bytes rest ls h b n = record {
   allowed = subst (Begins the_limits) (sym (ap (λ (p : List (List ℕ) × List ℕ). p.0) h)) b;
   none = λ p v e.
       let f : ◌≡◌ {A = List (List ℕ) × List ℕ} (program_lines p, []) (ls, rest) = sym (pieces-program_text p v) ∙ ap (pieces 10) (sym e) ∙ h in
-      n p v (ap (λ t. t.0) f) (sym (ap (λ t. t.1) f))
+      n p v (ap (λ t. t.0) f) (sym (ap (λ t. t.1) f));
 }
 
 pub truncated_rest : (bytes rest : List ℕ) (done : List BlockParts) (last : BlockParts) → IsRead bytes (header ∷ part_lines done last) rest → pieces 10 rest ≡ ([], rest) → IsPart the_limits done last → (rest ≡ [] → ⊥) → IsTruncated bytes
@@ -101,7 +99,7 @@ half done last p v h w e = block_closed done last least.name v h (record {
   program = p ++ (least ∷ []);
   more = statement_lines 1 least.statements;
   valid = record { each = all_append (IsBlockOf no_limits) p least (blocks_lifted the_limits p w.each) (is_least no_limits tt); few = tt; some = omega (arith, length-append p (least ∷ [])) };
-  there = ap (λ t. header ∷ t) (blocks_lines-append p least ∙ ap (λ t. t ++ block_lines least) (tails e) ∙ sym (append_assoc (part_lines done last) (block_line least.name ∷ []) (statement_lines 1 least.statements)))
+  there = ap (λ t. header ∷ t) (blocks_lines-append p least ∙ ap (λ t. t ++ block_lines least) (tails e) ∙ sym (append_assoc (part_lines done last) (block_line least.name ∷ []) (statement_lines 1 least.statements)));
 })
 
 pub truncated_half : (bytes rest : List ℕ) (done : List BlockParts) (last : BlockParts) → IsRead bytes (header ∷ part_lines done last) rest → pieces 10 rest ≡ ([], rest) → IsPart the_limits done last → length last.statements ≡ 0 → IsTruncated bytes
@@ -120,9 +118,10 @@ truncated_nothing bytes h = is_truncated bytes bytes [] h begins_nothing (λ p w
 pub whole_program : (bytes rest : List ℕ) (done : List BlockParts) (last : BlockParts) → IsRead bytes (header ∷ part_lines done last) rest → pieces 10 rest ≡ ([], rest) → rest ≡ [] → IsPart the_limits done last → 1 ≤ length last.statements → IsProgram the_limits (done ++ (last ∷ [])) × (bytes ≡ program_text (done ++ (last ∷ [])))
 unfolding program_text
 whole_program bytes rest done last r h n v some =
-    let e : pieces 10 bytes ≡ (header ∷ part_lines done last, []) = ends bytes rest _ r h ∙ ap (λ t. (header ∷ part_lines done last, t)) n in
-    (record { each = all_append (IsBlockOf the_limits) done last v.each (record { name = v.name; each = v.statements; few = v.few; some = some }); few = omega (arith, v.blocks, length-append done (last ∷ [])); some = omega (arith, length-append done (last ∷ [])) },
-      sym (glued-pieces 10 bytes) ∙ ap (λ (p : List (List ℕ) × List ℕ). glued 10 p.0 p.1) e ∙ glued-ended (header ∷ part_lines done last) ∙ ap (λ t. ended (header ∷ t)) (sym (blocks_lines-append done last)))
+    let e : pieces 10 bytes ≡ (header ∷ part_lines done last, []) = ends bytes rest _ r h ∙ ap (λ t. (header ∷ part_lines done last, t)) n in (
+      record { each = all_append (IsBlockOf the_limits) done last v.each (record { name = v.name; each = v.statements; few = v.few; some = some }); few = omega (arith, v.blocks, length-append done (last ∷ [])); some = omega (arith, length-append done (last ∷ [])) },
+      sym (glued-pieces 10 bytes) ∙ ap (λ (p : List (List ℕ) × List ℕ). glued 10 p.0 p.1) e ∙ glued-ended (header ∷ part_lines done last) ∙ ap (λ t. ended (header ∷ t)) (sym (blocks_lines-append done last)),
+    )
 
 -- two programs with one text are one
 first_lines : (limits : Limits) (text : List ℕ) → Begins limits ((header ∷ []) ++ (text ∷ [])) → (name : List ℕ) × IsBlock name × (text ≡ block_line name)

@@ -1,18 +1,18 @@
 -- The readers of words read exactly the words of what they read.
-use Rattle.std.specs.Prelude.{◌≡◌, ℕ, suc, ◌+◌, ◌^◌, ◌≤◌, ◌<◌, ◌⊎◌, Bool, true, false, cond, ◌&&◌, ◌==◌, nat_le, IsTrue, List, [], ◌∷◌, ◌++◌, map, codes, length, take, drop, Option, Some, None, refl}
+use Rattle.std.specs.Prelude.{◌≡◌, ℕ, suc, ◌^◌, ◌≤◌, ◌<◌, Bool, true, false, cond, ◌&&◌, nat_le, IsTrue, List, [], ◌∷◌, ◌++◌, map, codes, length, Option, Some, None, refl}
 use Rattle.std.specs.List.{AllByRecursion}
 use Rattle.std.proofs.Common.{sym, ◌∙◌, ap, subst, arith, inl, inr, append_assoc}
 use Rattle.std.proofs.lemmas.List.{append-nil}
 use Rattle.std.proofs.lemmas.Bool.Decides.{nat_tests}
-use Rattle.std.specs.Fmt.{decimal, signed_decimal}
+use Rattle.std.specs.Fmt.{decimal}
 use lib.IntN.{ℤ, pos, negsuc}
 use Rattle.u_name.specs.Block.{IsBlock, StartsWithLetter, is_letter, is_block_byte}
 use Rattle.u_name.specs.BlockText.{block_Reads, begins_with_letter}
 use Rattle.u_text.specs.Reads.{Reads}
-use Rattle.u_text.specs.Parts.{lead, lead_Reads, Same, alike, unlike, same_or}
-use Rattle.u_text.specs.Then.{after, AreBoth, both, both_Reads}
-use Rattle.u_text.specs.Number.{number, IsUpTo, IsDigit, AllDigit, number_Reads, decimal_digits}
-use Rattle.u_text.specs.WholeWords.{◌then◌, whole, is, told, is_itself, some_same, none_some, then_some, le_cases, whole_sound, whole_complete, number0_word, number0_word_sound, number0_word_complete, signed_word, signed_word_sound, signed_word_complete}
+use Rattle.u_text.specs.Parts.{lead_Reads, alike, unlike, same_or}
+use Rattle.u_text.specs.Then.{after, AreBoth, both_Reads}
+use Rattle.u_text.specs.Number.{IsUpTo, IsDigit, AllDigit, number_Reads, decimal_digits}
+use Rattle.u_text.specs.WholeWords.{◌then◌, whole, is, told, some_same, none_some, then_some, le_cases, whole_sound, whole_complete, number0_word, number0_word_sound, number0_word_complete, signed_word, signed_word_sound, signed_word_complete}
 use Rattle.u_program.specs.declared.program.Constant.{Constant}
 use Rattle.u_program.specs.declared.program.Constant.TheVariants as constants
 use Rattle.u_program.specs.declared.program.Kind.{Kind}
@@ -21,7 +21,7 @@ use Rattle.u_program.specs.declared.program.Destination.{Destination}
 use Rattle.u_program.specs.Parts.{StatementParts, statement}
 use Rattle.u_program.specs.Limits.{IsConstant, IsKind, has_list, IsListed, IsDestination, Ascending, rank, IsStatement, no_limits}
 use Rattle.u_program.specs.Text.{arrow, kind_word, constant_word, argument_words, destination_word, statement_words}
-use Rattle.u_program.specs.Reading.{Words, word_at, all_block_bytes, is_block_name, name_word, dot_at, ported, destination_at, destinations_at, none_at, list_at, other_constant, constant_at, plain_kinds, kind_among, const_at, plain_at, kind_of, kind_at, arrow_at, statement_at}
+use Rattle.u_program.specs.Reading.{Words, all_block_bytes, is_block_name, name_word, dot_at, ported, destination_at, destinations_at, none_at, list_at, other_constant, constant_at, plain_kinds, kind_among, const_at, plain_at, kind_of, kind_at, arrow_at, statement_at}
 
 pub name_word_sound : (w name : List ℕ) → name_word w ≡ Some name → IsBlock name × (w ≡ name)
 unfolding name_word
@@ -97,8 +97,8 @@ dot_Reads = both_Reads (number_Reads 999 (omega arith) (omega arith)) (λ _ _. l
 ported_sound : (z : ℕ × ℕ) (d : Destination) → ported z ≡ Some d → (z.1 ≤ 3) × (◌≡◌ {A = Destination} (record { statement = z.0; port = z.1 }) d)
 ported_sound z d h =
     elim (le_cases z.1 3) [
-      inl a ↦ (a.1, some_same _ d (ap (λ t. cond t (Some (record { statement = z.0; port = z.1 })) None) (sym a.0) ∙ h))
-    | inr a ↦ absurd (none_some d (ap (λ t. cond t (Some (record { statement = z.0; port = z.1 })) None) (sym a.0) ∙ h))
+      | inl a ↦ (a.1, some_same _ d (ap (λ t. cond t (Some (record { statement = z.0; port = z.1 })) None) (sym a.0) ∙ h))
+      | inr a ↦ absurd (none_some d (ap (λ t. cond t (Some (record { statement = z.0; port = z.1 })) None) (sym a.0) ∙ h))
     ]
 
 pub destination_sound : (w : List ℕ) (d : Destination) → destination_at w ≡ Some d → IsDestination d × (w ≡ destination_word d)
@@ -122,12 +122,12 @@ destinations_sound below (w ∷ ws) ds h =
     let a = then_some (destination_at w) (λ d. cond (nat_le (rank d) below) None (destinations_at (rank d) ws then λ ds. Some (d ∷ ds))) ds h in
     let s = destination_sound w a.0 a.1 in
     elim (le_cases (rank a.0) below) [
-      inl b ↦ absurd (none_some ds (ap (λ t. cond t None (destinations_at (rank a.0) ws then λ ds. Some (a.0 ∷ ds))) (sym b.0) ∙ a.2))
-    | inr b ↦
-        let g = then_some (destinations_at (rank a.0) ws) (λ ds. Some (a.0 ∷ ds)) ds (ap (λ t. cond t None (destinations_at (rank a.0) ws then λ ds. Some (a.0 ∷ ds))) (sym b.0) ∙ a.2) in
-        let i = destinations_sound (rank a.0) ws g.0 g.1 in
-        let e : a.0 ∷ g.0 ≡ ds = some_same _ ds g.2 in
-        subst (λ ds. Ascending below ds × (w ∷ ws ≡ map destination_word ds)) e ((s.0, b.1, i.0), ap (λ w. w ∷ ws) s.1 ∙ ap (λ ws. destination_word a.0 ∷ ws) i.1)
+      | inl b ↦ absurd (none_some ds (ap (λ t. cond t None (destinations_at (rank a.0) ws then λ ds. Some (a.0 ∷ ds))) (sym b.0) ∙ a.2))
+      | inr b ↦
+          let g = then_some (destinations_at (rank a.0) ws) (λ ds. Some (a.0 ∷ ds)) ds (ap (λ t. cond t None (destinations_at (rank a.0) ws then λ ds. Some (a.0 ∷ ds))) (sym b.0) ∙ a.2) in
+          let i = destinations_sound (rank a.0) ws g.0 g.1 in
+          let e : a.0 ∷ g.0 ≡ ds = some_same _ ds g.2 in
+          subst (λ ds. Ascending below ds × (w ∷ ws ≡ map destination_word ds)) e ((s.0, b.1, i.0), ap (λ w. w ∷ ws) s.1 ∙ ap (λ ws. destination_word a.0 ∷ ws) i.1)
     ]
 
 pub destinations_complete : (below : ℕ) (ds : List Destination) → Ascending below ds → destinations_at below (map destination_word ds) ≡ Some ds
@@ -136,9 +136,9 @@ destinations_complete below [] v = refl
 destinations_complete below (d ∷ ds) v =
     ap (λ r. r then λ d. cond (nat_le (rank d) below) None (destinations_at (rank d) (map destination_word ds) then λ ds. Some (d ∷ ds))) (destination_complete d v.0)
     ∙ elim (le_cases (rank d) below) [
-        inl b ↦ absurd (omega (arith, v.1))
+      | inl b ↦ absurd (omega (arith, v.1))
       | inr b ↦ ap (λ t. cond t None (destinations_at (rank d) (map destination_word ds) then λ ds. Some (d ∷ ds))) b.0 ∙ ap (λ r. r then λ ds. Some (d ∷ ds)) (destinations_complete (rank d) ds v.2)
-      ]
+    ]
 
 -- lists of destinations
 
@@ -182,14 +182,14 @@ unfolding Says other_at
 other_sound [] k h = absurd (none_some k h)
 other_sound (c ∷ cs) k h =
     elim (same_or c 64) [
-      alike e f ↦
-        let a = then_some (name_word cs) (λ name. Some (constants.Proc name)) k (ap (λ b. other_at b c cs) (sym f) ∙ h) in
-        let s = name_word_sound cs a.0 a.1 in
-        subst (λ k. IsConstant k × (c ∷ cs ≡ constant_word k)) (some_same (constants.Proc a.0) k a.2) (s.0, ap (λ c. c ∷ cs) e ∙ ap (λ t. 64 ∷ t) s.1)
-    | unlike e f ↦
-        let a = then_some (signed_word (c ∷ cs)) (λ n. Some (constants.Int n)) k (ap (λ b. other_at b c cs) (sym f) ∙ h) in
-        let s = signed_word_sound (c ∷ cs) a.0 a.1 in
-        subst (λ k. IsConstant k × (c ∷ cs ≡ constant_word k)) (some_same (constants.Int a.0) k a.2) (s.0, s.1)
+      | alike e f ↦
+          let a = then_some (name_word cs) (λ name. Some (constants.Proc name)) k (ap (λ b. other_at b c cs) (sym f) ∙ h) in
+          let s = name_word_sound cs a.0 a.1 in
+          subst (λ k. IsConstant k × (c ∷ cs ≡ constant_word k)) (some_same (constants.Proc a.0) k a.2) (s.0, ap (λ c. c ∷ cs) e ∙ ap (λ t. 64 ∷ t) s.1)
+      | unlike e f ↦
+          let a = then_some (signed_word (c ∷ cs)) (λ n. Some (constants.Int n)) k (ap (λ b. other_at b c cs) (sym f) ∙ h) in
+          let s = signed_word_sound (c ∷ cs) a.0 a.1 in
+          subst (λ k. IsConstant k × (c ∷ cs ≡ constant_word k)) (some_same (constants.Int a.0) k a.2) (s.0, s.1)
     ]
 
 truth_or : Bool → Bool → List ℕ → Option Constant
@@ -203,13 +203,13 @@ pub constant_sound : (w : List ℕ) (k : Constant) → constant_at w ≡ Some k 
 unfolding constant_at Says truth_or
 constant_sound w k h =
     elim (told w (codes "true") (is w (codes "true")) refl) [
-      inl a ↦ truth_sound w true k a.1 (ap (λ b. truth_or b (is w (codes "false")) w) (sym a.0) ∙ h)
-    | inr a ↦
-        let i = ap (λ b. truth_or b (is w (codes "false")) w) (sym a) ∙ h in
-        elim (told w (codes "false") (is w (codes "false")) refl) [
-          inl d ↦ truth_sound w false k d.1 (ap (λ b. truth_or false b w) (sym d.0) ∙ i)
-        | inr d ↦ other_sound w k (ap (λ b. truth_or false b w) (sym d) ∙ i)
-        ]
+      | inl a ↦ truth_sound w true k a.1 (ap (λ b. truth_or b (is w (codes "false")) w) (sym a.0) ∙ h)
+      | inr a ↦
+          let i = ap (λ b. truth_or b (is w (codes "false")) w) (sym a) ∙ h in
+          elim (told w (codes "false") (is w (codes "false")) refl) [
+            | inl d ↦ truth_sound w false k d.1 (ap (λ b. truth_or false b w) (sym d.0) ∙ i)
+            | inr d ↦ other_sound w k (ap (λ b. truth_or false b w) (sym d) ∙ i)
+          ]
     ]
 
 -- a number is no truth value and no procedure
@@ -218,20 +218,20 @@ unfolding constant_at truth_or other_at signed_word
 number_is_other n [] t p h = absurd (none_some n h)
 number_is_other n (c ∷ cs) t p h =
     elim (told (c ∷ cs) (codes "true") (is (c ∷ cs) (codes "true")) refl) [
-      inl a ↦ absurd (t true a.1)
-    | inr a ↦
-        elim (told (c ∷ cs) (codes "false") (is (c ∷ cs) (codes "false")) refl) [
-          inl b ↦ absurd (t false b.1)
-        | inr b ↦
-            elim (same_or c 64) [
-              alike e f ↦ absurd (p cs (ap (λ c. c ∷ cs) e))
-            | unlike e f ↦
-                ap (λ t. truth_or t (is (c ∷ cs) (codes "false")) (c ∷ cs)) a
-                ∙ ap (λ t. truth_or false t (c ∷ cs)) b
-                ∙ ap (λ t. other_at t c cs) f
-                ∙ ap (λ r. r then λ n. Some (constants.Int n)) h
-            ]
-        ]
+      | inl a ↦ absurd (t true a.1)
+      | inr a ↦
+          elim (told (c ∷ cs) (codes "false") (is (c ∷ cs) (codes "false")) refl) [
+            | inl b ↦ absurd (t false b.1)
+            | inr b ↦
+                elim (same_or c 64) [
+                  | alike e f ↦ absurd (p cs (ap (λ c. c ∷ cs) e))
+                  | unlike e f ↦
+                      ap (λ t. truth_or t (is (c ∷ cs) (codes "false")) (c ∷ cs)) a
+                      ∙ ap (λ t. truth_or false t (c ∷ cs)) b
+                      ∙ ap (λ t. other_at t c cs) f
+                      ∙ ap (λ r. r then λ n. Some (constants.Int n)) h
+                ]
+          ]
     ]
 
 no_letter : (ds : List ℕ) (c : ℕ) (cs : List ℕ) → AllDigit ds → 58 ≤ c → ds ≡ c ∷ cs → ⊥
@@ -263,10 +263,10 @@ unfolding kind_among
 among_sound [] w k v h = absurd (none_some k h)
 among_sound (j ∷ ks) w k v h =
     elim (told w (kind_word j) (is w (kind_word j)) refl) [
-      inl a ↦
-        let e = some_same j k (ap (λ b. cond b (Some j) (kind_among ks w)) (sym a.0) ∙ h) in
-        subst (λ k. IsPlain k × (w ≡ kind_word k)) e (v.0, a.1)
-    | inr a ↦ among_sound ks w k v.1 (ap (λ b. cond b (Some j) (kind_among ks w)) (sym a) ∙ h)
+      | inl a ↦
+          let e = some_same j k (ap (λ b. cond b (Some j) (kind_among ks w)) (sym a.0) ∙ h) in
+          subst (λ k. IsPlain k × (w ≡ kind_word k)) e (v.0, a.1)
+      | inr a ↦ among_sound ks w k v.1 (ap (λ b. cond b (Some j) (kind_among ks w)) (sym a) ∙ h)
     ]
 
 are_plain : AllByRecursion IsPlain plain_kinds
@@ -302,8 +302,8 @@ plain_sound w ws k rest h =
 kind_of_sound : (w : List ℕ) (ws : Words) (k : Kind) (rest : Words) → kind_of w ws ≡ Some (k, rest) → SaysKind w ws k rest
 kind_of_sound w ws k rest h =
     elim (told w (codes "const") (is w (codes "const")) refl) [
-      inl a ↦ const_sound w ws k rest a.1 (ap (λ b. cond b (const_at ws) (plain_at w ws)) (sym a.0) ∙ h)
-    | inr a ↦ plain_sound w ws k rest (ap (λ b. cond b (const_at ws) (plain_at w ws)) (sym a) ∙ h)
+      | inl a ↦ const_sound w ws k rest a.1 (ap (λ b. cond b (const_at ws) (plain_at w ws)) (sym a.0) ∙ h)
+      | inr a ↦ plain_sound w ws k rest (ap (λ b. cond b (const_at ws) (plain_at w ws)) (sym a) ∙ h)
     ]
 
 pub kind_sound : (ws : Words) (k : Kind) (rest : Words) → kind_at ws ≡ Some (k, rest) → IsKind k × (ws ≡ kind_word k ∷ (argument_words k ++ rest))
@@ -323,10 +323,10 @@ unfolding arrow_at
 arrow_sound [] u rest h = absurd (none_some _ h)
 arrow_sound (w ∷ ws) u rest h =
     elim (told w arrow (is w arrow) refl) [
-      inl a ↦
-        let o = some_same (tt, ws) (u, rest) (ap (λ b. cond b (Some (tt, ws)) None) (sym a.0) ∙ h) in
-        ap (λ w. w ∷ ws) a.1 ∙ ap (λ ws. arrow ∷ ws) (ap (λ t. t.1) o)
-    | inr a ↦ absurd (none_some _ (ap (λ b. cond b (Some (tt, ws)) None) (sym a) ∙ h))
+      | inl a ↦
+          let o = some_same (tt, ws) (u, rest) (ap (λ b. cond b (Some (tt, ws)) None) (sym a.0) ∙ h) in
+          ap (λ w. w ∷ ws) a.1 ∙ ap (λ ws. arrow ∷ ws) (ap (λ t. t.1) o)
+      | inr a ↦ absurd (none_some _ (ap (λ b. cond b (Some (tt, ws)) None) (sym a) ∙ h))
     ]
 
 -- statements
@@ -350,9 +350,10 @@ statement_sound (w ∷ ws) s h =
     let g = then_some (list_at c.0.0 e.0.1) (λ to. Some (statement a.0 c.0.0 to)) s e.2 in
     let i = list_sound c.0.0 e.0.1 g.0 g.1 in
     let j = some_same (statement a.0 c.0.0 g.0) s g.2 in
-    subst (λ s. IsStatement no_limits s × (w ∷ ws ≡ statement_words s)) j
-    (record { region = b.0; kind = d.0; to = i.0; listed = i.1; few = tt },
-      ap (λ w. w ∷ ws) b.1 ∙ ap (λ ws. decimal a.0 ∷ ws) (d.1 ∙ ap (λ t. kind_word c.0.0 ∷ (argument_words c.0.0 ++ t)) (f ∙ ap (λ t. arrow ∷ t) i.2)))
+    subst (λ s. IsStatement no_limits s × (w ∷ ws ≡ statement_words s)) j (
+      record { region = b.0; kind = d.0; to = i.0; listed = i.1; few = tt },
+      ap (λ w. w ∷ ws) b.1 ∙ ap (λ ws. decimal a.0 ∷ ws) (d.1 ∙ ap (λ t. kind_word c.0.0 ∷ (argument_words c.0.0 ++ t)) (f ∙ ap (λ t. arrow ∷ t) i.2)),
+    )
 
 pub statement_complete : (s : StatementParts) → IsStatement no_limits s → statement_at (statement_words s) ≡ Some s
 unfolding statement_at arrow_at
@@ -375,18 +376,18 @@ unfolding destinations_at
 destinations_turn below w ws d to h lt =
     ap (λ r. onto_read to (r then λ d. cond (nat_le (rank d) below) None (destinations_at (rank d) ws then λ ds. Some (d ∷ ds)))) h
     ∙ elim (le_cases (rank d) below) [
-        inl b ↦ absurd (omega arith)
+      | inl b ↦ absurd (omega arith)
       | inr b ↦ ap (λ t. onto_read to (cond t None (destinations_at (rank d) ws then λ ds. Some (d ∷ ds)))) b.0 ∙ onto_more to d (destinations_at (rank d) ws)
-      ]
+    ]
 
 pub destinations_low : (below : ℕ) (w : List ℕ) (ws : Words) (d : Destination) (to : List Destination) → destination_at w ≡ Some d → rank d ≤ below → onto_read to (destinations_at below (w ∷ ws)) ≡ None
 unfolding destinations_at
 destinations_low below w ws d to h le =
     ap (λ r. onto_read to (r then λ d. cond (nat_le (rank d) below) None (destinations_at (rank d) ws then λ ds. Some (d ∷ ds)))) h
     ∙ elim (le_cases (rank d) below) [
-        inl b ↦ ap (λ t. onto_read to (cond t None (destinations_at (rank d) ws then λ ds. Some (d ∷ ds)))) b.0
+      | inl b ↦ ap (λ t. onto_read to (cond t None (destinations_at (rank d) ws then λ ds. Some (d ∷ ds)))) b.0
       | inr b ↦ absurd (omega arith)
-      ]
+    ]
 
 pub destinations_bad : (below : ℕ) (w : List ℕ) (ws : Words) (to : List Destination) → destination_at w ≡ None → onto_read to (destinations_at below (w ∷ ws)) ≡ None
 unfolding destinations_at

@@ -1,5 +1,5 @@
 -- What is written piece by piece is the text.
-use Rattle.std.specs.Prelude.{◌≡◌, ℕ, suc, ◌+◌, ◌≤◌, ◌<◌, List, [], ◌∷◌, ◌++◌, length, map, take, codes, refl}
+use Rattle.std.specs.Prelude.{◌≡◌, ℕ, ◌+◌, ◌<◌, List, [], ◌∷◌, ◌++◌, length, map, take, codes}
 use Rattle.std.proofs.Common.{sym, ◌∙◌, ap, arith, append_assoc, get_or}
 use Rattle.std.proofs.lemmas.List.{length-take-le, take_more, map-append, append-nil}
 use Rattle.std.specs.Fmt.{decimal}
@@ -7,7 +7,7 @@ use Rattle.u_text.specs.Spaced.{spaced, ended, spaced-append, ended-append}
 use Rattle.u_program.specs.declared.program.Kind.{Kind}
 use Rattle.u_program.specs.declared.program.Destination.{Destination}
 use Rattle.u_program.specs.Parts.{StatementParts, BlockParts}
-use Rattle.u_program.specs.Text.{arrow, kind_word, argument_words, destination_word, tail_words, statement_words, block_line, statement_line, statement_lines, block_lines, blocks_lines, program_text, header}
+use Rattle.u_program.specs.Text.{arrow, kind_word, argument_words, destination_word, tail_words, statement_words, block_line, statement_line, statement_lines, block_lines, blocks_lines, program_text}
 use Rattle.u_program.proofs.Steps.{statement_lines-append, blocks_lines-append}
 
 -- one more destination
@@ -25,10 +25,10 @@ pub statements_more : (start : List ℕ) (ss : List StatementParts) (i : ℕ) (s
 statements_more start ss i s h e =
     let n : 1 + length (take i ss) ≡ i + 1 = omega (arith, length-take-le i ss (omega arith)) in
     let t : statement_lines 1 (take (i + 1) ss) ≡ statement_lines 1 (take i ss) ++ (statement_line (i + 1) s ∷ []) =
-        ap (statement_lines 1) (take_more ss i s h)
-        ∙ ap (λ s. statement_lines 1 (take i ss ++ (s ∷ []))) (sym e)
-        ∙ statement_lines-append 1 (take i ss) s
-        ∙ ap (λ n. statement_lines 1 (take i ss) ++ (statement_line n s ∷ [])) n in
+    ap (statement_lines 1) (take_more ss i s h)
+    ∙ ap (λ s. statement_lines 1 (take i ss ++ (s ∷ []))) (sym e)
+    ∙ statement_lines-append 1 (take i ss) s
+    ∙ ap (λ n. statement_lines 1 (take i ss) ++ (statement_line n s ∷ [])) n in
     append_assoc start (ended (statement_lines 1 (take i ss))) (statement_line (i + 1) s ++ (10 ∷ []))
     ∙ ap (λ t. start ++ t) (sym (ended-append (statement_lines 1 (take i ss)) (statement_line (i + 1) s ∷ [])))
     ∙ ap (λ ls. start ++ ended ls) (sym t)
@@ -37,7 +37,7 @@ statements_more start ss i s h e =
 pub blocks_more : (start : List ℕ) (bs : List BlockParts) (i : ℕ) (b : BlockParts) → i < length bs → b ≡ get_or bs i b → (start ++ ended (blocks_lines (take i bs))) ++ ended (block_lines b) ≡ start ++ ended (blocks_lines (take (i + 1) bs))
 blocks_more start bs i b h e =
     let t : blocks_lines (take (i + 1) bs) ≡ blocks_lines (take i bs) ++ block_lines b =
-        ap blocks_lines (take_more bs i b h) ∙ ap (λ b. blocks_lines (take i bs ++ (b ∷ []))) (sym e) ∙ blocks_lines-append (take i bs) b in
+    ap blocks_lines (take_more bs i b h) ∙ ap (λ b. blocks_lines (take i bs ++ (b ∷ []))) (sym e) ∙ blocks_lines-append (take i bs) b in
     append_assoc start (ended (blocks_lines (take i bs))) (ended (block_lines b))
     ∙ ap (λ t. start ++ t) (sym (ended-append (blocks_lines (take i bs)) (block_lines b)))
     ∙ ap (λ ls. start ++ ended ls) (sym t)

@@ -6,12 +6,10 @@ ghost use Rattle.u_program.specs.Limits.{IsProgram, the_limits};
 ghost use Rattle.u_program.specs.Begun.{IsLine, part_lines, IsPart};
 ghost use Rattle.u_program.specs.Faults.{IsLineFault};
 
-use std::alloc::{AllocFailed, Global};
-
-use u_name::BlockName;
-
 use crate::program::{Block, Program, Statement};
 use crate::reading::{Line, WordFault, read_line};
+use std::alloc::{AllocFailed, Global};
+use u_name::BlockName;
 
 /// Whole blocks, and one that may go on.
 #[derive(Drop)]

@@ -5,7 +5,6 @@ ghost use Rattle.u_program.specs.Parts.{statement, block};
 
 use std::alloc::{AllocFailed, Global};
 use std::marker::Model;
-
 use u_name::BlockName;
 
 /// Where a value goes: a port of a statement of the same block.

@@ -6,13 +6,11 @@ ghost use Rattle.u_name.specs.Block.{is_letter, is_block_byte};
 ghost use Rattle.u_name.specs.BlockText.{begins_with_letter};
 ghost use Rattle.u_text.specs.Pieces.{words};
 
-use std::alloc::{AllocFailed, Global};
-
-use u_name::BlockName;
-use u_text::{BadWord, Words, after, number_at, number_word, number0_word, signed_word};
-
 use crate::kind_words::{has_list, kind_word};
 use crate::program::{Constant, Destination, Kind, Statement};
+use std::alloc::{AllocFailed, Global};
+use u_name::BlockName;
+use u_text::{BadWord, Words, after, number_at, number_word, number0_word, signed_word};
 
 /// Why a line was not read: it is of no allowed form, or there is no memory.
 #[derive(Debug, Drop)]
@@ -110,19 +108,31 @@ fn constant(word: &[u8]) -> Result<Constant, BadWord>
     Ok(Constant::Int(signed_word(word)?))
 }
 
+/// The first of these kinds that has this word.
 #[tactic(auto, unfolding(crate::specs::Reading::kind_among))]
+fn kind_among(kinds: &[Kind], word: &[u8]) -> Result<Kind, BadWord>
+    ensures { MatchResult result
+        (λ k. kind_among kinds.now word.now ≡ Some k)
+        (λ _. kind_among kinds.now word.now ≡ None) }
+{
+    let mut rest = kinds;
+    while let Some((kind, others)) = rest.split_first() {
+        if word == kind_word(kind) {
+            return Ok(*kind);
+        }
+        rest = others;
+    }
+    Err(BadWord)
+}
+
+/// The kind without an argument that has this word.
 fn plain_kind(word: &[u8]) -> Result<Kind, BadWord>
     ensures { MatchResult result
         (λ k. kind_among plain_kinds word.now ≡ Some k)
         (λ _. kind_among plain_kinds word.now ≡ None) }
 {
     let kinds = [Kind::Begin, Kind::Add, Kind::End];
-    for kind in &kinds {
-        if word == kind_word(kind) {
-            return Ok(*kind);
-        }
-    }
-    Err(BadWord)
+    kind_among(&kinds, word)
 }
 
 #[tactic(auto, unfolding(crate::specs::Reading::kind_at))]

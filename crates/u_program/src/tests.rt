@@ -1,10 +1,9 @@
 //! Worked texts: what is read, what is refused, and that each is written as it was read.
-use std::alloc::{AllocError, Global};
-use std::test::Fail;
-
 use crate::program::{Constant, Kind, Program};
 use crate::read_error::ReadError;
 use crate::text::read;
+use std::alloc::{AllocError, Global};
+use std::test::Fail;
 
 fn is_written_as_read(alloc: Global, text: &[u8]) -> Result<bool, Fail> {
     let program = read(alloc, text)?;
@@ -110,15 +109,24 @@ fn names_the_first_bad_line(rt: HostRuntime) -> Result<(), Fail> {
         let text = with_line(alloc, line)?;
         assert_eq!(rt; read(alloc, &text).err(), Some(ReadError::BadLine(3)));
     }
-    assert_eq!(rt; read(alloc, b"u-program 2\n").err(), Some(ReadError::BadLine(1)));
-    assert_eq!(rt; read(alloc, b"u-program 1\nblock Main\n").err(), Some(ReadError::BadLine(2)));
+    assert_eq!(rt;
+        read(alloc, b"u-program 2\n").err(),
+        Some(ReadError::BadLine(1))
+    );
+    assert_eq!(rt;
+        read(alloc, b"u-program 1\nblock Main\n").err(),
+        Some(ReadError::BadLine(2))
+    );
     Ok(())
 }
 
 #[test]
 fn names_the_line_that_has_too_many(rt: HostRuntime) -> Result<(), Fail> {
     let alloc = rt.alloc();
-    let text = with_line(alloc, b"1 0 begin -> 1.1 2.1 3.1 4.1 5.1 6.1 7.1 8.1 9.1 10.1 11.1 12.1 13.1 14.1 15.1 16.1 17.1")?;
+    let text = with_line(
+        alloc,
+        b"1 0 begin -> 1.1 2.1 3.1 4.1 5.1 6.1 7.1 8.1 9.1 10.1 11.1 12.1 13.1 14.1 15.1 16.1 17.1",
+    )?;
     assert_eq!(rt; read(alloc, &text).err(), Some(ReadError::TooMany(3)));
     let text = blocks(alloc, 65)?;
     assert_eq!(rt; read(alloc, &text).err(), Some(ReadError::TooMany(130)));
@@ -148,9 +156,21 @@ fn tells_a_text_cut_short(rt: HostRuntime) -> Result<(), Fail> {
 #[test]
 fn prints_errors(rt: HostRuntime) -> Result<(), Fail> {
     let alloc = rt.alloc();
-    assert_eq!(rt; format!(in alloc; "{}", ReadError::BadLine(3))?.as_str(), "program line 3 not allowed");
-    assert_eq!(rt; format!(in alloc; "{}", ReadError::TooMany(65))?.as_str(), "program line 65 has too many");
-    assert_eq!(rt; format!(in alloc; "{}", ReadError::Truncated)?.as_str(), "program cut short");
-    assert_eq!(rt; format!(in alloc; "{}", ReadError::NoMemory)?.as_str(), "no memory");
+    assert_eq!(rt;
+        format!(in alloc; "{}", ReadError::BadLine(3))?.as_str(),
+        "program line 3 not allowed"
+    );
+    assert_eq!(rt;
+        format!(in alloc; "{}", ReadError::TooMany(65))?.as_str(),
+        "program line 65 has too many"
+    );
+    assert_eq!(rt;
+        format!(in alloc; "{}", ReadError::Truncated)?.as_str(),
+        "program cut short"
+    );
+    assert_eq!(rt;
+        format!(in alloc; "{}", ReadError::NoMemory)?.as_str(),
+        "no memory"
+    );
     Ok(())
 }

@@ -4,13 +4,11 @@ ghost use Rattle.u_program.specs.declared.read_error.ReadError.TheVariants as er
 ghost use Rattle.u_program.specs.Parts.{BlockParts};
 ghost use Rattle.u_program.specs.Answer.{IsTextOf, IsReadError, fault_at};
 
-use std::alloc::Global;
-
-use u_text::cut;
-
 use crate::part::{LineFault, Part};
 use crate::program::Program;
 use crate::read_error::ReadError;
+use std::alloc::Global;
+use u_text::cut;
 
 /// The program whose text the bytes are. Each program has one text, which `Program::write_text`
 /// writes, so the two are inverse to each other.

@@ -5,12 +5,10 @@ ghost use Rattle.u_text.specs.Spaced.{spaced, ended};
 ghost use Rattle.u_program.specs.Limits.{IsProgram, the_limits};
 ghost use Rattle.u_program.specs.Text.{kind_word, constant_word, argument_words, destination_word, tail_words, statement_line, statement_lines, block_lines, blocks_lines, program_text};
 
-use std::alloc::AllocError;
-
-use u_text::{push_behind, push_long, push_number, push_signed, push_spaced};
-
 use crate::kind_words::kind_word;
 use crate::program::{Block, Constant, Destination, Kind, Program, Statement};
+use std::alloc::AllocError;
+use u_text::{push_behind, push_long, push_number, push_signed, push_spaced};
 
 #[tactic(auto, using(u_text::specs::Appending::extends_same, u_text::specs::Appending::extends_behind, std::proofs::Common::append_assoc))]
 fn push_constant(out: &mut Vec<u8>, constant: &Constant) -> Result<(), AllocError>

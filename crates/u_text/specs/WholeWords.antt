@@ -1,8 +1,7 @@
 -- Words read whole: numbers, and signed numbers of 64 bits. Each has one spelling.
-use Rattle.std.specs.Prelude.{◌≡◌, ℕ, zero, suc, ◌+◌, ◌-◌, ◌^◌, ◌≤◌, ◌<◌, ◌⊎◌, Bool, true, false, cond, ◌==◌, nat_le, List, [], ◌∷◌, ◌++◌, length, Option, Some, None, Result, Ok, Err, FitsSigned, refl}
+use Rattle.std.specs.Prelude.{◌≡◌, ℕ, zero, suc, ◌-◌, ◌^◌, ◌≤◌, ◌<◌, ◌⊎◌, Bool, true, false, cond, ◌==◌, nat_le, List, [], ◌∷◌, length, Option, Some, None, Result, Ok, Err, FitsSigned, refl}
 use Rattle.std.proofs.Common.{sym, ◌∙◌, ap, subst, arith, inl, inr}
 use Rattle.std.proofs.lemmas.Bool.Decides.{nat_tests}
-use Rattle.std.proofs.lemmas.Int.{fits_signed_from_abs}
 use Rattle.std.proofs.lemmas.List.{append-nil}
 use Rattle.std.proofs.lemmas.Fmt.{decimal_digit, decimal_injective}
 use Rattle.std.specs.Fmt.{decimal, signed_decimal}
@@ -11,9 +10,9 @@ use Rattle.std.specs.Cmp.Lexicographic.{same_text, other_text}
 use lib.IntN.{ℤ, pos, negsuc}
 use lib.Pointwise.{pointwise}
 use denote.Ref.{Bor}
-use Rattle.u_text.specs.Reads.{Reader, Reads}
-use Rattle.u_text.specs.Parts.{Same, alike, unlike, same_or}
-use Rattle.u_text.specs.Number.{number, IsUpTo, IsDigit, AllDigit, number_Reads, decimal_digits}
+use Rattle.u_text.specs.Reads.{Reads}
+use Rattle.u_text.specs.Parts.{alike, unlike, same_or}
+use Rattle.u_text.specs.Number.{number, IsUpTo, AllDigit, number_Reads, decimal_digits}
 use Rattle.u_text.specs.Pieces.{words}
 
 infixl 10 ◌then◌
@@ -98,6 +97,7 @@ module _ {X : Type 0} {text : X → List ℕ} {V : X → Type 0} {More : ℕ →
           let g : y ≡ x = some_same y x k in
           subst (λ (x : X). V x × (w ≡ text x)) g (s.0, s.1 ∙ append-nil (text y))
       inside y (c ∷ r) e k = absurd (none_some x k)
+
       at : (r : Result (X × List ℕ) (List ℕ)) → P w ≡ r → whole r ≡ Some x → V x × (w ≡ text x)
       at (Ok a) e k = inside a.0 a.1 e k
       at (Err b) e k = absurd (none_some x k)
@@ -112,6 +112,7 @@ module _ {X : Type 0} {text : X → List ℕ} {V : X → Type 0} {More : ℕ →
       inside y (c ∷ r) e =
           let s = p.sound (text x) y (c ∷ r) e in
           absurd (p.stops (text x) y c r e x r v s.1)
+
       at : (r : Result (X × List ℕ) (List ℕ)) → P (text x) ≡ r → whole r ≡ Some x
       at (Ok a) e = inside a.0 a.1 e
       at (Err b) e = absurd (p.none (text x) b e x [] v (sym (append-nil (text x))))
@@ -128,22 +129,22 @@ pub number0_word_sound : (max : ℕ) (w : List ℕ) (n : ℕ) → 9 ≤ max → 
 unfolding number0_word
 number0_word_sound max w n low high h =
     elim (told w (48 ∷ []) (is w (48 ∷ [])) refl) [
-      inl a ↦
-        let e : 0 ≡ n = some_same 0 n (ap (λ b. cond b (Some 0) (number_word max w)) (sym a.0) ∙ h) in
-        (omega arith, a.1 ∙ sym (decimal_digit 0 (omega arith)) ∙ ap decimal e)
-    | inr a ↦
-        let s = number_word_sound max w n low high (ap (λ b. cond b (Some 0) (number_word max w)) (sym a) ∙ h) in
-        (s.0.1, s.1)
+      | inl a ↦
+          let e : 0 ≡ n = some_same 0 n (ap (λ b. cond b (Some 0) (number_word max w)) (sym a.0) ∙ h) in
+          (omega arith, a.1 ∙ sym (decimal_digit 0 (omega arith)) ∙ ap decimal e)
+      | inr a ↦
+          let s = number_word_sound max w n low high (ap (λ b. cond b (Some 0) (number_word max w)) (sym a) ∙ h) in
+          (s.0.1, s.1)
     ]
 
 pub number0_word_complete : (max n : ℕ) → 9 ≤ max → max < 2 ^ 64 → n ≤ max → number0_word max (decimal n) ≡ Some n
 unfolding number0_word
 number0_word_complete max n low high v =
     elim (told (decimal n) (48 ∷ []) (is (decimal n) (48 ∷ [])) refl) [
-      inl a ↦
-        let e : n ≡ 0 = decimal_injective n 0 (omega arith) (omega arith) (a.1 ∙ sym (decimal_digit 0 (omega arith))) in
-        ap (λ b. cond b (Some 0) (number_word max (decimal n))) a.0 ∙ ap (λ m. Some m) (sym e)
-    | inr a ↦ ap (λ b. cond b (Some 0) (number_word max (decimal n))) a ∙ number_word_complete max n low high (positive n a, v)
+      | inl a ↦
+          let e : n ≡ 0 = decimal_injective n 0 (omega arith) (omega arith) (a.1 ∙ sym (decimal_digit 0 (omega arith))) in
+          ap (λ b. cond b (Some 0) (number_word max (decimal n))) a.0 ∙ ap (λ m. Some m) (sym e)
+      | inr a ↦ ap (λ b. cond b (Some 0) (number_word max (decimal n))) a ∙ number_word_complete max n low high (positive n a, v)
     ]
   where
     positive : (n : ℕ) → is (decimal n) (48 ∷ []) ≡ false → 1 ≤ n
@@ -164,17 +165,17 @@ unfolding signed_word signed_at
 signed_word_sound [] z h = absurd (none_some z h)
 signed_word_sound (c ∷ cs) z h =
     elim (same_or c 45) [
-      alike e f ↦
-        let a = then_some (number_word (2 ^ 63) cs) (λ n. Some (negsuc (n - 1))) z (ap (λ b. signed_at b c cs) (sym f) ∙ h) in
-        let s = number_word_sound (2 ^ 63) cs a.0 (omega arith) (omega arith) a.1 in
-        let g : a.0 ≡ suc (a.0 - 1) = omega (arith, s.0.0) in
-        subst (λ z. FitsSigned w64 z × (c ∷ cs ≡ signed_decimal z)) (some_same (negsuc (a.0 - 1)) z a.2)
-        (record { sfits = omega (arith, s.0.0, s.0.1) }, ap (λ c. c ∷ cs) e ∙ ap (λ t. 45 ∷ t) (s.1 ∙ ap decimal g))
-    | unlike e f ↦
-        let a = then_some (number0_word (2 ^ 63 - 1) (c ∷ cs)) (λ n. Some (pos n)) z (ap (λ b. signed_at b c cs) (sym f) ∙ h) in
-        let s = number0_word_sound (2 ^ 63 - 1) (c ∷ cs) a.0 (omega arith) (omega arith) a.1 in
-        subst (λ z. FitsSigned w64 z × (c ∷ cs ≡ signed_decimal z)) (some_same (pos a.0) z a.2)
-        (record { sfits = omega (arith, s.0) }, s.1)
+      | alike e f ↦
+          let a = then_some (number_word (2 ^ 63) cs) (λ n. Some (negsuc (n - 1))) z (ap (λ b. signed_at b c cs) (sym f) ∙ h) in
+          let s = number_word_sound (2 ^ 63) cs a.0 (omega arith) (omega arith) a.1 in
+          let g : a.0 ≡ suc (a.0 - 1) = omega (arith, s.0.0) in
+          subst (λ z. FitsSigned w64 z × (c ∷ cs ≡ signed_decimal z)) (some_same (negsuc (a.0 - 1)) z a.2)
+          (record { sfits = omega (arith, s.0.0, s.0.1) }, ap (λ c. c ∷ cs) e ∙ ap (λ t. 45 ∷ t) (s.1 ∙ ap decimal g))
+      | unlike e f ↦
+          let a = then_some (number0_word (2 ^ 63 - 1) (c ∷ cs)) (λ n. Some (pos n)) z (ap (λ b. signed_at b c cs) (sym f) ∙ h) in
+          let s = number0_word_sound (2 ^ 63 - 1) (c ∷ cs) a.0 (omega arith) (omega arith) a.1 in
+          subst (λ z. FitsSigned w64 z × (c ∷ cs ≡ signed_decimal z)) (some_same (pos a.0) z a.2)
+          (record { sfits = omega (arith, s.0) }, s.1)
     ]
 
 signed_digits : (n : ℕ) (ds : List ℕ) → AllDigit ds → number0_word (2 ^ 63 - 1) ds ≡ Some n → signed_word ds ≡ Some (pos n)

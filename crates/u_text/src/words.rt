@@ -3,10 +3,9 @@ ghost use Rattle.std.specs.Prelude.{◌≡◌, ◌≤◌, ◌∷◌, [], Some, N
 ghost use Rattle.u_text.specs.Pieces.{words};
 ghost use Rattle.u_text.specs.WholeWords.{negative_word, number_word, number0_word, signed_word};
 
-use std::marker::Model;
-
 use crate::cutting::cut;
 use crate::numbers::{long_number_at, number_at};
+use std::marker::Model;
 
 /// A word is missing, or not of the form that is asked for.
 #[derive(Debug, Drop)]

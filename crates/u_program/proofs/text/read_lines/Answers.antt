@@ -1,6 +1,6 @@
-use Rattle.std.proofs.Common.{rules, arith, ◌≡◌, ◌≤◌, ◌∷◌, ◌+◌, [], List, ℕ, suc, subst, sym, length}
+use Rattle.std.proofs.Common.{rules, arith, ◌≡◌, ◌≤◌, ◌∷◌, ◌+◌, [], List, ℕ, suc, subst, length}
 use Rattle.u_program.specs.Text.{header}
-use Rattle.u_program.specs.Begun.{part_lines, IsPart, IsRead}
+use Rattle.u_program.specs.Begun.{part_lines, IsRead}
 use Rattle.u_program.specs.Limits.{the_limits, no_limits}
 use Rattle.u_program.proofs.Steps.{completes}
 use Rattle.u_program.proofs.Whole.{read_none, read_more, truncated_nothing, truncated_header, truncated_rest, truncated_half, whole_program, bad_line, begins_nothing, begins_header, not_header}
@@ -40,11 +40,11 @@ pub returns-then-not-is_empty : goal.returns-then-not-is_empty
 returns-then-not-is_empty c =
     let i = c.loop-text.invariant in
     elim c.then-not-is_empty.branch [
-      then-not-is_empty-via-then-not-is_empty w ↦
-        let n : c.loop-text.rest.now ≡ [] → ⊥ = search rules in
-        truncated_rest c.args.bytes.now c.loop-text.rest.now c.loop-text.part.done.items c.loop-text.part.last i.0 c.in_default-cut-2.ensures.cut i.1 n
-    | then-not-is_empty-via-else-not-is_empty+then-statements-eq0 w ↦
-        truncated_half c.args.bytes.now c.loop-text.rest.now c.loop-text.part.done.items c.loop-text.part.last i.0 c.in_default-cut-2.ensures.cut i.1 (search rules)
+      | then-not-is_empty-via-then-not-is_empty w ↦
+          let n : c.loop-text.rest.now ≡ [] → ⊥ = search rules in
+          truncated_rest c.args.bytes.now c.loop-text.rest.now c.loop-text.part.done.items c.loop-text.part.last i.0 c.in_default-cut-2.ensures.cut i.1 n
+      | then-not-is_empty-via-else-not-is_empty+then-statements-eq0 w ↦
+          truncated_half c.args.bytes.now c.loop-text.rest.now c.loop-text.part.done.items c.loop-text.part.last i.0 c.in_default-cut-2.ensures.cut i.1 (search rules)
     ]
 
 pub returns : goal.returns

@@ -1,4 +1,4 @@
-use Rattle.std.proofs.Common.{◌≡◌, ◌≤◌, length, ℕ, List}
+use Rattle.std.proofs.Common.{◌≡◌, ◌≤◌, length}
 use Rattle.u_text.specs.Number.{digits_from}
 use Rattle.u_text.proofs.numbers.long_number_at.Given as goal
 

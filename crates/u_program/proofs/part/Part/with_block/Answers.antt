@@ -1,4 +1,4 @@
-use Rattle.std.proofs.Common.{rules, arith, ◌≡◌, ◌≤◌, length}
+use Rattle.std.proofs.Common.{rules, ◌≡◌, ◌≤◌, length}
 use Rattle.u_program.proofs.Steps.{block_closed, block_over, block_taken}
 use Rattle.u_program.proofs.part.Part.with_block.Goals as goal
 

@@ -1,4 +1,4 @@
-use Rattle.std.proofs.Common.{rules, arith, ◌≡◌, Some, sym, None}
+use Rattle.std.proofs.Common.{rules, ◌≡◌, Some, None}
 use Rattle.u_text.specs.Pieces.{words}
 use Rattle.u_program.specs.Reading.{line_at}
 use Rattle.u_program.proofs.LineLaws.{line_sound}

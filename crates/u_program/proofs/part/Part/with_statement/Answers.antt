@@ -1,4 +1,4 @@
-use Rattle.std.proofs.Common.{rules, arith, ◌≡◌, ◌≤◌, ◌<◌, ◌+◌, length, inl, inr}
+use Rattle.std.proofs.Common.{rules, ◌≡◌, ◌+◌, length, inl, inr}
 use Rattle.u_program.proofs.Steps.{number_wrong, statement_over, statement_taken}
 use Rattle.u_program.proofs.part.Part.with_statement.Goals as goal
 use Rattle.u_program.proofs.part.Part.with_statement.Goals.{then-number-gt999-via-then-number-gt999, then-number-gt999-via-else-number-gt999+then-destinations-gt16}
