@@ -1,10 +1,10 @@
 -- Whole names read: what is left behind the longest name is where the text goes wrong.
-use Rattle.std.proofs.Common.{◌≡◌, ℕ, ◌+◌, ◌-◌, ◌≤◌, ◌<◌, List, [], ◌∷◌, ◌++◌, length, take, drop, Result, Ok, Err, refl, sym, ◌∙◌, ap, arith, length-append, append_assoc}
+use Rattle.std.proofs.Common.{◌≡◌, ℕ, ◌-◌, ◌≤◌, ◌<◌, List, [], ◌∷◌, ◌++◌, length, take, drop, Result, Ok, Err, sym, ◌∙◌, ap, arith, length-append, append_assoc}
 use Rattle.std.proofs.lemmas.List.{append-nil, take-append-drop, length-take}
 use Rattle.std.proofs.Math.Seq.{take-append_seam}
-use Rattle.u_text.specs.Reads.{Reads, Cut, longer, equal, shorter, cut}
-use Rattle.u_text.specs.Longest.{BeginsSome, is_refused_at}
-use Rattle.u_name.specs.Name.{Activity, IsName}
+use Rattle.u_text.specs.Reads.{Reads, longer, equal, shorter, cut}
+use Rattle.u_text.specs.Longest.{is_refused_at}
+use Rattle.u_name.specs.Name.{Activity}
 use Rattle.u_name.specs.NameText.{name_text}
 use Rattle.u_name.specs.NameSteps.{name_steps, name_steps_Reads, paren_span}
 use Rattle.u_name.specs.NameReading.{IsNoText, IsNameOf, IsNameErrorOf}

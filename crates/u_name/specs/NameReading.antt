@@ -1,6 +1,6 @@
 -- What reading a name at an offset answers.
-use Rattle.std.specs.Prelude.{◌≡◌, ℕ, ◌+◌, ◌-◌, ◌<◌, ◌≤◌, List, [], ◌∷◌, ◌++◌, take, drop, length, Result, Ok, Err}
-use Rattle.std.proofs.Common.{arith, subst, ap, sym, length-drop, length-append, ◌∙◌}
+use Rattle.std.specs.Prelude.{◌≡◌, ℕ, ◌-◌, ◌<◌, ◌≤◌, List, take, drop, length, Ok, Err}
+use Rattle.std.proofs.Common.{arith, subst, ap, sym, length-drop, length-append}
 use Rattle.u_name.specs.Name.{Activity, IsName}
 use Rattle.u_name.specs.NameText.{name_text}
 use Rattle.u_name.specs.NameSteps.{name_steps, name_steps_Reads, paren_span}
