@@ -4,7 +4,9 @@ ghost use Rattle.std.specs.Map.Iter.{ShowsInOrder, deref};
 ghost use Rattle.u_system.specs.Rising.{Rises, IsWith};
 ghost use Rattle.u_rule.specs.EntryOrder.{entry_cmp};
 ghost use Rattle.u_rule.specs.declared.entry.Entry.{Entry};
+ghost use Rattle.u_history.specs.Says.{IsOutcome};
 
+use crate::outcome::Outcome;
 use std::alloc::{AllocError, AllocFailed, Global};
 use std::collections::BTreeSet;
 use std::collections::btree_set::Iter;
@@ -44,11 +46,6 @@ impl History {
             alloc,
             entries: BTreeSet::new(alloc),
         }
-    }
-
-    /// The allocator.
-    pub(crate) fn allocator(&self) -> Global {
-        self.alloc
     }
 
     /// How many entries there are.
@@ -107,5 +104,13 @@ impl History {
             all.push(entry.copy()?)?;
         }
         Ok(all)
+    }
+
+    /// What the entries say.
+    pub fn outcome(&self) -> Result<Outcome, AllocError>
+        ensures { IfOk result (λ o. IsOutcome (Contains self.now) o.answers.items o.cell_clashes.items o.port_clashes.items o.faults.items) }
+    {
+        let entries = self.references()?;
+        Outcome::of(self.alloc, &entries)
     }
 }

@@ -14,7 +14,6 @@ ghost use Rattle.u_history.specs.Orders.{value_order, write_order, token_order, 
 ghost use Rattle.u_history.specs.Says.{AtOnePlace, IsClashing, IsOutcome, lent};
 ghost use Rattle.u_history.specs.Verdicts.{judged, judgement};
 
-use crate::history::History;
 use crate::verdict::Verdict;
 use std::alloc::{AllocError, Global};
 use u_rule::{Entry, Fault, Token, Write};
@@ -218,22 +217,20 @@ fn faults(alloc: Global, entries: &[&Entry]) -> Result<Vec<Fault>, AllocError>
     Ok(list)
 }
 
-impl History {
+impl Outcome {
     /// What the entries say.
-    pub fn outcome(&self) -> Result<Outcome, AllocError>
-        ensures { IfOk result (λ o. IsOutcome (Contains self.now) o.answers.items o.cell_clashes.items o.port_clashes.items o.faults.items) }
+    pub(crate) fn of(alloc: Global, entries: &[&Entry]) -> Result<Outcome, AllocError>
+        requires { Rises entry_cmp (lent entries.now) }
+        ensures { IfOk result (λ o. IsOutcome (Contains (lent entries.now)) o.answers.items o.cell_clashes.items o.port_clashes.items o.faults.items) }
     {
-        let entries = self.references()?;
         Ok(Outcome {
-            answers: answers(self.allocator(), &entries)?,
-            cell_clashes: cell_clashes(self.allocator(), &entries)?,
-            port_clashes: port_clashes(self.allocator(), &entries)?,
-            faults: faults(self.allocator(), &entries)?,
+            answers: answers(alloc, entries)?,
+            cell_clashes: cell_clashes(alloc, entries)?,
+            port_clashes: port_clashes(alloc, entries)?,
+            faults: faults(alloc, entries)?,
         })
     }
-}
 
-impl Outcome {
     /// The verdict: clashed, where something clashes or there is more than one answer; else faulted,
     /// where there is a fault; else the answer, if there is one.
     pub fn verdict(&self) -> Verdict<'_>

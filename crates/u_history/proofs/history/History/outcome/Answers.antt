@@ -1,17 +1,19 @@
-use Rattle.std.proofs.Common.{List, Contains, subst, ap, ◌∙◌}
+use Rattle.std.proofs.Common.{◌≡◌, List, Contains, subst, sym, ap, ◌∙◌}
+use Rattle.std.specs.Prelude.{Result, IfOk}
+use Rattle.u_rule.specs.EntryOrder.{entry_cmp}
 use Rattle.u_rule.specs.declared.entry.Entry.{Entry}
-use Rattle.u_rule.specs.declared.entry.Entry.TheVariants as kinds
-use Rattle.u_system.specs.Rising.{IsListOf}
-use Rattle.u_history.specs.Orders.{value_order, write_order, token_order, fault_order}
-use Rattle.u_history.specs.Says.{lent, IsClashing}
+use Rattle.u_system.specs.Rising.{Rises}
+use Rattle.u_history.specs.Says.{lent, IsOutcome}
+use Rattle.u_history.specs.declared.outcome.Outcome.{Outcome}
 use Rattle.u_history.proofs.history.History.outcome.Goals as goal
+
+pub of-requires : goal.of-requires
+of-requires c = subst (Rises entry_cmp) (sym (ap lent c.deref.ensures.value ∙ c.in_ok-entries.ensures.all)) c.in_ok-entries.ensures.rises
+
+along : {T E : Type 0} (r : Result T E) (P : List Entry → T → Type 0) (es fs : List Entry) → es ≡ fs → IfOk r (P es) → IfOk r (P fs)
+along r P es fs e h = subst (λ (gs : List Entry). IfOk r (P gs)) e h
 
 pub returns : goal.returns
 returns c =
-    let all = c.in_ok-entries.ensures.all in
-    record {
-      all_answers = subst (λ (es : List Entry). IsListOf value_order (λ v. Contains es (kinds.Answer v)) c.in_ok-answers.field-0.items) (ap lent c.deref.ensures.value ∙ all) c.in_ok-answers.ensures;
-      all_cells = subst (λ (es : List Entry). IsListOf write_order (λ w. IsClashing (Contains es) (kinds.Write w)) c.in_ok-cell_clashes.field-0.items) (ap lent c.deref-2.ensures.value ∙ all) c.in_ok-cell_clashes.ensures;
-      all_ports = subst (λ (es : List Entry). IsListOf token_order (λ t. IsClashing (Contains es) (kinds.Token t)) c.in_ok-port_clashes.field-0.items) (ap lent c.deref-3.ensures.value ∙ all) c.in_ok-port_clashes.ensures;
-      all_faults = subst (λ (es : List Entry). IsListOf fault_order (λ x. Contains es (kinds.Fault x)) c.in_ok-faults.field-0.items) (ap lent c.deref-4.ensures.value ∙ all) c.in_ok-faults.ensures;
-    }
+    along c.of.result (λ (es : List Entry) (o : Outcome). IsOutcome (Contains es) o.answers.items o.cell_clashes.items o.port_clashes.items o.faults.items) (lent c.deref.result.now) c.args.self.now
+      (ap lent c.deref.ensures.value ∙ c.in_ok-entries.ensures.all) c.of.ensures
