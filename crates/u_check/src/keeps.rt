@@ -24,7 +24,7 @@ fn has_main(blocks: &[Block]) -> bool
 }
 
 /// How many ports a statement of that kind has.
-fn ports_of(kind: &Kind) -> usize
+pub fn ports_of(kind: &Kind) -> usize
     ensures { result ≡ ports_of kind.now }
 {
     match kind {
@@ -44,7 +44,7 @@ fn is_begin(kind: &Kind) -> bool
 }
 
 /// Whether it is `end`.
-fn is_end(kind: &Kind) -> bool
+pub fn is_end(kind: &Kind) -> bool
     ensures { result ≡ is_end kind.now }
 {
     match kind {

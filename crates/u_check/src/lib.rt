@@ -8,4 +8,5 @@ mod rule;
 
 pub use checker::{Refused, check};
 pub use job::{Checked, Job};
+pub use keeps::{is_end, ports_of};
 pub use rule::{Breach, Rule};

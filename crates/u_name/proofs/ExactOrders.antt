@@ -5,13 +5,19 @@ use Rattle.std.specs.Ordering.{nat_cmp}
 use Rattle.std.specs.Cmp.{IsTotalOrder}
 use Rattle.std.specs.Cmp.Lexicographic.{slice_cmp}
 use Rattle.std.specs.FinMap.{nat_cmp-IsAntisymmetric, slice_cmp-IsAntisymmetric}
-use Rattle.std.specs.declared.cmp.Ordering.TheVariants.{Equal}
+use Rattle.std.specs.declared.cmp.Ordering.TheVariants.{Less, Equal, Greater}
 use Rattle.std.proofs.lemmas.Cmp.{nat_cmp_total, on_total, then_total}
 use Rattle.u_name.specs.ContextLaws.{context_cmp_ties, both}
 use Rattle.u_name.specs.Name.{Activity, activity}
 use Rattle.u_name.specs.NameOrder.{name_cmp, name_cmp_total}
 use Rattle.u_name.specs.Cell.{CellOf, cell_of, cell_cmp}
 use Rattle.u_name.specs.contracts.cell.CellOrd.TheImpl as cell_ord
+use Rattle.u_name.specs.contracts.cell.CellOrd.TheImpl.Laws as cell_laws
+use Rattle.u_name.specs.contracts.cell.CellPartialEq.TheImpl as cell_eq
+use Rattle.std.specs.Prelude.{true}
+use Rattle.std.proofs.Common.{sym}
+use Rattle.std.specs.Ordering.{is_eq}
+use Rattle.std.specs.declared.cmp.Ordering.{Ordering}
 
 -- blocks that tie are the same
 pub block_cmp_ties : (a b : List ℕ) → slice_cmp nat_cmp a b ≡ Equal → a ≡ b
@@ -41,3 +47,12 @@ cell_cmp_ties a b h =
     let u = both _ _ h in
     ap (λ n. cell_of n a.index) (name_cmp_ties a.name b.name u.0)
     ∙ ap (λ i. cell_of b.name i) (nat_cmp-IsAntisymmetric a.index b.index u.1)
+
+tied : (r : Ordering) → is_eq r ≡ true → r ≡ Equal
+tied Less h = cc
+tied Equal h = refl
+tied Greater h = cc
+
+-- cells of which `==` holds are the same
+pub same_cell : (a b : CellOf) → (cell_eq.ghosts).eq a b ≡ true → a ≡ b
+same_cell a b h = cell_cmp_ties a b (tied _ (sym (cell_laws.matches_eq-law a b) ∙ h))

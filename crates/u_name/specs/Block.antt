@@ -1,5 +1,5 @@
 -- Names of blocks: 1 to 16 bytes of a-z, 0-9 and _, the first a letter.
-use Rattle.std.specs.Prelude.{◌≡◌, ℕ, ◌-◌, ◌≤◌, ◌<◌, Bool, IsTrue, ◌&&◌, ◌||◌, ◌==◌, nat_le, List, [], ◌∷◌, ◌++◌, length, take, drop}
+use Rattle.std.specs.Prelude.{◌≡◌, ℕ, ◌-◌, ◌≤◌, Bool, IsTrue, ◌&&◌, ◌||◌, ◌==◌, nat_le, List, [], ◌∷◌, ◌++◌, length, take, drop}
 use Rattle.std.proofs.Math.ListN.{replicate}
 use Rattle.std.specs.List.{AllByRecursion}
 use Rattle.u_name.specs.declared.block_name.BlockName.TheInside.{Inside}

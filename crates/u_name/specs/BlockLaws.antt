@@ -1,5 +1,5 @@
-use Rattle.std.specs.Prelude.{◌≡◌, ℕ, ◌-◌, ◌≤◌, List, ◌++◌, length, take, drop, refl}
-use Rattle.std.proofs.Common.{arith, sym, ap, ◌∙◌, rules}
+use Rattle.std.specs.Prelude.{◌≡◌, ℕ, ◌-◌, ◌≤◌, List, ◌++◌, length, take, drop}
+use Rattle.std.proofs.Common.{arith, sym, ap, ◌∙◌}
 use Rattle.std.proofs.Math.ListN.{replicate}
 use Rattle.std.proofs.lemmas.List.{length-take, take-append-drop, drop-replicate, length-replicate}
 use Rattle.std.proofs.Common.{length-append, length-drop, subst}
@@ -21,11 +21,12 @@ laid_out-name_of b w =
 
 lies : (name : List ℕ) → IsBlock name → LiesWell (inside (name ++ drop (length name) (replicate 16 0)) (length name))
 lies name b =
+    let whole : length (name ++ drop (length name) (replicate 16 0)) ≡ 16 = simp (length-append, length-drop, length-replicate) (omega (arith, b.short)) in
     let t = take-append_seam name (drop (length name) (replicate 16 0)) in
     let d = drop-append_seam name (drop (length name) (replicate 16 0)) in
-    let r = drop-replicate (length name) 16 0 in
+    let r : drop (length name) (replicate 16 0) ≡ replicate (16 - length name) 0 = drop-replicate (length name) 16 0 in
     record {
-      whole = simp (length-append, length-drop, length-replicate) (omega (arith, b.short));
+      whole = whole;
       name = subst IsBlock (sym t) b;
       fits = b.short;
       rest = d ∙ r;

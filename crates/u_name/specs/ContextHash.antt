@@ -1,5 +1,5 @@
 -- What a context feeds to a hasher.
-use Rattle.std.specs.Prelude.{ℕ, List, ◌++◌, Bool, true, IsTrue, ◌≡◌}
+use Rattle.std.specs.Prelude.{◌++◌, true, IsTrue, ◌≡◌}
 use Rattle.std.proofs.Common.{ap}
 use Rattle.std.specs.Hash as fed
 use Rattle.std.specs.Hash.{HashWrites}

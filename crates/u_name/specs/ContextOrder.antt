@@ -1,5 +1,5 @@
 -- The order of contexts: Root, then loops, then calls; the same kind by outer context, block, number, initiation.
-use Rattle.std.specs.Prelude.{◌≡◌, ℕ, Bool, true, false, ◌&&◌, ◌==◌, List, refl}
+use Rattle.std.specs.Prelude.{ℕ, List}
 use Rattle.std.specs.Ordering.{ordering_then, nat_cmp}
 use Rattle.std.specs.declared.cmp.Ordering.{Ordering}
 use Rattle.std.specs.declared.cmp.Ordering.TheVariants.{Less, Equal, Greater}

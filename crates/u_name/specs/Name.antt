@@ -1,8 +1,8 @@
 -- Names of activities, and the linkage calls.
-use Rattle.std.specs.Prelude.{◌≡◌, ℕ, ◌+◌, ◌≤◌, List, refl}
+use Rattle.std.specs.Prelude.{ℕ, List, refl}
 use Rattle.std.specs.Coded.{Coded, code_by, coded×, coded_ℕ, coded_list}
 use Rattle.u_name.specs.Block.{IsBlock}
-use Rattle.u_name.specs.Context.{Tree, Top, InLoop, InCall, depth, IsContext, IsBetween, tree_code}
+use Rattle.u_name.specs.Context.{Tree, Top, InLoop, InCall, IsContext, IsBetween, tree_code}
 
 -- The name of an activity.
 pub record Activity : Type 0 where

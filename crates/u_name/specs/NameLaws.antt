@@ -4,16 +4,16 @@ use Rattle.std.specs.Prelude.{Ok}
 use Rattle.std.proofs.lemmas.List.{append-nil}
 use Rattle.std.specs.Fmt.{decimal}
 use Rattle.u_name.specs.Block.{IsBlock, is_block_byte}
-use Rattle.u_name.specs.Context.{Tree, Top, InLoop, InCall, depth, IsContext, InRange}
+use Rattle.u_name.specs.Context.{Tree, Top, InLoop, InCall, depth, InRange}
 use Rattle.u_name.specs.Name.{Activity, activity, IsName}
-use Rattle.u_text.specs.Reads.{Reader, Reads}
-use Rattle.u_text.specs.Parts.{NoByte, empty, empty_Reads, lead, lead_Reads}
-use Rattle.u_text.specs.Then.{after, AreBoth, both, both_Reads}
-use Rattle.u_text.specs.Choice.{mapped, Maps, mapped_Reads, choice, one_text, IsOne, choice_Reads}
+use Rattle.u_text.specs.Reads.{Reads}
+use Rattle.u_text.specs.Parts.{NoByte, empty_Reads, lead_Reads}
+use Rattle.u_text.specs.Then.{after, AreBoth, both_Reads}
+use Rattle.u_text.specs.Choice.{mapped_Reads, one_text, IsOne, choice_Reads}
 use Rattle.u_text.specs.Number.{number, IsUpTo, IsDigit, number_Reads, number_first}
-use Rattle.u_name.specs.BlockText.{block_at, IsBlockByte, block_Reads}
+use Rattle.u_name.specs.BlockText.{IsBlockByte, block_Reads}
 use Rattle.u_name.specs.NameReader.{Frame, Tail, byte, step_at, frame_at, tail_at, frames_at, to_depth, opens_at, framed, tree_onto, Whole, whole_at, name_of, name_at}
-use Rattle.u_name.specs.NameText.{loop_part, call_part, context_text, name_text}
+use Rattle.u_name.specs.NameText.{context_text, name_text}
 
 abbrev pub IsUnit : Unit {0} → Type 0
 IsUnit z = z ≡ tt

@@ -1,7 +1,7 @@
 -- Reading names.
-use Rattle.std.specs.Prelude.{◌≡◌, ℕ, zero, suc, List, [], ◌∷◌, ◌⊎◌}
+use Rattle.std.specs.Prelude.{ℕ, zero, suc, List, [], ◌∷◌, ◌⊎◌}
 use Rattle.std.proofs.Common.{inl, inr}
-use Rattle.u_name.specs.Context.{Tree, Top, InLoop, InCall, depth}
+use Rattle.u_name.specs.Context.{Tree, Top, InLoop, InCall}
 use Rattle.u_name.specs.Name.{Activity, activity}
 use Rattle.u_text.specs.Reads.{Reader}
 use Rattle.u_text.specs.Parts.{empty, lead}

@@ -1,16 +1,15 @@
 -- The reader of names as the code goes: the `(`, the `-`, the frames one by one, the tail.
-use Rattle.std.specs.Prelude.{◌≡◌, ℕ, zero, suc, ◌+◌, ◌-◌, ◌<◌, ◌≤◌, Bool, true, false, cond, ◌==◌, List, [], ◌∷◌, drop, Result, Ok, Err, refl}
+use Rattle.std.specs.Prelude.{◌≡◌, ℕ, zero, suc, ◌-◌, ◌<◌, ◌≤◌, Bool, true, false, cond, ◌==◌, List, [], ◌∷◌, drop, Result, Ok, Err, refl}
 use Rattle.std.proofs.Common.{inl, inr, sym, ◌∙◌, ap, subst, arith}
-use Rattle.std.proofs.lemmas.Bool.Decides.{nat_tests}
 use Rattle.u_name.specs.Context.{Tree, Top}
 use Rattle.u_name.specs.Name.{Activity, activity, IsName}
 use Rattle.u_text.specs.Reads.{Reader, Reads, ◌>>=◌}
-use Rattle.u_text.specs.Parts.{after_byte, empty}
+use Rattle.u_text.specs.Parts.{after_byte}
 use Rattle.u_text.specs.Number.{IsDigit}
 use Rattle.u_text.specs.Choice.{mapped}
 use Rattle.std.specs.Prelude.{◌⊎◌}
 use Rattle.u_name.specs.NameText.{name_text}
-use Rattle.u_name.specs.NameReader.{Frame, Tail, byte, frame_at, frames_at, tail_at, opens_at, to_depth, framed, tree_onto, whole_at, name_of, name_at}
+use Rattle.u_name.specs.NameReader.{Frame, Tail, byte, frame_at, frames_at, tail_at, opens_at, to_depth, framed, tree_onto, name_of, name_at}
 use Rattle.u_name.specs.NameLaws.{name_Reads}
 
 -- how many `(` stand at the front, up to a most

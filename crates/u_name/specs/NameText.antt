@@ -1,7 +1,7 @@
 -- The texts of contexts and names.
-use Rattle.std.specs.Prelude.{◌≡◌, ℕ, ◌+◌, ◌≤◌, List, [], ◌∷◌, ◌++◌, ◌⊎◌}
+use Rattle.std.specs.Prelude.{ℕ, List, [], ◌∷◌, ◌++◌}
 use Rattle.std.specs.Fmt.{decimal}
-use Rattle.u_name.specs.Context.{Tree, Top, InLoop, InCall, depth}
+use Rattle.u_name.specs.Context.{Tree, Top, InLoop, InCall}
 use Rattle.u_name.specs.Name.{Activity}
 
 -- the part of a context's text behind the outer context's: .c.Ll.i or .c.s.i

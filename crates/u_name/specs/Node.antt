@@ -1,7 +1,6 @@
-use Rattle.std.specs.Prelude.{ℕ, ◌≤◌, max}
 use Rattle.u_name.specs.declared.context.Node.{Node}
 use Rattle.u_name.specs.declared.context.Node.TheVariants.{Root, Loop, Call}
-use Rattle.u_name.specs.Context.{Tree, Top, InLoop, InCall, depth}
+use Rattle.u_name.specs.Context.{Tree, Top, InLoop, InCall}
 
 abbrev pub tree_of : Node → Tree
 tree_of Root = Top

@@ -1,4 +1,4 @@
-use Rattle.std.specs.Prelude.{ℕ, ◌⊎◌, List}
+use Rattle.std.specs.Prelude.{ℕ, ◌⊎◌}
 use Rattle.std.proofs.Common.{inl, inr}
 use Rattle.u_name.specs.declared.reading.Step.{Step}
 use Rattle.u_name.specs.declared.reading.Step.TheVariants.{Loop, Call}

@@ -1,13 +1,14 @@
 //! Cells of structures.
 ghost use Rattle.std.specs.Prelude.{◌≡◌, ◌≤◌, IfOk};
-ghost use Rattle.u_name.specs.Cell.{cell_of, IsCell};
+ghost use Rattle.u_name.specs.Cell.{cell_of, cell_cmp, IsCell};
 
 use crate::name::Name;
 use std::alloc::AllocError;
+use std::cmp::Ordering;
 use std::marker::Model;
 
 /// A cell of a structure: the name of the activity that made the structure, and the cell's index,
-/// 0 to 999999.
+/// 0 to 999999. Cells are ordered by name, and then by index.
 #[derive(PartialEq, Eq, PartialOrd, Ord, Hash, Drop)]
 pub struct Cell {
     name: Name,
@@ -50,6 +51,13 @@ impl Cell {
         ensures bound { IsCell self.now }
     {
         self.index
+    }
+
+    /// By name, and then by index, as `cmp`.
+    pub fn compare(&self, other: &Cell) -> Ordering
+        ensures { result ≡ cell_cmp self.now other.now }
+    {
+        self.cmp(other)
     }
 
     /// An equal cell.

@@ -14,3 +14,6 @@ pub use cell::Cell;
 pub use context::{Context, Node};
 pub use name::{Name, NameError};
 pub use reading::NameTextError;
+
+#[cfg(test)]
+mod tests;

@@ -131,6 +131,7 @@ impl Name {
         self.context.depth()
     }
 
+    /// By context, block, statement and initiation in turn.
     fn compare(&self, other: &Name) -> Ordering
         ensures { result ≡ name_cmp self.now other.now }
     {
@@ -143,16 +144,26 @@ impl Name {
         )
     }
 
-    /// An equal name. The outer contexts are shared.
-    pub fn copy(&self) -> Result<Name, AllocError>
-        ensures { IfOk result (λ n. n ≡ self.now) }
+    /// Another activity of the same context and block.
+    fn beside(&self, statement: u16, initiation: u32) -> Result<Name, AllocError>
+        requires statement_in { IsBetween 1 statement 999 }
+        requires initiation_in { IsBetween 1 initiation 4294967295 }
+        ensures { IfOk result
+            (λ n. n ≡ activity self.now.context self.now.block statement initiation) }
     {
         Ok(Name {
             context: self.context.copy()?,
             block: self.block,
-            statement: self.statement,
-            initiation: self.initiation,
+            statement,
+            initiation,
         })
+    }
+
+    /// An equal name. The outer contexts are shared.
+    pub fn copy(&self) -> Result<Name, AllocError>
+        ensures { IfOk result (λ n. n ≡ self.now) }
+    {
+        self.beside(self.statement, self.initiation)
     }
 
     /// `u.c.t.i` for `u.c.s.i`: another statement of the same context.
@@ -162,12 +173,7 @@ impl Name {
             (λ n. n ≡ activity self.now.context self.now.block statement self.now.initiation)
             (λ e. e ≡ NoMemory) }
     {
-        Ok(Name {
-            context: self.context.copy()?,
-            block: self.block,
-            statement,
-            initiation: self.initiation,
-        })
+        Ok(self.beside(statement, self.initiation)?)
     }
 
     /// `(u.c.Ll.i).c.t.1` for `u.c.s.i`: a statement of a loop that is entered. `Deep` where the
@@ -204,12 +210,7 @@ impl Name {
         if self.initiation == u32::MAX {
             return Err(NameError::Initiation);
         }
-        Ok(Name {
-            context: self.context.copy()?,
-            block: self.block,
-            statement,
-            initiation: self.initiation + 1,
-        })
+        Ok(self.beside(statement, self.initiation + 1)?)
     }
 
     /// `u.c.t.1` for `u.c.s.i`: a statement behind the last turn of a loop.
@@ -219,12 +220,7 @@ impl Name {
             (λ n. n ≡ activity self.now.context self.now.block statement 1)
             (λ e. e ≡ NoMemory) }
     {
-        Ok(Name {
-            context: self.context.copy()?,
-            block: self.block,
-            statement,
-            initiation: 1,
-        })
+        Ok(self.beside(statement, 1)?)
     }
 
     /// `(u.c.s.i).b.1.1` for `u.c.s.i`: the first statement of a block `b` that is called. `Deep`
@@ -273,12 +269,7 @@ impl Name {
                 block,
                 initiation,
                 ..
-            } => Ok(Name {
-                context: outer.copy()?,
-                block: *block,
-                statement,
-                initiation: *initiation,
-            }),
+            } => Ok(outside(outer, block, statement, *initiation)?),
             _ => unreachable!(),
         }
     }
@@ -295,15 +286,24 @@ impl Name {
                 block,
                 initiation,
                 ..
-            } => Ok(Name {
-                context: outer.copy()?,
-                block: *block,
-                statement,
-                initiation: *initiation,
-            }),
+            } => Ok(outside(outer, block, statement, *initiation)?),
             _ => unreachable!(),
         }
     }
+}
+
+/// The activity of the outer context.
+fn outside(
+    outer: &Context,
+    block: &BlockName,
+    statement: u16,
+    initiation: u32,
+) -> Result<Name, AllocError>
+    requires statement_in { IsBetween 1 statement 999 }
+    requires initiation_in { IsBetween 1 initiation 4294967295 }
+    ensures { IfOk result (λ n. n ≡ activity outer.now block.now statement initiation) }
+{
+    Ok(Name::new(outer.copy()?, *block, statement, initiation))
 }
 
 impl PartialEq for Name {

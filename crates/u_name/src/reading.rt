@@ -1,5 +1,5 @@
 //! Names read from bytes.
-ghost use Rattle.std.specs.Prelude.{◌≡◌, ◌≤◌, ◌<◌, ◌^◌, Ok, Err, MatchResult, IfOk, length, ◌∷◌, drop};
+ghost use Rattle.std.specs.Prelude.{◌≡◌, ◌≤◌, ◌<◌, ◌-◌, ◌^◌, Ok, Err, MatchResult, IfOk, length, ◌∷◌, drop};
 ghost use Rattle.u_name.specs.Context.{depth, IsContext, Top};
 ghost use Rattle.u_name.specs.Block.{IsBlock};
 ghost use Rattle.u_text.specs.Number.{number};
@@ -7,11 +7,12 @@ ghost use Rattle.u_name.specs.BlockText.{block_at, begins_with_letter};
 ghost use Rattle.u_text.specs.Parts.{after_byte};
 ghost use Rattle.u_name.specs.NameReader as reader;
 ghost use Rattle.u_name.specs.ReaderValues.{step_value, frame_value, tail_value};
-ghost use Rattle.u_name.specs.NameReading.{IsNameAt, IsNameErrorAt};
+ghost use Rattle.u_name.specs.NameReading.{IsNameAt, IsNameOf, IsNameErrorAt, IsNameErrorOf};
 ghost use Rattle.u_name.specs.ReaderFaults.{Fails, FailsAt, IsFine};
 ghost use Rattle.u_name.specs.NameLaws.{IsFrame, IsTail};
 ghost use Rattle.u_name.specs.NameSteps.{dash_at, paren_span, frames_from, name_steps};
 ghost use Rattle.u_name.specs.declared.reading.ReadFault.TheVariants as faults;
+ghost use Rattle.u_name.specs.declared.reading.NameTextError.TheVariants.{BadName};
 
 use crate::block_name::BlockName;
 use crate::block_text::{begins_with_letter, block_len};
@@ -298,6 +299,22 @@ pub enum NameTextError {
 }
 
 impl Name {
+    /// The name whose text the bytes are. A refusal's offset is where the longest front of a name's
+    /// text ends.
+    #[tactic(auto, using(crate::proofs::WholeTexts::refused_within, crate::proofs::WholeTexts::name_refused_whole))]
+    pub fn read(alloc: Global, bytes: &[u8]) -> Result<Name, NameTextError>
+        ensures { MatchResult result (λ name. IsNameOf bytes.now name)
+            (λ error. IsNameErrorOf bytes.now error) }
+    {
+        let mut cursor = Cursor { rest: bytes };
+        match cursor.name(alloc) {
+            Ok(name) => whole(name, bytes, cursor.rest),
+            Err(ReadFault::Stuck) => Err(stuck_at(bytes, cursor.rest)),
+            Err(ReadFault::Deep) => Err(NameTextError::Deep),
+            Err(ReadFault::NoMemory) => Err(NameTextError::NoMemory),
+        }
+    }
+
     /// The name of the longest text of a name that begins at the offset, and the offset behind it.
     pub fn read_at(
         alloc: Global,
@@ -318,6 +335,29 @@ impl Name {
             Err(ReadFault::NoMemory) => Err(NameTextError::NoMemory),
         }
     }
+}
+
+/// The name, where nothing is left behind it.
+fn whole(name: Name, bytes: &[u8], rest: &[u8]) -> Result<Name, NameTextError>
+    requires read { name_steps bytes.now ≡ Ok (name, rest.now) }
+    requires fine { IsFine (paren_span 65 bytes.now) }
+    requires within { length rest.now ≤ length bytes.now }
+    ensures { MatchResult result (λ name. IsNameOf bytes.now name)
+        (λ error. IsNameErrorOf bytes.now error) }
+{
+    if rest.is_empty() {
+        Ok(name)
+    } else {
+        Err(stuck_at(bytes, rest))
+    }
+}
+
+/// The refusal where the reader is stuck with so much left.
+fn stuck_at(bytes: &[u8], rest: &[u8]) -> NameTextError
+    requires { length rest.now ≤ length bytes.now }
+    ensures { result ≡ BadName (length bytes.now - length rest.now) }
+{
+    NameTextError::BadName(bytes.len() - rest.len())
 }
 
 fn behind(bytes: &[u8], offset: usize) -> &[u8]

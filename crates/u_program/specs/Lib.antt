@@ -1,2 +1,9 @@
 pub mod Parts
 pub mod Limits
+pub mod Text
+pub mod Laws
+pub mod Reading
+pub mod Refuses
+pub mod Begun
+pub mod Faults
+pub mod Answer

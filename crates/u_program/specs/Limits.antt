@@ -1,5 +1,5 @@
 -- The ranges and limits within which a list of blocks is a program.
-use Rattle.std.specs.Prelude.{◌≡◌, ℕ, ◌+◌, ◌*◌, ◌≤◌, ◌<◌, List, [], ◌∷◌, length, Option, Some, None}
+use Rattle.std.specs.Prelude.{◌≡◌, Bool, true, false, ℕ, ◌+◌, ◌*◌, ◌≤◌, ◌<◌, List, [], ◌∷◌, length, Option, Some, None}
 use Rattle.std.specs.List.{AllByRecursion}
 use Rattle.u_name.specs.Block.{IsBlock}
 use Rattle.u_name.specs.Context.{IsBetween}
@@ -40,6 +40,15 @@ IsKind (Const c) = IsConstant c
 IsKind Add = Unit {0}
 IsKind End = Unit {0}
 
+-- whether a statement of the kind lists destinations
+abbrev pub has_list : Kind → Bool
+has_list End = false
+has_list k = true
+
+abbrev pub IsListed : Bool → List Destination → Type 0
+IsListed true to = Unit {0}
+IsListed false to = to ≡ []
+
 pub record IsDestination (d : Destination) : Type 0 where
   pub statement : IsBetween 1 d.statement 999
   pub port : IsBetween 1 d.port 3
@@ -57,6 +66,7 @@ pub record IsStatement (limits : Limits) (s : StatementParts) : Type 0 where
   pub region : s.region ≤ 99
   pub kind : IsKind s.kind
   pub to : Ascending 0 s.to
+  pub listed : IsListed (has_list s.kind) s.to
   pub few : AtMost limits.destinations (length s.to)
 
 pub record IsBlockOf (limits : Limits) (b : BlockParts) : Type 0 where

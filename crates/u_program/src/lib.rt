@@ -1,6 +1,16 @@
 //! Programs and their texts.
 #![tactic(auto)]
 
+mod kind_words;
+mod part;
 mod program;
+mod read_error;
+mod reading;
+#[cfg(test)]
+mod tests;
+mod text;
+mod writing;
 
 pub use program::{Block, Constant, Destination, Kind, Program, Statement};
+pub use read_error::ReadError;
+pub use text::read;

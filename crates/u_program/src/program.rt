@@ -1,9 +1,10 @@
 //! Programs: blocks of numbered statements.
-ghost use Rattle.std.specs.Prelude.{◌≡◌};
+ghost use Rattle.std.specs.Prelude.{◌≡◌, ◌++◌, ◌∷◌, [], length, IfOk};
 ghost use Rattle.u_program.specs.Limits.{IsProgram, the_limits};
+ghost use Rattle.u_program.specs.Parts.{statement, block};
 
+use std::alloc::{AllocFailed, Global};
 use std::marker::Model;
-
 use u_name::BlockName;
 
 /// Where a value goes: a port of a statement of the same block.
@@ -89,6 +90,13 @@ impl Model for Program {
 }
 
 impl Statement {
+    /// A statement of these parts.
+    pub(crate) fn new(region: u8, kind: Kind, to: Vec<Destination>) -> Statement
+        ensures { result ≡ statement region kind to.items }
+    {
+        Statement { region, kind, to }
+    }
+
     /// The region: 0, or the number of the loop that holds the statement.
     pub fn region(&self) -> u8
         ensures { result ≡ self.now.region }
@@ -112,6 +120,28 @@ impl Statement {
 }
 
 impl Block {
+    /// A block without statements.
+    pub(crate) fn new(alloc: Global, name: BlockName) -> Block
+        ensures { result ≡ block name [] }
+    {
+        Block {
+            name,
+            statements: Vec::new(alloc),
+        }
+    }
+
+    /// The block with one more statement.
+    pub(crate) fn with(self, statement: Statement) -> Result<Block, AllocFailed<Statement>>
+        ensures { IfOk result (λ b. b ≡ block self.name (self.statements ++ (statement ∷ []))) }
+    {
+        let Block {
+            name,
+            mut statements,
+        } = self;
+        statements.push(statement)?;
+        Ok(Block { name, statements })
+    }
+
     /// The block's name.
     pub fn name(&self) -> &BlockName
         ensures { result.now ≡ self.now.name }
@@ -128,6 +158,14 @@ impl Block {
 }
 
 impl Program {
+    /// A program of these blocks.
+    pub(crate) fn new(blocks: Vec<Block>) -> Program
+        requires { IsProgram the_limits blocks.items }
+        ensures { result ≡ blocks.items }
+    {
+        Program { blocks }
+    }
+
     /// Its blocks, in the order of the text.
     pub fn blocks(&self) -> &[Block]
         ensures blocks { result.now ≡ self.now }

@@ -2,6 +2,9 @@
 use Rattle.std.specs.Prelude.{◌≡◌, ℕ, List, Option, Some, None, IsTrue, refl}
 use Rattle.std.proofs.Common.{ap, ◌∙◌, sym}
 use Rattle.std.specs.Cmp.{IsTotalOrder}
+use Rattle.std.specs.Coded.{Coded, coded_list}
+use Rattle.u_rule.specs.contracts.entry.Entry as entry_row
+use Rattle.u_rule.specs.contracts.firing.Firing as firing_row
 use Rattle.std.specs.Option.{option_cmp}
 use Rattle.std.specs.FinMap.{nat_cmp-IsAntisymmetric}
 use Rattle.std.specs.Ordering.{ordering_then, nat_cmp}
@@ -113,3 +116,16 @@ firing_cmp_ties a b h =
     ap (λ n. firing n a.values a.write) (name_cmp_ties a.activity b.activity u.0)
     ∙ ap (λ vs. firing b.activity vs a.write) (values_order_ties a.values b.values v.0)
     ∙ ap (λ w. firing b.activity b.values w) (option_ties a.write b.write v.1)
+
+-- how lists of entries and of firings are stored
+abbrev pub EntryList : Type 0
+EntryList = List Entry
+
+abbrev pub entry_list_code : Coded EntryList
+entry_list_code = coded_list entry_row.the_row.coded
+
+abbrev pub FiringList : Type 0
+FiringList = List Firing
+
+abbrev pub firing_list_code : Coded FiringList
+firing_list_code = coded_list firing_row.the_row.coded

@@ -1,8 +1,8 @@
 -- A choice by the first byte, and another type of values.
-use Rattle.std.specs.Prelude.{◌≡◌, ℕ, ◌⊎◌, Bool, true, false, cond, ◌==◌, List, [], ◌∷◌, ◌++◌, Result, Ok, Err, refl}
-use Rattle.std.proofs.Common.{sym, ◌∙◌, ap, subst, inl, inr, append_assoc}
-use Rattle.u_text.specs.Reads.{Reader, Reads, ◌>>=◌, bind_ok, bind_err, ok_same, ok_err, pair, longer_than_itself}
-use Rattle.u_text.specs.Parts.{Same, alike, unlike, same_or}
+use Rattle.std.specs.Prelude.{◌≡◌, ℕ, ◌⊎◌, cond, ◌==◌, List, [], ◌∷◌, ◌++◌, Result, Ok, Err}
+use Rattle.std.proofs.Common.{sym, ◌∙◌, ap, subst, inl, inr}
+use Rattle.u_text.specs.Reads.{Reader, Reads, ◌>>=◌, bind_ok, bind_err, ok_same, ok_err, longer_than_itself}
+use Rattle.u_text.specs.Parts.{alike, unlike, same_or}
 use Rattle.std.proofs.lemmas.List.{append-nil}
 
 -- another type of values

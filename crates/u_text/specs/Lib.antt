@@ -5,3 +5,6 @@ pub mod Choice
 pub mod Number
 pub mod Longest
 pub mod Pieces
+pub mod WholeWords
+pub mod Spaced
+pub mod Appending

@@ -1,9 +1,9 @@
 -- The longest text at the front, and the longest front that begins a text.
-use Rattle.std.specs.Prelude.{◌≡◌, ℕ, ◌+◌, ◌-◌, ◌≤◌, ◌<◌, List, [], ◌∷◌, ◌++◌, length, take, drop, Result, Ok, Err, refl}
-use Rattle.std.proofs.Common.{sym, ◌∙◌, ap, subst, arith, length-append, append_assoc}
+use Rattle.std.specs.Prelude.{◌≡◌, ℕ, ◌-◌, ◌≤◌, List, ◌∷◌, ◌++◌, length, take, drop, Result, Ok, Err}
+use Rattle.std.proofs.Common.{sym, ◌∙◌, ap, arith, length-append, append_assoc}
 use Rattle.std.proofs.lemmas.List.{take-append-drop, length-take}
-use Rattle.std.proofs.Math.Seq.{take-append_seam, drop-append_seam}
-use Rattle.u_text.specs.Reads.{Reads, Cut, longer, equal, shorter, cut}
+use Rattle.std.proofs.Math.Seq.{take-append_seam}
+use Rattle.u_text.specs.Reads.{Reads, longer, equal, shorter, cut}
 
 -- the first so many bytes begin some text
 abbrev pub BeginsSome : {X : Type 0} → (X → List ℕ) → (X → Type 0) → List ℕ → Type 0

@@ -1,12 +1,12 @@
 -- Numbers from 1 to a greatest one, without leading zeros.
-use Rattle.std.specs.Prelude.{◌≡◌, ℕ, ◌+◌, ◌-◌, ◌*◌, ◌^◌, ◌<◌, ◌≤◌, ◌⊎◌, Bool, true, false, cond, ◌&&◌, nat_le, List, [], ◌∷◌, ◌++◌, Result, Ok, Err, IsTrue, length, refl}
-use Rattle.std.proofs.Common.{sym, ◌∙◌, ap, subst, inl, inr, append_assoc, arith, rules, get_or}
+use Rattle.std.specs.Prelude.{◌≡◌, ℕ, ◌+◌, ◌-◌, ◌*◌, ◌^◌, ◌<◌, ◌≤◌, Bool, true, false, cond, ◌&&◌, nat_le, List, [], ◌∷◌, ◌++◌, Result, Ok, Err, length, refl}
+use Rattle.std.proofs.Common.{sym, ◌∙◌, ap, subst, arith, rules, get_or}
 use Rattle.std.specs.Fmt.{decimal}
 use Rattle.std.specs.Str.{all_ascii_digits}
 use Rattle.std.proofs.lemmas.Str.Parse.{IsNumeralModel, numerals_by_fold}
 use Rattle.std.proofs.lemmas.Fmt.{digits_decimal, digits_value-decimal, first_decimal, decimal_nonempty, decimal_injective, decimal-digits_value}
 use Rattle.std.proofs.lemmas.Bool.Decides.{nat_tests}
-use Rattle.u_text.specs.Reads.{Reader, Reads, ok_same, ok_err, pair, longer_than_itself}
+use Rattle.u_text.specs.Reads.{Reader, Reads, ok_same, ok_err, longer_than_itself}
 
 abbrev pub is_digit : ℕ → Bool
 is_digit c = nat_le 48 c && nat_le c 57
@@ -242,6 +242,9 @@ module _ (max : ℕ) (low : 9 ≤ max) (high : max < 2 ^ 64) where
 -- a number that is read is in range
 pub number_bound : (max : ℕ) (bs : List ℕ) (x : ℕ) (rest : List ℕ) → 9 ≤ max → max < 2 ^ 64 → number max bs ≡ Ok (x, rest) → x ≤ max
 number_bound max bs x rest low high h = ((number_Reads max low high).sound bs x rest h).0.1
+
+pub number_least : (max : ℕ) (bs : List ℕ) (x : ℕ) (rest : List ℕ) → 9 ≤ max → max < 2 ^ 64 → number max bs ≡ Ok (x, rest) → 1 ≤ x
+number_least max bs x rest low high h = ((number_Reads max low high).sound bs x rest h).0.0
 
 pub decimal_digits : (n : ℕ) → n < 2 ^ 64 → AllDigit (decimal n)
 decimal_digits n h = all_digits (decimal n) (digits_decimal own n h)

@@ -1,9 +1,9 @@
 -- One byte, nothing, a byte in front, a choice by the first byte, and another type of values.
 use Rattle.std.specs.Prelude.{◌≡◌, ℕ, ◌⊎◌, Bool, true, false, cond, ◌==◌, List, [], ◌∷◌, ◌++◌, Result, Ok, Err, refl}
-use Rattle.std.proofs.Common.{sym, ◌∙◌, ap, subst, inl, inr, append_assoc}
-use Rattle.u_text.specs.Reads.{Reader, Reads, ◌>>=◌, bind_ok, bind_err, ok_same, ok_err, pair, longer_than_itself}
+use Rattle.std.proofs.Common.{sym, ◌∙◌, ap, inl, inr}
+use Rattle.u_text.specs.Reads.{Reader, Reads, ◌>>=◌, ok_same, ok_err, longer_than_itself}
 use Rattle.std.proofs.lemmas.Bool.Decides.{nat_tests}
-use Rattle.std.proofs.Common.{arith, eqb}
+use Rattle.std.proofs.Common.{arith}
 
 abbrev pub NoByte : ℕ → Type 0
 NoByte c = ⊥

@@ -1,8 +1,8 @@
 -- A text cut at a byte.
-use Rattle.std.specs.Prelude.{◌≡◌, ℕ, zero, suc, ◌+◌, ◌≤◌, ◌<◌, length, take, drop, Bool, true, false, cond, ◌==◌, List, [], ◌∷◌, ◌++◌, refl}
-use Rattle.std.proofs.Common.{sym, ◌∙◌, ap, subst, append_assoc, arith}
-use Rattle.std.proofs.lemmas.List.{take-append-drop, append-nil}
-use Rattle.u_text.specs.Parts.{Same, alike, unlike, same_or}
+use Rattle.std.specs.Prelude.{◌≡◌, ℕ, zero, suc, ◌+◌, ◌≤◌, length, take, drop, true, false, cond, ◌==◌, List, [], ◌∷◌, ◌++◌, refl}
+use Rattle.std.proofs.Common.{sym, ◌∙◌, ap, subst, arith}
+use Rattle.std.proofs.lemmas.List.{take-append-drop}
+use Rattle.u_text.specs.Parts.{alike, unlike, same_or}
 
 abbrev pub Cut : Type 0
 Cut = List (List ℕ) × List ℕ

@@ -1,8 +1,8 @@
 -- Two languages one after another, the second depending on what the first gave.
-use Rattle.std.specs.Prelude.{◌≡◌, ℕ, ◌⊎◌, List, [], ◌∷◌, ◌++◌, Result, Ok, Err, refl}
+use Rattle.std.specs.Prelude.{◌≡◌, ℕ, ◌⊎◌, List, [], ◌∷◌, ◌++◌, Result, Ok, Err}
 use Rattle.std.proofs.Common.{sym, ◌∙◌, ap, subst, inl, inr, append_assoc}
-use Rattle.std.proofs.lemmas.List.{append-nil, append_cancel_left, append_cancel_right}
-use Rattle.u_text.specs.Reads.{Reader, Reads, ◌>>=◌, Cut, longer, equal, shorter, cut, bind_ok, bind_err, ok_same, ok_err, pair}
+use Rattle.std.proofs.lemmas.List.{append-nil, append_cancel_right}
+use Rattle.u_text.specs.Reads.{Reader, Reads, ◌>>=◌, longer, equal, shorter, cut, bind_ok, bind_err, ok_same, ok_err, pair}
 
 abbrev pub after : {X Y : Type 0} → (X → List ℕ) → (X → Y → List ℕ) → X × Y → List ℕ
 after text more z = text z.0 ++ more z.0 z.1

@@ -3,8 +3,10 @@
 
 mod cutting;
 mod numbers;
+mod words;
 mod writing;
 
 pub use cutting::cut;
-pub use numbers::{after, number_at};
-pub use writing::{push_behind, push_number};
+pub use numbers::{after, long_number_at, number_at};
+pub use words::{BadWord, Words, number_word, number0_word, signed_word};
+pub use writing::{push_behind, push_long, push_number, push_signed, push_spaced};

@@ -3,14 +3,14 @@ use Rattle.std.proofs.Common.{◌≡◌, ℕ, ℤ, zero, suc, true, false, refl,
 use Rattle.std.specs.Prelude
 use Rattle.std.specs.Cmp.{IsTotalOrder}
 use Rattle.std.specs.FinMap.{nat_cmp-IsAntisymmetric}
-use Rattle.std.specs.Ordering.{ordering_reverse, int_cmp, bool_cmp}
+use Rattle.std.specs.Ordering.{is_eq, ordering_reverse, int_cmp, bool_cmp}
 use Rattle.std.specs.declared.cmp.Ordering.{Ordering}
-use Rattle.std.proofs.lemmas.Cmp.{nat_cmp_total, on_total, then_total}
+use Rattle.std.proofs.lemmas.Cmp.{tied_itself, nat_cmp_total, on_total, then_total}
 use Rattle.std.proofs.lemmas.Map.Lookups.{exact_signed}
 use Rattle.u_name.specs.ContextLaws.{both}
 use Rattle.u_name.specs.NameOrder.{name_cmp_total}
 use Rattle.u_name.proofs.ExactOrders.{block_cmp_ties, name_cmp_ties}
-use Rattle.std.specs.declared.cmp.Ordering.TheVariants.{Equal}
+use Rattle.std.specs.declared.cmp.Ordering.TheVariants.{Less, Equal, Greater}
 use Rattle.u_value.specs.Pointer.{Pointer, pointer}
 use Rattle.u_value.specs.Values.{pointer_cmp, value_cmp}
 use Rattle.u_value.specs.FaultKinds.{fault_kind_cmp, fault_kind_place}
@@ -20,6 +20,7 @@ use Rattle.u_value.specs.declared.fault_kind.FaultKind.{FaultKind}
 use Rattle.u_value.specs.declared.fault_kind.FaultKind.TheVariants.{Kind, Overflow, Zero, Deep, Initiation, Length, Bounds}
 use Rattle.u_value.specs.contracts.reference.ReferenceOrd.TheImpl as reference_ord
 use Rattle.u_value.specs.contracts.value.ValueOrd.TheImpl as value_ord
+use Rattle.u_value.specs.contracts.value.ValuePartialEq.TheImpl as value_eq
 use Rattle.u_value.specs.contracts.value.ValueOrd.TheImpl.Laws as value_laws
 use Rattle.u_value.specs.contracts.fault_kind.FaultKindOrd.TheImpl as fault_kind_ord
 
@@ -106,3 +107,16 @@ kind_at_place Bounds = refl
 -- kinds that tie are the same
 pub fault_kind_cmp_ties : (a b : FaultKind) → fault_kind_cmp a b ≡ Equal → a ≡ b
 fault_kind_cmp_ties a b h = sym (kind_at_place a) ∙ ap kind_at (nat_cmp-IsAntisymmetric (fault_kind_place a) (fault_kind_place b) h) ∙ kind_at_place b
+
+tied : (r : Ordering) → is_eq r ≡ true → r ≡ Equal
+tied Less h = cc
+tied Equal h = refl
+tied Greater h = cc
+
+-- what `==` holds of is the same
+pub same_value : (a b : Value) → (value_eq.ghosts).eq a b ≡ true → a ≡ b
+same_value a b h = value_cmp_ties a b (sym (derived_value_cmp a b) ∙ tied _ (sym (value_laws.matches_eq-law a b) ∙ h))
+
+-- and what is the same is equal
+pub value_equals_itself : (a : Value) → (value_eq.ghosts).eq a a ≡ true
+value_equals_itself a = value_laws.matches_eq-law a a ∙ ap is_eq (derived_value_cmp a a ∙ tied_itself value_cmp_total a)

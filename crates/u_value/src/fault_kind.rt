@@ -1,6 +1,8 @@
 //! Why a firing gives a fault.
 ghost use Rattle.std.specs.Prelude.{◌≡◌};
-ghost use Rattle.u_value.specs.FaultKinds.{fault_kind_text};
+ghost use Rattle.u_value.specs.FaultKinds.{fault_kind_cmp, fault_kind_text};
+
+use std::cmp::Ordering;
 
 /// Why a firing gives a fault and no value, in the order in which faults are listed.
 #[derive(Clone, Copy, Debug, PartialEq, Eq, PartialOrd, Ord, Hash)]
@@ -22,6 +24,14 @@ pub enum FaultKind {
 }
 
 impl FaultKind {
+    /// By the place in the list of the kinds, as `cmp`.
+    #[tactic(auto, using(crate::proofs::Orders::derived_fault_kind_cmp))]
+    pub fn compare(self, other: FaultKind) -> Ordering
+        ensures { result ≡ fault_kind_cmp self other }
+    {
+        self.cmp(&other)
+    }
+
     /// The word for the kind, as a report has it.
     pub fn text(self) -> &'static str
         ensures { result.now ≡ fault_kind_text self }

@@ -11,3 +11,6 @@ pub use fault_kind::FaultKind;
 pub use operators::{BinaryOperator, apply2};
 pub use reference::Reference;
 pub use value::Value;
+
+#[cfg(test)]
+mod tests;

@@ -1,10 +1,11 @@
 //! Values.
 ghost use Rattle.std.specs.Prelude.{◌≡◌, ◌++◌, ◌∷◌, IfOk, OnOk};
-ghost use Rattle.u_value.specs.Values.{value_text};
+ghost use Rattle.u_value.specs.Values.{value_cmp, value_text};
 
 use crate::reference::Reference;
 use crate::writing::push_signed;
 use std::alloc::AllocError;
+use std::cmp::Ordering;
 use u_name::BlockName;
 
 /// A value, as a token carries one. The kinds come in this order, and then the values by number,
@@ -22,6 +23,14 @@ pub enum Value {
 }
 
 impl Value {
+    /// By kind, and then by the value, as `cmp`.
+    #[tactic(auto, using(crate::proofs::Orders::derived_value_cmp))]
+    pub fn compare(&self, other: &Value) -> Ordering
+        ensures { result ≡ value_cmp self.now other.now }
+    {
+        self.cmp(other)
+    }
+
     /// An equal value.
     pub fn copy(&self) -> Result<Value, AllocError>
         ensures { IfOk result (λ v. v ≡ self.now) }

@@ -1,5 +1,4 @@
-use Rattle.std.proofs.Common.{◌≡◌, List, ℕ, ◌-◌, length, arith, rules, ap, ◌∙◌}
-use Rattle.u_name.specs.BlockText.{block_span}
+use Rattle.std.proofs.Common.{◌-◌, arith, rules}
 use Rattle.u_name.proofs.Spans.{span_empty}
 use Rattle.u_name.proofs.block_text.block_len.Goals as goal
 

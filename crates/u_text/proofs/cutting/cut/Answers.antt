@@ -1,4 +1,4 @@
-use Rattle.std.proofs.Common.{rules, ◌≡◌, ◌∷◌, ◌+◌, drop, arith, ap, length}
+use Rattle.std.proofs.Common.{rules, ◌≡◌, ◌∷◌, ◌+◌, drop, arith, length}
 use Rattle.u_text.specs.Pieces.{drop_step, free_step}
 use Rattle.u_text.proofs.cutting.cut.Goals as goal
 

@@ -1,4 +1,4 @@
-use Rattle.std.proofs.Common.{◌≡◌, ◌≤◌, ◌+◌, ◌-◌}
+use Rattle.std.proofs.Common.{◌≡◌, ◌+◌}
 use Rattle.u_name.specs.Context.{depth, Top}
 use Rattle.u_name.specs.NameSteps.{frames_from}
 use Rattle.u_name.proofs.reading.Cursor.frames.Given as goal

@@ -1,0 +1,10 @@
+pub mod Lists
+pub mod Names
+pub mod Blank
+pub mod JoinLaws
+pub mod Neighbours
+pub mod ScanLaws
+pub mod States
+pub mod Runs
+pub mod Same
+pub mod Fresh

@@ -1,0 +1,225 @@
+-- How a state goes on.
+use Rattle.std.proofs.Common.{◌≡◌, ℕ, ◌+◌, ◌<◌, ◌≤◌, List, [], ◌∷◌, ◌++◌, ◌⊎◌, inl, inr, subst, sym, refl, length, take, drop, get_or, arith, append-nil, append_assoc, ap, suc, ◌∙◌, drop-cons}
+use Rattle.std.specs.Prelude.{Contains, ◌↔◌, IsTrue}
+use Rattle.std.proofs.lemmas.List.{take_more, take-append-drop, take_all}
+use Rattle.std.proofs.lemmas.List.{take-append-le}
+use Rattle.std.specs.List.{remove}
+use Rattle.std.proofs.Common.{length-append}
+use Rattle.std.proofs.lemmas.List.Edits.{length-remove}
+use Rattle.std.specs.List.Sorted.{IsPermutation}
+use Rattle.std.proofs.lemmas.List.Sorted.{IsPermutation-refl, IsPermutation-sym, IsPermutation-more, Contains-permutation}
+use Rattle.std.proofs.lemmas.List.Elements.{Contains-get_or, Contains-append_left, Contains-append_right, Contains-append_cases, Contains-push, Contains-push_cases}
+use Rattle.u_system.proofs.Apart.{Distinct-take_out, Distinct-put_in, Distinct-push, Distinct-left, Distinct-apart}
+use Rattle.u_system.specs.Firing.{Distinct, System, Held, Enabled, Derivation, Cl, Whole, Same, Closed}
+use Rattle.u_system.proofs.Held.{Held-push, Held-append_left, Held-of, Enabled-mono}
+use Rattle.u_system.proofs.Closure.{Cl-mono, Derivation-push, Derivation-nil, Settled-is_Cl, Quiet-whole, Quiet-closed}
+use Rattle.u_rule.specs.declared.entry.Entry.{Entry}
+use Rattle.u_rule.specs.declared.firing.Firing.{Firing}
+use Rattle.u_check.specs.Jobs.{JobParts}
+use Rattle.std.specs.Prelude.{Result, Ok, Err}
+use Rattle.std.specs.Result.{IsErrAnd}
+use Rattle.u_machine.specs.declared.answer.Refusal.{Refusal}
+use Rattle.u_machine.specs.declared.answer.Refusal.TheVariants.{NoMemory}
+use Rattle.u_machine.specs.declared.answer.Step.{Step}
+use Rattle.u_rule.specs.Rule.{system_of}
+use Rattle.u_system.specs.Rising.{Rises}
+use Rattle.u_rule.specs.EntryOrder.{firing_cmp}
+use Rattle.u_machine.specs.States.{NothingReady, IsReady, AreReady, IsPick, FireAnswer, IsWhole, Takes, count_of, State, Taken, IsMachine, IsSettled, Applies}
+
+abbrev pub with_history : State → ℕ → List Entry → State
+with_history m n h = record { job = m.job; limit = m.limit; log = m.log; done = n; parked = m.parked; history = h }
+
+module _ (m : State) (h : List Entry) (d : Firing) (is : IsMachine m) (below : m.done < length m.log) (within : (x : Entry) → Contains h x → Contains m.history x ⊎ Contains ((system_of m.job).gives (get_or m.log m.done d)) x) (kept : (x : Entry) → Contains m.history x → Contains h x) where
+  given : (x : Entry) → Contains m.history x ⊎ Contains ((system_of m.job).gives (get_or m.log m.done d)) x → Held (system_of m.job) m.log x
+  given x (inl a) = is.lies x a
+  given x (inr b) = inr (get_or m.log m.done d, Contains-get_or m.log m.done d below, b)
+
+  -- some of what the next firing gives has entered
+  pub partly : IsMachine (with_history m m.done h)
+  partly = record {
+      firings = is.firings;
+      derivation = is.derivation;
+      distinct = is.distinct;
+      within = is.within;
+      place = is.place;
+      has = λ e k. kept e (is.has e k);
+      lies = λ e k. given e (within e k)
+    }
+
+  entered_has : ((x : Entry) → Contains ((system_of m.job).gives (get_or m.log m.done d)) x → Contains h x) → (e : Entry) → Held (system_of m.job) (take m.done m.log) e ⊎ Contains ((system_of m.job).gives (get_or m.log m.done d)) e → Contains h e
+  entered_has all e (inl a) = kept e (is.has e a)
+  entered_has all e (inr b) = all e b
+
+  -- all of it has
+  pub entered : ((x : Entry) → Contains ((system_of m.job).gives (get_or m.log m.done d)) x → Contains h x) → IsMachine (with_history m (m.done + 1) h)
+  entered all = record {
+      firings = is.firings;
+      derivation = is.derivation;
+      distinct = is.distinct;
+      within = is.within;
+      place = omega (arith, below);
+      has = λ e k. entered_has all e ((Held-push (system_of m.job) (take m.done m.log) (get_or m.log m.done d) e).0 (rw (take_more m.log m.done d below) at k));
+      lies = λ e k. given e (within e k)
+    }
+
+pub Applies-history : (m : State) (n : ℕ) (h : List Entry) → ((x : Entry) → Contains m.history x → Contains h x) → Applies m (with_history m n h)
+Applies-history m n h kept = record {
+    job = refl;
+    limit = refl;
+    taken = λ f. ((λ t. t), (λ t. t));
+    count = refl;
+    log = ([], sym (append-nil m.log));
+    history = kept
+  }
+
+pub applies_trans : (a b c : State) → Applies a b → Applies b c → Applies a c
+applies_trans a b c p q = record {
+    job = cc;
+    limit = cc;
+    taken = λ f. ((λ t. (q.taken f).0 ((p.taken f).0 t)), (λ t. (p.taken f).1 ((q.taken f).1 t)));
+    count = q.count ∙ p.count;
+    log = (p.log.0 ++ q.log.0, joined);
+    history = λ e k. q.history e (p.history e k)
+  }
+  where
+    joined : c.log ≡ a.log ++ (p.log.0 ++ q.log.0)
+    joined = rw (q.log.1, p.log.1) (append_assoc a.log p.log.0 q.log.0)
+
+-- a settled machine holds the closure of its taken set
+pub settled_is_Cl : (m : State) → IsMachine m → IsSettled m → Same (Contains m.history) (Cl (system_of m.job) (Taken m)) × Same (Contains m.history) (Held (system_of m.job) m.log)
+settled_is_Cl m is st = ((λ e. ((λ k. (held e).0 (is.lies e k)), (λ k. has e ((held e).1 k)))), (λ e. (is.lies e, has e)))
+  where
+    has : (e : Entry) → Held (system_of m.job) m.log e → Contains m.history e
+    has e k = is.has e (rw (st.entered, take_all (length m.log) m.log (omega arith)) k)
+    all : (f : Firing) → Taken m f → Enabled (system_of m.job) (Held (system_of m.job) m.log) f → Contains m.log f
+    all f t en = elim (Contains-append_cases m.log m.parked f t) [ inl a ↦ a | inr b ↦ absurd (st.none f b (Enabled-mono (system_of m.job) (Held (system_of m.job) m.log) (Contains m.history) has f en)) ]
+    held : Same (Held (system_of m.job) m.log) (Cl (system_of m.job) (Taken m))
+    held = Settled-is_Cl (system_of m.job) (Taken m) m.log is.derivation (λ f a. Contains-append_left m.log m.parked f a) all
+
+-- a taken firing stays the only new one where taken firings are applied before and after
+pub takes_between : (a b c d : State) (f : Firing) → Applies a b → Takes b f c → Applies c d → Takes a f d
+takes_between a b c d f p q r = record {
+    job = cc;
+    limit = cc;
+    taken = λ g. ((λ t. back g ((q.taken g).0 ((r.taken g).1 t))), (λ t. (r.taken g).0 ((q.taken g).1 (there g t))));
+    count = let x = p.count in let y = q.count in let z = r.count in omega arith;
+    log = (p.log.0 ++ (q.log.0 ++ r.log.0), joined);
+    history = λ e k. r.history e (q.history e (p.history e k))
+  }
+  where
+    back : (g : Firing) → Taken b g ⊎ (f ≡ g) → Taken a g ⊎ (f ≡ g)
+    back g (inl t) = inl ((p.taken g).1 t)
+    back g (inr e) = inr e
+    there : (g : Firing) → Taken a g ⊎ (f ≡ g) → Taken b g ⊎ (f ≡ g)
+    there g (inl t) = inl ((p.taken g).0 t)
+    there g (inr e) = inr e
+    joined : d.log ≡ a.log ++ (p.log.0 ++ (q.log.0 ++ r.log.0))
+    joined = rw (r.log.1, q.log.1, p.log.1) (append_assoc (a.log ++ p.log.0) q.log.0 r.log.0 ∙ append_assoc a.log p.log.0 (q.log.0 ++ r.log.0))
+
+pub Applies-refl : (m : State) → Applies m m
+Applies-refl m = record { job = refl; limit = refl; taken = λ f. ((λ t. t), (λ t. t)); count = refl; log = ([], sym (append-nil m.log)); history = λ e k. k }
+
+module _ (a b : State) (f : Firing) (p : Applies a b) (new : Taken b f → ⊥) where
+  pub not_taken : Taken a f → ⊥
+  not_taken t = new ((p.taken f).0 t)
+
+  pub room_before : count_of b < b.limit → count_of a < a.limit
+  room_before h = let x = p.count in let y = p.limit in omega arith
+
+-- what is ready on a settled machine
+module _ (m : State) (is : IsMachine m) (st : IsSettled m) where
+  pub ready_of : (f : Firing) → Enabled (system_of m.job) (Contains m.history) f × (Contains m.log f → ⊥) → IsReady m f
+  ready_of f (en, new) =
+      (Enabled-mono (system_of m.job) (Contains m.history) (Cl (system_of m.job) (Taken m)) (λ e. ((settled_is_Cl m is st).0 e).0) f en,
+        λ t. elim (Contains-append_cases m.log m.parked f t) [ inl a ↦ new a | inr b ↦ st.none f b en ])
+
+  pub over_history : (f : Firing) → Enabled (system_of m.job) (Cl (system_of m.job) (Taken m)) f → Enabled (system_of m.job) (Contains m.history) f
+  over_history f = Enabled-mono (system_of m.job) (Cl (system_of m.job) (Taken m)) (Contains m.history) (λ e. ((settled_is_Cl m is st).0 e).1) f
+
+  pub are_ready : (found v : List Firing) → ((f : Firing) → Contains found f ↔ Enabled (system_of m.job) (Contains m.history) f) → ((f : Firing) → Contains v f → Contains found f × (Contains m.log f → ⊥)) → ((f : Firing) → Contains found f → Contains v f ⊎ Contains m.log f) → Rises firing_cmp v → AreReady m v
+  are_ready found v enabled exact all once =
+      ((λ f k. let p = exact f k in ready_of f ((enabled f).0 p.0, p.1)),
+        (λ f en. elim (all f ((enabled f).1 (over_history f en))) [ inl a ↦ inl a | inr b ↦ inr (Contains-append_left m.log m.parked f b) ]), once)
+
+  pub quiet_whole : NothingReady m → IsWhole m
+  quiet_whole none = (closed, λ e. ((λ k. (whole e).0 (((settled_is_Cl m is st).1 e).0 k)), (λ w. ((settled_is_Cl m is st).1 e).1 ((whole e).1 w))))
+    where
+      held_in : (e : Entry) → Held (system_of m.job) m.log e → Contains m.history e
+      held_in e = ((settled_is_Cl m is st).1 e).1
+      all : (f : Firing) → Enabled (system_of m.job) (Contains m.history) f → Contains m.log f
+      all f en =
+          elim (Contains-append_cases m.log m.parked f (none f (Enabled-mono (system_of m.job) (Contains m.history) (Cl (system_of m.job) (Taken m)) (λ e. ((settled_is_Cl m is st).0 e).0) f en)))
+            [ inl a ↦ a | inr b ↦ absurd (st.none f b en) ]
+      whole : Same (Held (system_of m.job) m.log) (Whole (system_of m.job))
+      whole = Quiet-whole (system_of m.job) m.log is.derivation (λ f en. all f (Enabled-mono (system_of m.job) (Held (system_of m.job) m.log) (Contains m.history) held_in f en))
+      closed : Closed (system_of m.job) (Contains m.history)
+      closed f en e g = held_in e (inr (f, all f en, g))
+
+  -- a ready firing is enabled over the history
+  pub ready_enabled : (f : Firing) → IsReady m f → Enabled (system_of m.job) (Contains m.history) f
+  ready_enabled f r = over_history f r.0
+
+-- a firing that is enabled over the history goes to the end of the log
+abbrev pub with_logged : State → Firing → State
+with_logged m f = record { job = m.job; limit = m.limit; log = m.log ++ f ∷ []; done = m.done; parked = m.parked; history = m.history }
+
+module _ (m : State) (f : Firing) where
+  pub logged_push : (g : Firing) → Taken (with_logged m f) g ↔ (Taken m g ⊎ (f ≡ g))
+  logged_push g = (to g, back g)
+    where
+      to : (g : Firing) → Taken (with_logged m f) g → Taken m g ⊎ (f ≡ g)
+      to g t =
+          elim (Contains-append_cases (m.log ++ f ∷ []) m.parked g t)
+            [ inl a ↦ elim (Contains-push_cases m.log f g a) [ inl x ↦ inl (Contains-append_left m.log m.parked g x) | inr e ↦ inr e ]
+            | inr b ↦ inl (Contains-append_right m.log m.parked g b) ]
+      back : (g : Firing) → Taken m g ⊎ (f ≡ g) → Taken (with_logged m f) g
+      back g (inl t) =
+          elim (Contains-append_cases m.log m.parked g t)
+            [ inl a ↦ Contains-append_left (m.log ++ f ∷ []) m.parked g (Contains-append_left m.log (f ∷ []) g a) | inr b ↦ Contains-append_right (m.log ++ f ∷ []) m.parked g b ]
+      back g (inr e) = Contains-append_left (m.log ++ f ∷ []) m.parked g (subst (λ (x : Firing). Contains (m.log ++ f ∷ []) x) e (Contains-push m.log f))
+
+  pub logged_takes : Takes m f (with_logged m f)
+  logged_takes = record { job = refl; limit = refl; taken = logged_push; count = let a = length-append m.log (f ∷ []) in omega arith; log = (f ∷ [], refl); history = λ e k. k }
+
+  pub logged_is : IsMachine m → (Taken m f → ⊥) → count_of m < m.limit → m.done ≡ length m.log → Enabled (system_of m.job) (Contains m.history) f → IsMachine (with_logged m f)
+  logged_is is new room entered en = record {
+      firings = λ g t. elim ((logged_push g).0 t) [ inl a ↦ is.firings g a | inr e ↦ subst (λ (x : Firing). IsTrue ((system_of m.job).is_firing x)) e en.0 ];
+      derivation = Derivation-push (system_of m.job) m.log f is.derivation (Enabled-mono (system_of m.job) (Contains m.history) (Held (system_of m.job) m.log) is.lies f en);
+      distinct = rw append_assoc (Distinct-put_in m.log m.parked f new is.distinct);
+      within = let a = length-append m.log (f ∷ []) in omega arith;
+      place = let a = length-append m.log (f ∷ []) in let w = is.place in omega arith;
+      has = λ e k. is.has e (let w = is.place in rw (take-append-le m.done m.log (f ∷ []) w) at k);
+      lies = λ e k. Held-append_left (system_of m.job) m.log (f ∷ []) e (is.lies e k)
+    }
+
+module _ (a b : State) (p : Applies a b) where
+  enabled_before : (f : Firing) → Enabled (system_of b.job) (Cl (system_of b.job) (Taken b)) f → Enabled (system_of a.job) (Cl (system_of a.job) (Taken a)) f
+  enabled_before f en =
+      rw (← p.job) (Enabled-mono (system_of b.job) (Cl (system_of b.job) (Taken b)) (Cl (system_of b.job) (Taken a)) (Cl-mono (system_of b.job) (Taken b) (Taken a) (λ g. (p.taken g).1)) f en)
+
+  enabled_after : (f : Firing) → Enabled (system_of a.job) (Cl (system_of a.job) (Taken a)) f → Enabled (system_of b.job) (Cl (system_of b.job) (Taken b)) f
+  enabled_after f en =
+      rw p.job (Enabled-mono (system_of a.job) (Cl (system_of a.job) (Taken a)) (Cl (system_of a.job) (Taken b)) (Cl-mono (system_of a.job) (Taken a) (Taken b) (λ g. (p.taken g).0)) f en)
+
+  pub ready_before : (f : Firing) → IsReady b f → IsReady a f
+  ready_before f r = (enabled_before f r.0, λ t. r.1 ((p.taken f).0 t))
+
+  pub are_ready_before : (fs : List Firing) → AreReady b fs → AreReady a fs
+  are_ready_before fs r =
+      ((λ f k. ready_before f (r.0 f k)), (λ f en. elim (r.1 f (enabled_after f en)) [ inl k ↦ inl k | inr t ↦ inr ((p.taken f).1 t) ]), r.2)
+
+  pub ready_after : (f : Firing) → IsReady a f → IsReady b f
+  ready_after f r = (enabled_after f r.0, λ t. r.1 ((p.taken f).1 t))
+
+  pub nothing_after : NothingReady a → NothingReady b
+  nothing_after n f en = (p.taken f).0 (n f (enabled_before f en))
+
+  pub nothing_before : NothingReady b → NothingReady a
+  nothing_before n f en = (p.taken f).1 (n f (enabled_after f en))
+
+pub nothing_ready : (m : State) (fs : List Firing) → AreReady m fs → length fs ≡ 0 → NothingReady m
+nothing_ready m fs r e f en = elim (r.1 f en) [ inl k ↦ absurd (let l = k.1 in omega arith) | inr t ↦ t ]
+
+pub fire_no_memory : (old new : State) (pick : ℕ) (r : Result Step Refusal) → IsErrAnd r (λ e. e ≡ NoMemory) → Applies old new ⊎ ((f : Firing) × IsPick old pick f × Takes old f new × Contains new.log f) → FireAnswer old pick r new
+fire_no_memory old new pick (Ok t) h w = absurd h
+fire_no_memory old new pick (Err e) h w = subst (λ (x : Refusal). FireAnswer old pick (Err x) new) (sym h) w

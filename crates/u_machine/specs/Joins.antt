@@ -1,0 +1,39 @@
+-- The tokens of a firing.
+use Rattle.std.specs.Prelude.{◌≡◌, IsTrue, Bool, true, false, List, [], ◌∷◌, ◌⊎◌, Option, Some, None}
+use Rattle.u_name.specs.Name.{Activity}
+use Rattle.u_value.specs.declared.value.Value.{Value}
+use Rattle.u_check.specs.Jobs.{JobParts}
+use Rattle.u_rule.specs.Parts.{token, ValueList}
+use Rattle.u_rule.specs.Rule.{is_firing_of}
+use Rattle.u_rule.specs.EntryOrder.{firing}
+use Rattle.u_rule.specs.declared.entry.Entry.{Entry}
+use Rattle.u_rule.specs.declared.entry.Entry.TheVariants as entries
+use Rattle.u_rule.specs.declared.firing.Firing.{Firing}
+use Rattle.u_system.specs.Firing.{SomeOf}
+
+-- f is a firing, and this is its one token
+pub record OfOne (job : JobParts) (left : Entry) (f : Firing) : Type 0 where
+  pub activity : Activity
+  pub value : Value
+  pub is : IsTrue (is_firing_of job f)
+  pub whole : f ≡ firing activity (value ∷ []) None
+  pub first : left ≡ entries.Token (token activity 1 value)
+
+-- f is a firing, and these are its two tokens
+pub record OfTwo (job : JobParts) (left right : Entry) (f : Firing) : Type 0 where
+  pub activity : Activity
+  pub value : Value
+  pub other : Value
+  pub is : IsTrue (is_firing_of job f)
+  pub whole : f ≡ firing activity (value ∷ other ∷ []) None
+  pub first : left ≡ entries.Token (token activity 1 value)
+  pub second : right ≡ entries.Token (token activity 2 other)
+
+-- f is a firing whose first token this is, and its second one is in the list
+abbrev pub Joins : JobParts → List Entry → Entry → Firing → Type 0
+Joins job rest left f = OfOne job left f ⊎ SomeOf rest (OfTwo job left) f
+
+-- a token of the same activity
+abbrev pub SameActivity : Entry → Entry → Type 0
+SameActivity (entries.Token t) (entries.Token u) = t.activity ≡ u.activity
+SameActivity a b = ⊥

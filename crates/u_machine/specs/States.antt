@@ -1,0 +1,135 @@
+-- What a machine is: a job, its taken firings (the log and the parked ones) and its history.
+use Rattle.std.specs.Prelude.{◌≡◌, ℕ, ◌<◌, ◌≤◌, ◌+◌, Bool, List, [], ◌∷◌, ◌++◌, ◌⊎◌, ◌↔◌, length, take, IsTrue, Contains, Result, Ok, Err, false, slice_get, Some, ◌%◌}
+use Rattle.u_system.specs.Firing.{Distinct, System, Held, Enabled, Closed, Derivation, Cl, Whole, Same, EachPlace, IsNextFrom}
+use Rattle.u_system.specs.Rising.{Rises}
+use Rattle.u_rule.specs.declared.entry.Entry.{Entry}
+use Rattle.u_rule.specs.declared.firing.Firing.{Firing}
+use Rattle.u_check.specs.Jobs.{JobParts}
+use Rattle.u_machine.specs.declared.answer.Refusal.{Refusal}
+use Rattle.u_machine.specs.declared.answer.Refusal.TheVariants.{Full, NoMemory}
+use Rattle.u_machine.specs.declared.answer.Ran.{Ran}
+use Rattle.u_machine.specs.declared.answer.Ran.TheVariants as ran
+use Rattle.std.specs.declared.cmp.Ordering.TheVariants.{Less}
+use Rattle.u_machine.specs.declared.answer.Step.{Step}
+use Rattle.u_machine.specs.declared.answer.Step.TheVariants as step
+use Rattle.u_rule.specs.Rule.{system_of}
+use Rattle.u_rule.specs.EntryOrder.{firing_cmp, EntryList, entry_list_code, FiringList, firing_list_code}
+use Rattle.std.specs.Prelude.{refl}
+use Rattle.std.specs.Coded.{Coded, code_by, coded×, coded_ℕ}
+use Rattle.u_check.specs.contracts.job.Job as job_row
+
+-- `log` has the firings in the order in which they were applied, of which the entries of the first `done` have all entered
+pub record State : Type 0 where
+  pub job : JobParts
+  pub limit : ℕ
+  pub log : List Firing
+  pub done : ℕ
+  pub parked : List Firing
+  pub history : List Entry
+
+abbrev pub state : JobParts → ℕ → FiringList → ℕ → FiringList → EntryList → State
+state job limit log done parked history = record { job = job; limit = limit; log = log; done = done; parked = parked; history = history }
+
+-- a state is stored as the tuple of its parts
+abbrev pub state_code : Coded State
+state_code =
+    code_by (JobParts × (ℕ × (FiringList × (ℕ × (FiringList × EntryList)))))
+      (coded× job_row.the_row.coded (coded× coded_ℕ (coded× firing_list_code (coded× coded_ℕ (coded× firing_list_code entry_list_code)))))
+      (λ m. (m.job, (m.limit, (m.log, (m.done, (m.parked, m.history)))))) (λ p. state p.0 p.1.0 p.1.1.0 p.1.1.1.0 p.1.1.1.1.0 p.1.1.1.1.1) (λ _. refl)
+
+-- the taken set
+abbrev pub Taken : State → Firing → Type 0
+Taken m f = Contains (m.log ++ m.parked) f
+
+-- what holds of each machine, settled or not
+pub record IsMachine (m : State) : Type 0 where
+  pub firings : (f : Firing) → Taken m f → IsTrue ((system_of m.job).is_firing f)
+  pub derivation : Derivation (system_of m.job) m.log
+  pub distinct : Distinct (m.log ++ m.parked)
+  pub within : length m.log + length m.parked ≤ m.limit
+  pub place : m.done ≤ length m.log
+  pub has : (e : Entry) → Held (system_of m.job) (take m.done m.log) e → Contains m.history e
+  pub lies : (e : Entry) → Contains m.history e → Held (system_of m.job) m.log e
+
+-- and the set of taken firings has just those of the log and the parked ones
+pub record IsKept (m : State) (taken : FiringList) : Type 0 where
+  pub is : IsMachine m
+  pub same : Same (Contains taken) (Taken m)
+
+-- all entries have entered, and no parked firing is enabled
+pub record IsSettled (m : State) : Type 0 where
+  pub entered : m.done ≡ length m.log
+  pub none : (f : Firing) → Contains m.parked f → Enabled (system_of m.job) (Contains m.history) f → ⊥
+
+-- how many are taken
+abbrev pub count_of : State → ℕ
+count_of m = length m.log + length m.parked
+
+-- f is taken besides, and nothing is lost; taken firings may be applied
+pub record Takes (old : State) (f : Firing) (new : State) : Type 0 where
+  pub job : new.job ≡ old.job
+  pub limit : new.limit ≡ old.limit
+  pub taken : (g : Firing) → Taken new g ↔ (Taken old g ⊎ (f ≡ g))
+  pub count : count_of new ≡ count_of old + 1
+  pub log : (rest : List Firing) × (new.log ≡ old.log ++ rest)
+  pub history : (e : Entry) → Contains old.history e → Contains new.history e
+
+-- taken firings may be applied, and nothing is taken or lost
+pub record Applies (old new : State) : Type 0 where
+  pub job : new.job ≡ old.job
+  pub limit : new.limit ≡ old.limit
+  pub taken : (f : Firing) → Taken old f ↔ Taken new f
+  pub count : count_of new ≡ count_of old
+  pub log : (rest : List Firing) × (new.log ≡ old.log ++ rest)
+  pub history : (e : Entry) → Contains old.history e → Contains new.history e
+
+-- f is enabled over what the taken firings hold, and isn't taken
+abbrev pub IsReady : State → Firing → Type 0
+IsReady m f = Enabled (system_of m.job) (Cl (system_of m.job) (Taken m)) f × (Taken m f → ⊥)
+
+-- all ready firings, in order
+abbrev pub AreReady : State → List Firing → Type 0
+AreReady m fs =
+    ((f : Firing) → Contains fs f → IsReady m f)
+      × ((f : Firing) → Enabled (system_of m.job) (Cl (system_of m.job) (Taken m)) f → Contains fs f ⊎ Taken m f)
+      × Rises firing_cmp fs
+
+-- f stands at that place of the ready firings, modulo their number
+abbrev pub IsPick : State → ℕ → Firing → Type 0
+IsPick m pick f = (ready : List Firing) × AreReady m ready × (slice_get ready (pick % length ready) ≡ Some f)
+
+-- each firing that is enabled over what the taken firings hold is taken
+abbrev pub NothingReady : State → Type 0
+NothingReady m = (f : Firing) → Enabled (system_of m.job) (Cl (system_of m.job) (Taken m)) f → Taken m f
+
+abbrev pub FireAnswer : State → ℕ → Result Step Refusal → State → Type 0
+FireAnswer old pick (Ok step.Quiet) new = NothingReady old × Applies old new × IsSettled new
+FireAnswer old pick (Err Full) new = ((f : Firing) × IsReady old f) × (count_of old ≡ old.limit) × Applies old new × IsSettled new
+FireAnswer old pick (Ok (step.Fired place)) new =
+    (f : Firing) × IsPick old pick f × (count_of old < old.limit) × Takes old f new × IsSettled new × (slice_get new.log place ≡ Some f)
+FireAnswer old pick (Err NoMemory) new = Applies old new ⊎ ((f : Firing) × IsPick old pick f × Takes old f new × Contains new.log f)
+
+-- the history is closed, and is all that some derivation holds
+abbrev pub IsWhole : State → Type 0
+IsWhole m = Closed (system_of m.job) (Contains m.history) × Same (Contains m.history) (Whole (system_of m.job))
+
+-- f is g, or before it
+abbrev pub firing_le : Firing → Firing → Type 0
+firing_le f g = (firing_cmp f g ≡ Less) ⊎ (f ≡ g)
+
+-- gs were fired one after another, each the least that was ready
+pub record Runs (old : State) (gs : List Firing) (new : State) : Type 0 where
+  pub job : new.job ≡ old.job
+  pub limit : new.limit ≡ old.limit
+  pub each : EachPlace (IsNextFrom (system_of old.job) firing_le (Taken old)) gs
+  pub taken : (g : Firing) → Taken new g ↔ (Taken old g ⊎ Contains gs g)
+  pub count : count_of new ≡ count_of old + length gs
+  pub log : (rest : List Firing) × (new.log ≡ old.log ++ rest)
+  pub alone : old.parked ≡ [] → (new.log ≡ old.log ++ gs) × (new.parked ≡ [])
+  pub history : (e : Entry) → Contains old.history e → Contains new.history e
+
+abbrev pub RunAnswer : State → ℕ → Result Ran Refusal → State → Type 0
+RunAnswer old budget (Ok ran.Quiet) new = (gs : List Firing) × Runs old gs new × (length gs ≤ budget) × IsSettled new × NothingReady new
+RunAnswer old budget (Ok ran.Paused) new = (gs : List Firing) × Runs old gs new × (length gs ≡ budget) × IsSettled new × ((f : Firing) × IsReady new f)
+RunAnswer old budget (Err Full) new = (gs : List Firing) × Runs old gs new × (length gs < budget) × IsSettled new × ((f : Firing) × IsReady new f) × (count_of new ≡ new.limit)
+RunAnswer old budget (Err NoMemory) new = (gs : List Firing) × Runs old gs new × (length gs ≤ budget)

@@ -1,0 +1,136 @@
+-- The reader of lines reads exactly their texts.
+use Rattle.std.specs.Prelude.{◌≡◌, ℕ, ◌^◌, ◌<◌, Bool, true, false, cond, List, [], ◌∷◌, ◌++◌, map, codes, Some, None, IsTrue, refl}
+use Rattle.std.specs.List.{AllByRecursion}
+use Rattle.std.proofs.Common.{sym, ◌∙◌, ap, subst, arith, inl, inr}
+use Rattle.std.specs.Fmt.{decimal}
+use Rattle.u_name.specs.Block.{IsBlock, is_block_byte}
+use Rattle.u_text.specs.Number.{IsUpTo, AllDigit, decimal_digits}
+use Rattle.u_text.specs.Pieces.{Free, words}
+use Rattle.u_text.specs.Spaced.{spaced, AllFree, free_append, all_free_append, free_spaced, free_above, free_decimal, free_signed, words_spaced, words_are}
+use Rattle.u_text.specs.WholeWords.{◌then◌, is, number_word, number_word_sound, number_word_complete, told, then_some, some_same, none_some, is_itself}
+use Rattle.u_program.specs.declared.reading.Line.{Line}
+use Rattle.u_program.specs.declared.reading.Line.TheVariants.{Block, Statement}
+use Rattle.u_program.specs.declared.program.Constant.{Constant}
+use Rattle.u_program.specs.declared.program.Constant.TheVariants as constants
+use Rattle.u_program.specs.declared.program.Kind.{Kind}
+use Rattle.u_program.specs.declared.program.Kind.TheVariants.{Begin, Const, Add, End}
+use Rattle.u_program.specs.declared.program.Destination.{Destination}
+use Rattle.u_program.specs.Parts.{StatementParts}
+use Rattle.u_program.specs.Limits.{Limits, IsConstant, IsKind, IsDestination, Ascending, rank, IsStatement, no_limits}
+use Rattle.u_program.specs.Text.{arrow, kind_word, constant_word, argument_words, destination_word, statement_words, block_line, statement_line}
+use Rattle.u_program.specs.Reading.{Words, name_word, statement_at, name_line, alone, numbered, line_at}
+use Rattle.u_program.specs.Begun.{line_text, IsLine}
+use Rattle.u_program.proofs.WordLaws.{name_word_sound, name_word_complete, statement_sound, statement_complete}
+
+-- no byte of a word but a block's name is below 45
+
+module _ (c : ℕ) where
+  block_free : (bs : List ℕ) → is_block_byte c ≡ false → AllByRecursion (λ b. IsTrue (is_block_byte b)) bs → Free c bs
+  block_free [] n v = tt
+  block_free (b ∷ bs) n v = (λ e. not_both (subst (λ b. IsTrue (is_block_byte b)) e v.0) n, block_free bs n v.1)
+    where
+      not_both : {t : Bool} → IsTrue t → t ≡ false → ⊥
+      not_both h e = cc
+
+  kind_free : (k : Kind) → c < 45 → Free c (kind_word k)
+  kind_free Begin low = free_above c (codes "begin") low (omega arith, (omega arith, (omega arith, (omega arith, (omega arith, tt)))))
+  kind_free (Const k) low = free_above c (codes "const") low (omega arith, (omega arith, (omega arith, (omega arith, (omega arith, tt)))))
+  kind_free Add low = free_above c (codes "add") low (omega arith, (omega arith, (omega arith, tt)))
+  kind_free End low = free_above c (codes "end") low (omega arith, (omega arith, (omega arith, tt)))
+
+  constant_free : (k : Constant) → c < 45 → is_block_byte c ≡ false → IsConstant k → Free c (constant_word k)
+  constant_free (constants.Int n) low m v = free_signed c n low v
+  constant_free (constants.Bool true) low m v = free_above c (codes "true") low (omega arith, (omega arith, (omega arith, (omega arith, tt))))
+  constant_free (constants.Bool false) low m v = free_above c (codes "false") low (omega arith, (omega arith, (omega arith, (omega arith, (omega arith, tt)))))
+  constant_free (constants.Proc name) low m v = (λ e. omega arith, block_free name m v.each)
+
+  argument_free : (k : Kind) → c < 45 → is_block_byte c ≡ false → IsKind k → AllFree c (argument_words k)
+  argument_free Begin low m v = tt
+  argument_free (Const k) low m v = (constant_free k low m v, tt)
+  argument_free Add low m v = tt
+  argument_free End low m v = tt
+
+  destination_free : (d : Destination) → c < 45 → IsDestination d → Free c (destination_word d)
+  destination_free d low v = free_append c (decimal d.statement) (46 ∷ decimal d.port) (free_decimal c d.statement low (omega (arith, v.statement.1))) (λ e. omega arith, free_decimal c d.port low (omega (arith, v.port.1)))
+
+  destinations_free : (below : ℕ) (ds : List Destination) → c < 45 → Ascending below ds → AllFree c (map destination_word ds)
+  destinations_free below [] low v = tt
+  destinations_free below (d ∷ ds) low v = (destination_free d low v.0, destinations_free (rank d) ds low v.2)
+
+  statement_free : (limits : Limits) (s : StatementParts) → c < 45 → is_block_byte c ≡ false → IsStatement limits s → AllFree c (statement_words s)
+  statement_free limits s low m v =
+      (free_decimal c s.region low (omega (arith, v.region)), (kind_free s.kind low, all_free_append c (argument_words s.kind) (arrow ∷ map destination_word s.to) (argument_free s.kind low m v.kind) (free_above c arrow low (omega arith, (omega arith, tt)), destinations_free 0 s.to low v.to)))
+
+  pub block_line_free : (name : List ℕ) → c < 45 → (32 ≡ c → ⊥) → is_block_byte c ≡ false → IsBlock name → Free c (block_line name)
+  unfolding block_line
+  block_line_free name low n m v = free_append c (codes "block") (spaced (name ∷ [])) (free_above c (codes "block") low (omega arith, (omega arith, (omega arith, (omega arith, (omega arith, tt)))))) (free_spaced c (name ∷ []) n (block_free name m v.each, tt))
+
+  pub statement_line_free : (limits : Limits) (k : ℕ) (s : StatementParts) → c < 45 → (32 ≡ c → ⊥) → is_block_byte c ≡ false → k < 2 ^ 64 → IsStatement limits s → Free c (statement_line k s)
+  unfolding statement_line
+  statement_line_free limits k s low n m h v = free_append c (decimal k) (spaced (statement_words s)) (free_decimal c k low h) (free_spaced c (statement_words s) n (statement_free limits s low m v))
+
+-- exactness
+
+name_line_sound : (ws : Words) (l : Line) → name_line ws ≡ Some l → IsLine l × ((first : List ℕ) → first ≡ (codes "block") → first ++ spaced ws ≡ line_text l)
+unfolding block_line
+name_line_sound [] l h = absurd (none_some l h)
+name_line_sound (w ∷ []) l h =
+    let a = then_some (name_word w) (λ name. Some (Block name)) l h in
+    let s = name_word_sound w a.0 a.1 in
+    let e : Block a.0 ≡ l = some_same (Block a.0) l a.2 in
+    subst (λ l. IsLine l × ((first : List ℕ) → first ≡ (codes "block") → first ++ spaced (w ∷ []) ≡ line_text l)) e
+    (s.0, λ first g. ap (λ t. t ++ spaced (w ∷ [])) g ∙ ap (λ w. (codes "block") ++ spaced (w ∷ [])) s.1)
+name_line_sound (w ∷ v ∷ ws) l h =
+    let a = then_some (name_word w) (λ name. None) l h in
+    absurd (none_some l a.2)
+
+numbered_sound : (w : List ℕ) (ws : Words) (l : Line) → numbered w ws ≡ Some l → IsLine l × (w ++ spaced ws ≡ line_text l)
+unfolding statement_line
+numbered_sound w ws l h =
+    let a = then_some (number_word 1000 w) (λ n. statement_at ws then λ s. Some (Statement n s)) l h in
+    let s = number_word_sound 1000 w a.0 (omega arith) (omega arith) a.1 in
+    let b = then_some (statement_at ws) (λ s. Some (Statement a.0 s)) l a.2 in
+    let t = statement_sound ws b.0 b.1 in
+    let e : Statement a.0 b.0 ≡ l = some_same (Statement a.0 b.0) l b.2 in
+    subst (λ l. IsLine l × (w ++ spaced ws ≡ line_text l)) e ((s.0, t.0), ap (λ w. w ++ spaced ws) s.1 ∙ ap (λ ws. decimal a.0 ++ spaced ws) t.1)
+
+line_sound_at : (w : List ℕ) (ws : Words) (l : Line) → line_at (w ∷ ws) ≡ Some l → IsLine l × (w ++ spaced ws ≡ line_text l)
+line_sound_at w ws l h =
+    elim (told w (codes "block") (is w (codes "block")) refl) [
+      | inl a ↦ let s = name_line_sound ws l (ap (λ b. cond b (name_line ws) (numbered w ws)) (sym a.0) ∙ h) in (s.0, s.1 w a.1)
+      | inr a ↦ numbered_sound w ws l (ap (λ b. cond b (name_line ws) (numbered w ws)) (sym a) ∙ h)
+    ]
+
+pub line_sound : (text : List ℕ) (l : Line) → line_at (words text) ≡ Some l → IsLine l × (text ≡ line_text l)
+line_sound text l h = at (words text) refl h
+  where
+    at : (ws : Words) → words text ≡ ws → line_at ws ≡ Some l → IsLine l × (text ≡ line_text l)
+    at [] e k = absurd (none_some l k)
+    at (w ∷ ws) e k = let s = line_sound_at w ws l k in (s.0, words_are text w ws e ∙ s.1)
+
+not_block : (n : ℕ) → IsUpTo 1000 n → is (decimal n) (codes "block") ≡ false
+not_block n v =
+    elim (told (decimal n) (codes "block") (is (decimal n) (codes "block")) refl) [
+      | inl a ↦ let d : AllDigit (codes "block") = subst AllDigit a.1 (decimal_digits n (omega (arith, v.1))) in absurd (omega (arith, d.0.1))
+      | inr a ↦ a
+    ]
+
+pub line_complete : (l : Line) → IsLine l → line_at (words (line_text l)) ≡ Some l
+unfolding block_line statement_line
+line_complete (Block name) v =
+    ap line_at (words_spaced (codes "block") (name ∷ []) (free_above 32 (codes "block") (omega arith) (omega arith, (omega arith, (omega arith, (omega arith, (omega arith, tt)))))) (block_free 32 name refl v.each, tt))
+    ∙ ap (λ b. cond b (name_line (name ∷ [])) (numbered (codes "block") (name ∷ []))) (is_itself (codes "block"))
+    ∙ ap (λ r. r then λ name. alone name []) (name_word_complete name v)
+line_complete (Statement n s) v =
+    ap line_at (words_spaced (decimal n) (statement_words s) (free_decimal 32 n (omega arith) (omega (arith, v.0.1))) (statement_free 32 no_limits s (omega arith) refl v.1))
+    ∙ ap (λ b. cond b (name_line (statement_words s)) (numbered (decimal n) (statement_words s))) (not_block n v.0)
+    ∙ ap (λ r. r then λ n. statement_at (statement_words s) then λ s. Some (Statement n s)) (number_word_complete 1000 n (omega arith) (omega arith) v.0)
+    ∙ ap (λ r. r then λ s. Some (Statement n s)) (statement_complete s v.1)
+
+-- where the reader refuses, the line is none
+pub line_none : (text : List ℕ) → line_at (words text) ≡ None → (l : Line) → IsLine l → text ≡ line_text l → ⊥
+line_none text h l v e = none_some l (sym h ∙ ap (λ t. line_at (words t)) e ∙ line_complete l v)
+
+-- two lines with one text are one line
+pub line_same : (a b : Line) → IsLine a → IsLine b → line_text a ≡ line_text b → a ≡ b
+line_same a b v w e = some_same a b (sym (line_complete a v) ∙ ap (λ t. line_at (words t)) e ∙ line_complete b w)

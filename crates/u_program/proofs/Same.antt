@@ -1,0 +1,65 @@
+-- Two programs with one text are one, and a program's text is refused for want of memory alone.
+use Rattle.std.specs.Prelude.{◌≡◌, ℕ, suc, ◌+◌, ◌≤◌, List, [], ◌∷◌, ◌++◌, length, Result, Ok, Err, MatchResult, refl}
+use Rattle.std.proofs.Common.{sym, ◌∙◌, ap, arith, append_assoc}
+use Rattle.std.specs.List.{AllByRecursion}
+use Rattle.u_text.specs.Pieces.{pieces}
+use Rattle.u_program.specs.declared.reading.Line.TheVariants.{Block, Statement}
+use Rattle.u_program.specs.Parts.{StatementParts, BlockParts, block}
+use Rattle.u_program.specs.Limits.{IsStatement, IsBlockOf, IsProgram, the_limits, no_limits}
+use Rattle.u_program.specs.Text.{statement_line, statement_lines, blocks_lines, program_lines, program_text}
+use Rattle.u_program.specs.Laws.{IsFirstBad}
+use Rattle.u_program.specs.declared.read_error.ReadError.{ReadError}
+use Rattle.u_program.specs.declared.read_error.ReadError.TheVariants as errors
+use Rattle.u_program.specs.Answer.{IsTextOf, IsReadError}
+use Rattle.u_program.proofs.Lists.{heads, tails, empty_is}
+use Rattle.u_program.proofs.LineLaws.{line_same}
+use Rattle.u_program.proofs.Next.{lines_differ}
+use Rattle.u_program.proofs.Whole.{pieces-program_text}
+
+no_statement : (ps : List BlockParts) (n : ℕ) (s : StatementParts) (t : List (List ℕ)) → 1 ≤ n → n ≤ 1000 → blocks_lines ps ≡ statement_line n s ∷ t → ⊥
+no_statement [] n s t low high h = empty_is h
+no_statement (p ∷ ps) n s t low high h = lines_differ p.name n s low high (heads h)
+
+lifted : (s : StatementParts) → IsStatement the_limits s → IsStatement no_limits s
+lifted s v = record { region = v.region; kind = v.kind; to = v.to; listed = v.listed; few = tt }
+
+same_statements : (n : ℕ) (ss ts : List StatementParts) (ps qs : List BlockParts) → 1 ≤ n → n + length ss ≤ 1000 → n + length ts ≤ 1000 → AllByRecursion (IsStatement the_limits) ss → AllByRecursion (IsStatement the_limits) ts → statement_lines n ss ++ blocks_lines ps ≡ statement_lines n ts ++ blocks_lines qs → (ss ≡ ts) × (blocks_lines ps ≡ blocks_lines qs)
+same_statements n [] [] ps qs low a b v w h = (refl, h)
+same_statements n [] (t ∷ ts) ps qs low a b v w h = absurd (no_statement ps n t _ low (omega arith) h)
+same_statements n (s ∷ ss) [] ps qs low a b v w h = absurd (no_statement qs n s _ low (omega arith) (sym h))
+same_statements n (s ∷ ss) (t ∷ ts) ps qs low a b v w h =
+    let e = line_same (Statement n s) (Statement n t) ((low, omega arith), lifted s v.0) ((low, omega arith), lifted t w.0) (heads h) in
+    let f : s ≡ t = cc in
+    let i = same_statements (suc n) ss ts ps qs (omega arith) (omega arith) (omega arith) v.1 w.1 (tails h) in
+    (ap (λ s. s ∷ ss) f ∙ ap (λ ss. t ∷ ss) i.0, i.1)
+
+same_blocks : (ps qs : List BlockParts) → AllByRecursion (IsBlockOf the_limits) ps → AllByRecursion (IsBlockOf the_limits) qs → blocks_lines ps ≡ blocks_lines qs → ps ≡ qs
+same_blocks [] [] v w h = refl
+same_blocks [] (q ∷ qs) v w h = absurd (empty_is h)
+same_blocks (p ∷ ps) [] v w h = absurd (empty_is (sym h))
+same_blocks (p ∷ ps) (q ∷ qs) v w h =
+    let e = line_same (Block p.name) (Block q.name) v.0.name w.0.name (heads h) in
+    let f : p.name ≡ q.name = cc in
+    let a = v.0.few in
+    let b = w.0.few in
+    let i = same_statements 1 p.statements q.statements ps qs (omega arith) (omega arith) (omega arith) v.0.each w.0.each (tails h) in
+    ap (λ name. block name p.statements ∷ ps) f ∙ ap (λ ss. block q.name ss ∷ ps) i.0 ∙ ap (λ ps. q ∷ ps) (same_blocks ps qs v.1 w.1 i.1)
+
+pub same_program : (p q : List BlockParts) → IsProgram the_limits p → IsProgram the_limits q → program_text p ≡ program_text q → p ≡ q
+same_program p q v w h =
+    let e = sym (pieces-program_text p v) ∙ ap (pieces 10) h ∙ pieces-program_text q w in
+    same_blocks p q v.each w.each (tails (ap (λ (t : List (List ℕ) × List ℕ). t.0) e))
+
+-- the first lines of a program's text are allowed
+none_bad : (p : List BlockParts) (bytes : List ℕ) (n : ℕ) (V : List (List ℕ) → Type 0) → IsProgram the_limits p → bytes ≡ program_text p → IsFirstBad bytes n V → ⊥
+none_bad p bytes n V v e b =
+    let f : program_lines p ≡ b.before ++ (b.line ∷ b.others) = sym (ap (λ (t : List (List ℕ) × List ℕ). t.0) (ap (pieces 10) e ∙ pieces-program_text p v)) ∙ b.there in
+    b.refused (record { program = p; more = b.others; valid = v; there = f ∙ sym (append_assoc b.before (b.line ∷ []) b.others) })
+
+-- what is answered to the text of a program
+pub read_back : (bytes : List ℕ) (p : List BlockParts) (result : Result (List BlockParts) ReadError) → MatchResult result (λ x. IsTextOf bytes x) (λ fault. IsReadError bytes fault) → IsTextOf bytes p → MatchResult result (λ x. x ≡ p) (λ fault. fault ≡ errors.NoMemory)
+read_back bytes p (Ok x) h v = same_program x p h.0 v.0 (sym h.1 ∙ v.1)
+read_back bytes p (Err (errors.BadLine n)) h v = absurd (none_bad p bytes n _ v.0 v.1 h)
+read_back bytes p (Err (errors.TooMany n)) h v = absurd (none_bad p bytes n _ v.0 v.1 h)
+read_back bytes p (Err errors.Truncated) h v = absurd (h.none p v.0 v.1)
+read_back bytes p (Err errors.NoMemory) h v = refl

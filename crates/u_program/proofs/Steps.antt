@@ -1,0 +1,145 @@
+-- Parts of programs, and the next line.
+use Rattle.std.specs.Prelude.{◌≡◌, ℕ, suc, ◌+◌, ◌≤◌, ◌<◌, ◌⊎◌, List, [], ◌∷◌, ◌++◌, length, Option, Some, None, refl}
+use Rattle.std.proofs.Common.{sym, ◌∙◌, ap, subst, arith, inl, inr, append_assoc, length-append}
+use Rattle.std.proofs.lemmas.List.{append-nil}
+use Rattle.std.specs.List.{AllByRecursion}
+use Rattle.u_name.specs.Block.{IsBlock}
+use Rattle.u_text.specs.Pieces.{words}
+use Rattle.u_program.specs.declared.program.Kind.TheVariants.{Begin}
+use Rattle.u_program.specs.declared.reading.Line.TheVariants.{Block, Statement}
+use Rattle.u_program.specs.Parts.{StatementParts, BlockParts, statement, block}
+use Rattle.u_program.specs.Limits.{Limits, AtMost, IsStatement, IsBlockOf, the_limits, no_limits}
+use Rattle.u_program.specs.Text.{block_line, statement_line, statement_lines, block_lines, blocks_lines, header}
+use Rattle.u_program.specs.Laws.{Begins}
+use Rattle.u_program.specs.Reading.{line_at}
+use Rattle.u_program.specs.Begun.{IsLine, part_lines, IsPart}
+use Rattle.u_program.proofs.Lists.{tails}
+use Rattle.u_program.proofs.LineLaws.{line_none, line_same}
+use Rattle.u_program.proofs.Next.{IsShort, NextLine, new_block, new_statement, next, lines_differ}
+
+pub blocks_lines-append : (done : List BlockParts) (b : BlockParts) → blocks_lines (done ++ (b ∷ [])) ≡ part_lines done b
+blocks_lines-append [] b = append-nil (block_lines b)
+blocks_lines-append (d ∷ ds) b = ap (λ t. block_lines d ++ t) (blocks_lines-append ds b) ∙ sym (append_assoc (block_lines d) (blocks_lines ds) (block_lines b))
+
+pub statement_lines-append : (n : ℕ) (ss : List StatementParts) (s : StatementParts) → statement_lines n (ss ++ (s ∷ [])) ≡ statement_lines n ss ++ (statement_line (n + length ss) s ∷ [])
+statement_lines-append n [] s = let e : n ≡ n + 0 = omega arith in ap (λ m. statement_line m s ∷ []) e
+statement_lines-append n (t ∷ ts) s = let e : suc n + length ts ≡ n + suc (length ts) = omega arith in ap (λ u. statement_line n t ∷ u) (statement_lines-append (suc n) ts s ∙ ap (λ m. statement_lines (suc n) ts ++ (statement_line m s ∷ [])) e)
+
+pub all_append : {A : Type 0} (P : A → Type 0) (xs : List A) (x : A) → AllByRecursion P xs → P x → AllByRecursion P (xs ++ (x ∷ []))
+all_append P [] x v w = (w, tt)
+all_append P (y ∷ ys) x v w = (v.0, all_append P ys x v.1 w)
+
+pub first_statement : (limits : Limits) → IsStatement limits (statement 0 Begin [])
+first_statement limits = record { region = omega arith; kind = tt; to = tt; listed = tt; few = least limits.destinations }
+  where
+    least : (m : Option ℕ) → AtMost m 0
+    least None = tt
+    least (Some m) = omega arith
+
+-- a part can go on to a program
+pub completes : (limits : Limits) (done : List BlockParts) (last : BlockParts) → IsPart limits done last → Begins limits (header ∷ part_lines done last)
+completes limits done last v = at last.statements refl
+  where
+    whole : (b : BlockParts) (more : List (List ℕ)) → IsBlockOf limits b → block_lines b ≡ block_lines last ++ more → Begins limits (header ∷ part_lines done last)
+    whole b more w e = record {
+      program = done ++ (b ∷ []);
+      more = more;
+      valid = record { each = all_append (IsBlockOf limits) done b v.each w; few = subst (AtMost limits.blocks) (sym (length-append done (b ∷ []))) v.blocks; some = omega (arith, length-append done (b ∷ [])) };
+      there = ap (λ t. header ∷ t) (blocks_lines-append done b ∙ ap (λ t. blocks_lines done ++ t) e ∙ sym (append_assoc (blocks_lines done) (block_lines last) more));
+    }
+
+    at : (ss : List StatementParts) → last.statements ≡ ss → Begins limits (header ∷ part_lines done last)
+    at [] e = whole (block last.name (statement 0 Begin [] ∷ [])) (statement_line 1 (statement 0 Begin []) ∷ []) (record { name = v.name; each = (first_statement limits, tt); few = v.one; some = omega arith }) (ap (λ ss. block_line last.name ∷ (statement_lines 1 ss ++ (statement_line 1 (statement 0 Begin []) ∷ []))) (sym e))
+    at (s ∷ ss) e = whole last [] (record { name = v.name; each = v.statements; few = v.few; some = let f = ap length e in omega arith }) (sym (append-nil (block_lines last)))
+
+short : (done : List BlockParts) → AllByRecursion (IsBlockOf the_limits) done → AllByRecursion IsShort done
+short [] v = tt
+short (d ∷ ds) v = (v.0.few, short ds v.1)
+
+-- what the line can be
+next_of : (limits : Limits) (done : List BlockParts) (last : BlockParts) (line : List ℕ) → IsPart the_limits done last → Begins limits ((header ∷ part_lines done last) ++ (line ∷ [])) → NextLine limits 0 done last line
+next_of limits done last line v b =
+    next limits 0 done last line b.more b.program (short done v.each) v.few b.valid.each (subst (AtMost limits.blocks) (let e : length b.program ≡ 0 + length b.program = omega arith in e) b.valid.few)
+    (tails b.there ∙ append_assoc (part_lines done last) (line ∷ []) b.more)
+
+lifted : (limits : Limits) (s : StatementParts) → IsStatement limits s → IsStatement no_limits s
+lifted limits s v = record { region = v.region; kind = v.kind; to = v.to; listed = v.listed; few = tt }
+
+each_lifted : (limits : Limits) (ss : List StatementParts) → AllByRecursion (IsStatement limits) ss → AllByRecursion (IsStatement no_limits) ss
+each_lifted limits [] v = tt
+each_lifted limits (s ∷ ss) v = (lifted limits s v.0, each_lifted limits ss v.1)
+
+pub blocks_lifted : (limits : Limits) (bs : List BlockParts) → AllByRecursion (IsBlockOf limits) bs → AllByRecursion (IsBlockOf no_limits) bs
+blocks_lifted limits [] v = tt
+blocks_lifted limits (b ∷ bs) v = (record { name = v.0.name; each = each_lifted limits b.statements v.0.each; few = tt; some = v.0.some }, blocks_lifted limits bs v.1)
+
+-- no line at all
+pub no_line : (done : List BlockParts) (last : BlockParts) (text : List ℕ) → IsPart the_limits done last → line_at (words text) ≡ None → Begins no_limits ((header ∷ part_lines done last) ++ (text ∷ [])) → ⊥
+no_line done last text v h b =
+    elim (next_of no_limits done last text v b) [
+      | new_block name w e f g ↦ line_none text h (Block name) w e
+      | new_statement s w e f ↦ line_none text h (Statement (suc (length last.statements)) s) ((omega arith, (let n = v.few in omega arith)), w) e
+    ]
+
+block_not_statement : (name : List ℕ) (last : BlockParts) (s : StatementParts) → length last.statements ≤ 999 → block_line name ≡ statement_line (suc (length last.statements)) s → ⊥
+block_not_statement name last s h e = lines_differ name (suc (length last.statements)) s (omega arith) (omega arith) e
+
+pub block_closed : (done : List BlockParts) (last : BlockParts) (name : List ℕ) → IsPart the_limits done last → length last.statements ≡ 0 → Begins no_limits ((header ∷ part_lines done last) ++ (block_line name ∷ [])) → ⊥
+block_closed done last name v h b =
+    elim (next_of no_limits done last (block_line name) v b) [
+      | new_block other w e f g ↦ omega arith
+      | new_statement s w e f ↦ block_not_statement name last s v.few e
+    ]
+
+part_lines-block : (done : List BlockParts) (last : BlockParts) (name : List ℕ) → part_lines (done ++ (last ∷ [])) (block name []) ≡ part_lines done last ++ (block_line name ∷ [])
+part_lines-block done last name = ap (λ t. t ++ (block_line name ∷ [])) (blocks_lines-append done last)
+
+closed : (limits : Limits) (done : List BlockParts) (last : BlockParts) (name : List ℕ) → IsBlock name → AllByRecursion (IsBlockOf limits) done → IsBlockOf limits last → AtMost limits.statements 0 → AtMost limits.statements 1 → AtMost limits.blocks (length done + 2) → IsPart limits (done ++ (last ∷ [])) (block name [])
+closed limits done last name n v w z o f = record { each = all_append (IsBlockOf limits) done last v w; name = n; statements = tt; few = z; one = o; blocks = subst (AtMost limits.blocks) (let e : length done + 2 ≡ length (done ++ (last ∷ [])) + 1 = omega (arith, length-append done (last ∷ [])) in e) f }
+
+pub block_over : (done : List BlockParts) (last : BlockParts) (name : List ℕ) → IsPart the_limits done last → IsBlock name → 1 ≤ length last.statements → length done ≡ 63 → Begins no_limits ((header ∷ part_lines done last) ++ (block_line name ∷ [])) × (Begins the_limits ((header ∷ part_lines done last) ++ (block_line name ∷ [])) → ⊥)
+block_over done last name v n some h = (
+  subst (λ ls. Begins no_limits (header ∷ ls)) (part_lines-block done last name) (completes no_limits (done ++ (last ∷ [])) (block name []) (closed no_limits done last name n (blocks_lifted the_limits done v.each) (record { name = v.name; each = each_lifted the_limits last.statements v.statements; few = tt; some = some }) tt tt tt)),
+  λ b. elim (next_of the_limits done last (block_line name) v b) [
+    | new_block other w e f g ↦ omega arith
+    | new_statement s w e f ↦ block_not_statement name last s v.few e
+  ],
+)
+
+pub block_taken : (done : List BlockParts) (last : BlockParts) (name : List ℕ) → IsPart the_limits done last → IsBlock name → 1 ≤ length last.statements → length done < 63 → IsPart the_limits (done ++ (last ∷ [])) (block name []) × (part_lines (done ++ (last ∷ [])) (block name []) ≡ part_lines done last ++ (block_line name ∷ []))
+block_taken done last name v n some h = (closed the_limits done last name n v.each (record { name = v.name; each = v.statements; few = v.few; some = some }) (omega arith) (omega arith) (omega arith), part_lines-block done last name)
+
+statements_same : (n m : ℕ) (s t : StatementParts) → IsLine (Statement n s) → IsLine (Statement m t) → statement_line n s ≡ statement_line m t → (n ≡ m) × (s ≡ t)
+statements_same n m s t v w e = let f = line_same (Statement n s) (Statement m t) v w e in (cc, cc)
+
+pub number_wrong : (done : List BlockParts) (last : BlockParts) (n : ℕ) (s : StatementParts) → IsPart the_limits done last → IsLine (Statement n s) → (n ≡ length last.statements + 1 → ⊥) → Begins no_limits ((header ∷ part_lines done last) ++ (statement_line n s ∷ [])) → ⊥
+number_wrong done last n s v l h b =
+    elim (next_of no_limits done last (statement_line n s) v b) [
+      | new_block name w e f g ↦ lines_differ name n s l.0.0 l.0.1 (sym e)
+      | new_statement t w e f ↦
+          let c = v.few in
+          let g = statements_same n (suc (length last.statements)) s t l ((omega arith, omega arith), w) e in
+          h (omega (arith, g.0))
+    ]
+
+part_lines-statement : (done : List BlockParts) (last : BlockParts) (n : ℕ) (s : StatementParts) → n ≡ length last.statements + 1 → part_lines done (block last.name (last.statements ++ (s ∷ []))) ≡ part_lines done last ++ (statement_line n s ∷ [])
+part_lines-statement done last n s h =
+    let e : 1 + length last.statements ≡ n = omega arith in
+    ap (λ t. blocks_lines done ++ (block_line last.name ∷ t)) (statement_lines-append 1 last.statements s ∙ ap (λ m. statement_lines 1 last.statements ++ (statement_line m s ∷ [])) e)
+    ∙ sym (append_assoc (blocks_lines done) (block_lines last) (statement_line n s ∷ []))
+
+pub statement_over : (done : List BlockParts) (last : BlockParts) (n : ℕ) (s : StatementParts) → IsPart the_limits done last → IsLine (Statement n s) → n ≡ length last.statements + 1 → (999 < n) ⊎ (16 < length s.to) → Begins no_limits ((header ∷ part_lines done last) ++ (statement_line n s ∷ [])) × (Begins the_limits ((header ∷ part_lines done last) ++ (statement_line n s ∷ [])) → ⊥)
+statement_over done last n s v l h over = (
+  subst (λ ls. Begins no_limits (header ∷ ls)) (part_lines-statement done last n s h) (completes no_limits done (block last.name (last.statements ++ (s ∷ []))) (record { each = blocks_lifted the_limits done v.each; name = v.name; statements = all_append (IsStatement no_limits) last.statements s (each_lifted the_limits last.statements v.statements) l.1; few = tt; one = tt; blocks = tt })),
+  λ b. elim (next_of the_limits done last (statement_line n s) v b) [
+    | new_block name w e f g ↦ lines_differ name n s l.0.0 l.0.1 (sym e)
+    | new_statement t w e f ↦
+        let c = v.few in
+        let g = statements_same n (suc (length last.statements)) s t l ((omega arith, omega arith), lifted the_limits t w) e in
+        elim over [ inl o ↦ omega arith | inr o ↦ let k : length t.to ≤ 16 = w.few in let i = ap (λ (s : StatementParts). length s.to) g.1 in omega arith ]
+  ],
+)
+
+pub statement_taken : (done : List BlockParts) (last : BlockParts) (n : ℕ) (s : StatementParts) → IsPart the_limits done last → IsLine (Statement n s) → n ≡ length last.statements + 1 → n ≤ 999 → length s.to ≤ 16 → IsPart the_limits done (block last.name (last.statements ++ (s ∷ []))) × (part_lines done (block last.name (last.statements ++ (s ∷ []))) ≡ part_lines done last ++ (statement_line n s ∷ []))
+statement_taken done last n s v l h low few =
+    (record { each = v.each; name = v.name; statements = all_append (IsStatement the_limits) last.statements s v.statements (record { region = l.1.region; kind = l.1.kind; to = l.1.to; listed = l.1.listed; few = few }); few = omega (arith, length-append last.statements (s ∷ [])); one = v.one; blocks = v.blocks }, part_lines-statement done last n s h)

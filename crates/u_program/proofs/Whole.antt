@@ -1,0 +1,140 @@
+-- Whole texts of programs.
+use Rattle.std.specs.Prelude.{◌≡◌, ℕ, suc, ◌+◌, ◌≤◌, List, [], ◌∷◌, ◌++◌, length, Some, None, refl}
+use Rattle.std.proofs.Common.{sym, ◌∙◌, ap, subst, arith, append_assoc, length-append}
+use Rattle.std.proofs.lemmas.List.{append-nil}
+use Rattle.std.specs.List.{AllByRecursion}
+use Rattle.u_name.specs.Block.{IsBlock}
+use Rattle.u_text.specs.Pieces.{pieces, Free, glued, glued-pieces, words}
+use Rattle.u_text.specs.Spaced.{ended, AllFree, all_free_append, pieces-ended, glued-ended}
+use Rattle.u_program.specs.declared.program.Kind.TheVariants.{Begin}
+use Rattle.u_program.specs.declared.reading.Line.TheVariants.{Block, Statement}
+use Rattle.u_program.specs.Parts.{StatementParts, BlockParts, statement, block}
+use Rattle.u_program.specs.Limits.{Limits, AtMost, IsStatement, IsBlockOf, IsProgram, the_limits, no_limits}
+use Rattle.u_program.specs.Text.{block_line, statement_lines, block_lines, blocks_lines, program_lines, program_text, header}
+use Rattle.u_program.specs.Laws.{Begins, IsFirstBad, IsBadLine, IsTooMany, IsTruncated}
+use Rattle.u_program.specs.Reading.{line_at}
+use Rattle.u_program.specs.Begun.{part_lines, IsPart, IsRead}
+use Rattle.u_program.proofs.Lists.{heads, tails}
+use Rattle.u_program.proofs.LineLaws.{block_line_free, statement_line_free, line_none, line_sound}
+use Rattle.u_program.proofs.Next.{first, lines_differ}
+use Rattle.u_program.proofs.Steps.{completes, block_closed, blocks_lifted, first_statement, blocks_lines-append, all_append}
+
+-- the numbers of statements of a program are small
+statements_free : (n : ℕ) (ss : List StatementParts) → n + length ss ≤ 1000 → AllByRecursion (IsStatement the_limits) ss → AllFree 10 (statement_lines n ss)
+statements_free n [] low v = tt
+statements_free n (s ∷ ss) low v = (statement_line_free 10 the_limits n s (omega arith) (λ e. omega arith) refl (omega arith) v.0, statements_free (suc n) ss (omega arith) v.1)
+
+blocks_free : (bs : List BlockParts) → AllByRecursion (IsBlockOf the_limits) bs → AllFree 10 (blocks_lines bs)
+blocks_free [] v = tt
+blocks_free (b ∷ bs) v = (block_line_free 10 b.name (omega arith) (λ e. omega arith) refl v.0.name, all_free_append 10 (statement_lines 1 b.statements) (blocks_lines bs) (let f = v.0.few in statements_free 1 b.statements (omega arith) v.0.each) (blocks_free bs v.1))
+
+header_free : Free 10 header
+header_free = (λ e. omega arith, (λ e. omega arith, (λ e. omega arith, (λ e. omega arith, (λ e. omega arith, (λ e. omega arith, (λ e. omega arith, (λ e. omega arith, (λ e. omega arith, (λ e. omega arith, (λ e. omega arith, tt)))))))))))
+
+-- the lines of a program's text are its lines
+pub pieces-program_text : (p : List BlockParts) → IsProgram the_limits p → pieces 10 (program_text p) ≡ (program_lines p, [])
+unfolding program_text
+pieces-program_text p v = pieces-ended (program_lines p) (header_free, blocks_free p v.each)
+
+pub read_none : (bytes : List ℕ) → IsRead bytes [] bytes
+read_none bytes = record { all = refl }
+
+pub read_more : (bytes rest text others : List ℕ) (ls : List (List ℕ)) → IsRead bytes ls rest → pieces 10 rest ≡ (text ∷ (pieces 10 others).0, (pieces 10 others).1) → IsRead bytes (ls ++ (text ∷ [])) others
+read_more bytes rest text others ls r h = record { all = r.all ∙ ap (λ (p : List (List ℕ) × List ℕ). (ls ++ p.0, p.1)) h ∙ ap (λ t. (t, (pieces 10 others).1)) (sym (append_assoc ls (text ∷ []) (pieces 10 others).0)) }
+
+pub lifted : (ls : List (List ℕ)) → Begins the_limits ls → Begins no_limits ls
+lifted ls b = record { program = b.program; more = b.more; valid = record { each = blocks_lifted the_limits b.program b.valid.each; few = tt; some = b.valid.some }; there = b.there }
+
+first_bad : (bytes rest text others : List ℕ) (ls : List (List ℕ)) (V : List (List ℕ) → Type 0) → IsRead bytes ls rest → pieces 10 rest ≡ (text ∷ (pieces 10 others).0, (pieces 10 others).1) → Begins the_limits ls → (Begins the_limits (ls ++ (text ∷ [])) → ⊥) → V (ls ++ (text ∷ [])) → IsFirstBad bytes (suc (length ls)) V
+first_bad bytes rest text others ls V r h a b v = record { before = ls; line = text; others = (pieces 10 others).0; there = ap (λ (p : List (List ℕ) × List ℕ). p.0) (r.all ∙ ap (λ (p : List (List ℕ) × List ℕ). (ls ++ p.0, p.1)) h); number = refl; allowed = a; refused = b; verdict = v }
+
+pub bad_line : (bytes rest text others : List ℕ) (ls : List (List ℕ)) → IsRead bytes ls rest → pieces 10 rest ≡ (text ∷ (pieces 10 others).0, (pieces 10 others).1) → Begins the_limits ls → (Begins no_limits (ls ++ (text ∷ [])) → ⊥) → IsBadLine bytes (suc (length ls))
+bad_line bytes rest text others ls r h a b = first_bad bytes rest text others ls _ r h a (λ c. b (lifted _ c)) b
+
+pub too_many : (bytes rest text others : List ℕ) (ls : List (List ℕ)) → IsRead bytes ls rest → pieces 10 rest ≡ (text ∷ (pieces 10 others).0, (pieces 10 others).1) → Begins the_limits ls → Begins no_limits (ls ++ (text ∷ [])) → (Begins the_limits (ls ++ (text ∷ [])) → ⊥) → IsTooMany bytes (suc (length ls))
+too_many bytes rest text others ls r h a b c = first_bad bytes rest text others ls _ r h a c b
+
+-- some block
+least : BlockParts
+least = block (97 ∷ []) (statement 0 Begin [] ∷ [])
+
+is_least_name : IsBlock (97 ∷ [])
+is_least_name = record { short = omega arith; first = refl; each = (refl, tt) }
+
+is_least : (limits : Limits) → AtMost limits.statements 1 → IsBlockOf limits least
+unfolding least
+is_least limits f = record { name = is_least_name; each = (first_statement limits, tt); few = f; some = omega arith }
+
+-- the header alone, and nothing, can go on
+pub begins_header : Begins the_limits (header ∷ [])
+begins_header = record { program = least ∷ []; more = blocks_lines (least ∷ []); valid = record { each = (is_least the_limits (omega arith), tt); few = omega arith; some = omega arith }; there = refl }
+
+pub begins_nothing : Begins the_limits []
+begins_nothing = record { program = least ∷ []; more = program_lines (least ∷ []); valid = begins_header_valid; there = refl }
+  where
+    begins_header_valid : IsProgram the_limits (least ∷ [])
+    begins_header_valid = record { each = (is_least the_limits (omega arith), tt); few = omega arith; some = omega arith }
+
+pub not_header : (limits : Limits) (text : List ℕ) → (text ≡ header → ⊥) → Begins limits ([] ++ (text ∷ [])) → ⊥
+not_header limits text n b = n (sym (heads b.there))
+
+-- where nothing more ends with a newline
+pub ends : (bytes rest : List ℕ) (ls : List (List ℕ)) → IsRead bytes ls rest → pieces 10 rest ≡ ([], rest) → pieces 10 bytes ≡ (ls, rest)
+ends bytes rest ls r h = r.all ∙ ap (λ (p : List (List ℕ) × List ℕ). (ls ++ p.0, p.1)) h ∙ ap (λ t. (t, rest)) (append-nil ls)
+
+is_truncated : (bytes rest : List ℕ) (ls : List (List ℕ)) → pieces 10 bytes ≡ (ls, rest) → Begins the_limits ls → ((p : List BlockParts) → IsProgram the_limits p → program_lines p ≡ ls → rest ≡ [] → ⊥) → IsTruncated bytes
+is_truncated bytes rest ls h b n = record {
+  allowed = subst (Begins the_limits) (sym (ap (λ (p : List (List ℕ) × List ℕ). p.0) h)) b;
+  none = λ p v e.
+      let f : ◌≡◌ {A = List (List ℕ) × List ℕ} (program_lines p, []) (ls, rest) = sym (pieces-program_text p v) ∙ ap (pieces 10) (sym e) ∙ h in
+      n p v (ap (λ t. t.0) f) (sym (ap (λ t. t.1) f));
+}
+
+pub truncated_rest : (bytes rest : List ℕ) (done : List BlockParts) (last : BlockParts) → IsRead bytes (header ∷ part_lines done last) rest → pieces 10 rest ≡ ([], rest) → IsPart the_limits done last → (rest ≡ [] → ⊥) → IsTruncated bytes
+truncated_rest bytes rest done last r h v n = is_truncated bytes rest _ (ends bytes rest _ r h) (completes the_limits done last v) (λ p w e f. n f)
+
+-- a program that ends with a block without statements is none
+half : (done : List BlockParts) (last : BlockParts) (p : List BlockParts) → IsPart the_limits done last → length last.statements ≡ 0 → IsProgram the_limits p → program_lines p ≡ header ∷ part_lines done last → ⊥
+half done last p v h w e = block_closed done last least.name v h (record {
+  program = p ++ (least ∷ []);
+  more = statement_lines 1 least.statements;
+  valid = record { each = all_append (IsBlockOf no_limits) p least (blocks_lifted the_limits p w.each) (is_least no_limits tt); few = tt; some = omega (arith, length-append p (least ∷ [])) };
+  there = ap (λ t. header ∷ t) (blocks_lines-append p least ∙ ap (λ t. t ++ block_lines least) (tails e) ∙ sym (append_assoc (part_lines done last) (block_line least.name ∷ []) (statement_lines 1 least.statements)));
+})
+
+pub truncated_half : (bytes rest : List ℕ) (done : List BlockParts) (last : BlockParts) → IsRead bytes (header ∷ part_lines done last) rest → pieces 10 rest ≡ ([], rest) → IsPart the_limits done last → length last.statements ≡ 0 → IsTruncated bytes
+truncated_half bytes rest done last r h v n = is_truncated bytes rest _ (ends bytes rest _ r h) (completes the_limits done last v) (λ p w e f. half done last p v n w e)
+
+pub truncated_header : (bytes rest : List ℕ) → IsRead bytes (header ∷ []) rest → pieces 10 rest ≡ ([], rest) → IsTruncated bytes
+truncated_header bytes rest r h = is_truncated bytes rest _ (ends bytes rest _ r h) begins_header (λ p w e f. no_blocks p w (tails e))
+  where
+    no_blocks : (p : List BlockParts) → IsProgram the_limits p → blocks_lines p ≡ [] → ⊥
+    no_blocks [] w e = let s = w.some in omega arith
+    no_blocks (b ∷ bs) w e = cc
+
+pub truncated_nothing : (bytes : List ℕ) → pieces 10 bytes ≡ ([], bytes) → IsTruncated bytes
+truncated_nothing bytes h = is_truncated bytes bytes [] h begins_nothing (λ p w e f. let g : header ∷ blocks_lines p ≡ [] = e in cc)
+
+pub whole_program : (bytes rest : List ℕ) (done : List BlockParts) (last : BlockParts) → IsRead bytes (header ∷ part_lines done last) rest → pieces 10 rest ≡ ([], rest) → rest ≡ [] → IsPart the_limits done last → 1 ≤ length last.statements → IsProgram the_limits (done ++ (last ∷ [])) × (bytes ≡ program_text (done ++ (last ∷ [])))
+unfolding program_text
+whole_program bytes rest done last r h n v some =
+    let e : pieces 10 bytes ≡ (header ∷ part_lines done last, []) = ends bytes rest _ r h ∙ ap (λ t. (header ∷ part_lines done last, t)) n in (
+      record { each = all_append (IsBlockOf the_limits) done last v.each (record { name = v.name; each = v.statements; few = v.few; some = some }); few = omega (arith, v.blocks, length-append done (last ∷ [])); some = omega (arith, length-append done (last ∷ [])) },
+      sym (glued-pieces 10 bytes) ∙ ap (λ (p : List (List ℕ) × List ℕ). glued 10 p.0 p.1) e ∙ glued-ended (header ∷ part_lines done last) ∙ ap (λ t. ended (header ∷ t)) (sym (blocks_lines-append done last)),
+    )
+
+-- two programs with one text are one
+first_lines : (limits : Limits) (text : List ℕ) → Begins limits ((header ∷ []) ++ (text ∷ [])) → (name : List ℕ) × IsBlock name × (text ≡ block_line name)
+first_lines limits text b = first limits text b.more b.program b.valid.each (tails b.there)
+
+pub not_first : (text : List ℕ) → ((name : List ℕ) → IsBlock name → text ≡ block_line name → ⊥) → Begins no_limits ((header ∷ []) ++ (text ∷ [])) → ⊥
+not_first text n b = let f = first_lines no_limits text b in n f.0 f.1 f.2
+
+pub first_part : (name : List ℕ) → IsBlock name → IsPart the_limits [] (block name [])
+first_part name n = record { each = tt; name = n; statements = tt; few = omega arith; one = omega arith; blocks = omega arith }
+
+pub no_first_line : (text : List ℕ) → line_at (words text) ≡ None → Begins no_limits ((header ∷ []) ++ (text ∷ [])) → ⊥
+no_first_line text h = not_first text (λ name n e. line_none text h (Block name) n e)
+
+pub statement_first : (text : List ℕ) (n : ℕ) (s : StatementParts) → line_at (words text) ≡ Some (Statement n s) → Begins no_limits ((header ∷ []) ++ (text ∷ [])) → ⊥
+statement_first text n s h = not_first text (λ name m e. let l = line_sound text (Statement n s) h in lines_differ name n s l.0.0.0 l.0.0.1 (sym e ∙ l.1))

@@ -1,0 +1,401 @@
+-- The readers of words read exactly the words of what they read.
+use Rattle.std.specs.Prelude.{◌≡◌, ℕ, suc, ◌^◌, ◌≤◌, ◌<◌, Bool, true, false, cond, ◌&&◌, nat_le, IsTrue, List, [], ◌∷◌, ◌++◌, map, codes, length, Option, Some, None, refl}
+use Rattle.std.specs.List.{AllByRecursion}
+use Rattle.std.proofs.Common.{sym, ◌∙◌, ap, subst, arith, inl, inr, append_assoc}
+use Rattle.std.proofs.lemmas.List.{append-nil}
+use Rattle.std.proofs.lemmas.Bool.Decides.{nat_tests}
+use Rattle.std.specs.Fmt.{decimal}
+use lib.IntN.{ℤ, pos, negsuc}
+use Rattle.u_name.specs.Block.{IsBlock, StartsWithLetter, is_letter, is_block_byte}
+use Rattle.u_name.specs.BlockText.{block_Reads, begins_with_letter}
+use Rattle.u_text.specs.Reads.{Reads}
+use Rattle.u_text.specs.Parts.{lead_Reads, alike, unlike, same_or}
+use Rattle.u_text.specs.Then.{after, AreBoth, both_Reads}
+use Rattle.u_text.specs.Number.{IsUpTo, IsDigit, AllDigit, number_Reads, decimal_digits}
+use Rattle.u_text.specs.WholeWords.{◌then◌, whole, is, told, some_same, none_some, then_some, le_cases, whole_sound, whole_complete, number0_word, number0_word_sound, number0_word_complete, signed_word, signed_word_sound, signed_word_complete}
+use Rattle.u_program.specs.declared.program.Constant.{Constant}
+use Rattle.u_program.specs.declared.program.Constant.TheVariants as constants
+use Rattle.u_program.specs.declared.program.Kind.{Kind}
+use Rattle.u_program.specs.declared.program.Kind.TheVariants.{Begin, Const, Add, End}
+use Rattle.u_program.specs.declared.program.Destination.{Destination}
+use Rattle.u_program.specs.Parts.{StatementParts, statement}
+use Rattle.u_program.specs.Limits.{IsConstant, IsKind, has_list, IsListed, IsDestination, Ascending, rank, IsStatement, no_limits}
+use Rattle.u_program.specs.Text.{arrow, kind_word, constant_word, argument_words, destination_word, statement_words}
+use Rattle.u_program.specs.Reading.{Words, all_block_bytes, is_block_name, name_word, dot_at, ported, destination_at, destinations_at, none_at, list_at, other_constant, constant_at, plain_kinds, kind_among, const_at, plain_at, kind_of, kind_at, arrow_at, statement_at}
+
+pub name_word_sound : (w name : List ℕ) → name_word w ≡ Some name → IsBlock name × (w ≡ name)
+unfolding name_word
+name_word_sound w name h = whole_sound block_Reads w name h
+
+pub name_word_complete : (name : List ℕ) → IsBlock name → name_word name ≡ Some name
+unfolding name_word
+name_word_complete name v = whole_complete block_Reads name v
+
+pub name_word_none : (w : List ℕ) → (IsBlock w → ⊥) → name_word w ≡ None
+name_word_none w n = at (name_word w) refl
+  where
+    at : (r : Option (List ℕ)) → name_word w ≡ r → r ≡ None
+    at None h = refl
+    at (Some name) h = let s = name_word_sound w name h in absurd (n (subst IsBlock (sym s.1) s.0))
+
+-- the test of a block's name
+
+and_true : (a b : Bool) → (a && b) ≡ true → (a ≡ true) × (b ≡ true)
+and_true true b h = (refl, h)
+and_true false b h = cc
+
+true_is : (b : Bool) → b ≡ true → IsTrue b
+true_is true h = refl
+true_is false h = cc
+
+both_true : (a b : Bool) → a ≡ true → b ≡ true → (a && b) ≡ true
+both_true a b e f = cc
+
+is_true : (b : Bool) → IsTrue b → b ≡ true
+is_true true h = refl
+is_true false h = cc
+
+all_bytes : (cs : List ℕ) → all_block_bytes cs ≡ true → AllByRecursion (λ c. IsTrue (is_block_byte c)) cs
+all_bytes [] h = tt
+all_bytes (c ∷ cs) h = let a = and_true (is_block_byte c) (all_block_bytes cs) h in (true_is (is_block_byte c) a.0, all_bytes cs a.1)
+
+starts : (cs : List ℕ) → begins_with_letter cs ≡ true → StartsWithLetter cs
+starts [] h = cc
+starts (c ∷ cs) h = true_is (is_letter c) h
+
+pub block_name_is : (w : List ℕ) → is_block_name w ≡ true → IsBlock w
+block_name_is w h =
+    let a = and_true (nat_le (length w) 16) (begins_with_letter w && all_block_bytes w) h in
+    let b = and_true (begins_with_letter w) (all_block_bytes w) a.1 in
+    record { short = grind (arith, nat_tests); first = starts w b.0; each = all_bytes w b.1 }
+
+bytes_hold : (cs : List ℕ) → AllByRecursion (λ c. IsTrue (is_block_byte c)) cs → all_block_bytes cs ≡ true
+bytes_hold [] v = refl
+bytes_hold (c ∷ cs) v = both_true (is_block_byte c) (all_block_bytes cs) (is_true (is_block_byte c) v.0) (bytes_hold cs v.1)
+
+starts_hold : (cs : List ℕ) → StartsWithLetter cs → begins_with_letter cs ≡ true
+starts_hold [] v = absurd v
+starts_hold (c ∷ cs) v = is_true (is_letter c) v
+
+block_name_holds : (w : List ℕ) → IsBlock w → is_block_name w ≡ true
+block_name_holds w v =
+    let s : nat_le (length w) 16 ≡ true = elim (le_cases (length w) 16) [ inl a ↦ a.0 | inr a ↦ absurd (omega (arith, v.short)) ] in
+    both_true (nat_le (length w) 16) (begins_with_letter w && all_block_bytes w) s (both_true (begins_with_letter w) (all_block_bytes w) (starts_hold w v.first) (bytes_hold w v.each))
+
+pub block_name_not : (w : List ℕ) → is_block_name w ≡ false → name_word w ≡ None
+block_name_not w h = name_word_none w (λ v. let e = block_name_holds w v in cc)
+
+no_dot : (c : ℕ) (t u : List ℕ) → IsDigit c → 46 ∷ t ≡ c ∷ u → ⊥
+no_dot c t u m e = let f : 46 ≡ c = cc in omega (arith, m.0)
+
+abbrev dot_text : ℕ × ℕ → List ℕ
+dot_text d = decimal d.0 ++ (46 ∷ decimal d.1)
+
+dot_Reads : Reads (after decimal (λ _ i. 46 ∷ decimal i)) (AreBoth (IsUpTo 999) (λ _. IsUpTo 9)) IsDigit dot_at
+dot_Reads = both_Reads (number_Reads 999 (omega arith) (omega arith)) (λ _ _. lead_Reads 46 (number_Reads 9 (omega arith) (omega arith))) (λ x y c r u v w m e. no_dot c _ u m e)
+
+ported_sound : (z : ℕ × ℕ) (d : Destination) → ported z ≡ Some d → (z.1 ≤ 3) × (◌≡◌ {A = Destination} (record { statement = z.0; port = z.1 }) d)
+ported_sound z d h =
+    elim (le_cases z.1 3) [
+      | inl a ↦ (a.1, some_same _ d (ap (λ t. cond t (Some (record { statement = z.0; port = z.1 })) None) (sym a.0) ∙ h))
+      | inr a ↦ absurd (none_some d (ap (λ t. cond t (Some (record { statement = z.0; port = z.1 })) None) (sym a.0) ∙ h))
+    ]
+
+pub destination_sound : (w : List ℕ) (d : Destination) → destination_at w ≡ Some d → IsDestination d × (w ≡ destination_word d)
+unfolding destination_at
+destination_sound w d h =
+    let a = then_some (whole (dot_at w)) ported d h in
+    let s = whole_sound dot_Reads w a.0 a.1 in
+    let p = ported_sound a.0 d a.2 in
+    subst (λ (d : Destination). IsDestination d × (w ≡ destination_word d)) p.1 (record { statement = (s.0.0.0, s.0.0.1); port = (s.0.1.0, p.0) }, s.1)
+
+pub destination_complete : (d : Destination) → IsDestination d → destination_at (destination_word d) ≡ Some d
+unfolding destination_at
+destination_complete d v =
+    let c = whole_complete dot_Reads (d.statement, d.port) ((v.statement.0, v.statement.1), (v.port.0, omega (arith, v.port.1))) in
+    ap (λ r. r then ported) c ∙ elim (le_cases d.port 3) [ inl a ↦ ap (λ t. cond t (Some d) None) a.0 | inr a ↦ absurd (omega (arith, v.port.1)) ]
+
+pub destinations_sound : (below : ℕ) (ws : Words) (ds : List Destination) → destinations_at below ws ≡ Some ds → Ascending below ds × (ws ≡ map destination_word ds)
+unfolding destinations_at
+destinations_sound below [] ds h = let e : [] ≡ ds = some_same [] ds h in subst (λ ds. Ascending below ds × ([] ≡ map destination_word ds)) e (tt, refl)
+destinations_sound below (w ∷ ws) ds h =
+    let a = then_some (destination_at w) (λ d. cond (nat_le (rank d) below) None (destinations_at (rank d) ws then λ ds. Some (d ∷ ds))) ds h in
+    let s = destination_sound w a.0 a.1 in
+    elim (le_cases (rank a.0) below) [
+      | inl b ↦ absurd (none_some ds (ap (λ t. cond t None (destinations_at (rank a.0) ws then λ ds. Some (a.0 ∷ ds))) (sym b.0) ∙ a.2))
+      | inr b ↦
+          let g = then_some (destinations_at (rank a.0) ws) (λ ds. Some (a.0 ∷ ds)) ds (ap (λ t. cond t None (destinations_at (rank a.0) ws then λ ds. Some (a.0 ∷ ds))) (sym b.0) ∙ a.2) in
+          let i = destinations_sound (rank a.0) ws g.0 g.1 in
+          let e : a.0 ∷ g.0 ≡ ds = some_same _ ds g.2 in
+          subst (λ ds. Ascending below ds × (w ∷ ws ≡ map destination_word ds)) e ((s.0, b.1, i.0), ap (λ w. w ∷ ws) s.1 ∙ ap (λ ws. destination_word a.0 ∷ ws) i.1)
+    ]
+
+pub destinations_complete : (below : ℕ) (ds : List Destination) → Ascending below ds → destinations_at below (map destination_word ds) ≡ Some ds
+unfolding destinations_at
+destinations_complete below [] v = refl
+destinations_complete below (d ∷ ds) v =
+    ap (λ r. r then λ d. cond (nat_le (rank d) below) None (destinations_at (rank d) (map destination_word ds) then λ ds. Some (d ∷ ds))) (destination_complete d v.0)
+    ∙ elim (le_cases (rank d) below) [
+      | inl b ↦ absurd (omega (arith, v.1))
+      | inr b ↦ ap (λ t. cond t None (destinations_at (rank d) (map destination_word ds) then λ ds. Some (d ∷ ds))) b.0 ∙ ap (λ r. r then λ ds. Some (d ∷ ds)) (destinations_complete (rank d) ds v.2)
+    ]
+
+-- lists of destinations
+
+listed_at : Bool → Words → Option (List Destination)
+listed_at b ws = cond b (destinations_at 0 ws) (none_at ws)
+
+none_sound : (ws : Words) (ds : List Destination) → none_at ws ≡ Some ds → (ds ≡ []) × (ws ≡ [])
+none_sound [] ds h = (sym (some_same [] ds h), refl)
+none_sound (w ∷ ws) ds h = absurd (none_some ds h)
+
+listed_sound : (b : Bool) (ws : Words) (ds : List Destination) → listed_at b ws ≡ Some ds → Ascending 0 ds × IsListed b ds × (ws ≡ map destination_word ds)
+unfolding listed_at
+listed_sound true ws ds h = let s = destinations_sound 0 ws ds h in (s.0, tt, s.1)
+listed_sound false ws ds h =
+    let s = none_sound ws ds h in
+    subst (λ ds. Ascending 0 ds × IsListed false ds × (ws ≡ map destination_word ds)) (sym s.0) (tt, refl, s.1)
+
+pub list_sound : (k : Kind) (ws : Words) (ds : List Destination) → list_at k ws ≡ Some ds → Ascending 0 ds × IsListed (has_list k) ds × (ws ≡ map destination_word ds)
+unfolding list_at listed_at
+list_sound k ws ds h = listed_sound (has_list k) ws ds h
+
+listed_complete : (b : Bool) (ds : List Destination) → Ascending 0 ds → IsListed b ds → listed_at b (map destination_word ds) ≡ Some ds
+unfolding listed_at
+listed_complete true ds v l = destinations_complete 0 ds v
+listed_complete false ds v l = ap (λ ds. none_at (map destination_word ds)) l ∙ ap (λ ds. Some ds) (sym l)
+
+pub list_complete : (k : Kind) (ds : List Destination) → Ascending 0 ds → IsListed (has_list k) ds → list_at k (map destination_word ds) ≡ Some ds
+unfolding list_at listed_at
+list_complete k ds v l = listed_complete (has_list k) ds v l
+
+-- constants
+
+Says : List ℕ → Constant → Type 0
+Says w c = IsConstant c × (w ≡ constant_word c)
+
+other_at : Bool → ℕ → List ℕ → Option Constant
+other_at b c cs = cond b (name_word cs then λ name. Some (constants.Proc name)) (signed_word (c ∷ cs) then λ n. Some (constants.Int n))
+
+other_sound : (w : List ℕ) (k : Constant) → other_constant w ≡ Some k → Says w k
+unfolding Says other_at
+other_sound [] k h = absurd (none_some k h)
+other_sound (c ∷ cs) k h =
+    elim (same_or c 64) [
+      | alike e f ↦
+          let a = then_some (name_word cs) (λ name. Some (constants.Proc name)) k (ap (λ b. other_at b c cs) (sym f) ∙ h) in
+          let s = name_word_sound cs a.0 a.1 in
+          subst (λ k. IsConstant k × (c ∷ cs ≡ constant_word k)) (some_same (constants.Proc a.0) k a.2) (s.0, ap (λ c. c ∷ cs) e ∙ ap (λ t. 64 ∷ t) s.1)
+      | unlike e f ↦
+          let a = then_some (signed_word (c ∷ cs)) (λ n. Some (constants.Int n)) k (ap (λ b. other_at b c cs) (sym f) ∙ h) in
+          let s = signed_word_sound (c ∷ cs) a.0 a.1 in
+          subst (λ k. IsConstant k × (c ∷ cs ≡ constant_word k)) (some_same (constants.Int a.0) k a.2) (s.0, s.1)
+    ]
+
+truth_or : Bool → Bool → List ℕ → Option Constant
+truth_or a b w = cond a (Some (constants.Bool true)) (cond b (Some (constants.Bool false)) (other_constant w))
+
+truth_sound : (w : List ℕ) (t : Bool) (k : Constant) → w ≡ constant_word (constants.Bool t) → ◌≡◌ {A = Option Constant} (Some (constants.Bool t)) (Some k) → Says w k
+unfolding Says
+truth_sound w t k e h = subst (λ k. IsConstant k × (w ≡ constant_word k)) (some_same (constants.Bool t) k h) (tt, e)
+
+pub constant_sound : (w : List ℕ) (k : Constant) → constant_at w ≡ Some k → IsConstant k × (w ≡ constant_word k)
+unfolding constant_at Says truth_or
+constant_sound w k h =
+    elim (told w (codes "true") (is w (codes "true")) refl) [
+      | inl a ↦ truth_sound w true k a.1 (ap (λ b. truth_or b (is w (codes "false")) w) (sym a.0) ∙ h)
+      | inr a ↦
+          let i = ap (λ b. truth_or b (is w (codes "false")) w) (sym a) ∙ h in
+          elim (told w (codes "false") (is w (codes "false")) refl) [
+            | inl d ↦ truth_sound w false k d.1 (ap (λ b. truth_or false b w) (sym d.0) ∙ i)
+            | inr d ↦ other_sound w k (ap (λ b. truth_or false b w) (sym d) ∙ i)
+          ]
+    ]
+
+-- a number is no truth value and no procedure
+number_is_other : (n : ℤ) (ds : List ℕ) → ((t : Bool) → ds ≡ constant_word (constants.Bool t) → ⊥) → ((cs : List ℕ) → ds ≡ 64 ∷ cs → ⊥) → signed_word ds ≡ Some n → constant_at ds ≡ Some (constants.Int n)
+unfolding constant_at truth_or other_at signed_word
+number_is_other n [] t p h = absurd (none_some n h)
+number_is_other n (c ∷ cs) t p h =
+    elim (told (c ∷ cs) (codes "true") (is (c ∷ cs) (codes "true")) refl) [
+      | inl a ↦ absurd (t true a.1)
+      | inr a ↦
+          elim (told (c ∷ cs) (codes "false") (is (c ∷ cs) (codes "false")) refl) [
+            | inl b ↦ absurd (t false b.1)
+            | inr b ↦
+                elim (same_or c 64) [
+                  | alike e f ↦ absurd (p cs (ap (λ c. c ∷ cs) e))
+                  | unlike e f ↦
+                      ap (λ t. truth_or t (is (c ∷ cs) (codes "false")) (c ∷ cs)) a
+                      ∙ ap (λ t. truth_or false t (c ∷ cs)) b
+                      ∙ ap (λ t. other_at t c cs) f
+                      ∙ ap (λ r. r then λ n. Some (constants.Int n)) h
+                ]
+          ]
+    ]
+
+no_letter : (ds : List ℕ) (c : ℕ) (cs : List ℕ) → AllDigit ds → 58 ≤ c → ds ≡ c ∷ cs → ⊥
+no_letter ds c cs d low e = let f = subst AllDigit e d in omega (arith, f.0.1)
+
+behind_minus : (ds : List ℕ) (c : ℕ) (cs : List ℕ) → 46 ≤ c → 45 ∷ ds ≡ c ∷ cs → ⊥
+behind_minus ds c cs low e = let f : 45 ≡ c = cc in omega arith
+
+pub constant_complete : (k : Constant) → IsConstant k → constant_at (constant_word k) ≡ Some k
+unfolding constant_at
+constant_complete (constants.Bool true) v = refl
+constant_complete (constants.Bool false) v = refl
+constant_complete (constants.Proc name) v = ap (λ r. r then λ name. Some (constants.Proc name)) (name_word_complete name v)
+constant_complete (constants.Int (pos n)) v =
+    let b : n < 2 ^ 63 = v.sfits in
+    let d = decimal_digits n (omega arith) in
+    number_is_other (pos n) (decimal n) (λ t. elim t as (λ t. decimal n ≡ constant_word (constants.Bool t) → ⊥) [ true ↦ λ e. no_letter (decimal n) _ _ d (omega arith) e | false ↦ λ e. no_letter (decimal n) _ _ d (omega arith) e ]) (λ cs e. no_letter (decimal n) 64 cs d (omega arith) e) (signed_word_complete (pos n) v)
+constant_complete (constants.Int (negsuc n)) v =
+    let ds = decimal (suc n) in
+    number_is_other (negsuc n) (45 ∷ ds) (λ t. elim t as (λ t. 45 ∷ ds ≡ constant_word (constants.Bool t) → ⊥) [ true ↦ λ e. behind_minus ds _ _ (omega arith) e | false ↦ λ e. behind_minus ds _ _ (omega arith) e ]) (λ cs e. behind_minus ds 64 cs (omega arith) e) (signed_word_complete (negsuc n) v)
+
+-- kinds
+
+IsPlain : Kind → Type 0
+IsPlain k = IsKind k × (argument_words k ≡ [])
+
+among_sound : (ks : List Kind) (w : List ℕ) (k : Kind) → AllByRecursion IsPlain ks → kind_among ks w ≡ Some k → IsPlain k × (w ≡ kind_word k)
+unfolding kind_among
+among_sound [] w k v h = absurd (none_some k h)
+among_sound (j ∷ ks) w k v h =
+    elim (told w (kind_word j) (is w (kind_word j)) refl) [
+      | inl a ↦
+          let e = some_same j k (ap (λ b. cond b (Some j) (kind_among ks w)) (sym a.0) ∙ h) in
+          subst (λ k. IsPlain k × (w ≡ kind_word k)) e (v.0, a.1)
+      | inr a ↦ among_sound ks w k v.1 (ap (λ b. cond b (Some j) (kind_among ks w)) (sym a) ∙ h)
+    ]
+
+are_plain : AllByRecursion IsPlain plain_kinds
+unfolding IsPlain
+are_plain = ((tt, refl), ((tt, refl), ((tt, refl), tt)))
+
+SaysKind : List ℕ → Words → Kind → Words → Type 0
+SaysKind w ws k rest = IsKind k × (w ∷ ws ≡ kind_word k ∷ (argument_words k ++ rest))
+
+const_sound : (w : List ℕ) (ws : Words) (k : Kind) (rest : Words) → w ≡ codes "const" → const_at ws ≡ Some (k, rest) → SaysKind w ws k rest
+unfolding SaysKind
+const_sound w [] k rest e h = absurd (none_some _ h)
+const_sound w (v ∷ ws) k rest e h =
+    let a = then_some (constant_at v) (λ c. Some (Const c, ws)) (k, rest) h in
+    let s = constant_sound v a.0 a.1 in
+    let o = some_same (Const a.0, ws) (k, rest) a.2 in
+    let f : Const a.0 ≡ k = ap (λ t. t.0) o in
+    let g : ws ≡ rest = ap (λ t. t.1) o in
+    subst (λ k. IsKind k × (w ∷ v ∷ ws ≡ kind_word k ∷ (argument_words k ++ rest))) f
+    (s.0, ap (λ w. w ∷ v ∷ ws) e ∙ ap (λ v. codes "const" ∷ v ∷ ws) s.1 ∙ ap (λ ws. codes "const" ∷ constant_word a.0 ∷ ws) g)
+
+plain_sound : (w : List ℕ) (ws : Words) (k : Kind) (rest : Words) → plain_at w ws ≡ Some (k, rest) → SaysKind w ws k rest
+unfolding SaysKind IsPlain
+plain_sound w ws k rest h =
+    let a = then_some (kind_among plain_kinds w) (λ k. Some (k, ws)) (k, rest) h in
+    let s = among_sound plain_kinds w a.0 are_plain a.1 in
+    let o = some_same (a.0, ws) (k, rest) a.2 in
+    let f : a.0 ≡ k = ap (λ t. t.0) o in
+    let g : ws ≡ rest = ap (λ t. t.1) o in
+    subst (λ k. IsKind k × (w ∷ ws ≡ kind_word k ∷ (argument_words k ++ rest))) f
+    (s.0.0, ap (λ w. w ∷ ws) s.1 ∙ ap (λ ws. kind_word a.0 ∷ ws) (g ∙ ap (λ l. l ++ rest) (sym s.0.1)))
+
+kind_of_sound : (w : List ℕ) (ws : Words) (k : Kind) (rest : Words) → kind_of w ws ≡ Some (k, rest) → SaysKind w ws k rest
+kind_of_sound w ws k rest h =
+    elim (told w (codes "const") (is w (codes "const")) refl) [
+      | inl a ↦ const_sound w ws k rest a.1 (ap (λ b. cond b (const_at ws) (plain_at w ws)) (sym a.0) ∙ h)
+      | inr a ↦ plain_sound w ws k rest (ap (λ b. cond b (const_at ws) (plain_at w ws)) (sym a) ∙ h)
+    ]
+
+pub kind_sound : (ws : Words) (k : Kind) (rest : Words) → kind_at ws ≡ Some (k, rest) → IsKind k × (ws ≡ kind_word k ∷ (argument_words k ++ rest))
+unfolding kind_at SaysKind
+kind_sound [] k rest h = absurd (none_some _ h)
+kind_sound (w ∷ ws) k rest h = kind_of_sound w ws k rest h
+
+pub kind_complete : (k : Kind) (rest : Words) → IsKind k → kind_at (kind_word k ∷ (argument_words k ++ rest)) ≡ Some (k, rest)
+unfolding kind_at kind_among
+kind_complete Begin rest v = refl
+kind_complete (Const c) rest v = ap (λ r. r then λ c. Some (Const c, rest)) (constant_complete c v)
+kind_complete Add rest v = refl
+kind_complete End rest v = refl
+
+pub arrow_sound : (ws : Words) (u : Unit {0}) (rest : Words) → arrow_at ws ≡ Some (u, rest) → ws ≡ arrow ∷ rest
+unfolding arrow_at
+arrow_sound [] u rest h = absurd (none_some _ h)
+arrow_sound (w ∷ ws) u rest h =
+    elim (told w arrow (is w arrow) refl) [
+      | inl a ↦
+          let o = some_same (tt, ws) (u, rest) (ap (λ b. cond b (Some (tt, ws)) None) (sym a.0) ∙ h) in
+          ap (λ w. w ∷ ws) a.1 ∙ ap (λ ws. arrow ∷ ws) (ap (λ t. t.1) o)
+      | inr a ↦ absurd (none_some _ (ap (λ b. cond b (Some (tt, ws)) None) (sym a) ∙ h))
+    ]
+
+-- statements
+
+abbrev tail_of : ℕ → Kind × Words → Option StatementParts
+tail_of region k = arrow_at k.1 then λ b. list_at k.0 b.1 then λ to. Some (statement region k.0 to)
+
+abbrev rest_of : Words → ℕ → Option StatementParts
+rest_of ws region = kind_at ws then tail_of region
+
+pub statement_sound : (ws : Words) (s : StatementParts) → statement_at ws ≡ Some s → IsStatement no_limits s × (ws ≡ statement_words s)
+unfolding statement_at
+statement_sound [] s h = absurd (none_some s h)
+statement_sound (w ∷ ws) s h =
+    let a = then_some (number0_word 99 w) (rest_of ws) s h in
+    let b = number0_word_sound 99 w a.0 (omega arith) (omega arith) a.1 in
+    let c = then_some (kind_at ws) (tail_of a.0) s a.2 in
+    let d = kind_sound ws c.0.0 c.0.1 c.1 in
+    let e = then_some (arrow_at c.0.1) (λ b. list_at c.0.0 b.1 then λ to. Some (statement a.0 c.0.0 to)) s c.2 in
+    let f = arrow_sound c.0.1 e.0.0 e.0.1 e.1 in
+    let g = then_some (list_at c.0.0 e.0.1) (λ to. Some (statement a.0 c.0.0 to)) s e.2 in
+    let i = list_sound c.0.0 e.0.1 g.0 g.1 in
+    let j = some_same (statement a.0 c.0.0 g.0) s g.2 in
+    subst (λ s. IsStatement no_limits s × (w ∷ ws ≡ statement_words s)) j (
+      record { region = b.0; kind = d.0; to = i.0; listed = i.1; few = tt },
+      ap (λ w. w ∷ ws) b.1 ∙ ap (λ ws. decimal a.0 ∷ ws) (d.1 ∙ ap (λ t. kind_word c.0.0 ∷ (argument_words c.0.0 ++ t)) (f ∙ ap (λ t. arrow ∷ t) i.2)),
+    )
+
+pub statement_complete : (s : StatementParts) → IsStatement no_limits s → statement_at (statement_words s) ≡ Some s
+unfolding statement_at arrow_at
+statement_complete s v =
+    ap (λ r. r then rest_of (kind_word s.kind ∷ (argument_words s.kind ++ (arrow ∷ map destination_word s.to)))) (number0_word_complete 99 s.region (omega arith) (omega arith) v.region)
+    ∙ ap (λ r. r then tail_of s.region) (kind_complete s.kind (arrow ∷ map destination_word s.to) v.kind)
+    ∙ ap (λ r. r then λ to. Some (statement s.region s.kind to)) (list_complete s.kind s.to v.to v.listed)
+
+-- for the loop over destinations
+
+abbrev pub onto_read : List Destination → Option (List Destination) → Option (List Destination)
+onto_read to r = r then λ ds. Some (to ++ ds)
+
+onto_more : (to : List Destination) (d : Destination) (r : Option (List Destination)) → onto_read to (r then λ ds. Some (d ∷ ds)) ≡ onto_read (to ++ (d ∷ [])) r
+onto_more to d (Some ds) = ap (λ t. Some t) (sym (append_assoc to (d ∷ []) ds))
+onto_more to d None = refl
+
+pub destinations_turn : (below : ℕ) (w : List ℕ) (ws : Words) (d : Destination) (to : List Destination) → destination_at w ≡ Some d → below < rank d → onto_read to (destinations_at below (w ∷ ws)) ≡ onto_read (to ++ (d ∷ [])) (destinations_at (rank d) ws)
+unfolding destinations_at
+destinations_turn below w ws d to h lt =
+    ap (λ r. onto_read to (r then λ d. cond (nat_le (rank d) below) None (destinations_at (rank d) ws then λ ds. Some (d ∷ ds)))) h
+    ∙ elim (le_cases (rank d) below) [
+      | inl b ↦ absurd (omega arith)
+      | inr b ↦ ap (λ t. onto_read to (cond t None (destinations_at (rank d) ws then λ ds. Some (d ∷ ds)))) b.0 ∙ onto_more to d (destinations_at (rank d) ws)
+    ]
+
+pub destinations_low : (below : ℕ) (w : List ℕ) (ws : Words) (d : Destination) (to : List Destination) → destination_at w ≡ Some d → rank d ≤ below → onto_read to (destinations_at below (w ∷ ws)) ≡ None
+unfolding destinations_at
+destinations_low below w ws d to h le =
+    ap (λ r. onto_read to (r then λ d. cond (nat_le (rank d) below) None (destinations_at (rank d) ws then λ ds. Some (d ∷ ds)))) h
+    ∙ elim (le_cases (rank d) below) [
+      | inl b ↦ ap (λ t. onto_read to (cond t None (destinations_at (rank d) ws then λ ds. Some (d ∷ ds)))) b.0
+      | inr b ↦ absurd (omega arith)
+    ]
+
+pub destinations_bad : (below : ℕ) (w : List ℕ) (ws : Words) (to : List Destination) → destination_at w ≡ None → onto_read to (destinations_at below (w ∷ ws)) ≡ None
+unfolding destinations_at
+destinations_bad below w ws to h = ap (λ r. onto_read to (r then λ d. cond (nat_le (rank d) below) None (destinations_at (rank d) ws then λ ds. Some (d ∷ ds)))) h
+
+pub destinations_end : (below : ℕ) (to : List Destination) → onto_read to (destinations_at below []) ≡ Some to
+unfolding destinations_at
+destinations_end below to = ap (λ t. Some t) (append-nil to)
+
+pub region_bound : (w : List ℕ) (n : ℕ) → number0_word 99 w ≡ Some n → n ≤ 99
+region_bound w n h = (number0_word_sound 99 w n (omega arith) (omega arith) h).0

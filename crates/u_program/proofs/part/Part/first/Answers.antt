@@ -1,0 +1,23 @@
+use Rattle.std.proofs.Common.{rules, ◌≡◌, Some, None, refl}
+use Rattle.u_text.specs.Pieces.{words}
+use Rattle.u_program.specs.Reading.{line_at}
+use Rattle.u_program.proofs.LineLaws.{line_sound}
+use Rattle.u_program.specs.declared.reading.Line.TheVariants.{Block, Statement}
+use Rattle.u_program.proofs.Whole.{no_first_line, statement_first, first_part}
+use Rattle.u_program.proofs.part.Part.first.Goals as goal
+
+pub returns-in-Err-Bad : goal.returns-in-Err-Bad
+returns-in-Err-Bad c =
+    let h : line_at (words c.args.text.now) ≡ None = search rules in
+    no_first_line c.args.text.now h
+
+pub returns-in-Statement : goal.returns-in-Statement
+returns-in-Statement c =
+    let h : line_at (words c.args.text.now) ≡ Some (Statement c.in-Statement.field-0 c.in-Statement.field-1) = search rules in
+    statement_first c.args.text.now _ _ h
+
+pub returns : goal.returns
+returns c =
+    let h : line_at (words c.args.text.now) ≡ Some (Block c.in-Block.name) = search rules in
+    let l = line_sound c.args.text.now _ h in
+    rw c.new.ensures.items (rw c.new-2.ensures (first_part c.in-Block.name l.0, rw l.1 refl))

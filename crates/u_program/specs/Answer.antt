@@ -1,0 +1,26 @@
+-- What is answered to the bytes of a text.
+use Rattle.std.specs.Prelude.{◌≡◌, List, ℕ}
+use Rattle.u_program.specs.declared.read_error.ReadError.{ReadError}
+use Rattle.u_program.specs.declared.read_error.ReadError.TheVariants.{BadLine, TooMany, Truncated, NoMemory}
+use Rattle.u_program.specs.declared.part.LineFault.{LineFault}
+use Rattle.u_program.specs.declared.part.LineFault.TheVariants as line_faults
+use Rattle.u_program.specs.Parts.{BlockParts}
+use Rattle.u_program.specs.Limits.{IsProgram, the_limits}
+use Rattle.u_program.specs.Text.{program_text}
+use Rattle.u_program.specs.Laws.{IsBadLine, IsTooMany, IsTruncated}
+
+-- the bytes are the text of this program
+abbrev pub IsTextOf : List ℕ → List BlockParts → Type 0
+IsTextOf bytes program = IsProgram the_limits program × (bytes ≡ program_text program)
+
+-- why they are no program's text
+abbrev pub IsReadError : List ℕ → ReadError → Type 0
+IsReadError bytes (BadLine n) = IsBadLine bytes n
+IsReadError bytes (TooMany n) = IsTooMany bytes n
+IsReadError bytes Truncated = IsTruncated bytes
+IsReadError bytes NoMemory = Unit {0}
+
+abbrev pub fault_at : LineFault → ℕ → ReadError
+fault_at line_faults.Bad n = BadLine n
+fault_at line_faults.TooMany n = TooMany n
+fault_at line_faults.NoMemory n = NoMemory

@@ -1,0 +1,35 @@
+-- A program of which some lines were read: whole blocks, and the last one.
+use Rattle.std.specs.Prelude.{◌≡◌, ℕ, ◌+◌, List, ◌++◌, length}
+use Rattle.std.specs.List.{AllByRecursion}
+use Rattle.u_name.specs.Block.{IsBlock}
+use Rattle.u_text.specs.Number.{IsUpTo}
+use Rattle.u_text.specs.Pieces.{pieces}
+use Rattle.u_program.specs.declared.reading.Line.{Line}
+use Rattle.u_program.specs.declared.reading.Line.TheVariants.{Block, Statement}
+use Rattle.u_program.specs.Parts.{BlockParts}
+use Rattle.u_program.specs.Limits.{Limits, AtMost, IsStatement, IsBlockOf, no_limits}
+use Rattle.u_program.specs.Text.{block_line, statement_line, block_lines, blocks_lines}
+
+abbrev pub line_text : Line → List ℕ
+line_text (Block name) = block_line name
+line_text (Statement n s) = statement_line n s
+
+abbrev pub IsLine : Line → Type 0
+IsLine (Block name) = IsBlock name
+IsLine (Statement n s) = IsUpTo 1000 n × IsStatement no_limits s
+
+-- the lines behind the header
+abbrev pub part_lines : List BlockParts → BlockParts → List (List ℕ)
+part_lines done last = blocks_lines done ++ block_lines last
+
+pub record IsPart (limits : Limits) (done : List BlockParts) (last : BlockParts) : Type 0 where
+  pub each : AllByRecursion (IsBlockOf limits) done
+  pub name : IsBlock last.name
+  pub statements : AllByRecursion (IsStatement limits) last.statements
+  pub few : AtMost limits.statements (length last.statements)
+  pub one : AtMost limits.statements 1
+  pub blocks : AtMost limits.blocks (length done + 1)
+
+-- these lines were read, and this is left
+pub record IsRead (bytes : List ℕ) (ls : List (List ℕ)) (rest : List ℕ) : Type 0 where
+  pub all : pieces 10 bytes ≡ (ls ++ (pieces 10 rest).0, (pieces 10 rest).1)

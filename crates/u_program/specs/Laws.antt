@@ -1,0 +1,38 @@
+-- Which line of a text is the first that is not allowed, and why.
+use Rattle.std.specs.Prelude.{◌≡◌, ℕ, suc, List, [], ◌∷◌, ◌++◌, length}
+use Rattle.u_text.specs.Pieces.{lines}
+use Rattle.u_program.specs.Parts.{BlockParts}
+use Rattle.u_program.specs.Limits.{Limits, IsProgram, the_limits, no_limits}
+use Rattle.u_program.specs.Text.{program_lines, program_text}
+
+-- some program within the limits begins with these lines
+pub record Begins (limits : Limits) (ls : List (List ℕ)) : Type 0 where
+  pub program : List BlockParts
+  pub more : List (List ℕ)
+  pub valid : IsProgram limits program
+  pub there : program_lines program ≡ ls ++ more
+
+-- Line n, which ends with a newline, is the first that is not allowed: the lines before it begin a program,
+-- with it they do not, and the verdict holds of them.
+pub record IsFirstBad (bytes : List ℕ) (n : ℕ) (Verdict : List (List ℕ) → Type 0) : Type 0 where
+  pub before : List (List ℕ)
+  pub line : List ℕ
+  pub others : List (List ℕ)
+  pub there : lines bytes ≡ before ++ (line ∷ others)
+  pub number : n ≡ suc (length before)
+  pub allowed : Begins the_limits before
+  pub refused : Begins the_limits (before ++ (line ∷ [])) → ⊥
+  pub verdict : Verdict (before ++ (line ∷ []))
+
+-- with it they begin none, were there no limits on numbers of parts
+abbrev pub IsBadLine : List ℕ → ℕ → Type 0
+IsBadLine bytes n = IsFirstBad bytes n (λ ls. Begins no_limits ls → ⊥)
+
+-- with it they begin one, were there no limits on numbers of parts
+abbrev pub IsTooMany : List ℕ → ℕ → Type 0
+IsTooMany bytes n = IsFirstBad bytes n (λ ls. Begins no_limits ls)
+
+-- Each line that ends with a newline is allowed, and the text is no program's.
+pub record IsTruncated (bytes : List ℕ) : Type 0 where
+  pub allowed : Begins the_limits (lines bytes)
+  pub none : (p : List BlockParts) → IsProgram the_limits p → bytes ≡ program_text p → ⊥

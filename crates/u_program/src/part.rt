@@ -1,0 +1,138 @@
+//! A program of which some lines were read.
+ghost use Rattle.std.specs.Prelude.{◌≡◌, ◌++◌, ◌∷◌, [], MatchResult, IfOk};
+ghost use Rattle.u_program.specs.declared.reading.Line.TheVariants as variants;
+ghost use Rattle.u_program.specs.Text.{header, block_line, statement_line};
+ghost use Rattle.u_program.specs.Limits.{IsProgram, the_limits};
+ghost use Rattle.u_program.specs.Begun.{IsLine, part_lines, IsPart};
+ghost use Rattle.u_program.specs.Faults.{IsLineFault};
+
+use crate::program::{Block, Program, Statement};
+use crate::reading::{Line, WordFault, read_line};
+use std::alloc::{AllocFailed, Global};
+use u_name::BlockName;
+
+/// Whole blocks, and one that may go on.
+#[derive(Drop)]
+pub struct Part {
+    /// The blocks before the last one, which all have statements.
+    pub done: Vec<Block>,
+    /// The last block, which may have none yet.
+    pub last: Block,
+}
+
+/// Why a line may not go on behind what was read.
+#[derive(Debug, Drop)]
+pub enum LineFault {
+    /// It is not allowed.
+    Bad,
+    /// It is not allowed, and is so only for a limit on the number of parts.
+    TooMany,
+    /// There is no memory.
+    NoMemory,
+}
+
+impl<T: Drop> From<AllocFailed<T>> for LineFault {
+    ghost use Rattle.u_program.specs.declared.part.LineFault.TheVariants as faults;
+
+    ghost from_gives = { λ _ e. e ≡ faults.NoMemory };
+
+    fn from(_: AllocFailed<T>) -> LineFault {
+        LineFault::NoMemory
+    }
+}
+
+impl Part {
+    /// The part with the line that begins a block.
+    #[tactic(auto, using(crate::proofs::Steps::block_closed, crate::proofs::Steps::block_over, crate::proofs::Steps::block_taken))]
+    fn with_block(self, alloc: Global, name: BlockName) -> Result<Part, LineFault>
+        requires part { IsPart the_limits self.done.items self.last }
+        ensures { MatchResult result
+            (λ new. IsPart the_limits new.done.items new.last × (part_lines new.done.items new.last ≡ part_lines self.done.items self.last ++ (block_line name ∷ [])))
+            (λ fault. IsLineFault fault (header ∷ part_lines self.done.items self.last) (block_line name)) }
+    {
+        let _ = name.as_bytes();
+        let Part { mut done, last } = self;
+        if last.statements().len() == 0 {
+            return Err(LineFault::Bad);
+        }
+        if done.len() == 63 {
+            return Err(LineFault::TooMany);
+        }
+        done.push(last)?;
+        Ok(Part {
+            done,
+            last: Block::new(alloc, name),
+        })
+    }
+
+    /// The part with the line of a statement.
+    #[tactic(auto, using(crate::proofs::Steps::number_wrong, crate::proofs::Steps::statement_over, crate::proofs::Steps::statement_taken))]
+    fn with_statement(self, number: u32, statement: Statement) -> Result<Part, LineFault>
+        requires part { IsPart the_limits self.done.items self.last }
+        requires line { IsLine (variants.Statement number statement) }
+        ensures { MatchResult result
+            (λ new. IsPart the_limits new.done.items new.last × (part_lines new.done.items new.last ≡ part_lines self.done.items self.last ++ (statement_line number statement ∷ [])))
+            (λ fault. IsLineFault fault (header ∷ part_lines self.done.items self.last) (statement_line number statement)) }
+    {
+        let Part { done, last } = self;
+        if number as usize != last.statements().len() + 1 {
+            return Err(LineFault::Bad);
+        }
+        if number > 999 || statement.destinations().len() > 16 {
+            return Err(LineFault::TooMany);
+        }
+        let last = last.with(statement)?;
+        Ok(Part { done, last })
+    }
+
+    /// The part with one more line, which says why where it may not go on so.
+    #[tactic(auto, using(crate::proofs::LineLaws::line_sound, crate::proofs::Steps::no_line))]
+    pub fn with_line(self, alloc: Global, text: &[u8]) -> Result<Part, LineFault>
+        requires part { IsPart the_limits self.done.items self.last }
+        ensures { MatchResult result
+            (λ new. IsPart the_limits new.done.items new.last × (part_lines new.done.items new.last ≡ part_lines self.done.items self.last ++ (text.now ∷ [])))
+            (λ fault. IsLineFault fault (header ∷ part_lines self.done.items self.last) text.now) }
+    {
+        let line = match read_line(alloc, text) {
+            Ok(line) => line,
+            Err(WordFault::Bad) => return Err(LineFault::Bad),
+            Err(WordFault::NoMemory) => return Err(LineFault::NoMemory),
+        };
+        match line {
+            Line::Block(name) => self.with_block(alloc, name),
+            Line::Statement(number, statement) => self.with_statement(number, statement),
+        }
+    }
+
+    /// The part that one line behind the header begins.
+    #[tactic(auto, using(crate::proofs::Whole::first_part))]
+    pub fn first(alloc: Global, text: &[u8]) -> Result<Part, LineFault>
+        ensures { MatchResult result
+            (λ new. IsPart the_limits new.done.items new.last × (part_lines new.done.items new.last ≡ text.now ∷ []))
+            (λ fault. IsLineFault fault (header ∷ []) text.now) }
+    {
+        let line = match read_line(alloc, text) {
+            Ok(line) => line,
+            Err(WordFault::Bad) => return Err(LineFault::Bad),
+            Err(WordFault::NoMemory) => return Err(LineFault::NoMemory),
+        };
+        let name = match line {
+            Line::Block(name) => name,
+            Line::Statement(_, _) => return Err(LineFault::Bad),
+        };
+        Ok(Part {
+            done: Vec::new(alloc),
+            last: Block::new(alloc, name),
+        })
+    }
+
+    /// The program that ends here.
+    pub fn finish(self) -> Result<Program, AllocFailed<Block>>
+        requires { IsProgram the_limits (self.done.items ++ (self.last ∷ [])) }
+        ensures { IfOk result (λ p. p ≡ self.done.items ++ (self.last ∷ [])) }
+    {
+        let Part { mut done, last } = self;
+        done.push(last)?;
+        Ok(Program::new(done))
+    }
+}

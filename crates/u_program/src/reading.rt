@@ -1,0 +1,267 @@
+//! Lines of a program's text, read.
+ghost use Rattle.std.specs.Prelude.{◌≡◌, ◌≤◌, Some, None, MatchOption, MatchResult};
+ghost use Rattle.u_program.specs.Reading.{plain_kinds, is_block_name, all_block_bytes, name_word, destination_at, destinations_at, list_at, constant_at, kind_among, kind_at, arrow_at, statement_at, line_at};
+ghost use Rattle.u_program.specs.Refuses.{Refuses};
+ghost use Rattle.u_name.specs.Block.{is_letter, is_block_byte};
+ghost use Rattle.u_name.specs.BlockText.{begins_with_letter};
+ghost use Rattle.u_text.specs.Pieces.{words};
+
+use crate::kind_words::{has_list, kind_word};
+use crate::program::{Constant, Destination, Kind, Statement};
+use std::alloc::{AllocFailed, Global};
+use u_name::BlockName;
+use u_text::{BadWord, Words, after, number_at, number_word, number0_word, signed_word};
+
+/// Why a line was not read: it is of no allowed form, or there is no memory.
+#[derive(Debug, Drop)]
+pub enum WordFault {
+    /// It is of no allowed form.
+    Bad,
+    /// There is no memory.
+    NoMemory,
+}
+
+impl From<BadWord> for WordFault {
+    ghost use Rattle.u_program.specs.declared.reading.WordFault.TheVariants as faults;
+
+    ghost from_gives = { λ _ e. e ≡ faults.Bad };
+
+    fn from(_: BadWord) -> WordFault {
+        WordFault::Bad
+    }
+}
+
+impl<T: Drop> From<AllocFailed<T>> for WordFault {
+    ghost use Rattle.u_program.specs.declared.reading.WordFault.TheVariants as faults;
+
+    ghost from_gives = { λ _ e. e ≡ faults.NoMemory };
+
+    fn from(_: AllocFailed<T>) -> WordFault {
+        WordFault::NoMemory
+    }
+}
+
+fn is_block_byte(byte: u8) -> bool
+    ensures { result ≡ is_block_byte byte }
+{
+    matches!(byte, b'a'..=b'z' | b'0'..=b'9' | b'_')
+}
+
+fn begins_with_letter(word: &[u8]) -> bool
+    ensures { result ≡ begins_with_letter word.now }
+{
+    match word.split_first() {
+        Some((first, _)) => matches!(*first, b'a'..=b'z'),
+        None => false,
+    }
+}
+
+fn all_block_bytes(word: &[u8]) -> bool
+    ensures { result ≡ all_block_bytes word.now }
+{
+    let mut rest = word;
+    while let Some((byte, others)) = rest.split_first() {
+        if !is_block_byte(*byte) {
+            return false;
+        }
+        rest = others;
+    }
+    true
+}
+
+fn is_block_name(word: &[u8]) -> bool
+    ensures { result ≡ is_block_name word.now }
+{
+    word.len() <= 16 && begins_with_letter(word) && all_block_bytes(word)
+}
+
+#[tactic(auto, using(crate::proofs::WordLaws::block_name_is, crate::proofs::WordLaws::block_name_not, crate::proofs::WordLaws::name_word_complete))]
+fn name_word(word: &[u8]) -> Result<BlockName, BadWord>
+    ensures { MatchResult result
+        (λ name. name_word word.now ≡ Some name)
+        (λ _. name_word word.now ≡ None) }
+{
+    if !is_block_name(word) {
+        return Err(BadWord);
+    }
+    Ok(BlockName::new(word))
+}
+
+#[tactic(auto, unfolding(crate::specs::Reading::constant_at))]
+fn constant(word: &[u8]) -> Result<Constant, BadWord>
+    ensures { MatchResult result
+        (λ c. constant_at word.now ≡ Some c)
+        (λ _. constant_at word.now ≡ None) }
+{
+    if word == b"true".as_slice() {
+        return Ok(Constant::Bool(true));
+    }
+    if word == b"false".as_slice() {
+        return Ok(Constant::Bool(false));
+    }
+    let Some((first, name)) = word.split_first() else {
+        return Err(BadWord);
+    };
+    if *first == b'@' {
+        return Ok(Constant::Proc(name_word(name)?));
+    }
+    Ok(Constant::Int(signed_word(word)?))
+}
+
+/// The first of these kinds that has this word.
+#[tactic(auto, unfolding(crate::specs::Reading::kind_among))]
+fn kind_among(kinds: &[Kind], word: &[u8]) -> Result<Kind, BadWord>
+    ensures { MatchResult result
+        (λ k. kind_among kinds.now word.now ≡ Some k)
+        (λ _. kind_among kinds.now word.now ≡ None) }
+{
+    let mut rest = kinds;
+    while let Some((kind, others)) = rest.split_first() {
+        if word == kind_word(kind) {
+            return Ok(*kind);
+        }
+        rest = others;
+    }
+    Err(BadWord)
+}
+
+/// The kind without an argument that has this word.
+fn plain_kind(word: &[u8]) -> Result<Kind, BadWord>
+    ensures { MatchResult result
+        (λ k. kind_among plain_kinds word.now ≡ Some k)
+        (λ _. kind_among plain_kinds word.now ≡ None) }
+{
+    let kinds = [Kind::Begin, Kind::Add, Kind::End];
+    kind_among(&kinds, word)
+}
+
+#[tactic(auto, unfolding(crate::specs::Reading::kind_at))]
+fn kind(words: &mut Words<'_>) -> Result<Kind, BadWord>
+    ensures { MatchResult result
+        (λ k. kind_at words.old ≡ Some (k, words.new))
+        (λ _. kind_at words.old ≡ None) }
+{
+    let word = words.word()?;
+    if word == b"const".as_slice() {
+        let argument = words.word()?;
+        return Ok(Kind::Const(constant(argument)?));
+    }
+    plain_kind(word)
+}
+
+#[tactic(auto, unfolding(crate::specs::Reading::arrow_at))]
+fn arrow(words: &mut Words<'_>) -> Result<(), BadWord>
+    ensures { MatchResult result
+        (λ _. arrow_at words.old ≡ Some (tt, words.new))
+        (λ _. arrow_at words.old ≡ None) }
+{
+    let word = words.word()?;
+    if word == b"->".as_slice() {
+        Ok(())
+    } else {
+        Err(BadWord)
+    }
+}
+
+#[tactic(auto, unfolding(crate::specs::Reading::destination_at), using(u_text::specs::Number::number_bound))]
+fn destination(word: &[u8]) -> Result<Destination, BadWord>
+    ensures { MatchResult result
+        (λ d. destination_at word.now ≡ Some d)
+        (λ _. destination_at word.now ≡ None) }
+{
+    let Ok((statement, rest)) = number_at(word, 999) else {
+        return Err(BadWord);
+    };
+    let Ok(rest) = after(rest, b'.') else {
+        return Err(BadWord);
+    };
+    let Ok((port, [])) = number_at(rest, 9) else {
+        return Err(BadWord);
+    };
+    if port > 3 {
+        return Err(BadWord);
+    }
+    Ok(Destination {
+        statement: statement as u16,
+        port: port as u8,
+    })
+}
+
+/// The destinations that the rest of the line lists.
+#[tactic(auto, using(crate::proofs::WordLaws::destinations_turn, crate::proofs::WordLaws::destinations_bad, crate::proofs::WordLaws::destinations_low, crate::proofs::WordLaws::destinations_end))]
+fn destinations(alloc: Global, words: &mut Words<'_>) -> Result<Vec<Destination>, WordFault>
+    ensures { MatchResult result
+        (λ to. destinations_at 0 words.old ≡ Some to.items)
+        (λ fault. Refuses fault (destinations_at 0 words.old)) }
+{
+    let mut to = Vec::new(alloc);
+    let mut below = 0;
+    while let Some(word) = words.next() {
+        let next = destination(word)?;
+        let rank = 4 * u32::from(next.statement) + u32::from(next.port);
+        if rank <= below {
+            return Err(WordFault::Bad);
+        }
+        below = rank;
+        to.push(next)?;
+    }
+    Ok(to)
+}
+
+#[tactic(auto, unfolding(crate::specs::Reading::list_at))]
+fn list(alloc: Global, kind: &Kind, words: &mut Words<'_>) -> Result<Vec<Destination>, WordFault>
+    ensures { MatchResult result
+        (λ to. list_at kind.now words.old ≡ Some to.items)
+        (λ fault. Refuses fault (list_at kind.now words.old)) }
+{
+    if has_list(kind) {
+        return destinations(alloc, words);
+    }
+    match words.next() {
+        None => Ok(Vec::new(alloc)),
+        Some(_) => Err(WordFault::Bad),
+    }
+}
+
+/// What stands behind a statement's number.
+#[tactic(auto, unfolding(crate::specs::Reading::statement_at), using(crate::proofs::WordLaws::region_bound))]
+fn statement(alloc: Global, words: &mut Words<'_>) -> Result<Statement, WordFault>
+    ensures { MatchResult result
+        (λ s. statement_at words.old ≡ Some s)
+        (λ fault. Refuses fault (statement_at words.old)) }
+{
+    let region = number0_word(words.word()?, 99)?;
+    let kind = kind(words)?;
+    arrow(words)?;
+    let to = list(alloc, &kind, words)?;
+    Ok(Statement::new(region as u8, kind, to))
+}
+
+/// A line of a block.
+#[derive(Drop)]
+pub enum Line {
+    /// The line that begins a block.
+    Block(BlockName),
+    /// A statement with its number.
+    Statement(u32, Statement),
+}
+
+/// Reads one line.
+pub fn read_line(alloc: Global, text: &[u8]) -> Result<Line, WordFault>
+    ensures { MatchResult result
+        (λ l. line_at (words text.now) ≡ Some l)
+        (λ fault. Refuses fault (line_at (words text.now))) }
+{
+    let mut words = Words::new(text);
+    let first = words.word()?;
+    if first == b"block".as_slice() {
+        let name = name_word(words.word()?)?;
+        return match words.next() {
+            None => Ok(Line::Block(name)),
+            Some(_) => Err(WordFault::Bad),
+        };
+    }
+    let number = number_word(first, 1000)?;
+    let statement = statement(alloc, &mut words)?;
+    Ok(Line::Statement(number, statement))
+}

@@ -1,0 +1,176 @@
+//! Worked texts: what is read, what is refused, and that each is written as it was read.
+use crate::program::{Constant, Kind, Program};
+use crate::read_error::ReadError;
+use crate::text::read;
+use std::alloc::{AllocError, Global};
+use std::test::Fail;
+
+fn is_written_as_read(alloc: Global, text: &[u8]) -> Result<bool, Fail> {
+    let program = read(alloc, text)?;
+    let mut out = Vec::new(alloc);
+    program.write_text(&mut out)?;
+    Ok(out.as_slice() == text)
+}
+
+/// A program of one block with one statement, of these bytes.
+fn with_line(alloc: Global, line: &[u8]) -> Result<Vec<u8>, AllocError> {
+    let mut text = Vec::new(alloc);
+    text.extend_from_slice(b"u-program 1\nblock main\n")?;
+    text.extend_from_slice(line)?;
+    text.push(b'\n')?;
+    Ok(text)
+}
+
+/// The text of as many equal blocks.
+fn blocks(alloc: Global, count: usize) -> Result<Vec<u8>, AllocError> {
+    let mut text = Vec::new(alloc);
+    text.extend_from_slice(b"u-program 1\n")?;
+    for _ in 0..count {
+        text.extend_from_slice(b"block main\n1 0 begin ->\n")?;
+    }
+    Ok(text)
+}
+
+/// The text of a block with as many statements.
+fn statements(alloc: Global, count: u32) -> Result<Vec<u8>, AllocError> {
+    let mut text = Vec::new(alloc);
+    text.extend_from_slice(b"u-program 1\nblock main\n")?;
+    for i in 0..count {
+        u_text::push_number(&mut text, i + 1)?;
+        text.extend_from_slice(b" 0 begin ->\n")?;
+    }
+    Ok(text)
+}
+
+fn first_kind(program: &Program) -> Option<Kind> {
+    let block = program.blocks().first()?;
+    let statement = block.statements().first()?;
+    Some(*statement.kind())
+}
+
+#[test]
+fn writes_what_it_read(rt: HostRuntime) -> Result<(), Fail> {
+    let alloc = rt.alloc();
+    let double = b"u-program 1\nblock main\n1 0 begin -> 2.1 2.2\n2 0 add -> 3.1\n3 0 end ->\n";
+    assert!(rt; is_written_as_read(alloc, double.as_slice())?);
+    let lines = [
+        b"1 0 const -9223372036854775808 -> 2.1".as_slice(),
+        b"1 0 const 9223372036854775807 ->".as_slice(),
+        b"1 0 const 0 -> 1.1 1.2 1.3 2.1 999.3".as_slice(),
+        b"1 0 const -1 ->".as_slice(),
+        b"1 99 const true ->".as_slice(),
+        b"1 0 const false ->".as_slice(),
+        b"1 0 const @fact ->".as_slice(),
+        b"1 0 add -> 1.1 2.1 3.1 4.1 5.1 6.1 7.1 8.1 9.1 10.1 11.1 12.1 13.1 14.1 15.1 16.1".as_slice(),
+    ];
+    for line in lines {
+        let text = with_line(alloc, line)?;
+        assert!(rt; is_written_as_read(alloc, &text)?);
+    }
+    assert!(rt; is_written_as_read(alloc, &blocks(alloc, 64)?)?);
+    assert!(rt; is_written_as_read(alloc, &statements(alloc, 999)?)?);
+    let text = with_line(alloc, b"1 0 const -7 ->")?;
+    assert!(rt; first_kind(&read(alloc, &text)?) == Some(Kind::Const(Constant::Int(-7))));
+    Ok(())
+}
+
+#[test]
+fn names_the_first_bad_line(rt: HostRuntime) -> Result<(), Fail> {
+    let alloc = rt.alloc();
+    let lines = [
+        b"1 0 begin -> 2.1  2.2".as_slice(),
+        b"1 0 begin -> 2.1 ".as_slice(),
+        b"1 0 begin".as_slice(),
+        b"1 0 begin -> 2.2 2.1".as_slice(),
+        b"1 0 begin -> 2.1 2.1".as_slice(),
+        b"1 0 begin -> 2.4".as_slice(),
+        b"1 0 begin -> 1000.1".as_slice(),
+        b"1 0 begin 2 -> 2.1".as_slice(),
+        b"1 100 begin ->".as_slice(),
+        b"01 0 begin ->".as_slice(),
+        b"2 0 begin ->".as_slice(),
+        b"1 0 const -> 2.1".as_slice(),
+        b"1 0 const -0 ->".as_slice(),
+        b"1 0 const 01 ->".as_slice(),
+        b"1 0 const +1 ->".as_slice(),
+        b"1 0 const 9223372036854775808 ->".as_slice(),
+        b"1 0 const -9223372036854775809 ->".as_slice(),
+        b"1 0 const True ->".as_slice(),
+        b"1 0 const @ ->".as_slice(),
+        b"1 0 const @Fact ->".as_slice(),
+        b"1 0 end -> 1.1".as_slice(),
+        b"1 0 end -> ".as_slice(),
+        b"1 0 begin -> 1.1 2.1 3.1 4.1 5.1 6.1 7.1 8.1 9.1 10.1 11.1 12.1 13.1 14.1 15.1 16.1 17.4".as_slice(),
+        b"loop 1 0".as_slice(),
+        b"block next".as_slice(),
+        b"".as_slice(),
+    ];
+    for line in lines {
+        let text = with_line(alloc, line)?;
+        assert_eq!(rt; read(alloc, &text).err(), Some(ReadError::BadLine(3)));
+    }
+    assert_eq!(rt;
+        read(alloc, b"u-program 2\n").err(),
+        Some(ReadError::BadLine(1))
+    );
+    assert_eq!(rt;
+        read(alloc, b"u-program 1\nblock Main\n").err(),
+        Some(ReadError::BadLine(2))
+    );
+    Ok(())
+}
+
+#[test]
+fn names_the_line_that_has_too_many(rt: HostRuntime) -> Result<(), Fail> {
+    let alloc = rt.alloc();
+    let text = with_line(
+        alloc,
+        b"1 0 begin -> 1.1 2.1 3.1 4.1 5.1 6.1 7.1 8.1 9.1 10.1 11.1 12.1 13.1 14.1 15.1 16.1 17.1",
+    )?;
+    assert_eq!(rt; read(alloc, &text).err(), Some(ReadError::TooMany(3)));
+    let text = blocks(alloc, 65)?;
+    assert_eq!(rt; read(alloc, &text).err(), Some(ReadError::TooMany(130)));
+    let text = statements(alloc, 1000)?;
+    assert_eq!(rt; read(alloc, &text).err(), Some(ReadError::TooMany(1002)));
+    Ok(())
+}
+
+#[test]
+fn tells_a_text_cut_short(rt: HostRuntime) -> Result<(), Fail> {
+    let alloc = rt.alloc();
+    let texts = [
+        b"".as_slice(),
+        b"u-program".as_slice(),
+        b"u-program 1\n".as_slice(),
+        b"u-program 1\nblock main\n".as_slice(),
+        b"u-program 1\nblock main\n1 0 begin ->\nblock next\n".as_slice(),
+        b"u-program 1\nblock main\n1 0 begin ->\nno line of a program".as_slice(),
+        b"u-program 1\nblock main\n1 0 begin -> 2.1 2.2\n2 0 add -> 3.1\n3 0 end ->".as_slice(),
+    ];
+    for text in texts {
+        assert_eq!(rt; read(alloc, text).err(), Some(ReadError::Truncated));
+    }
+    Ok(())
+}
+
+#[test]
+fn prints_errors(rt: HostRuntime) -> Result<(), Fail> {
+    let alloc = rt.alloc();
+    assert_eq!(rt;
+        format!(in alloc; "{}", ReadError::BadLine(3))?.as_str(),
+        "program line 3 not allowed"
+    );
+    assert_eq!(rt;
+        format!(in alloc; "{}", ReadError::TooMany(65))?.as_str(),
+        "program line 65 has too many"
+    );
+    assert_eq!(rt;
+        format!(in alloc; "{}", ReadError::Truncated)?.as_str(),
+        "program cut short"
+    );
+    assert_eq!(rt;
+        format!(in alloc; "{}", ReadError::NoMemory)?.as_str(),
+        "no memory"
+    );
+    Ok(())
+}

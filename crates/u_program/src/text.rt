@@ -1,0 +1,71 @@
+//! The text of a program, read.
+ghost use Rattle.std.specs.Prelude.{◌≡◌, List, MatchResult};
+ghost use Rattle.u_program.specs.declared.read_error.ReadError.TheVariants as errors;
+ghost use Rattle.u_program.specs.Parts.{BlockParts};
+ghost use Rattle.u_program.specs.Answer.{IsTextOf, IsReadError, fault_at};
+
+use crate::part::{LineFault, Part};
+use crate::program::Program;
+use crate::read_error::ReadError;
+use std::alloc::Global;
+use u_text::cut;
+
+/// The program whose text the bytes are. Each program has one text, which `Program::write_text`
+/// writes, so the two are inverse to each other.
+///
+/// A line ends with a newline. Lines are judged from the first one, and the first that no program
+/// could have there is named: by `BadLine`, or by `TooMany` where the line is right but for the number
+/// of blocks (64), of statements of a block (999) or of destinations of a statement (16). Where
+/// no such line is found, and the bytes are no program's text, the answer is `Truncated`, whatever
+/// stands behind the last newline. The text of a program is refused for want of memory alone.
+#[tactic(auto, using(crate::proofs::Same::read_back))]
+pub fn read(alloc: Global, bytes: &[u8]) -> Result<Program, ReadError>
+    ensures answer { MatchResult result (λ program. IsTextOf bytes.now program) (λ fault. IsReadError bytes.now fault) }
+    ensures back { (p : List BlockParts) → IsTextOf bytes.now p → MatchResult result (λ program. program ≡ p) (λ fault. fault ≡ errors.NoMemory) }
+{
+    read_lines(alloc, bytes)
+}
+
+/// Reads line by line: the two first lines, and then what may follow them.
+fn read_lines(alloc: Global, bytes: &[u8]) -> Result<Program, ReadError>
+    ensures { MatchResult result (λ program. IsTextOf bytes.now program) (λ fault. IsReadError bytes.now fault) }
+{
+    let Some((first, after_first)) = cut(bytes, b'\n') else {
+        return Err(ReadError::Truncated);
+    };
+    if first != b"u-program 1".as_slice() {
+        return Err(ReadError::BadLine(1));
+    }
+    let Some((second, after_second)) = cut(after_first, b'\n') else {
+        return Err(ReadError::Truncated);
+    };
+    let mut part = match Part::first(alloc, second) {
+        Ok(part) => part,
+        Err(fault) => return Err(at_line(fault, 2)),
+    };
+    let mut rest = after_second;
+    let mut line = 2;
+    while let Some((text, others)) = cut(rest, b'\n') {
+        line += 1;
+        part = match part.with_line(alloc, text) {
+            Ok(part) => part,
+            Err(fault) => return Err(at_line(fault, line)),
+        };
+        rest = others;
+    }
+    if !rest.is_empty() || part.last.statements().len() == 0 {
+        return Err(ReadError::Truncated);
+    }
+    Ok(part.finish()?)
+}
+
+/// The fault of a line, with the line's number.
+fn at_line(fault: LineFault, line: usize) -> ReadError
+    ensures { result ≡ fault_at fault line }
+{
+    match fault {
+        LineFault::Bad => ReadError::BadLine(line),
+        LineFault::TooMany => ReadError::TooMany(line),
+        LineFault::NoMemory => ReadError::NoMemory,
+    }
+}

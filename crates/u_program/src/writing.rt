@@ -1,0 +1,137 @@
+//! The text of a program, written.
+ghost use Rattle.std.specs.Prelude.{◌≡◌, ◌+◌, ◌<◌, ◌^◌, ◌++◌, ◌∷◌, [], map, OnOk, OnErr};
+ghost use Rattle.u_text.specs.Appending.{Extends};
+ghost use Rattle.u_text.specs.Spaced.{spaced, ended};
+ghost use Rattle.u_program.specs.Limits.{IsProgram, the_limits};
+ghost use Rattle.u_program.specs.Text.{kind_word, constant_word, argument_words, destination_word, tail_words, statement_line, statement_lines, block_lines, blocks_lines, program_text};
+
+use crate::kind_words::kind_word;
+use crate::program::{Block, Constant, Destination, Kind, Program, Statement};
+use std::alloc::AllocError;
+use u_text::{push_behind, push_long, push_number, push_signed, push_spaced};
+
+#[tactic(auto, using(u_text::specs::Appending::extends_same, u_text::specs::Appending::extends_behind, std::proofs::Common::append_assoc))]
+fn push_constant(out: &mut Vec<u8>, constant: &Constant) -> Result<(), AllocError>
+    ensures ok { OnOk result (out.new.items ≡ out.old.items ++ (32 ∷ constant_word constant.now)) }
+    ensures err { OnErr result (Extends out.old.items out.new.items) }
+{
+    match constant {
+        Constant::Int(number) => {
+            out.push(b' ')?;
+            push_signed(out, *number)
+        }
+        Constant::Bool(true) => push_spaced(out, b"true"),
+        Constant::Bool(false) => push_spaced(out, b"false"),
+        Constant::Proc(name) => {
+            push_spaced(out, b"@")?;
+            out.extend_from_slice(name.as_bytes())
+        }
+    }
+}
+
+#[tactic(auto, using(u_text::specs::Appending::extends_same, u_text::specs::Appending::extends_behind, std::proofs::Common::append_assoc))]
+fn push_kind(out: &mut Vec<u8>, kind: &Kind) -> Result<(), AllocError>
+    ensures ok { OnOk result (out.new.items ≡ out.old.items ++ spaced (kind_word kind.now ∷ argument_words kind.now)) }
+    ensures err { OnErr result (Extends out.old.items out.new.items) }
+{
+    push_spaced(out, kind_word(kind))?;
+    match kind {
+        Kind::Const(constant) => push_constant(out, constant),
+        _ => Ok(()),
+    }
+}
+
+#[tactic(auto, using(u_text::specs::Appending::extends_same, u_text::specs::Appending::extends_behind, std::proofs::Common::append_assoc))]
+fn push_destination(out: &mut Vec<u8>, to: &Destination) -> Result<(), AllocError>
+    ensures ok { OnOk result (out.new.items ≡ out.old.items ++ (32 ∷ destination_word to.now)) }
+    ensures err { OnErr result (Extends out.old.items out.new.items) }
+{
+    push_behind(out, b' ', u32::from(to.statement))?;
+    push_behind(out, b'.', u32::from(to.port))
+}
+
+#[tactic(auto, using(u_text::specs::Appending::extends_by, u_text::specs::Appending::extends_behind, crate::proofs::Written::list_more))]
+fn push_list(out: &mut Vec<u8>, to: &[Destination]) -> Result<(), AllocError>
+    ensures ok { OnOk result (out.new.items ≡ out.old.items ++ spaced (map destination_word to.now)) }
+    ensures err { OnErr result (Extends out.old.items out.new.items) }
+{
+    for destination in to {
+        push_destination(out, destination)?;
+    }
+    Ok(())
+}
+
+/// Appends what stands behind a statement's region.
+#[tactic(auto, using(u_text::specs::Appending::extends_behind, crate::proofs::Written::tail_text))]
+fn push_tail(out: &mut Vec<u8>, kind: &Kind, to: &[Destination]) -> Result<(), AllocError>
+    ensures ok { OnOk result (out.new.items ≡ out.old.items ++ spaced (tail_words kind.now to.now)) }
+    ensures err { OnErr result (Extends out.old.items out.new.items) }
+{
+    push_kind(out, kind)?;
+    push_spaced(out, b"->")?;
+    push_list(out, to)?;
+    Ok(())
+}
+
+#[tactic(auto, using(u_text::specs::Appending::extends_same, u_text::specs::Appending::extends_behind, crate::proofs::Written::statement_text))]
+fn push_statement(out: &mut Vec<u8>, number: u64, statement: &Statement) -> Result<(), AllocError>
+    ensures ok { OnOk result (out.new.items ≡ out.old.items ++ (statement_line number statement.now ++ (10 ∷ []))) }
+    ensures err { OnErr result (Extends out.old.items out.new.items) }
+{
+    push_long(out, number)?;
+    push_behind(out, b' ', u32::from(statement.region()))?;
+    push_tail(out, statement.kind(), statement.destinations())?;
+    out.push(b'\n')?;
+    Ok(())
+}
+
+#[tactic(auto, using(u_text::specs::Appending::extends_by, u_text::specs::Appending::extends_behind, crate::proofs::Written::statements_more))]
+fn push_statements(out: &mut Vec<u8>, statements: &[Statement]) -> Result<(), AllocError>
+    ensures ok { OnOk result (out.new.items ≡ out.old.items ++ ended (statement_lines 1 statements.now)) }
+    ensures err { OnErr result (Extends out.old.items out.new.items) }
+{
+    for (i, statement) in statements.iter().enumerate() {
+        push_statement(out, i as u64 + 1, statement)?;
+    }
+    Ok(())
+}
+
+#[tactic(auto, using(u_text::specs::Appending::extends_same, u_text::specs::Appending::extends_behind, crate::proofs::Written::block_text))]
+fn push_block(out: &mut Vec<u8>, block: &Block) -> Result<(), AllocError>
+    ensures ok { OnOk result (out.new.items ≡ out.old.items ++ ended (block_lines block.now)) }
+    ensures err { OnErr result (Extends out.old.items out.new.items) }
+{
+    out.extend_from_slice(b"block")?;
+    push_spaced(out, block.name().as_bytes())?;
+    out.push(b'\n')?;
+    push_statements(out, block.statements())?;
+    Ok(())
+}
+
+#[tactic(auto, using(u_text::specs::Appending::extends_by, u_text::specs::Appending::extends_behind, crate::proofs::Written::blocks_more))]
+fn push_blocks(out: &mut Vec<u8>, blocks: &[Block]) -> Result<(), AllocError>
+    ensures ok { OnOk result (out.new.items ≡ out.old.items ++ ended (blocks_lines blocks.now)) }
+    ensures err { OnErr result (Extends out.old.items out.new.items) }
+{
+    for block in blocks {
+        push_block(out, block)?;
+    }
+    Ok(())
+}
+
+impl Program {
+    /// Appends the program's text. `read` of that text gives an equal program, and a program that
+    /// was read is written as the bytes that it was read from. On an error `out` begins with what
+    /// it had, and a part of the text may stand behind it.
+    #[tactic(auto, using(u_text::specs::Appending::extends_same, u_text::specs::Appending::extends_behind, crate::proofs::Written::whole_text))]
+    pub fn write_text(&self, out: &mut Vec<u8>) -> Result<(), AllocError>
+        ensures ok { OnOk result (out.new.items ≡ out.old.items ++ program_text self.now) }
+        ensures err { OnErr result (Extends out.old.items out.new.items) }
+        ensures limits { IsProgram the_limits self.now }
+    {
+        let blocks = self.blocks();
+        out.extend_from_slice(b"u-program 1\n")?;
+        push_blocks(out, blocks)?;
+        Ok(())
+    }
+}
