@@ -5,6 +5,8 @@ mod checker;
 mod job;
 mod keeps;
 mod rule;
+#[cfg(test)]
+mod tests;
 
 pub use checker::{Refused, check};
 pub use job::{Checked, Job};
