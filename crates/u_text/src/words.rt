@@ -98,7 +98,7 @@ pub fn number0_word(word: &[u8], max: u32) -> Result<u32, BadWord>
 
 /// The number from 0 to `max` that the whole word is, in 64 bits.
 #[tactic(auto, unfolding(crate::specs::WholeWords::number0_word, crate::specs::WholeWords::number_word))]
-fn long_word(word: &[u8], max: u64) -> Result<u64, BadWord>
+pub fn long_word(word: &[u8], max: u64) -> Result<u64, BadWord>
     requires { 9 ≤ max }
     ensures { MatchResult result
         (λ n. number0_word max word.now ≡ Some n)
@@ -115,7 +115,7 @@ fn long_word(word: &[u8], max: u64) -> Result<u64, BadWord>
 
 /// The number behind a minus that the whole word is, at least -2^63.
 #[tactic(auto, unfolding(crate::specs::WholeWords::number_word), using(crate::specs::Number::number_bound, crate::specs::Number::number_least))]
-fn negative_word(digits: &[u8]) -> Result<i64, BadWord>
+pub fn negative_word(digits: &[u8]) -> Result<i64, BadWord>
     ensures { MatchResult result
         (λ z. negative_word digits.now ≡ Some z)
         (λ _. negative_word digits.now ≡ None) }

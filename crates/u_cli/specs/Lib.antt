@@ -1,0 +1,4 @@
+pub mod Statuses
+pub mod Outputs
+pub mod Inputs
+pub mod Arguments

@@ -1,0 +1,67 @@
+//! Why a command gives no whole output.
+ghost use Rattle.std.specs.Prelude.{◌≡◌};
+ghost use Rattle.u_cli.specs.Statuses.{status_of_fault};
+
+use std::alloc::AllocError;
+use thiserror::Error;
+
+use u_check::Breach;
+
+/// Why a command gives no whole output. It prints as the text that stands behind `u: `.
+#[derive(Debug, Drop, PartialEq, Eq, Error)]
+pub enum Fault {
+    /// This line of the program is not allowed; lines count from 1.
+    #[error("program line {0} not allowed")]
+    LineNotAllowed(usize),
+    /// This line of the program is not allowed only for the number of blocks, statements or destinations.
+    #[error("program line {0} has too many")]
+    TooMany(usize),
+    /// The program ends too early.
+    #[error("program cut short")]
+    CutShort,
+    /// The program breaks a rule of the checker.
+    #[error("{0}")]
+    Rule(Breach),
+    /// The argument is no number from -2^63 to 2^63 - 1 in its one spelling.
+    #[error("argument not allowed")]
+    ArgumentNotAllowed,
+    /// The input has more than 67108864 bytes.
+    #[error("input too long")]
+    InputTooLong,
+    /// There is no memory.
+    #[error("no memory")]
+    NoMemory,
+    /// The input could not be read.
+    #[error("not readable")]
+    NotReadable,
+    /// The output could not be written; what was written is a prefix of it.
+    #[error("not written")]
+    NotWritten,
+}
+
+impl From<AllocError> for Fault {
+    ghost use Rattle.u_cli.specs.declared.fault.Fault.TheVariants as faults;
+
+    ghost from_gives = { λ _ e. e ≡ faults.NoMemory };
+
+    fn from(_: AllocError) -> Fault {
+        Fault::NoMemory
+    }
+}
+
+impl Fault {
+    /// The exit status: 2 where a text is refused, 5 where the machine's surroundings fail.
+    pub fn status(&self) -> u8
+        ensures { result ≡ status_of_fault self.now }
+    {
+        match self {
+            Fault::LineNotAllowed(_)
+            | Fault::TooMany(_)
+            | Fault::CutShort
+            | Fault::Rule(_)
+            | Fault::ArgumentNotAllowed
+            | Fault::InputTooLong => 2,
+            Fault::NoMemory | Fault::NotReadable | Fault::NotWritten => 5,
+        }
+    }
+}
