@@ -2,3 +2,4 @@ pub mod Statuses
 pub mod Outputs
 pub mod Inputs
 pub mod Arguments
+pub mod Runs

@@ -11,7 +11,10 @@ use u_text::{long_word, negative_word};
 pub fn argument_of(word: &[u8]) -> Option<i64>
     ensures { MatchOption result ((z : ℤ) → IsArgumentOf word.now z → ⊥) (λ z. IsArgumentOf word.now z) }
 {
-    argument_word(word)
+    match argument_word(word) {
+        Some(number) => Some(number),
+        None => None,
+    }
 }
 
 #[tactic(auto, unfolding(crate::specs::Arguments::argument_word), using(u_text::specs::WholeWords::number0_bound, std::proofs::lemmas::Int::to_z_pos))]

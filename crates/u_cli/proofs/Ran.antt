@@ -1,0 +1,78 @@
+-- What a new machine that ran says of its job.
+use Rattle.std.proofs.Common.{◌≡◌, ◌↔◌, ◌⊎◌, inl, inr, ◌∙◌, sym, ap, refl, subst, ℕ, List, [], ◌∷◌, ◌++◌, ◌≤◌, append-nil, length, Contains, Ok, Err}
+use Rattle.std.specs.Prelude.{Result}
+use Rattle.u_check.specs.Jobs.{JobParts}
+use Rattle.u_system.specs.Firing.{Held, Whole, Same, Enabled, Plain, Cl}
+use Rattle.u_system.proofs.Held.{Enabled-mono}
+use Rattle.u_rule.specs.Rule.{system_of}
+use Rattle.u_rule.specs.EntryOrder.{FiringList}
+use Rattle.u_rule.specs.declared.entry.Entry.{Entry}
+use Rattle.u_rule.specs.declared.firing.Firing.{Firing}
+use Rattle.u_machine.specs.declared.answer.Ran.{Ran}
+use Rattle.u_machine.specs.declared.answer.Ran.TheVariants as ran
+use Rattle.u_machine.specs.States.{State, state, Taken, IsMachine, IsSettled, NothingReady, IsReady, RunAnswer, firing_le}
+use Rattle.u_machine.proofs.States.{settled_is_Cl}
+use Rattle.u_machine.proofs.Runs.{run_done, run_plain, IsPlainRun}
+use Rattle.u_history.specs.declared.report.State.TheVariants as states
+use Rattle.u_history.specs.Report.{IsReportOf}
+use Rattle.u_history.proofs.Reports.{report_same, outcome_same}
+use Rattle.u_cli.specs.Runs.{IsRunOf, IsStatusOf, RunsJob, state_of}
+
+-- one set, two predicates: one status
+status_same : (H K : Entry → Type 0) → Same H K → (s : _) (n : ℕ) → IsStatusOf H s n → IsStatusOf K s n
+status_same H K same s n t = record { answers = t.answers; cells = t.cells; ports = t.ports; faults = t.faults; outcome = outcome_same H K same t.answers t.cells t.ports t.faults t.outcome; is = t.is }
+
+module _ (m : State) (is : IsMachine m) (st : IsSettled m) (alone : m.parked ≡ []) where
+  taken_logged : (f : Firing) → Taken m f → Contains m.log f
+  taken_logged f t = subst (λ (xs : FiringList). Contains xs f) (ap (λ (xs : FiringList). m.log ++ xs) alone ∙ append-nil m.log) t
+
+  logged_taken : (f : Firing) → Contains m.log f → Taken m f
+  logged_taken f c = subst (λ (xs : FiringList). Contains xs f) (sym (ap (λ (xs : FiringList). m.log ++ xs) alone ∙ append-nil m.log)) c
+
+  held_closed : (e : Entry) → Held (system_of m.job) m.log e → Cl (system_of m.job) (Taken m) e
+  held_closed e h = let s = settled_is_Cl m is st in (s.0 e).0 ((s.1 e).1 h)
+
+  closed_held : (e : Entry) → Cl (system_of m.job) (Taken m) e → Held (system_of m.job) m.log e
+  closed_held e c = let s = settled_is_Cl m is st in (s.1 e).0 ((s.0 e).1 c)
+
+  none_left : NothingReady m → (f : Firing) → Enabled (system_of m.job) (Held (system_of m.job) m.log) f → Contains m.log f
+  none_left n f en = taken_logged f (n f (Enabled-mono (system_of m.job) (Held (system_of m.job) m.log) (Cl (system_of m.job) (Taken m)) held_closed f en))
+
+  some_left : (f : Firing) × IsReady m f → (f : Firing) × Enabled (system_of m.job) (Held (system_of m.job) m.log) f × (Contains m.log f → ⊥)
+  some_left (f, r) = (f, Enabled-mono (system_of m.job) (Cl (system_of m.job) (Taken m)) (Held (system_of m.job) m.log) closed_held f r.0, λ c. r.1 (logged_taken f c))
+
+module _ (old new : State) (budget : ℕ) (log : old.log ≡ []) (parked : old.parked ≡ []) (is : IsMachine new) where
+  pub ran_run : (end : Ran) (report : List ℕ) (status : ℕ) → RunAnswer old budget (Ok end) new → IsReportOf (Contains new.history) (state_of end) (length new.log) 0 report → IsStatusOf (Contains new.history) (state_of end) status → IsRunOf old.job budget (state_of end) new.log report status
+  ran_run ran.Quiet report status a r t =
+      let d = run_done old new budget ran.Quiet a log parked is in
+      record {
+        plain = d.0.plain;
+        reported = report_same (Contains new.history) (Held (system_of old.job) new.log) d.0.held states.Quiet (length new.log) 0 report r;
+        ended = status_same (Contains new.history) (Held (system_of old.job) new.log) d.0.held states.Quiet status t;
+        whole = λ e. d.1 refl;
+        all = λ e. rw d.0.job at (none_left new is a.3 d.0.parked a.4);
+        many = λ e. absurd (cc);
+        more = λ e. absurd (cc)
+      }
+  ran_run ran.Paused report status a r t =
+      let d = run_done old new budget ran.Paused a log parked is in
+      let p = a.1.alone parked in
+      record {
+        plain = d.0.plain;
+        reported = report_same (Contains new.history) (Held (system_of old.job) new.log) d.0.held states.Paused (length new.log) 0 report r;
+        ended = status_same (Contains new.history) (Held (system_of old.job) new.log) d.0.held states.Paused status t;
+        whole = λ e. absurd (cc);
+        all = λ e. absurd (cc);
+        many = λ e. ap length (p.0 ∙ ap (λ (xs : FiringList). xs ++ a.0) log) ∙ a.2;
+        more = λ e. rw d.0.job at (some_left new is a.3 d.0.parked a.4)
+      }
+
+-- the same for a machine that was new for this job
+pub ran_job : (job : JobParts) (limit : ℕ) (h : List Entry) (old new : State) (budget : ℕ) (end : Ran) (report : List ℕ) (status : ℕ) → old ≡ state job limit [] 0 [] h → IsMachine new → RunAnswer old budget (Ok end) new → IsReportOf (Contains new.history) (state_of end) (length new.log) 0 report → IsStatusOf (Contains new.history) (state_of end) status → RunsJob job budget report status
+ran_job job limit h old new budget end report status e is a r t =
+    record {
+      state = state_of end;
+      fs = new.log;
+      run = subst (λ (j : JobParts). IsRunOf j budget (state_of end) new.log report status) (ap (λ (m : State). m.job) e)
+        (ran_run old new budget (ap (λ (m : State). m.log) e) (ap (λ (m : State). m.parked) e) is end report status a r t)
+    }

@@ -1,0 +1,118 @@
+-- What `run` answers to the bytes of a program and the word of an argument.
+use Rattle.std.specs.Prelude.{◌≡◌, ℕ, List, [], ◌∷◌, ◌⊎◌, Option, Result, Ok, Err, Contains, length}
+use Rattle.std.specs.Io.KnownBytes.{Keeps}
+use Rattle.u_program.specs.Parts.{BlockParts}
+use Rattle.u_program.specs.declared.read_error.ReadError.{ReadError}
+use Rattle.u_program.specs.declared.read_error.ReadError.TheVariants as read_errors
+use Rattle.u_program.specs.Answer.{IsTextOf}
+use Rattle.u_program.specs.Laws.{IsBadLine, IsTooMany, IsTruncated}
+use Rattle.u_check.specs.Rules.{IsChecked, IsFirstBreach}
+use Rattle.u_check.specs.Jobs.{JobParts}
+use Rattle.u_system.specs.Firing.{Held, Whole, Same, Enabled, Plain}
+use Rattle.u_value.specs.declared.value.Value.{Value}
+use Rattle.u_rule.specs.Parts.{TokenParts}
+use Rattle.u_rule.specs.Rule.{system_of}
+use Rattle.u_rule.specs.declared.parts.Write.{Write}
+use Rattle.u_rule.specs.declared.parts.Fault.{Fault}
+use Rattle.u_rule.specs.declared.entry.Entry.{Entry}
+use Rattle.u_rule.specs.declared.firing.Firing.{Firing}
+use Rattle.u_machine.specs.States.{firing_le}
+use Rattle.u_machine.specs.declared.answer.Ran.{Ran}
+use Rattle.u_machine.specs.declared.answer.Ran.TheVariants as ran
+use Rattle.u_history.specs.declared.report.State.{State}
+use Rattle.u_history.specs.declared.report.State.TheVariants as states
+use Rattle.u_history.specs.Says.{IsOutcome}
+use Rattle.u_history.specs.Verdicts.{judged}
+use Rattle.u_history.specs.Report.{IsReportOf}
+use Rattle.u_cli.specs.Arguments.{IsArgumentOf}
+use Rattle.u_cli.specs.Outputs.{WritesAll, WritesPrefix}
+use Rattle.u_cli.specs.Statuses.{status_of}
+use Rattle.std.specs.Prelude.{ℤ}
+use Rattle.u_check.specs.declared.rule.Breach.{Breach}
+use Rattle.u_cli.specs.declared.fault.Fault.{Fault as Refused}
+use Rattle.u_cli.specs.declared.fault.Fault.TheVariants as faults
+
+-- the bytes are the text of the job's program, which breaks no rule, and the word gives its argument
+pub record IsJobOf (bytes word : List ℕ) (job : JobParts) : Type 0 where
+  pub text : IsTextOf bytes job.program
+  pub checked : IsChecked job.program
+  pub argument : IsArgumentOf word job.argument
+
+-- The status is that of the verdict on what is held.
+pub record IsStatusOf (H : Entry → Type 0) (state : State) (status : ℕ) : Type 0 where
+  pub answers : List Value
+  pub cells : List Write
+  pub ports : List TokenParts
+  pub faults : List Fault
+  pub outcome : IsOutcome H answers cells ports faults
+  pub is : status ≡ status_of state (judged answers cells ports faults)
+
+-- fs is the plain run of the job: each firing the least that is enabled and new, so many at most.
+-- The report and the status are those of what fs holds; no firing is parked.
+pub record IsRunOf (job : JobParts) (firings : ℕ) (state : State) (fs : List Firing) (report : List ℕ) (status : ℕ) : Type 0 where
+  pub plain : Plain (system_of job) firing_le firings fs
+  pub reported : IsReportOf (Held (system_of job) fs) state (length fs) 0 report
+  pub ended : IsStatusOf (Held (system_of job) fs) state status
+  -- where it says quiet, it is the whole history, and fs has every firing that is enabled over it
+  pub whole : state ≡ states.Quiet → Same (Held (system_of job) fs) (Whole (system_of job))
+  pub all : state ≡ states.Quiet → (f : Firing) → Enabled (system_of job) (Held (system_of job) fs) f → Contains fs f
+  -- where it says paused, it fired as often as it may, and more is enabled
+  pub many : state ≡ states.Paused → length fs ≡ firings
+  pub more : state ≡ states.Paused → (f : Firing) × Enabled (system_of job) (Held (system_of job) fs) f × (Contains fs f → ⊥)
+
+-- some run of the job, with its report and its status
+pub record RunsJob (job : JobParts) (firings : ℕ) (report : List ℕ) (status : ℕ) : Type 0 where
+  pub state : State
+  pub fs : List Firing
+  pub run : IsRunOf job firings state fs report status
+
+-- some run of a job of these texts, with its report and its status
+pub record Runs (bytes word : List ℕ) (firings : ℕ) (report : List ℕ) (status : ℕ) : Type 0 where
+  pub job : JobParts
+  pub is : IsJobOf bytes word job
+  pub run : RunsJob job firings report status
+
+abbrev pub state_of : Ran → State
+state_of ran.Quiet = states.Quiet
+state_of ran.Paused = states.Paused
+
+-- the program's text is that of a program which breaks the named rule first
+pub record BreaksRule (bytes : List ℕ) (breach : Breach) : Type 0 where
+  pub program : List BlockParts
+  pub text : IsTextOf bytes program
+  pub first : IsFirstBreach program breach.rule breach.block breach.statement
+
+-- the program breaks no rule, and the word gives no argument
+pub record GivesNoArgument (bytes word : List ℕ) : Type 0 where
+  pub program : List BlockParts
+  pub text : IsTextOf bytes program
+  pub checked : IsChecked program
+  pub none : (z : ℤ) → IsArgumentOf word z → ⊥
+
+-- what stands before and after, for each answer
+abbrev pub RunTextAnswer : List ℕ → List ℕ → ℕ → Option (List ℕ) → Result ℕ Refused → Option (List ℕ) → Type 0
+RunTextAnswer bytes word firings old (Ok status) new = (report : List ℕ) × Runs bytes word firings report status × WritesAll old new report
+RunTextAnswer bytes word firings old (Err (faults.LineNotAllowed n)) new = IsBadLine bytes n × Keeps old new
+RunTextAnswer bytes word firings old (Err (faults.TooMany n)) new = IsTooMany bytes n × Keeps old new
+RunTextAnswer bytes word firings old (Err faults.CutShort) new = IsTruncated bytes × Keeps old new
+RunTextAnswer bytes word firings old (Err (faults.Rule breach)) new = BreaksRule bytes breach × Keeps old new
+RunTextAnswer bytes word firings old (Err faults.ArgumentNotAllowed) new = GivesNoArgument bytes word × Keeps old new
+RunTextAnswer bytes word firings old (Err faults.NoMemory) new = Keeps old new
+RunTextAnswer bytes word firings old (Err faults.NotWritten) new = (report : List ℕ) × (status : ℕ) × Runs bytes word firings report status × WritesPrefix old new report
+RunTextAnswer bytes word firings old (Err fault) new = ⊥
+
+-- why there is no job
+abbrev pub JobRefused : List ℕ → List ℕ → Refused → Type 0
+JobRefused bytes word (faults.LineNotAllowed n) = IsBadLine bytes n
+JobRefused bytes word (faults.TooMany n) = IsTooMany bytes n
+JobRefused bytes word faults.CutShort = IsTruncated bytes
+JobRefused bytes word (faults.Rule breach) = BreaksRule bytes breach
+JobRefused bytes word faults.ArgumentNotAllowed = GivesNoArgument bytes word
+JobRefused bytes word faults.NoMemory = Unit {0}
+JobRefused bytes word fault = ⊥
+
+abbrev pub fault_of : ReadError → Refused
+fault_of (read_errors.BadLine n) = faults.LineNotAllowed n
+fault_of (read_errors.TooMany n) = faults.TooMany n
+fault_of read_errors.Truncated = faults.CutShort
+fault_of read_errors.NoMemory = faults.NoMemory

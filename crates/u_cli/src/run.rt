@@ -1,0 +1,144 @@
+//! The command `run`.
+ghost use Rattle.std.specs.Prelude.{◌≡◌, ◌≤◌, IfOk, IfErr, MatchResult, IsTrue, List, ℕ, Contains, length};
+ghost use Rattle.u_program.specs.Answer.{IsTextOf};
+ghost use Rattle.u_check.specs.Jobs.{JobParts};
+ghost use Rattle.u_cli.specs.Runs.{IsJobOf, Runs, RunTextAnswer, JobRefused, IsStatusOf, fault_of, RunsJob, state_of};
+ghost use Rattle.u_cli.specs.declared.fault.Fault.TheVariants as faults;
+ghost use Rattle.u_history.specs.Report.{IsReportOf};
+ghost use Rattle.u_cli.specs.Statuses.{status_of};
+ghost use Rattle.u_history.specs.Verdicts.{judgement};
+
+use std::alloc::{AllocError, Global};
+use std::io::Write;
+
+use u_check::{Checked, Job, check};
+use u_history::{History, State, Verdict, report_text};
+use u_machine::{Machine, Ran, Refusal};
+use u_program::{ReadError, read};
+
+use crate::argument::argument_of;
+use crate::fault::Fault;
+use crate::output::write_whole;
+
+/// How many firings a machine of the program takes at most.
+pub const FIRING_LIMIT: usize = 1_000_000;
+
+/// The fault that is told of a program's text.
+fn fault_of(error: ReadError) -> Fault
+    ensures { result ≡ fault_of error }
+{
+    match error {
+        ReadError::BadLine(line) => Fault::LineNotAllowed(line),
+        ReadError::TooMany(line) => Fault::TooMany(line),
+        ReadError::Truncated => Fault::CutShort,
+        ReadError::NoMemory => Fault::NoMemory,
+    }
+}
+
+/// The job of the program with this text on the argument that the word gives.
+fn job_of(alloc: Global, bytes: &[u8], word: &[u8]) -> Result<Job, Fault>
+    ensures { MatchResult result (λ job. IsJobOf bytes.now word.now job) (λ fault. JobRefused bytes.now word.now fault) }
+{
+    let program = match read(alloc, bytes) {
+        Ok(program) => program,
+        Err(error) => return Err(fault_of(error)),
+    };
+    let checked = match check(program) {
+        Ok(checked) => checked,
+        Err(refused) => return Err(Fault::Rule(refused.breach)),
+    };
+    match argument_of(word) {
+        Some(argument) => Ok(Job::new(checked, argument)),
+        None => Err(Fault::ArgumentNotAllowed),
+    }
+}
+
+/// The exit status of a report with that state and verdict.
+fn status(state: State, verdict: Verdict<'_>) -> u8
+    ensures { result ≡ status_of state (judgement verdict.entry) }
+{
+    match (state, verdict) {
+        (State::Paused, _) => 4,
+        (State::Quiet, Verdict::Answer(_)) => 0,
+        (State::Quiet, _) => 3,
+    }
+}
+
+/// The exit status of a report of that history.
+fn status_of(state: State, history: &History) -> Result<u8, AllocError>
+    ensures { IfOk result (λ s. IsStatusOf (Contains history.now) state s) }
+{
+    let outcome = history.outcome()?;
+    let status = status(state, outcome.verdict());
+    Ok(status)
+}
+
+/// The state that a report names.
+fn state_of(ran: Ran) -> State
+    ensures { result ≡ state_of ran }
+{
+    match ran {
+        Ran::Quiet => State::Quiet,
+        Ran::Paused => State::Paused,
+    }
+}
+
+/// The report of a machine, and the exit status.
+fn told(alloc: Global, machine: &Machine<'_>, state: State) -> Result<(Vec<u8>, u8), AllocError>
+    ensures report { IfOk result (λ p. IsReportOf (Contains machine.now.history) state (length machine.now.log) 0 p.0.items) }
+    ensures status { IfOk result (λ p. IsStatusOf (Contains machine.now.history) state p.1) }
+{
+    let history = machine.history();
+    let firings = machine.applied().len();
+    let report = report_text(alloc, state, firings, 0, history)?;
+    let status = status_of(state, history)?;
+    Ok((report, status))
+}
+
+/// The report of a new machine of the job after so many firings at most, and the exit status.
+fn run_job(alloc: Global, job: &Job, firings: usize) -> Result<(Vec<u8>, u8), Fault>
+    requires { firings ≤ 1000000 }
+    ensures ok { IfOk result (λ p. RunsJob job.now firings p.0.items p.1) }
+    ensures memory { IfErr result (λ e. e ≡ faults.NoMemory) }
+{
+    let mut machine = Machine::new(alloc, job, FIRING_LIMIT)?;
+    let ran = match machine.run(firings) {
+        Ok(ran) => ran,
+        Err(Refusal::NoMemory) => return Err(Fault::NoMemory),
+        Err(Refusal::Full) => unreachable!(),
+    };
+    machine.holds();
+    let told = told(alloc, &machine, state_of(ran))?;
+    Ok(told)
+}
+
+/// Runs the program with this text on the argument that the word gives, with so many firings at
+/// most, and writes the report. Answers the exit status: 0 for a quiet report with one answer, 3 for
+/// another quiet report, 4 for a paused one.
+///
+/// # Errors
+/// A fault of the program's text, of the checker or of the argument, in that order, or want of
+/// memory: nothing is written. `NotWritten`: a prefix of the report is written.
+pub fn run_text<W: Write>(
+    alloc: Global,
+    program: &[u8],
+    argument: &[u8],
+    firings: usize,
+    writer: &mut W,
+) -> Result<u8, Fault>
+    requires { firings ≤ 1000000 }
+    ensures { RunTextAnswer program.now argument.now firings (W.contents writer.old) result (W.contents writer.new) }
+{
+    let job = match job_of(alloc, program, argument) {
+        Ok(job) => job,
+        Err(fault) => return Err(fault),
+    };
+    let (report, status) = match run_job(alloc, &job, firings) {
+        Ok(told) => told,
+        Err(fault) => return Err(fault),
+    };
+    match write_whole(writer, &report) {
+        Ok(()) => Ok(status),
+        Err(_) => Err(Fault::NotWritten),
+    }
+}
