@@ -6,6 +6,8 @@ mod fault;
 mod input;
 mod output;
 mod run;
+#[cfg(test)]
+mod tests;
 
 pub use argument::argument_of;
 pub use fault::Fault;
