@@ -1,6 +1,7 @@
 //! The words of the command line.
-ghost use Rattle.std.specs.Prelude.{IfOk};
-ghost use Rattle.u.specs.Orders.{HasFirings};
+ghost use Rattle.std.specs.Prelude.{◌≡◌, IfOk};
+ghost use Rattle.clap.specs.Words.{found_of};
+ghost use Rattle.u.specs.Orders.{HasFirings, IsRunOf, word_of};
 
 use crate::number::firings_of;
 use clap::error::ErrorKind;
@@ -44,7 +45,7 @@ pub fn not_text(alloc: Global) -> Result<Error, AllocError> {
 /// The words of `run`. The number of firings is read again, since `clap` takes a sign and
 /// leading zeros.
 fn run_order<'a>(alloc: Global, matches: &ArgMatches<'a>) -> Result<Order<'a>, Error>
-    ensures { IfOk result HasFirings }
+    ensures { IfOk result (λ o. IsRunOf (found_of matches.now) o) }
 {
     let word = text(matches, "firings");
     match firings_of(word) {
@@ -65,8 +66,13 @@ fn other_spelling(alloc: Global, word: &str) -> Result<Error, AllocError> {
     told(run(alloc, "u run"), message.as_str())
 }
 
-fn text<'a>(matches: &ArgMatches<'a>, name: &str) -> &'a str {
-    matches.get_str(name).unwrap_or("")
+fn text<'a>(matches: &ArgMatches<'a>, name: &str) -> &'a str
+    ensures { result.now ≡ word_of (found_of matches.now) name.now }
+{
+    match matches.get_str(name) {
+        Some(text) => text,
+        None => "",
+    }
 }
 
 /// A mistake in the words of a command.
