@@ -1,0 +1,2 @@
+pub mod Firings
+pub mod Orders

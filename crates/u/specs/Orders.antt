@@ -1,0 +1,29 @@
+-- The orders of a command line.
+use Rattle.std.specs.Prelude.{◌≡◌, ℕ, List, [], Option, Some, None, codes}
+use Rattle.clap.specs.Words.{first_value}
+use Rattle.clap.specs.declared.parser.matches.Found.{Found}
+use Rattle.u.specs.declared.words.Order.{Order}
+use Rattle.u.specs.declared.words.Order.TheVariants.{Stored, Run}
+use Rattle.u.specs.Firings.{IsFirings, IsFiringsText}
+
+-- a run may fire from one to a million times
+abbrev pub HasFirings : Order → Type 0
+HasFirings Stored = Unit {0}
+HasFirings (Run file argument firings) = IsFirings firings
+
+abbrev pub text_or_none : Option (List ℕ) → List ℕ
+text_or_none None = []
+text_or_none (Some text) = text
+
+-- the word that was found under that name
+abbrev pub word_of : Found → List ℕ → List ℕ
+word_of found name = text_or_none (first_value found name)
+
+-- a run, with the words that were found for it
+abbrev pub IsRunOf : Found → Order → Type 0
+IsRunOf found Stored = ⊥
+IsRunOf found (Run file argument firings) =
+    (file.now ≡ word_of found (codes "FILE"))
+    × (argument.now ≡ word_of found (codes "ARG"))
+    × IsFirings firings
+    × IsFiringsText firings (word_of found (codes "firings"))

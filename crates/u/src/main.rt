@@ -1,0 +1,117 @@
+//! The program `u`: it reads the words of its command line and FILE, and runs a dataflow program.
+#![tactic(auto)]
+
+mod number;
+mod words;
+
+use std::alloc::Global;
+use std::process::ExitCode;
+use std::{fs, io};
+use u_cli::{Fault, STORED_PROGRAM, read_input, run_text};
+use words::{Order, not_text, parse};
+
+/// The argument of the stored run, and how often it may fire.
+const STORED_ARGUMENT: &[u8] = b"4";
+
+const STORED_FIRINGS: usize = 100_000;
+
+/// The exit status of a command line that is not allowed.
+const USAGE: u8 = 1;
+
+fn main(rt: HostRuntime) -> ExitCode {
+    match answer(&rt) {
+        Ok(status) => ExitCode::from(status),
+        Err(fault) => {
+            let _ = eprintln!(rt; "u: {fault}");
+            ExitCode::from(fault.status())
+        }
+    }
+}
+
+/// Does what the command line orders. The answer is the exit status.
+fn answer(rt: &HostRuntime) -> Result<u8, Fault> {
+    let alloc: Global = rt.alloc();
+    let words = match arguments(rt) {
+        Ok(words) => words,
+        Err(Missing::NotText) => {
+            let mistake = not_text(alloc).map_err(|_| Fault::NoMemory)?;
+            return show(rt, mistake);
+        }
+        Err(Missing::NoMemory) => return Err(Fault::NoMemory),
+    };
+    match parse(alloc, words.as_slice()) {
+        Ok(order) => follow(rt, order),
+        Err(error) => show(rt, error),
+    }
+}
+
+/// Reads FILE and runs the program in it, or runs the stored one.
+fn follow(rt: &HostRuntime, order: Order<'_>) -> Result<u8, Fault> {
+    let alloc = rt.alloc();
+    let mut out = io::writer(rt);
+    match order {
+        Order::Stored => run_text(
+            alloc,
+            STORED_PROGRAM,
+            STORED_ARGUMENT,
+            STORED_FIRINGS,
+            &mut out,
+        ),
+        Order::Run {
+            file,
+            argument,
+            firings,
+        } => {
+            let program = read_file(rt, file)?;
+            run_text(
+                alloc,
+                program.as_slice(),
+                argument.as_bytes(),
+                firings,
+                &mut out,
+            )
+        }
+    }
+}
+
+/// All bytes of FILE, or of standard input at the word `stdin`.
+fn read_file(rt: &HostRuntime, file: &str) -> Result<Vec<u8>, Fault> {
+    let alloc = rt.alloc();
+    if file == "stdin" {
+        return read_input(alloc, rt.stdin());
+    }
+    match fs::open(rt, file) {
+        Ok(opened) => read_input(alloc, opened),
+        Err(_) => Err(Fault::NotReadable),
+    }
+}
+
+/// Why the words of the command line can't be had.
+#[derive(Drop)]
+enum Missing {
+    NotText,
+    NoMemory,
+}
+
+/// The words of the command line, the program's own name first.
+fn arguments(rt: &HostRuntime) -> Result<Vec<String>, Missing> {
+    match std::env::args(rt) {
+        Ok(all) => all.collect(rt.alloc()).map_err(|_| Missing::NoMemory),
+        Err(error) if error.kind() == io::ErrorKind::OutOfMemory => Err(Missing::NoMemory),
+        Err(_) => Err(Missing::NotText),
+    }
+}
+
+/// Prints what `clap` says: help and the version on standard output, with status 0, and a
+/// mistake on standard error, with status 1.
+fn show(rt: &HostRuntime, error: clap::Error) -> Result<u8, Fault> {
+    if error.kind() == clap::error::ErrorKind::OutOfMemory {
+        return Err(Fault::NoMemory);
+    }
+    if error.use_stderr() {
+        let _ = error.print(rt);
+        return Ok(USAGE);
+    }
+    error.print(rt).map_err(|_| Fault::NotWritten)?;
+    Ok(0)
+}

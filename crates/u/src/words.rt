@@ -1,0 +1,112 @@
+//! The words of the command line.
+ghost use Rattle.std.specs.Prelude.{◌≡◌, IfOk};
+ghost use Rattle.clap.specs.Words.{found_of};
+ghost use Rattle.u.specs.Orders.{HasFirings, IsRunOf, word_of};
+
+use crate::number::firings_of;
+use clap::error::ErrorKind;
+use clap::{Arg, ArgAction, ArgMatches, Command, Error, value_parser};
+use std::alloc::{AllocError, Global};
+
+/// What a command line orders.
+#[derive(Clone, Copy, Debug, PartialEq, Eq, Drop)]
+pub enum Order<'a> {
+    /// There is no word: the stored run.
+    Stored,
+    /// `run FILE ARG`: at most `firings` firings, from 1 to 1000000.
+    Run {
+        file: &'a str,
+        argument: &'a str,
+        firings: usize,
+    },
+}
+
+/// The order in the words of a command line, the first of which is the program's name. The error
+/// is a mistake in the words, or a request for help or the version. A run may fire from 1 to
+/// 1000000 times.
+pub fn parse<'a>(alloc: Global, words: &'a [String]) -> Result<Order<'a>, Error>
+    ensures { IfOk result HasFirings }
+{
+    let matches: ArgMatches<'a> = commands(alloc)?.try_get_matches_from(words)?;
+    match matches.subcommand() {
+        Some((_, run)) => run_order(alloc, run),
+        None => Ok(Order::Stored),
+    }
+}
+
+/// The mistake that a word is no text.
+pub fn not_text(alloc: Global) -> Result<Error, AllocError> {
+    told(
+        commands(alloc),
+        "invalid UTF-8 was detected in one or more arguments",
+    )
+}
+
+/// The words of `run`. The number of firings is read again, since `clap` takes a sign and
+/// leading zeros.
+fn run_order<'a>(alloc: Global, matches: &ArgMatches<'a>) -> Result<Order<'a>, Error>
+    ensures { IfOk result (λ o. IsRunOf (found_of matches.now) o) }
+{
+    let word = text(matches, "firings");
+    match firings_of(word) {
+        Some(firings) => Ok(Order::Run {
+            file: text(matches, "FILE"),
+            argument: text(matches, "ARG"),
+            firings,
+        }),
+        None => Err(other_spelling(alloc, word)?),
+    }
+}
+
+/// The mistake that a number of firings has a sign or a leading zero.
+fn other_spelling(alloc: Global, word: &str) -> Result<Error, AllocError> {
+    let message = format!(in alloc;
+        "invalid value '{word}' for '--firings <N>': a number has no sign and no leading zero"
+    )?;
+    told(run(alloc, "u run"), message.as_str())
+}
+
+fn text<'a>(matches: &ArgMatches<'a>, name: &str) -> &'a str
+    ensures { result.now ≡ word_of (found_of matches.now) name.now }
+{
+    match matches.get_str(name) {
+        Some(text) => text,
+        None => "",
+    }
+}
+
+/// A mistake in the words of a command.
+fn told(command: Result<Command<'_>, AllocError>, message: &str) -> Result<Error, AllocError> {
+    let mut command = command?;
+    command.error(ErrorKind::ValueValidation, message)
+}
+
+fn commands<'a>(alloc: Global) -> Result<Command<'a>, AllocError> {
+    Command::new(alloc, "u")
+        .bin_name("u")?
+        .version("0.1.0")
+        .about("Runs dataflow programs. Without any word it runs a stored program.")
+        .disable_help_subcommand(true)
+        .subcommand(run(alloc, "run")?)
+}
+
+fn run<'a>(alloc: Global, name: &'a str) -> Result<Command<'a>, AllocError> {
+    let file = word(alloc, "FILE").help("The program's file, or the word stdin for standard input");
+    let argument = word(alloc, "ARG").help("The argument, a decimal number: n1 is -1");
+    let firings = Arg::new(alloc, "firings")
+        .long("firings")
+        .value_name("N")
+        .help("The most firings, from 1 to 1000000")
+        .action(ArgAction::Set)
+        .default_value("100000")
+        .value_parser(value_parser!(u32).range(1..=1000000));
+    Command::new(alloc, name)
+        .about("Runs the program and prints its report")
+        .arg(file)?
+        .arg(argument)?
+        .arg(firings)
+}
+
+fn word<'a>(alloc: Global, name: &'a str) -> Arg<'a> {
+    Arg::new(alloc, name).required(true).action(ArgAction::Set)
+}

@@ -1,0 +1,177 @@
+#!/usr/bin/env bash
+# Runs the built program on the cases of tests/cases, and compares standard output, standard error
+# and the exit status with what stands there. The last line is 'N passed, M failed'.
+#
+# The lines of a case:
+#   case: NAME            begins a case
+#   words: WORDS          the command line, words between single spaces; '' is an empty word, \xHH
+#                         a byte, TEMP the folder of the files that this script makes
+#   stdin: FILE           standard input; `endless` (it never ends) and `closed` stand for
+#                         themselves; without the line it is empty
+#   stdout: WHERE         `full` (every write fails), `closed`, or `nobody` (a pipe that no one
+#                         reads); without the line it is compared
+#   folder: FOLDER        where the program is run; without the line at the top of the repository
+#   by: PROGRAM           what is run in place of the built program
+#   memory: KIB           how much address space it may have
+#   output has: TEXT      the output has TEXT somewhere; then its other bytes don't matter
+#   error: LINE           standard error is this one line; without a line `error` it is empty
+#   error has: TEXT       standard error has TEXT somewhere
+#   status: NUMBER        the exit status
+#   two spaces and TEXT   a line of standard output
+# Lines that begin with `#` and empty lines say nothing.
+set -u
+export LC_ALL=C
+
+top=$(cd -P -- "$(dirname -- "${BASH_SOURCE[0]}")/.." && pwd) || exit 2
+cd -- "$top" || exit 2
+binary=${U_BINARY:-$top/crates/u/out/u}
+if [ ! -x "$binary" ]; then
+    echo "$binary is not there: build it first, by ./u or by rt ci" >&2
+    echo "0 passed, 1 failed"
+    exit 1
+fi
+temp=$(mktemp -d) || exit 2
+trap 'rm -rf -- "$temp"' EXIT
+passed=0
+failed=0
+
+# The files that are too large or too odd to stand in the repository.
+make_files() {
+    local k
+    truncate -s 67108864 -- "$temp/longest"
+    truncate -s 67108865 -- "$temp/too_long"
+    printf '\x7fELF\x00\x01\xff\xfe\n\x80\n' >"$temp/binary"
+    printf 'u-program 1\r\nblock main\r\n1 0 begin ->\r\n' >"$temp/carriage_returns"
+    head -c 69 programs/double.u >"$temp/without_last_newline"
+    head -n 2 programs/double.u >"$temp/cut_after_line_2"
+    : >"$temp/empty"
+    cp programs/double.u "$temp/stdin"
+    {
+        echo 'u-program 1'
+        for k in {1..64}; do printf 'block b%s\n1 0 begin ->\n' "$k"; done
+        echo 'block last'
+    } >"$temp/blocks_65"
+    {
+        printf 'u-program 1\nblock main\n1 0 begin ->\n'
+        for k in {2..1000}; do printf '%s 0 add ->\n' "$k"; done
+    } >"$temp/statements_1000"
+}
+
+begin_case() {
+    name=$1 words='' stdin=/dev/null stdout='' folder=$top by=$binary memory=''
+    output='' status=0
+    output_has=() error_has=() error=''
+}
+
+# The command line of the case, as the list `line`.
+split_words() {
+    local word
+    line=()
+    for word in $words; do
+        [ "$word" = "''" ] && word=''
+        word=${word//TEMP/$temp}
+        printf -v word '%b' "$word"
+        line+=("$word")
+    done
+}
+
+# Runs the program in the case's folder.
+start() {
+    cd -- "$folder" || exit 99
+    if [ -n "$memory" ]; then ulimit -v "$memory"; fi
+    timeout 60 "$by" "${line[@]}"
+}
+
+# Runs the program with the standard output that the case names.
+start_out() {
+    case $stdout in
+        full) start >/dev/full ;;
+        closed) start >&- ;;
+        nobody) (sleep 0.2; start; echo $? >"$temp/status") | true; return "$(cat "$temp/status")" ;;
+        *) start >"$temp/out" ;;
+    esac
+}
+
+# Runs the program with the standard input that the case names.
+start_in() {
+    case $stdin in
+        endless) yes 2>/dev/null | start_out; return "${PIPESTATUS[1]}" ;;
+        closed) start_out <&- ;;
+        *) start_out <"${stdin//TEMP/$temp}" ;;
+    esac
+}
+
+# What is wrong, a line each, on standard output.
+judge() {
+    local text
+    [ "$1" = "$status" ] || echo "the status is $1, not $status"
+    if [ -n "$error" ] || [ ${#error_has[@]} -eq 0 ]; then
+        printf '%s' "${error:+$error$'\n'}" >"$temp/wanted"
+        cmp -s -- "$temp/wanted" "$temp/err" || {
+            echo 'standard error, wanted:'; sed 's/^/    /' "$temp/wanted"
+            echo 'got:'; sed 's/^/    /' "$temp/err"
+        }
+    fi
+    for text in "${error_has[@]}"; do
+        grep -qF -- "$text" "$temp/err" || {
+            echo "standard error has no '$text':"; sed 's/^/    /' "$temp/err"
+        }
+    done
+    if [ ${#output_has[@]} -eq 0 ]; then
+        printf '%s' "$output" >"$temp/wanted"
+        cmp -s -- "$temp/wanted" "$temp/out" || {
+            echo 'standard output, wanted:'; sed 's/^/    /' "$temp/wanted"
+            echo 'got:'; head -c 2000 "$temp/out" | sed 's/^/    /'
+        }
+    fi
+    for text in "${output_has[@]}"; do
+        grep -qF -- "$text" "$temp/out" || {
+            echo "standard output has no '$text':"; head -c 2000 "$temp/out" | sed 's/^/    /'
+        }
+    done
+}
+
+end_case() {
+    local got wrong
+    [ -n "$name" ] || return 0
+    split_words
+    folder=${folder//TEMP/$temp}
+    : >"$temp/out"
+    (start_in) 2>"$temp/err"
+    got=$?
+    wrong=$(judge "$got")
+    if [ -z "$wrong" ]; then
+        passed=$((passed + 1))
+    else
+        failed=$((failed + 1))
+        printf 'FAILED: %s\n  words: %s\n' "$name" "$words"
+        printf '%s\n' "$wrong" | sed 's/^/  /'
+    fi
+    name=''
+}
+
+make_files
+name=''
+while IFS= read -r row || [ -n "$row" ]; do
+    case $row in
+        'case: '*) end_case; begin_case "${row#case: }" ;;
+        'words:') ;;
+        'words: '*) words=${row#words: } ;;
+        'stdin: '*) stdin=${row#stdin: } ;;
+        'stdout: '*) stdout=${row#stdout: } ;;
+        'folder: '*) folder=${row#folder: } ;;
+        'by: '*) by=${row#by: } ;;
+        'memory: '*) memory=${row#memory: } ;;
+        'output has: '*) output_has+=("${row#output has: }") ;;
+        'error: '*) error=${row#error: } ;;
+        'error has: '*) error_has+=("${row#error has: }") ;;
+        'status: '*) status=${row#status: } ;;
+        '  '*) output+=${row:2}$'\n' ;;
+        '' | '#'*) ;;
+        *) echo "tests/cases has a line that says nothing: $row" >&2; failed=$((failed + 1)) ;;
+    esac
+done <tests/cases
+end_case
+
+echo "$passed passed, $failed failed"
+[ "$failed" -eq 0 ]
