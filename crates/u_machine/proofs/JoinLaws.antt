@@ -39,6 +39,7 @@ module _ (job : JobParts) (left right : Entry) (t u : TokenParts) (l : left ≡ 
     where
       some_same : (a b : Firing) → ◌≡◌ {A = Option Firing} (Some a) (Some b) → a ≡ b
       some_same a b s = cc
+
       made : OfTwo job left right f
       made = record {
         activity = t.activity;
@@ -47,5 +48,5 @@ module _ (job : JobParts) (left right : Entry) (t u : TokenParts) (l : left ≡ 
         is = is;
         whole = e;
         first = l ∙ ap (λ p. entries.Token (token t.activity p t.value)) one;
-        second = r ∙ ap (λ p. entries.Token (token u.activity p u.value)) two ∙ ap (λ a. entries.Token (token a 2 u.value)) (sym same)
+        second = r ∙ ap (λ p. entries.Token (token u.activity p u.value)) two ∙ ap (λ a. entries.Token (token a 2 u.value)) (sym same);
       }

@@ -41,13 +41,15 @@ sandwich left x right p q e = absurd e
 pub together : (left : Entry) (rest : List Entry) (i : ℕ) (e : Entry) → Rises entry_cmp (left ∷ rest) → i < length rest → e ≡ get_or rest i e → (SameActivity left e → ⊥) → (x : Entry) → Contains rest x → SameActivity left x → Contains (take i rest) x
 together left [] i e r l s n x m a = absurd (Contains-nil x m)
 together left (y ∷ ys) zero e r l s n x m a =
-    elim (Contains-cons_cases y x ys m)
-      [ inl p ↦ absurd (n (subst (SameActivity left) (sym (s ∙ p)) a))
-      | inr k ↦ absurd (n (subst (SameActivity left) (sym s) (sandwich left y x (r.0 y (Contains-head y ys)) (r.1.0 x k) a))) ]
+    elim (Contains-cons_cases y x ys m) [
+      | inl p ↦ absurd (n (subst (SameActivity left) (sym (s ∙ p)) a))
+      | inr k ↦ absurd (n (subst (SameActivity left) (sym s) (sandwich left y x (r.0 y (Contains-head y ys)) (r.1.0 x k) a)))
+    ]
 together left (y ∷ ys) (suc i) e r l s n x m a =
-    elim (Contains-cons_cases y x ys m)
-      [ inl p ↦ subst (λ (z : Entry). Contains (y ∷ take i ys) z) p (Contains-head y (take i ys))
-      | inr k ↦ Contains-tail y x (take i ys) (together left ys i e ((λ z o. r.0 z (Contains-tail y z ys o)), r.1.1) (omega arith) s n x k a) ]
+    elim (Contains-cons_cases y x ys m) [
+      | inl p ↦ subst (λ (z : Entry). Contains (y ∷ take i ys) z) p (Contains-head y (take i ys))
+      | inr k ↦ Contains-tail y x (take i ys) (together left ys i e ((λ z o. r.0 z (Contains-tail y z ys o)), r.1.1) (omega arith) s n x k a)
+    ]
 
 -- what stands behind a member of a list that rises, with that member in front
 pub rises_from : (es : List Entry) (i : ℕ) (d : Entry) → Rises entry_cmp es → i < length es → Rises entry_cmp (get_or es i d ∷ drop (i + 1) es)
@@ -65,9 +67,10 @@ stands_behind (e ∷ es) zero d x r l h m =
     elim (Contains-cons_cases e x es m) [ inl p ↦ absurd (irreflexive e (subst (λ (z : Entry). entry_cmp e z ≡ Less) (sym p) h)) | inr k ↦ k ]
 stands_behind (e ∷ es) (suc i) d x r l h m =
     let g : suc i + 1 ≡ suc (i + 1) = omega arith in
-    elim (Contains-cons_cases e x es m)
-      [ inl p ↦ absurd (irreflexive e (entry_cmp_total.trans e (get_or es i d) e (first_below es i r.0 (omega arith)) (subst (λ (z : Entry). entry_cmp (get_or es i d) z ≡ Less) (sym p) h)))
-      | inr k ↦ rw g (stands_behind es i d x r.1 (omega arith) h k) ]
+    elim (Contains-cons_cases e x es m) [
+      | inl p ↦ absurd (irreflexive e (entry_cmp_total.trans e (get_or es i d) e (first_below es i r.0 (omega arith)) (subst (λ (z : Entry). entry_cmp (get_or es i d) z ≡ Less) (sym p) h)))
+      | inr k ↦ rw g (stands_behind es i d x r.1 (omega arith) h k)
+    ]
   where
     first_below : (xs : List Entry) (k : ℕ) → ((y : Entry) → Contains xs y → entry_cmp e y ≡ Less) → k < length xs → entry_cmp e (get_or xs k d) ≡ Less
     first_below xs k f l = f (get_or xs k d) (Contains-get_or xs k d l)

@@ -54,7 +54,7 @@ module _ (old m : State) (gs : List Firing) (r : Runs old gs m) where
       record {
         enabled = rw r.job at (Enabled-mono (system_of m.job) (Cl (system_of m.job) (Taken m)) (Cl (system_of m.job) (λ g. Taken old g ⊎ Contains gs g)) (Cl-mono (system_of m.job) (Taken m) (λ g. Taken old g ⊎ Contains gs g) there) f q.0.0);
         new = λ t. q.0.1 (back f t);
-        least = λ g en. elim (q.1 g (Enabled-mono (system_of m.job) (Cl (system_of m.job) (λ g. Taken old g ⊎ Contains gs g)) (Cl (system_of m.job) (Taken m)) (Cl-mono (system_of m.job) (λ g. Taken old g ⊎ Contains gs g) (Taken m) back) g (rw (← r.job) at en))) [ inl t ↦ inl (there g t) | inr l ↦ inr l ]
+        least = λ g en. elim (q.1 g (Enabled-mono (system_of m.job) (Cl (system_of m.job) (λ g. Taken old g ⊎ Contains gs g)) (Cl (system_of m.job) (Taken m)) (Cl-mono (system_of m.job) (λ g. Taken old g ⊎ Contains gs g) (Taken m) back) g (rw (← r.job) at en))) [ inl t ↦ inl (there g t) | inr l ↦ inr l ];
       }
 
 -- with nothing parked, what is applied is what was taken
@@ -68,6 +68,7 @@ applies_alone a b p e = (grown, nil_of_length b.parked (omega (arith, counted.1)
         let z = length-append a.log p.log.0 in
         let w = ap length e in
         (omega arith, omega arith)
+
     grown : b.log ≡ a.log
     grown = p.log.1 ∙ ap (λ (xs : List Firing). a.log ++ xs) (nil_of_length p.log.0 counted.0) ∙ append-nil a.log
 
@@ -82,6 +83,7 @@ takes_alone a b f t new in_log e = (grown, nil_of_length b.parked last)
   where
     in_rest : Contains t.log.0 f
     in_rest = elim (Contains-append_cases a.log t.log.0 f (rw t.log.1 at in_log)) [ inl k ↦ absurd (new (Contains-append_left a.log a.parked f k)) | inr k ↦ k ]
+
     total : length t.log.0 + length b.parked ≡ 1
     total =
         let x = t.count in
@@ -89,52 +91,56 @@ takes_alone a b f t new in_log e = (grown, nil_of_length b.parked last)
         let z = length-append a.log t.log.0 in
         let w = ap length e in
         omega arith
+
     one : t.log.0 ≡ f ∷ []
     one = single t.log.0 f in_rest (omega (arith, total))
+
     last : length b.parked ≡ 0
     last = let x = ap length one in omega (arith, total)
+
     grown : b.log ≡ a.log ++ f ∷ []
     grown = t.log.1 ∙ ap (λ (xs : List Firing). a.log ++ xs) one
 
 pub Runs-nil : (old m : State) → Applies old m → Runs old [] m
 Runs-nil old m p = record {
-    job = p.job;
-    limit = p.limit;
-    each = EachPlace-nil (IsNextFrom (system_of old.job) firing_le (Taken old));
-    taken = λ g. ((λ t. inl ((p.taken g).1 t)), λ s. elim s [ inl t ↦ (p.taken g).0 t | inr n ↦ absurd (Contains-nil g n) ]);
-    count = let x = p.count in omega arith;
-    log = p.log;
-    alone = λ e. let q = applies_alone old m p e in (q.0 ∙ sym (append-nil old.log), q.1);
-    history = p.history
-  }
+  job = p.job;
+  limit = p.limit;
+  each = EachPlace-nil (IsNextFrom (system_of old.job) firing_le (Taken old));
+  taken = λ g. ((λ t. inl ((p.taken g).1 t)), λ s. elim s [ inl t ↦ (p.taken g).0 t | inr n ↦ absurd (Contains-nil g n) ]);
+  count = let x = p.count in omega arith;
+  log = p.log;
+  alone = λ e. let q = applies_alone old m p e in (q.0 ∙ sym (append-nil old.log), q.1);
+  history = p.history;
+}
 
 pub Runs-applies : (old m n : State) (gs : List Firing) → Runs old gs m → Applies m n → Runs old gs n
 Runs-applies old m n gs r p = record {
-    job = p.job ∙ r.job;
-    limit = p.limit ∙ r.limit;
-    each = r.each;
-    taken = λ g. ((λ t. (r.taken g).0 ((p.taken g).1 t)), λ s. (p.taken g).0 ((r.taken g).1 s));
-    count = p.count ∙ r.count;
-    log = (r.log.0 ++ p.log.0, rw (p.log.1, r.log.1) (append_assoc old.log r.log.0 p.log.0));
-    alone = λ e. let q = r.alone e in let w = applies_alone m n p q.1 in (w.0 ∙ q.0, w.1);
-    history = λ e k. p.history e (r.history e k)
-  }
+  job = p.job ∙ r.job;
+  limit = p.limit ∙ r.limit;
+  each = r.each;
+  taken = λ g. ((λ t. (r.taken g).0 ((p.taken g).1 t)), λ s. (p.taken g).0 ((r.taken g).1 s));
+  count = p.count ∙ r.count;
+  log = (r.log.0 ++ p.log.0, rw (p.log.1, r.log.1) (append_assoc old.log r.log.0 p.log.0));
+  alone = λ e. let q = r.alone e in let w = applies_alone m n p q.1 in (w.0 ∙ q.0, w.1);
+  history = λ e k. p.history e (r.history e k);
+}
 
 pub Runs-push : (old m n : State) (gs : List Firing) (f : Firing) → Runs old gs m → IsPick m 0 f → Takes m f n → Contains n.log f → Runs old (gs ++ f ∷ []) n
 Runs-push old m n gs f r p t in_log = record {
-    job = t.job ∙ r.job;
-    limit = t.limit ∙ r.limit;
-    each = EachPlace-push (IsNextFrom (system_of old.job) firing_le (Taken old)) gs f r.each (next_after old m gs r f p);
-    taken = λ g. ((λ k. to g ((t.taken g).0 k)), λ k. (t.taken g).1 (from g k));
-    count = let x = t.count in let y = r.count in let z = length-append gs (f ∷ []) in omega arith;
-    log = (r.log.0 ++ t.log.0, rw (t.log.1, r.log.1) (append_assoc old.log r.log.0 t.log.0));
-    alone = λ e. let q = r.alone e in let w = takes_alone m n f t (picked_first m f p).0.1 in_log q.1 in (w.0 ∙ ap (λ (xs : List Firing). xs ++ f ∷ []) q.0 ∙ append_assoc old.log gs (f ∷ []), w.1);
-    history = λ e k. t.history e (r.history e k)
-  }
+  job = t.job ∙ r.job;
+  limit = t.limit ∙ r.limit;
+  each = EachPlace-push (IsNextFrom (system_of old.job) firing_le (Taken old)) gs f r.each (next_after old m gs r f p);
+  taken = λ g. ((λ k. to g ((t.taken g).0 k)), λ k. (t.taken g).1 (from g k));
+  count = let x = t.count in let y = r.count in let z = length-append gs (f ∷ []) in omega arith;
+  log = (r.log.0 ++ t.log.0, rw (t.log.1, r.log.1) (append_assoc old.log r.log.0 t.log.0));
+  alone = λ e. let q = r.alone e in let w = takes_alone m n f t (picked_first m f p).0.1 in_log q.1 in (w.0 ∙ ap (λ (xs : List Firing). xs ++ f ∷ []) q.0 ∙ append_assoc old.log gs (f ∷ []), w.1);
+  history = λ e k. t.history e (r.history e k);
+}
   where
     to : (g : Firing) → Taken m g ⊎ (f ≡ g) → Taken old g ⊎ Contains (gs ++ f ∷ []) g
     to g (inl k) = elim ((r.taken g).0 k) [ inl a ↦ inl a | inr b ↦ inr (Contains-append_left gs (f ∷ []) g b) ]
     to g (inr e) = inr (subst (λ (x : Firing). Contains (gs ++ f ∷ []) x) e (Contains-push gs f))
+
     from : (g : Firing) → Taken old g ⊎ Contains (gs ++ f ∷ []) g → Taken m g ⊎ (f ≡ g)
     from g (inl a) = inl ((r.taken g).1 (inl a))
     from g (inr b) = elim (Contains-push_cases gs f g b) [ inl k ↦ inl ((r.taken g).1 (inr k)) | inr e ↦ inr e ]
@@ -167,6 +173,7 @@ run_plain old new budget gs r log parked few full =
   where
     none : (f : Firing) → Taken old f → ⊥
     none f t = Contains-nil f (rw (log, parked) at t)
+
     ended : (length gs ≡ budget) ⊎ NothingReady new → (length gs ≡ budget) ⊎ IsExhausted (system_of old.job) (λ g. Taken old g ⊎ Contains gs g)
     ended (inl e) = inl e
     ended (inr n) =

@@ -16,9 +16,12 @@ one_history a b p q r s job same u v = one_list entry_cmp entry_cmp_total a.hist
   where
     x : Same (Contains a.history) (Cl (system_of a.job) (Taken a))
     x = (settled_is_Cl a p q).0
+
     y : Same (Contains b.history) (Cl (system_of b.job) (Taken b))
     y = (settled_is_Cl b r s).0
+
     to : (e : Entry) → Contains a.history e → Contains b.history e
     to e m = (y e).1 (rw job at (Cl-mono (system_of a.job) (Taken a) (Taken b) (λ f. (same f).0) e ((x e).0 m)))
+
     back : (e : Entry) → Contains b.history e → Contains a.history e
     back e m = (x e).1 (rw (← job) at (Cl-mono (system_of b.job) (Taken b) (Taken a) (λ f. (same f).1) e ((y e).0 m)))

@@ -37,14 +37,14 @@ module _ (m : State) (h : List Entry) (d : Firing) (is : IsMachine m) (below : m
   -- some of what the next firing gives has entered
   pub partly : IsMachine (with_history m m.done h)
   partly = record {
-      firings = is.firings;
-      derivation = is.derivation;
-      distinct = is.distinct;
-      within = is.within;
-      place = is.place;
-      has = λ e k. kept e (is.has e k);
-      lies = λ e k. given e (within e k)
-    }
+    firings = is.firings;
+    derivation = is.derivation;
+    distinct = is.distinct;
+    within = is.within;
+    place = is.place;
+    has = λ e k. kept e (is.has e k);
+    lies = λ e k. given e (within e k);
+  }
 
   entered_has : ((x : Entry) → Contains ((system_of m.job).gives (get_or m.log m.done d)) x → Contains h x) → (e : Entry) → Held (system_of m.job) (take m.done m.log) e ⊎ Contains ((system_of m.job).gives (get_or m.log m.done d)) e → Contains h e
   entered_has all e (inl a) = kept e (is.has e a)
@@ -53,34 +53,34 @@ module _ (m : State) (h : List Entry) (d : Firing) (is : IsMachine m) (below : m
   -- all of it has
   pub entered : ((x : Entry) → Contains ((system_of m.job).gives (get_or m.log m.done d)) x → Contains h x) → IsMachine (with_history m (m.done + 1) h)
   entered all = record {
-      firings = is.firings;
-      derivation = is.derivation;
-      distinct = is.distinct;
-      within = is.within;
-      place = omega (arith, below);
-      has = λ e k. entered_has all e ((Held-push (system_of m.job) (take m.done m.log) (get_or m.log m.done d) e).0 (rw (take_more m.log m.done d below) at k));
-      lies = λ e k. given e (within e k)
-    }
+    firings = is.firings;
+    derivation = is.derivation;
+    distinct = is.distinct;
+    within = is.within;
+    place = omega (arith, below);
+    has = λ e k. entered_has all e ((Held-push (system_of m.job) (take m.done m.log) (get_or m.log m.done d) e).0 (rw (take_more m.log m.done d below) at k));
+    lies = λ e k. given e (within e k);
+  }
 
 pub Applies-history : (m : State) (n : ℕ) (h : List Entry) → ((x : Entry) → Contains m.history x → Contains h x) → Applies m (with_history m n h)
 Applies-history m n h kept = record {
-    job = refl;
-    limit = refl;
-    taken = λ f. ((λ t. t), (λ t. t));
-    count = refl;
-    log = ([], sym (append-nil m.log));
-    history = kept
-  }
+  job = refl;
+  limit = refl;
+  taken = λ f. ((λ t. t), (λ t. t));
+  count = refl;
+  log = ([], sym (append-nil m.log));
+  history = kept;
+}
 
 pub applies_trans : (a b c : State) → Applies a b → Applies b c → Applies a c
 applies_trans a b c p q = record {
-    job = cc;
-    limit = cc;
-    taken = λ f. ((λ t. (q.taken f).0 ((p.taken f).0 t)), (λ t. (p.taken f).1 ((q.taken f).1 t)));
-    count = q.count ∙ p.count;
-    log = (p.log.0 ++ q.log.0, joined);
-    history = λ e k. q.history e (p.history e k)
-  }
+  job = cc;
+  limit = cc;
+  taken = λ f. ((λ t. (q.taken f).0 ((p.taken f).0 t)), (λ t. (p.taken f).1 ((q.taken f).1 t)));
+  count = q.count ∙ p.count;
+  log = (p.log.0 ++ q.log.0, joined);
+  history = λ e k. q.history e (p.history e k);
+}
   where
     joined : c.log ≡ a.log ++ (p.log.0 ++ q.log.0)
     joined = rw (q.log.1, p.log.1) (append_assoc a.log p.log.0 q.log.0)
@@ -91,28 +91,32 @@ settled_is_Cl m is st = ((λ e. ((λ k. (held e).0 (is.lies e k)), (λ k. has e 
   where
     has : (e : Entry) → Held (system_of m.job) m.log e → Contains m.history e
     has e k = is.has e (rw (st.entered, take_all (length m.log) m.log (omega arith)) k)
+
     all : (f : Firing) → Taken m f → Enabled (system_of m.job) (Held (system_of m.job) m.log) f → Contains m.log f
     all f t en = elim (Contains-append_cases m.log m.parked f t) [ inl a ↦ a | inr b ↦ absurd (st.none f b (Enabled-mono (system_of m.job) (Held (system_of m.job) m.log) (Contains m.history) has f en)) ]
+
     held : Same (Held (system_of m.job) m.log) (Cl (system_of m.job) (Taken m))
     held = Settled-is_Cl (system_of m.job) (Taken m) m.log is.derivation (λ f a. Contains-append_left m.log m.parked f a) all
 
 -- a taken firing stays the only new one where taken firings are applied before and after
 pub takes_between : (a b c d : State) (f : Firing) → Applies a b → Takes b f c → Applies c d → Takes a f d
 takes_between a b c d f p q r = record {
-    job = cc;
-    limit = cc;
-    taken = λ g. ((λ t. back g ((q.taken g).0 ((r.taken g).1 t))), (λ t. (r.taken g).0 ((q.taken g).1 (there g t))));
-    count = let x = p.count in let y = q.count in let z = r.count in omega arith;
-    log = (p.log.0 ++ (q.log.0 ++ r.log.0), joined);
-    history = λ e k. r.history e (q.history e (p.history e k))
-  }
+  job = cc;
+  limit = cc;
+  taken = λ g. ((λ t. back g ((q.taken g).0 ((r.taken g).1 t))), (λ t. (r.taken g).0 ((q.taken g).1 (there g t))));
+  count = let x = p.count in let y = q.count in let z = r.count in omega arith;
+  log = (p.log.0 ++ (q.log.0 ++ r.log.0), joined);
+  history = λ e k. r.history e (q.history e (p.history e k));
+}
   where
     back : (g : Firing) → Taken b g ⊎ (f ≡ g) → Taken a g ⊎ (f ≡ g)
     back g (inl t) = inl ((p.taken g).1 t)
     back g (inr e) = inr e
+
     there : (g : Firing) → Taken a g ⊎ (f ≡ g) → Taken b g ⊎ (f ≡ g)
     there g (inl t) = inl ((p.taken g).0 t)
     there g (inr e) = inr e
+
     joined : d.log ≡ a.log ++ (p.log.0 ++ (q.log.0 ++ r.log.0))
     joined = rw (r.log.1, q.log.1, p.log.1) (append_assoc (a.log ++ p.log.0) q.log.0 r.log.0 ∙ append_assoc a.log p.log.0 (q.log.0 ++ r.log.0))
 
@@ -129,29 +133,35 @@ module _ (a b : State) (f : Firing) (p : Applies a b) (new : Taken b f → ⊥) 
 -- what is ready on a settled machine
 module _ (m : State) (is : IsMachine m) (st : IsSettled m) where
   pub ready_of : (f : Firing) → Enabled (system_of m.job) (Contains m.history) f × (Contains m.log f → ⊥) → IsReady m f
-  ready_of f (en, new) =
-      (Enabled-mono (system_of m.job) (Contains m.history) (Cl (system_of m.job) (Taken m)) (λ e. ((settled_is_Cl m is st).0 e).0) f en,
-        λ t. elim (Contains-append_cases m.log m.parked f t) [ inl a ↦ new a | inr b ↦ st.none f b en ])
+  ready_of f (en, new) = (
+    Enabled-mono (system_of m.job) (Contains m.history) (Cl (system_of m.job) (Taken m)) (λ e. ((settled_is_Cl m is st).0 e).0) f en,
+    λ t. elim (Contains-append_cases m.log m.parked f t) [ inl a ↦ new a | inr b ↦ st.none f b en ],
+  )
 
   pub over_history : (f : Firing) → Enabled (system_of m.job) (Cl (system_of m.job) (Taken m)) f → Enabled (system_of m.job) (Contains m.history) f
   over_history f = Enabled-mono (system_of m.job) (Cl (system_of m.job) (Taken m)) (Contains m.history) (λ e. ((settled_is_Cl m is st).0 e).1) f
 
   pub are_ready : (found v : List Firing) → ((f : Firing) → Contains found f ↔ Enabled (system_of m.job) (Contains m.history) f) → ((f : Firing) → Contains v f → Contains found f × (Contains m.log f → ⊥)) → ((f : Firing) → Contains found f → Contains v f ⊎ Contains m.log f) → Rises firing_cmp v → AreReady m v
-  are_ready found v enabled exact all once =
-      ((λ f k. let p = exact f k in ready_of f ((enabled f).0 p.0, p.1)),
-        (λ f en. elim (all f ((enabled f).1 (over_history f en))) [ inl a ↦ inl a | inr b ↦ inr (Contains-append_left m.log m.parked f b) ]), once)
+  are_ready found v enabled exact all once = (
+    (λ f k. let p = exact f k in ready_of f ((enabled f).0 p.0, p.1)),
+    (λ f en. elim (all f ((enabled f).1 (over_history f en))) [ inl a ↦ inl a | inr b ↦ inr (Contains-append_left m.log m.parked f b) ]),
+    once,
+  )
 
   pub quiet_whole : NothingReady m → IsWhole m
   quiet_whole none = (closed, λ e. ((λ k. (whole e).0 (((settled_is_Cl m is st).1 e).0 k)), (λ w. ((settled_is_Cl m is st).1 e).1 ((whole e).1 w))))
     where
       held_in : (e : Entry) → Held (system_of m.job) m.log e → Contains m.history e
       held_in e = ((settled_is_Cl m is st).1 e).1
+
       all : (f : Firing) → Enabled (system_of m.job) (Contains m.history) f → Contains m.log f
       all f en =
           elim (Contains-append_cases m.log m.parked f (none f (Enabled-mono (system_of m.job) (Contains m.history) (Cl (system_of m.job) (Taken m)) (λ e. ((settled_is_Cl m is st).0 e).0) f en)))
-            [ inl a ↦ a | inr b ↦ absurd (st.none f b en) ]
+          [ inl a ↦ a | inr b ↦ absurd (st.none f b en) ]
+
       whole : Same (Held (system_of m.job) m.log) (Whole (system_of m.job))
       whole = Quiet-whole (system_of m.job) m.log is.derivation (λ f en. all f (Enabled-mono (system_of m.job) (Held (system_of m.job) m.log) (Contains m.history) held_in f en))
+
       closed : Closed (system_of m.job) (Contains m.history)
       closed f en e g = held_in e (inr (f, all f en, g))
 
@@ -169,13 +179,15 @@ module _ (m : State) (f : Firing) where
     where
       to : (g : Firing) → Taken (with_logged m f) g → Taken m g ⊎ (f ≡ g)
       to g t =
-          elim (Contains-append_cases (m.log ++ f ∷ []) m.parked g t)
-            [ inl a ↦ elim (Contains-push_cases m.log f g a) [ inl x ↦ inl (Contains-append_left m.log m.parked g x) | inr e ↦ inr e ]
-            | inr b ↦ inl (Contains-append_right m.log m.parked g b) ]
+          elim (Contains-append_cases (m.log ++ f ∷ []) m.parked g t) [
+            | inl a ↦ elim (Contains-push_cases m.log f g a) [ inl x ↦ inl (Contains-append_left m.log m.parked g x) | inr e ↦ inr e ]
+            | inr b ↦ inl (Contains-append_right m.log m.parked g b)
+          ]
+
       back : (g : Firing) → Taken m g ⊎ (f ≡ g) → Taken (with_logged m f) g
       back g (inl t) =
           elim (Contains-append_cases m.log m.parked g t)
-            [ inl a ↦ Contains-append_left (m.log ++ f ∷ []) m.parked g (Contains-append_left m.log (f ∷ []) g a) | inr b ↦ Contains-append_right (m.log ++ f ∷ []) m.parked g b ]
+          [ inl a ↦ Contains-append_left (m.log ++ f ∷ []) m.parked g (Contains-append_left m.log (f ∷ []) g a) | inr b ↦ Contains-append_right (m.log ++ f ∷ []) m.parked g b ]
       back g (inr e) = Contains-append_left (m.log ++ f ∷ []) m.parked g (subst (λ (x : Firing). Contains (m.log ++ f ∷ []) x) e (Contains-push m.log f))
 
   pub logged_takes : Takes m f (with_logged m f)
@@ -183,14 +195,14 @@ module _ (m : State) (f : Firing) where
 
   pub logged_is : IsMachine m → (Taken m f → ⊥) → count_of m < m.limit → m.done ≡ length m.log → Enabled (system_of m.job) (Contains m.history) f → IsMachine (with_logged m f)
   logged_is is new room entered en = record {
-      firings = λ g t. elim ((logged_push g).0 t) [ inl a ↦ is.firings g a | inr e ↦ subst (λ (x : Firing). IsTrue ((system_of m.job).is_firing x)) e en.0 ];
-      derivation = Derivation-push (system_of m.job) m.log f is.derivation (Enabled-mono (system_of m.job) (Contains m.history) (Held (system_of m.job) m.log) is.lies f en);
-      distinct = rw append_assoc (Distinct-put_in m.log m.parked f new is.distinct);
-      within = let a = length-append m.log (f ∷ []) in omega arith;
-      place = let a = length-append m.log (f ∷ []) in let w = is.place in omega arith;
-      has = λ e k. is.has e (let w = is.place in rw (take-append-le m.done m.log (f ∷ []) w) at k);
-      lies = λ e k. Held-append_left (system_of m.job) m.log (f ∷ []) e (is.lies e k)
-    }
+    firings = λ g t. elim ((logged_push g).0 t) [ inl a ↦ is.firings g a | inr e ↦ subst (λ (x : Firing). IsTrue ((system_of m.job).is_firing x)) e en.0 ];
+    derivation = Derivation-push (system_of m.job) m.log f is.derivation (Enabled-mono (system_of m.job) (Contains m.history) (Held (system_of m.job) m.log) is.lies f en);
+    distinct = rw append_assoc (Distinct-put_in m.log m.parked f new is.distinct);
+    within = let a = length-append m.log (f ∷ []) in omega arith;
+    place = let a = length-append m.log (f ∷ []) in let w = is.place in omega arith;
+    has = λ e k. is.has e (let w = is.place in rw (take-append-le m.done m.log (f ∷ []) w) at k);
+    lies = λ e k. Held-append_left (system_of m.job) m.log (f ∷ []) e (is.lies e k);
+  }
 
 module _ (a b : State) (p : Applies a b) where
   enabled_before : (f : Firing) → Enabled (system_of b.job) (Cl (system_of b.job) (Taken b)) f → Enabled (system_of a.job) (Cl (system_of a.job) (Taken a)) f

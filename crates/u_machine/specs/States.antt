@@ -34,8 +34,8 @@ state job limit log done parked history = record { job = job; limit = limit; log
 abbrev pub state_code : Coded State
 state_code =
     code_by (JobParts × (ℕ × (FiringList × (ℕ × (FiringList × EntryList)))))
-      (coded× job_row.the_row.coded (coded× coded_ℕ (coded× firing_list_code (coded× coded_ℕ (coded× firing_list_code entry_list_code)))))
-      (λ m. (m.job, (m.limit, (m.log, (m.done, (m.parked, m.history)))))) (λ p. state p.0 p.1.0 p.1.1.0 p.1.1.1.0 p.1.1.1.1.0 p.1.1.1.1.1) (λ _. refl)
+    (coded× job_row.the_row.coded (coded× coded_ℕ (coded× firing_list_code (coded× coded_ℕ (coded× firing_list_code entry_list_code)))))
+    (λ m. (m.job, (m.limit, (m.log, (m.done, (m.parked, m.history)))))) (λ p. state p.0 p.1.0 p.1.1.0 p.1.1.1.0 p.1.1.1.1.0 p.1.1.1.1.1) (λ _. refl)
 
 -- the taken set
 abbrev pub Taken : State → Firing → Type 0
@@ -91,8 +91,8 @@ IsReady m f = Enabled (system_of m.job) (Cl (system_of m.job) (Taken m)) f × (T
 abbrev pub AreReady : State → List Firing → Type 0
 AreReady m fs =
     ((f : Firing) → Contains fs f → IsReady m f)
-      × ((f : Firing) → Enabled (system_of m.job) (Cl (system_of m.job) (Taken m)) f → Contains fs f ⊎ Taken m f)
-      × Rises firing_cmp fs
+    × ((f : Firing) → Enabled (system_of m.job) (Cl (system_of m.job) (Taken m)) f → Contains fs f ⊎ Taken m f)
+    × Rises firing_cmp fs
 
 -- f stands at that place of the ready firings, modulo their number
 abbrev pub IsPick : State → ℕ → Firing → Type 0

@@ -1,4 +1,4 @@
-//! What the calls of a machine answer.
+//! What the calls of a machine answer. Each answer is this project's choice.
 ghost use Rattle.std.specs.Prelude.{◌≡◌};
 ghost use Rattle.u_machine.specs.declared.answer.Refusal.TheVariants.{NoMemory};
 

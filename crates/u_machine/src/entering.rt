@@ -1,12 +1,11 @@
-//! How entries enter a history.
+//! How the entries that a firing gives enter a history.
 ghost use Rattle.std.specs.Prelude.{◌≡◌, ◌↔◌, Contains, ◌⊎◌, ◌<◌, ◌++◌, [], ◌∷◌, OnOk, OnErr, IfOk, vec_len, vec_capacity};
 ghost use Rattle.u_rule.specs.Rule.{system_of};
 ghost use Rattle.u_rule.specs.declared.entry.Entry.{Entry};
 
 use std::alloc::{AllocError, Global};
-
-use u_history::History;
 use u_check::Job;
+use u_history::History;
 use u_rule::{Entry, Firing, gives};
 
 /// Puts a copy of the entry in, unless it is there.

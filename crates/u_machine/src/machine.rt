@@ -1,4 +1,8 @@
-//! One machine.
+//! One machine, whose log has the applied firings and whose history has their entries.
+//!
+//! All that was applied forms a derivation: each firing needs only the start token and what
+//! earlier firings of the log give. So the history has what the firings hold and nothing else,
+//! and once nothing is ready, it has all that can be derived from the job.
 ghost use Rattle.std.specs.Prelude.{◌≡◌, ◌↔◌, ◌<◌, ◌≤◌, ◌+◌, [], ◌∷◌, IfOk, IfErr, IfSome, IsOk, IsTrue, IsFalse, Contains, ◌⊎◌, OnOk, OnErr, length, ◌++◌};
 ghost use Rattle.u_rule.specs.declared.firing.Firing.{Firing};
 ghost use Rattle.u_rule.specs.Rule.{system_of};
@@ -7,17 +11,15 @@ ghost use Rattle.u_machine.specs.States.{state, IsMachine, IsSettled, IsWhole, A
 ghost use Rattle.u_system.specs.Firing.{Enabled};
 ghost use Rattle.u_system.specs.Rising.{Rises};
 
+use crate::answer::{Ran, Refusal, Step};
+use crate::entering::{given_by, insert_all, push_into_room};
+use crate::scan::ready_firings;
 use std::alloc::{AllocError, Global};
 use std::marker::Model;
-
 use u_check::Job;
 use u_history::History;
 use u_rule::{Firing, start};
 use u_system::OrderedSet;
-
-use crate::answer::{Ran, Refusal, Step};
-use crate::entering::{given_by, insert_all, push_into_room};
-use crate::scan::ready_firings;
 
 /// A job with its taken firings and its history.
 ///
@@ -48,7 +50,8 @@ impl<'a> Model for Machine<'a> {
 }
 
 impl<'a> Machine<'a> {
-    /// A machine that holds the start token alone. `limit` is the greatest number of firings that it takes.
+    /// A machine that holds the start token alone. `limit` is the greatest number of firings that it takes;
+    /// any number may stand there.
     ///
     /// # Errors
     /// `AllocError` where there is no memory.
@@ -69,7 +72,8 @@ impl<'a> Machine<'a> {
         })
     }
 
-    /// Lets the entries enter that the next firing of the log gives.
+    /// Lets the entries enter that the next firing of the log gives. Those that entered before a
+    /// refusal stay.
     fn enter_next(&mut self) -> Result<(), AllocError>
         requires { self.old.done < length self.old.log }
         ensures applies { Applies self.old self.new }
@@ -91,7 +95,7 @@ impl<'a> Machine<'a> {
         self.done < self.log.len()
     }
 
-    /// Lets all entries enter that firings of the log give.
+    /// Lets all entries enter that firings of the log give. Those that entered before a refusal stay.
     fn complete(&mut self) -> Result<(), AllocError>
         ensures applies { Applies self.old self.new }
         ensures log { self.new.log ≡ self.old.log }
@@ -126,7 +130,7 @@ impl<'a> Machine<'a> {
         Ok(())
     }
 
-    /// Whether the firing was taken.
+    /// Whether the firing was taken, so that it is not to be taken again.
     #[tactic(auto, using(u_rule::specs::EntryOrder::firing_cmp_ties))]
     pub fn knows(&self, firing: &Firing) -> bool
         ensures { IsTrue result ↔ Taken self.now firing.now }
@@ -142,7 +146,8 @@ impl<'a> Machine<'a> {
         self.limit <= self.log.len()
     }
 
-    /// What holds of each machine.
+    /// What holds of each machine: its firings are a derivation without repeats, and its history, in
+    /// order, has just what they hold. It does nothing, and callers cite its clauses.
     pub fn holds(&self)
         ensures is { IsMachine self.now }
         ensures rises { Rises entry_cmp self.now.history }
@@ -151,7 +156,7 @@ impl<'a> Machine<'a> {
         let _entries = self.history.len();
     }
 
-    /// The history.
+    /// The history: each entry that the machine holds.
     pub fn history(&self) -> &History
         ensures { result.now ≡ self.now.history }
     {
@@ -174,13 +179,14 @@ impl<'a> Machine<'a> {
         Ok(ready)
     }
 
+    /// How many firings are in the log.
     fn log_len(&self) -> usize
         ensures { result ≡ length self.now.log }
     {
         self.log.len()
     }
 
-    /// Takes a firing that is enabled, and puts it at the end of the log.
+    /// Takes a firing that is enabled, and puts it at the end of the log. What it gives is still to enter.
     #[tactic(auto, using(u_rule::specs::EntryOrder::firing_cmp_ties))]
     fn begin(&mut self, firing: &Firing) -> Result<(), AllocError>
         requires new { Taken self.old firing.now → ⊥ }
@@ -199,7 +205,14 @@ impl<'a> Machine<'a> {
         Ok(())
     }
 
-    /// Applies the ready firing at that place, modulo their number, and then what it enables.
+    /// Applies one ready firing, and lets the entries enter that it gives. The ready firings stand in
+    /// order; `pick` modulo their number is the place of the one that is applied, so any number may
+    /// stand there. Where nothing is ready, the history is all that can be derived from the job.
+    ///
+    /// # Errors
+    /// `Full` where a firing is ready and the machine has as many as it may, and nothing is applied.
+    /// `NoMemory` where there is no memory; then either no firing was taken, or the picked one was and
+    /// its entries may still have to enter, which the next call sees to.
     pub fn fire(&mut self, pick: usize) -> Result<Step, Refusal>
         ensures answer { FireAnswer self.old pick result self.new }
         ensures whole { IfOk result (λ r. r ≡ Step.Quiet → IsWhole self.new) }
@@ -232,7 +245,12 @@ impl<'a> Machine<'a> {
         Ok(count == 0)
     }
 
-    /// Applies the first ready firing again and again, `budget` times at most.
+    /// Applies the least ready firing again and again, until nothing is ready or it has done so
+    /// `budget` times.
+    ///
+    /// # Errors
+    /// `Full` where a firing is ready and the machine has as many as it may. `NoMemory` where there is
+    /// no memory. What was applied before a refusal stays applied.
     pub fn run(&mut self, budget: usize) -> Result<Ran, Refusal>
         ensures { RunAnswer self.old budget result self.new }
     {
@@ -245,6 +263,10 @@ impl<'a> Machine<'a> {
         }
         self.settle()?;
         let quiet = self.is_quiet()?;
-        if quiet { Ok(Ran::Quiet) } else { Ok(Ran::Paused) }
+        if quiet {
+            Ok(Ran::Quiet)
+        } else {
+            Ok(Ran::Paused)
+        }
     }
 }

@@ -1,4 +1,8 @@
 //! The firings that are enabled over a history, found in one pass over its entries.
+//!
+//! The tokens of one activity stand side by side in a history, ordered by port and value. So each
+//! firing is found at its first token: a firing of one value by that token alone, a firing of two
+//! values by that token and each of the activity's tokens that stand behind it.
 ghost use Rattle.std.specs.Prelude.{◌≡◌, ◌↔◌, ◌<◌, ◌≤◌, ◌+◌, [], ◌∷◌, IfOk, OnOk, Contains, ◌⊎◌, Some, None, IsTrue, length, take, drop};
 ghost use Rattle.std.proofs.Common.{get_or};
 ghost use Rattle.u_rule.specs.Rule.{system_of};
@@ -13,7 +17,6 @@ ghost use Rattle.u_system.specs.Firing.{Enabled, SomeOf};
 ghost use Rattle.u_system.specs.Rising.{Rises};
 
 use std::alloc::{AllocError, Global};
-
 use u_check::Job;
 use u_history::History;
 use u_rule::{Entry, Firing, Token, Values, is_firing};
@@ -41,7 +44,11 @@ fn single(alloc: Global, job: &Job, left: &Entry) -> Result<Option<Firing>, Allo
         values: Values::one(alloc, token.value().copy()?)?,
         write: None,
     };
-    if is_firing(job, &firing) { Ok(Some(firing)) } else { Ok(None) }
+    if is_firing(job, &firing) {
+        Ok(Some(firing))
+    } else {
+        Ok(None)
+    }
 }
 
 /// Whether the two tokens are of one activity.
@@ -171,8 +178,15 @@ fn behind(entries: &[Entry], place: usize) -> &[Entry]
     &entries[place..]
 }
 
-/// All firings that are enabled over the entries of a history, each found at its first token.
-pub fn enabled_firings(alloc: Global, job: &Job, entries: &[Entry]) -> Result<Vec<Firing>, AllocError>
+/// All firings of the job that are enabled over the entries of a history, which stand in order.
+///
+/// # Errors
+/// `AllocError` where there is no memory.
+pub fn enabled_firings(
+    alloc: Global,
+    job: &Job,
+    entries: &[Entry],
+) -> Result<Vec<Firing>, AllocError>
     requires { Rises entry_cmp entries.now }
     ensures { IfOk result (λ v. (f : Firing) → Contains v.items f ↔ Enabled (system_of job.now) (Contains entries.now) f) }
 {
@@ -224,7 +238,10 @@ fn add_new(
     Ok(())
 }
 
-/// The firings that are enabled over the history and not in the set, in order.
+/// The firings of the job that are enabled over the history and are not in the set, in order.
+///
+/// # Errors
+/// `AllocError` where there is no memory.
 pub fn ready_firings(
     alloc: Global,
     job: &Job,

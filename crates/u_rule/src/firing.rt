@@ -1,8 +1,12 @@
-//! Firings.
-ghost use Rattle.std.specs.Prelude.{◌≡◌, IfOk, None};
-ghost use Rattle.u_rule.specs.declared.firing.Firing.{Firing};
+//! Firings: which activity fires, on which values.
+//!
+//! By Arvind and Gostelow (1982) an activity fires once each of its ports has a token. Here a firing
+//! is a record of its values, so that it can be named, ordered and sent: this project's profile.
+ghost use Rattle.std.specs.Prelude.{◌≡◌, IfOk};
+ghost use Rattle.u_rule.specs.Orders.{firing_order};
 
 use std::alloc::{AllocError, Global};
+use std::cmp::Ordering;
 
 use u_name::Name;
 use u_value::Value;
@@ -32,6 +36,9 @@ pub struct Firing {
 
 impl Written {
     /// An equal write.
+    ///
+    /// # Errors
+    /// `AllocError` where there is no memory.
     pub fn copy(&self) -> Result<Written, AllocError>
         ensures { IfOk result (λ w. w ≡ self.now) }
     {
@@ -43,7 +50,18 @@ impl Written {
 }
 
 impl Firing {
+    /// By activity, values and write, as `cmp`.
+    #[tactic(auto, using(crate::proofs::Orders::derived_firing_cmp))]
+    pub fn compare(&self, other: &Firing) -> Ordering
+        ensures { result ≡ firing_order self.now other.now }
+    {
+        self.cmp(other)
+    }
+
     /// An equal firing.
+    ///
+    /// # Errors
+    /// `AllocError` where there is no memory.
     pub fn copy(&self, alloc: Global) -> Result<Firing, AllocError>
         ensures { IfOk result (λ f. f ≡ self.now) }
     {

@@ -9,7 +9,7 @@ use std::marker::Model;
 use u_name::{Cell, Name};
 use u_value::{FaultKind, Value};
 
-/// A value at a port of an activity.
+/// A value at a port of an activity. Tokens are ordered by activity, port and value.
 #[derive(PartialEq, Eq, PartialOrd, Ord, Hash, Drop)]
 pub struct Token {
     activity: Name,
@@ -67,6 +67,9 @@ impl Token {
     }
 
     /// An equal token.
+    ///
+    /// # Errors
+    /// `AllocError` where there is no memory.
     pub fn copy(&self) -> Result<Token, AllocError>
         ensures { IfOk result (λ t. t ≡ self.now) }
     {
@@ -78,7 +81,7 @@ impl Token {
     }
 }
 
-/// A value that an activity wrote into a cell.
+/// A value that an activity wrote into a cell. Writes are ordered by cell, writer and value.
 #[derive(PartialEq, Eq, PartialOrd, Ord, Hash, Drop)]
 pub struct Write {
     /// The cell.
@@ -91,6 +94,9 @@ pub struct Write {
 
 impl Write {
     /// An equal write.
+    ///
+    /// # Errors
+    /// `AllocError` where there is no memory.
     pub fn copy(&self) -> Result<Write, AllocError>
         ensures { IfOk result (λ w. w ≡ self.now) }
     {
@@ -102,7 +108,7 @@ impl Write {
     }
 }
 
-/// That an activity could not give a value.
+/// That an activity could not give a value. Faults are ordered by activity and kind.
 #[derive(PartialEq, Eq, PartialOrd, Ord, Hash, Drop)]
 pub struct Fault {
     /// The activity.
@@ -113,6 +119,9 @@ pub struct Fault {
 
 impl Fault {
     /// An equal fault.
+    ///
+    /// # Errors
+    /// `AllocError` where there is no memory.
     pub fn copy(&self) -> Result<Fault, AllocError>
         ensures { IfOk result (λ f. f ≡ self.now) }
     {

@@ -1,4 +1,8 @@
-//! The firing rule.
+//! The firing rule: which firings a job has, what each needs and what each gives.
+//!
+//! A firing needs one token for each port of its statement, and gives one for each destination, as
+//! in Arvind and Gostelow (1982). By this project's profile an operator that has no value for its
+//! operands gives a fault in its place, and `end` gives the answer.
 ghost use Rattle.std.specs.Prelude.{◌≡◌, ◌≤◌, ◌<◌, ◌+◌, ◌++◌, [], ◌∷◌, false, map, length, Some, Ok, Err, IfOk, IfSome, OnOk, MatchResult, MatchOption, IsTrue, ◌↔◌};
 ghost use Rattle.std.specs.Option.{option_copied};
 ghost use Rattle.u_program.specs.Limits.{IsBlockOf, IsStatement, Ascending, IsDestination, the_limits};
@@ -185,7 +189,11 @@ fn entries_of(
     Ok(entries)
 }
 
-/// The entries that a firing of the job gives.
+/// The entries that a firing of the job gives: its value at each destination, in their order, the
+/// answer from `end`, or the one fault.
+///
+/// # Errors
+/// `NotAFiring` exactly where it is no firing of the job. `NoMemory` where there is no memory.
 #[tactic(auto, unfolding(crate::specs::Rule::gives_of, crate::specs::Rule::is_firing_of))]
 pub fn gives(alloc: Global, job: &Job, firing: &Firing) -> Result<Vec<Entry>, RuleError>
     ensures ok { IfOk result (λ v. IsTrue (is_firing_of job.now firing.now) × (v.items ≡ gives_of job.now firing.now)) }
@@ -216,7 +224,10 @@ fn add_tokens(tokens: &mut Vec<Entry>, activity: &Name, values: &[Value]) -> Res
     Ok(())
 }
 
-/// The entries that a firing of the job needs.
+/// The entries that a firing of the job needs: the token of its value at each port, from port 1 on.
+///
+/// # Errors
+/// `NotAFiring` exactly where it is no firing of the job. `NoMemory` where there is no memory.
 #[tactic(auto, unfolding(crate::specs::Rule::needs_of))]
 pub fn needs(alloc: Global, job: &Job, firing: &Firing) -> Result<Vec<Entry>, RuleError>
     ensures ok { IfOk result (λ v. IsTrue (is_firing_of job.now firing.now) × (v.items ≡ needs_of firing.now)) }

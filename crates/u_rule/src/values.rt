@@ -15,7 +15,8 @@ use std::marker::Model;
 
 use u_value::Value;
 
-/// One to three values, in the order of the ports. Contracts see a list.
+/// One to three values, in the order of the ports. Contracts see a list. Lists are ordered value by
+/// value, and a list comes before those that go on behind it.
 #[derive(Drop)]
 pub struct Values {
     all: Vec<Value>,
@@ -35,6 +36,9 @@ impl Model for Values {
 
 impl Values {
     /// One value.
+    ///
+    /// # Errors
+    /// `AllocError` where there is no memory.
     pub fn one(alloc: Global, first: Value) -> Result<Values, AllocError>
         ensures { IfOk result (λ v. v ≡ first ∷ []) }
     {
@@ -44,6 +48,9 @@ impl Values {
     }
 
     /// Two values.
+    ///
+    /// # Errors
+    /// `AllocError` where there is no memory.
     pub fn two(alloc: Global, first: Value, second: Value) -> Result<Values, AllocError>
         ensures { IfOk result (λ v. v ≡ first ∷ second ∷ []) }
     {
@@ -60,10 +67,11 @@ impl Values {
     {
         &self.all
     }
-}
 
-impl Values {
     /// An equal list.
+    ///
+    /// # Errors
+    /// `AllocError` where there is no memory.
     pub fn copy(&self, alloc: Global) -> Result<Values, AllocError>
         ensures { IfOk result (λ v. v ≡ self.now) }
     {

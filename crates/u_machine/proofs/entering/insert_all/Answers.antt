@@ -20,7 +20,7 @@ loop-entry-preserved c =
     record {
       within = rw (take_more c.args.entries.now c.loop-entry.entry-index d l, ← c.entry-item.is) (grow_within c.args.history.now c.loop-entry.history c.insert.new.history (take c.loop-entry.entry-index c.args.entries.now) d c.in_ok-insert.ensures.ok c.loop-entry.invariant.within);
       kept = grow_kept c.args.history.now c.loop-entry.history c.insert.new.history d c.in_ok-insert.ensures.ok c.loop-entry.invariant.kept;
-      all = rw (take_more c.args.entries.now c.loop-entry.entry-index d l, ← c.entry-item.is) (grow_all c.loop-entry.history c.insert.new.history (take c.loop-entry.entry-index c.args.entries.now) d c.in_ok-insert.ensures.ok c.loop-entry.invariant.all)
+      all = rw (take_more c.args.entries.now c.loop-entry.entry-index d l, ← c.entry-item.is) (grow_all c.loop-entry.history c.insert.new.history (take c.loop-entry.entry-index c.args.entries.now) d c.in_ok-insert.ensures.ok c.loop-entry.invariant.all);
     }
 
 pub returns-clause-within : goal.returns-clause-within

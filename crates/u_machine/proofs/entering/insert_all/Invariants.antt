@@ -5,7 +5,7 @@ use Rattle.u_machine.proofs.entering.insert_all.Given as goal
 
 abbrev pub invariant-loop-entry : goal.invariant-loop-entry
 invariant-loop-entry l = record {
-    within : (x : Entry) → Contains l.history x → Contains l.initial.history x ⊎ Contains (take l.entry-index l.entries) x;
-    kept : (x : Entry) → Contains l.initial.history x → Contains l.history x;
-    all : (x : Entry) → Contains (take l.entry-index l.entries) x → Contains l.history x
-  }
+  within : (x : Entry) → Contains l.history x → Contains l.initial.history x ⊎ Contains (take l.entry-index l.entries) x;
+  kept : (x : Entry) → Contains l.initial.history x → Contains l.history x;
+  all : (x : Entry) → Contains (take l.entry-index l.entries) x → Contains l.history x;
+}

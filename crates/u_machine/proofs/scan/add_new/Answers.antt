@@ -13,7 +13,7 @@ untaken c m = let z = c.if-contains.ensures.1 m in cc
 pub returns-clause-exact : goal.returns-clause-exact
 returns-clause-exact c f m =
     elim ((placed (goal.at.returns-clause-exact c).In_ok-place_in f).0 m)
-      [ inl a ↦ inl a | inr e ↦ inr (e, λ l. untaken (goal.at.returns-clause-exact c).In_ok-place_in (subst (λ (x : Firing). Contains c.args.taken.now x) (sym e) l)) ]
+    [ inl a ↦ inl a | inr e ↦ inr (e, λ l. untaken (goal.at.returns-clause-exact c).In_ok-place_in (subst (λ (x : Firing). Contains c.args.taken.now x) (sym e) l)) ]
 
 pub returns-clause-kept : goal.returns-clause-kept
 returns-clause-kept c f m = (placed (goal.at.returns-clause-kept c).In_ok-place_in f).1 (inl m)

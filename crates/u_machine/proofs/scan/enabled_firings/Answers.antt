@@ -14,16 +14,17 @@ use Rattle.u_machine.proofs.scan.enabled_firings.Goals as goal
 pub join-requires : goal.join-requires
 join-requires c =
     subst (λ (xs : List Entry). Rises entry_cmp (c.index-entries-i.result ∷ xs)) (sym c.behind-rest.ensures)
-      (subst (λ (e : Entry). Rises entry_cmp (e ∷ drop (c.loop-i.i + 1) c.args.entries.now)) (sym c.index-entries-i.is) (rises_from c.args.entries.now c.loop-i.i c.index-entries-i.result c.requires c.loop-i-test.true))
+    (subst (λ (e : Entry). Rises entry_cmp (e ∷ drop (c.loop-i.i + 1) c.args.entries.now)) (sym c.index-entries-i.is) (rises_from c.args.entries.now c.loop-i.i c.index-entries-i.result c.requires c.loop-i-test.true))
 
 pub loop-i-preserved : goal.loop-i-preserved
 loop-i-preserved c =
     scan_more (Joins c.args.job.now c.args.entries.now) [] c.args.entries.now c.loop-i.i c.index-entries-i.result c.loop-i.found.items c.join.new.found.items c.loop-i-test.true c.loop-i.invariant
-      (step_adds c.args.job.now c.args.entries.now c.loop-i.i c.index-entries-i.result c.loop-i.found.items c.join.new.found.items c.requires c.loop-i-test.true c.index-entries-i.is
-        (subst (λ (xs : List Entry). (f : Firing) → Contains c.join.new.found.items f ↔ (Contains c.loop-i.found.items f ⊎ Joins c.args.job.now xs c.index-entries-i.result f)) c.behind-rest.ensures c.in_ok-join.ensures))
+    (step_adds c.args.job.now c.args.entries.now c.loop-i.i c.index-entries-i.result c.loop-i.found.items c.join.new.found.items c.requires c.loop-i-test.true c.index-entries-i.is
+    (subst (λ (xs : List Entry). (f : Firing) → Contains c.join.new.found.items f ↔ (Contains c.loop-i.found.items f ⊎ Joins c.args.job.now xs c.index-entries-i.result f)) c.behind-rest.ensures c.in_ok-join.ensures))
 
 pub returns : goal.returns
 returns c f =
-    let all = scan_all (Joins c.args.job.now c.args.entries.now) [] c.args.entries.now c.loop-i.i c.loop-i.found.items c.loop-i-test.false c.loop-i.invariant f in
-    ((λ m. elim (all.0 m) [ inl n ↦ absurd (Contains-nil f n) | inr s ↦ (enabled_is_joined c.args.job.now c.args.entries.now f).1 s ]),
-      (λ en. all.1 (inr ((enabled_is_joined c.args.job.now c.args.entries.now f).0 en))))
+    let all = scan_all (Joins c.args.job.now c.args.entries.now) [] c.args.entries.now c.loop-i.i c.loop-i.found.items c.loop-i-test.false c.loop-i.invariant f in (
+      (λ m. elim (all.0 m) [ inl n ↦ absurd (Contains-nil f n) | inr s ↦ (enabled_is_joined c.args.job.now c.args.entries.now f).1 s ]),
+      (λ en. all.1 (inr ((enabled_is_joined c.args.job.now c.args.entries.now f).0 en))),
+    )

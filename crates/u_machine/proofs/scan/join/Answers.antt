@@ -8,6 +8,6 @@ use Rattle.u_machine.proofs.scan.join.Goals as goal
 pub returns : goal.returns
 returns c =
     join_adds c.args.job.now c.args.left.now c.args.rest.now c.front-seconds.result.now c.in_ok-alone.alone c.args.found.now.items c.add.new.found.items c.join_two.new.found.items
-      c.in_ok-alone.ensures c.in_ok-add.ensures c.in_ok-join_two.ensures
-      (λ x m s. subst (λ (xs : List Entry). Contains xs x) (sym c.front-seconds.ensures) (c.followers-count.ensures.all x m s))
-      (λ x m. Contains-taken c.followers-count.result c.args.rest.now x (subst (λ (xs : List Entry). Contains xs x) c.front-seconds.ensures m))
+    c.in_ok-alone.ensures c.in_ok-add.ensures c.in_ok-join_two.ensures
+    (λ x m s. subst (λ (xs : List Entry). Contains xs x) (sym c.front-seconds.ensures) (c.followers-count.ensures.all x m s))
+    (λ x m. Contains-taken c.followers-count.result c.args.rest.now x (subst (λ (xs : List Entry). Contains xs x) c.front-seconds.ensures m))

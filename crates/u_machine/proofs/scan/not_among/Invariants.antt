@@ -7,7 +7,7 @@ use Rattle.u_machine.proofs.scan.not_among.Given as goal
 
 abbrev pub invariant-loop-firing : goal.invariant-loop-firing
 invariant-loop-firing l = record {
-    exact : (f : Firing) → Contains l.rest.items f → Contains (take l.firing-index l.found) f × (Contains l.taken f → ⊥);
-    all : (f : Firing) → Contains (take l.firing-index l.found) f → Contains l.rest.items f ⊎ Contains l.taken f;
-    rises : Rises firing_cmp l.rest.items
-  }
+  exact : (f : Firing) → Contains l.rest.items f → Contains (take l.firing-index l.found) f × (Contains l.taken f → ⊥);
+  all : (f : Firing) → Contains (take l.firing-index l.found) f → Contains l.rest.items f ⊎ Contains l.taken f;
+  rises : Rises firing_cmp l.rest.items;
+}

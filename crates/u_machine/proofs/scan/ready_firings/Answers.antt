@@ -10,7 +10,7 @@ use Rattle.u_machine.proofs.scan.ready_firings.Goals.{In_ok-ready}
 enabled : (c : In_ok-ready) (f : Firing) → Contains c.deref-2.result.now f ↔ Enabled (system_of c.args.job.now) (Contains c.args.history.now) f
 enabled c f =
     subst (λ (fs : FiringList). Contains fs f ↔ Enabled (system_of c.args.job.now) (Contains c.args.history.now) f) (sym c.deref-2.ensures.value)
-      (subst (λ (es : EntryList). Contains c.in_ok-found.found.items f ↔ Enabled (system_of c.args.job.now) (Contains es) f) (c.deref.ensures.value ∙ c.in_ok-entries.ensures.all) (c.in_ok-found.ensures f))
+    (subst (λ (es : EntryList). Contains c.in_ok-found.found.items f ↔ Enabled (system_of c.args.job.now) (Contains es) f) (c.deref.ensures.value ∙ c.in_ok-entries.ensures.all) (c.in_ok-found.ensures f))
 
 pub returns-clause-exact : goal.returns-clause-exact
 returns-clause-exact c f m =

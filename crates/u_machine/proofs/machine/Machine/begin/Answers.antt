@@ -21,9 +21,9 @@ pub invariant_of-self-2 : goal.invariant_of-self-2
 invariant_of-self-2 c =
     let before = state c.self.inside.job.now c.self.inside.limit c.self.inside.log.items c.self.inside.done [] c.self.inside.history in
     rw (logged c)
-      (kept_with before (with_logged before c.args.firing.now) c.args.firing.now c.self.inside.taken c.insert.new.self
-        (logged_is before c.args.firing.now c.self.invariant.is (rw (← c.self.view_is) at c.requires.new) (rw (← c.self.view_is) at c.requires.room) (rw (← c.self.view_is) at c.requires.entered) (rw (← c.self.view_is) at c.requires.enabled))
-        (logged_push before c.args.firing.now) c.self.invariant.same (kept c))
+    (kept_with before (with_logged before c.args.firing.now) c.args.firing.now c.self.inside.taken c.insert.new.self
+    (logged_is before c.args.firing.now c.self.invariant.is (rw (← c.self.view_is) at c.requires.new) (rw (← c.self.view_is) at c.requires.room) (rw (← c.self.view_is) at c.requires.entered) (rw (← c.self.view_is) at c.requires.enabled))
+    (logged_push before c.args.firing.now) c.self.invariant.same (kept c))
 
 pub returns-clause-ok : goal.returns-clause-ok
 returns-clause-ok c =

@@ -4,11 +4,11 @@ use Rattle.u_machine.proofs.machine.Machine.complete.Given as goal
 
 abbrev pub invariant-loop-self : goal.invariant-loop-self
 invariant-loop-self l = record {
-    applies : Applies l.fn.self l.self;
-    log : l.self.log ≡ l.fn.self.log;
-    parked : l.self.parked ≡ l.fn.self.parked;
-    still : l.fn.self.done ≡ length l.fn.self.log → l.self ≡ l.fn.self
-  }
+  applies : Applies l.fn.self l.self;
+  log : l.self.log ≡ l.fn.self.log;
+  parked : l.self.parked ≡ l.fn.self.parked;
+  still : l.fn.self.done ≡ length l.fn.self.log → l.self ≡ l.fn.self;
+}
 
 abbrev pub decreases-loop-self : goal.decreases-loop-self
 decreases-loop-self l = length l.self.log - l.self.done

@@ -25,8 +25,8 @@ invariant_of-self-2 c =
     let a = (goal.at.invariant_of-self-2 c).After-insert_all in
     record {
       is = entered _ c.insert_all.new.history c.index.result.now c.self.invariant.is (below a) (within a) c.insert_all.ensures.kept
-        (subst (λ g. (x : Entry) → Contains g x → Contains c.insert_all.new.history x) (given_is a) c.in_ok-insert_all.ensures.ok);
-      same = c.self.invariant.same
+          (subst (λ g. (x : Entry) → Contains g x → Contains c.insert_all.new.history x) (given_is a) c.in_ok-insert_all.ensures.ok);
+      same = c.self.invariant.same;
     }
 
 pub returns-in_err-insert_all-clause-applies : goal.returns-in_err-insert_all-clause-applies

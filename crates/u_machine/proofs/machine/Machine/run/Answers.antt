@@ -9,19 +9,19 @@ pub returns-in_err-fired : goal.returns-in_err-fired
 returns-in_err-fired c =
     let (gs, r, n) = c.loop-made.invariant in
     fails_with c.args.self.now c.fire.new.self c.args.budget _ c.from_residual.result c.from_residual.ensures.1
-      (run_fails c.args.self.now c.loop-made.self c.fire.new.self c.args.budget gs _ r (omega (arith, n)) c.in_err-fired.ensures.answer)
+    (run_fails c.args.self.now c.loop-made.self c.fire.new.self c.args.budget gs _ r (omega (arith, n)) c.in_err-fired.ensures.answer)
 
 pub returns-in_err-settle : goal.returns-in_err-settle
 returns-in_err-settle c =
     let (gs, r, n) = c.loop-made.invariant in
     fails_with c.args.self.now c.settle.new.self c.args.budget _ c.from_residual-in_err-settle.result c.from_residual-in_err-settle.ensures.1
-      (gs, Runs-applies c.args.self.now c.loop-made.self c.settle.new.self gs r c.settle.ensures.applies, omega (arith, n))
+    (gs, Runs-applies c.args.self.now c.loop-made.self c.settle.new.self gs r c.settle.ensures.applies, omega (arith, n))
 
 pub returns-in_err-quiet : goal.returns-in_err-quiet
 returns-in_err-quiet c =
     let (gs, r, n) = c.loop-made.invariant in
     fails_with c.args.self.now c.settle.new.self c.args.budget _ c.from_residual-in_err-quiet.result c.from_residual-in_err-quiet.ensures.1
-      (gs, Runs-applies c.args.self.now c.loop-made.self c.settle.new.self gs r c.settle.ensures.applies, omega (arith, n))
+    (gs, Runs-applies c.args.self.now c.loop-made.self c.settle.new.self gs r c.settle.ensures.applies, omega (arith, n))
 
 pub returns-in-Quiet : goal.returns-in-Quiet
 returns-in-Quiet c =
