@@ -52,7 +52,7 @@ module _ (old new : State) (budget : ℕ) (log : old.log ≡ []) (parked : old.p
         whole = λ e. d.1 refl;
         all = λ e. rw d.0.job at (none_left new is a.3 d.0.parked a.4);
         many = λ e. absurd (cc);
-        more = λ e. absurd (cc)
+        more = λ e. absurd (cc);
       }
   ran_run ran.Paused report status a r t =
       let d = run_done old new budget ran.Paused a log parked is in
@@ -64,7 +64,7 @@ module _ (old new : State) (budget : ℕ) (log : old.log ≡ []) (parked : old.p
         whole = λ e. absurd (cc);
         all = λ e. absurd (cc);
         many = λ e. ap length (p.0 ∙ ap (λ (xs : FiringList). xs ++ a.0) log) ∙ a.2;
-        more = λ e. rw d.0.job at (some_left new is a.3 d.0.parked a.4)
+        more = λ e. rw d.0.job at (some_left new is a.3 d.0.parked a.4);
       }
 
 -- the same for a machine that was new for this job
@@ -74,5 +74,5 @@ ran_job job limit h old new budget end report status e is a r t =
       state = state_of end;
       fs = new.log;
       run = subst (λ (j : JobParts). IsRunOf j budget (state_of end) new.log report status) (ap (λ (m : State). m.job) e)
-        (ran_run old new budget (ap (λ (m : State). m.log) e) (ap (λ (m : State). m.parked) e) is end report status a r t)
+          (ran_run old new budget (ap (λ (m : State). m.log) e) (ap (λ (m : State). m.parked) e) is end report status a r t);
     }

@@ -4,7 +4,6 @@ ghost use Rattle.u_cli.specs.Statuses.{status_of_fault};
 
 use std::alloc::AllocError;
 use thiserror::Error;
-
 use u_check::Breach;
 
 /// Why a command gives no whole output. It prints as the text that stands behind `u: `.

@@ -2,10 +2,9 @@
 ghost use Rattle.std.specs.Prelude.{◌≡◌, ◌≤◌, ◌<◌, ◌+◌, IfOk, IfErr, IfSome, MatchResult};
 ghost use Rattle.u_cli.specs.Inputs.{ReadsAll, ReadFails};
 
+use crate::fault::Fault;
 use std::alloc::Global;
 use std::io::Read;
-
-use crate::fault::Fault;
 
 /// The greatest number of bytes of an input.
 pub const INPUT_LIMIT: usize = 67_108_864;

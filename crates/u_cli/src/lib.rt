@@ -16,4 +16,5 @@ pub use output::{Unwritten, write_whole};
 pub use run::{FIRING_LIMIT, run_text};
 
 /// The program that runs where no word is given: it doubles its argument.
-pub const STORED_PROGRAM: &[u8] = b"u-program 1\nblock main\n1 0 begin -> 2.1 2.2\n2 0 add -> 3.1\n3 0 end ->\n";
+pub const STORED_PROGRAM: &[u8] =
+    b"u-program 1\nblock main\n1 0 begin -> 2.1 2.2\n2 0 add -> 3.1\n3 0 end ->\n";

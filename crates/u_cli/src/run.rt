@@ -8,17 +8,15 @@ ghost use Rattle.u_history.specs.Report.{IsReportOf};
 ghost use Rattle.u_cli.specs.Statuses.{status_of};
 ghost use Rattle.u_history.specs.Verdicts.{judgement};
 
+use crate::argument::argument_of;
+use crate::fault::Fault;
+use crate::output::write_whole;
 use std::alloc::{AllocError, Global};
 use std::io::Write;
-
 use u_check::{Checked, Job, check};
 use u_history::{History, State, Verdict, report_text};
 use u_machine::{Machine, Ran, Refusal};
 use u_program::{ReadError, read};
-
-use crate::argument::argument_of;
-use crate::fault::Fault;
-use crate::output::write_whole;
 
 /// How many firings a machine of the program takes at most.
 pub const FIRING_LIMIT: usize = 1_000_000;

@@ -60,5 +60,5 @@ derived_option_cmp (Some a) (Some b) = ap (λ r. ordering_then (name_cmp a.write
 pub derived_firing_cmp : (a b : Firing) → firing_cmp a b ≡ firing_order a b
 derived_firing_cmp a b =
     ap (λ r. ordering_then (name_cmp a.activity b.activity) (ordering_then r (option_cmp (written_ord.ghosts).cmp a.write b.write)))
-      (derived_values_cmp a.values b.values)
+    (derived_values_cmp a.values b.values)
     ∙ ap (λ r. ordering_then (name_cmp a.activity b.activity) (ordering_then (values_cmp a.values b.values) r)) (derived_option_cmp a.write b.write)

@@ -54,4 +54,4 @@ written_cmp a b = ordering_then (name_cmp a.writer b.writer) (value_cmp a.value 
 abbrev pub firing_order : Firing → Firing → Ordering
 firing_order a b =
     ordering_then (name_cmp a.activity b.activity)
-      (ordering_then (values_cmp a.values b.values) (option_cmp written_cmp a.write b.write))
+    (ordering_then (values_cmp a.values b.values) (option_cmp written_cmp a.write b.write))

@@ -36,9 +36,11 @@ module _ {E F : Type 0} (s : System E F) where
       given f e (inl p) = inl (inl p)
       given f e (inr (g, m, c)) =
           elim (Contains-cons_cases f g [] m) [ inl p ↦ inr (subst (λ x. Contains (s.gives x) e) (sym p) c) | inr n ↦ absurd (Contains-nil g n) ]
+
       to : (fs : List F) (f : F) (e : E) → Held s (fs ++ f ∷ []) e → Held s fs e ⊎ Contains (s.gives f) e
       to fs f e h =
           elim (Held-append_cases fs (f ∷ []) e h) [ inl a ↦ inl a | inr b ↦ elim (given f e b) [ inl p ↦ inl (inl (Held-nil e p)) | inr c ↦ inr c ] ]
+
       from_parts : (fs : List F) (f : F) (e : E) → Held s fs e ⊎ Contains (s.gives f) e → Held s (fs ++ f ∷ []) e
       from_parts fs f e (inl h) = Held-append_left fs (f ∷ []) e h
       from_parts fs f e (inr c) = inr (f, Contains-append_right fs (f ∷ []) f (Contains-head f []), c)

@@ -18,6 +18,7 @@ module _ {X : Type 0} where
     where
       to : Contains (insert xs i y) x → Contains xs x ⊎ (y ≡ x)
       to m = elim (Contains-cons_cases y x xs (Contains-permutation (insert xs i y) (y ∷ xs) x (IsPermutation-sym (y ∷ xs) (insert xs i y) (IsPermutation-insert xs i y)) m)) [ inl e ↦ inr e | inr k ↦ inl k ]
+
       back : Contains xs x ⊎ (y ≡ x) → Contains (insert xs i y) x
       back (inl m) = Contains-permutation (y ∷ xs) (insert xs i y) x (IsPermutation-insert xs i y) (Contains-tail y x xs m)
       back (inr e) = Contains-permutation (y ∷ xs) (insert xs i y) x (IsPermutation-insert xs i y) (subst (λ (w : X). Contains (y ∷ xs) w) e (Contains-head y xs))
@@ -31,6 +32,7 @@ module _ {X : Type 0} where
       to : Contains old x ⊎ (y ≡ x) → Contains left x ⊎ Contains (take i right ++ y ∷ []) x
       to (inl m) = elim ((u x).0 m) [ inl a ↦ inl a | inr b ↦ inr (Contains-append_left (take i right) (y ∷ []) x b) ]
       to (inr e) = inr (subst (λ (z : X). Contains (take i right ++ y ∷ []) z) e (Contains-push (take i right) y))
+
       back : Contains left x ⊎ Contains (take i right ++ y ∷ []) x → Contains new x
       back (inl a) = (w x).1 (inl ((u x).1 (inl a)))
       back (inr b) = elim (Contains-push_cases (take i right) y x b) [ inl m ↦ (w x).1 (inl ((u x).1 (inr m))) | inr e ↦ (w x).1 (inr e) ]
@@ -57,11 +59,12 @@ module _ {X : Type 0} where
       to : Contains left x → Contains right x
       to m =
           elim ((q x).0 m)
-            [ inl n ↦ elim ((p x).0 n) [ inl k ↦ (s x).1 (inl k) | inr k ↦ (s x).1 (inr ((r x).1 (inl k))) ] | inr k ↦ (s x).1 (inr ((r x).1 (inr k))) ]
+          [ inl n ↦ elim ((p x).0 n) [ inl k ↦ (s x).1 (inl k) | inr k ↦ (s x).1 (inr ((r x).1 (inl k))) ] | inr k ↦ (s x).1 (inr ((r x).1 (inr k))) ]
+
       back : Contains right x → Contains left x
       back m =
           elim ((s x).0 m)
-            [ inl k ↦ (q x).1 (inl ((p x).1 (inl k))) | inr n ↦ elim ((r x).0 n) [ inl k ↦ (q x).1 (inl ((p x).1 (inr k))) | inr k ↦ (q x).1 (inr k) ] ]
+          [ inl k ↦ (q x).1 (inl ((p x).1 (inl k))) | inr n ↦ elim ((r x).0 n) [ inl k ↦ (q x).1 (inl ((p x).1 (inr k))) | inr k ↦ (q x).1 (inr k) ] ]
 
   pub union_least : (a b c d : List X) → IsUnion a b c → ((x : X) → Contains a x → Contains d x) → ((x : X) → Contains b x → Contains d x) → (x : X) → Contains c x → Contains d x
   union_least a b c d u p q x m = elim ((u x).0 m) [ inl k ↦ p x k | inr k ↦ q x k ]
@@ -72,6 +75,7 @@ module _ {X : Type 0} (R : X → X → Ordering) (o : IsTotalOrder R) where
     where
       tie : R (get_or xs k x) x ≡ Equal
       tie = subst (λ (y : X). R y x ≡ Equal) (sym e) (tied_itself o x)
+
       sides : (k < i) ⊎ (i ≤ k)
       sides = grind arith
 

@@ -3,11 +3,10 @@
 
 mod ordered_set;
 
-pub use ordered_set::OrderedSet;
-
 ghost use Rattle.std.specs.Prelude.{◌≡◌, ◌↔◌, OnOk, OnErr, IfOk, IfErr, Contains, ◌⊎◌, IsTrue, IsFalse, length, ◌<◌};
 ghost use Rattle.u_system.specs.Rising.{Rises, IsExact, IsWith, IsUnion};
 
+pub use ordered_set::OrderedSet;
 use std::alloc::{AllocError, AllocFailed, Global};
 
 /// Whether the item is there.
@@ -58,7 +57,11 @@ fn is_left_next<T: Ord>(left: &[T], i: usize, right: &[T], j: usize) -> bool
 }
 
 /// The items of both, in order.
-pub fn union<T: Ord + Copy + Drop>(alloc: Global, left: &[T], right: &[T]) -> Result<Vec<T>, AllocError>
+pub fn union<T: Ord + Copy + Drop>(
+    alloc: Global,
+    left: &[T],
+    right: &[T],
+) -> Result<Vec<T>, AllocError>
     requires { IsExact T.cmp }
     ensures rises { IfOk result (λ v. Rises T.cmp v.items) }
     ensures all { IfOk result (λ v. IsUnion left.now right.now v.items) }

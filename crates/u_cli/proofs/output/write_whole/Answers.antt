@@ -9,7 +9,8 @@ split bytes front rest next n e d =
 
 pub loop-rest-preserved : goal.loop-rest-preserved
 loop-rest-preserved g c =
-    let (front, e, w) = c.loop-rest.invariant in
-    (front ++ take c.in-Ok.count c.loop-rest.rest.now,
+    let (front, e, w) = c.loop-rest.invariant in (
+      front ++ take c.in-Ok.count c.loop-rest.rest.now,
       split c.args.bytes.now front c.loop-rest.rest.now _ c.in-Ok.count e c.behind-rest.ensures,
-      appends_more _ _ _ front (take c.in-Ok.count c.loop-rest.rest.now) w c.in-Ok.ensures.bytes)
+      appends_more _ _ _ front (take c.in-Ok.count c.loop-rest.rest.now) w c.in-Ok.ensures.bytes,
+    )
