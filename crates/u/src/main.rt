@@ -1,6 +1,8 @@
 //! The program `u`: it reads the words of its command line and FILE, and runs a dataflow program.
 #![tactic(auto)]
 
+ghost use Rattle.u.specs.Orders.{HasFirings};
+
 mod number;
 mod words;
 
@@ -46,7 +48,9 @@ fn answer(rt: &HostRuntime) -> Result<u8, Fault> {
 }
 
 /// Reads FILE and runs the program in it, or runs the stored one.
-fn follow(rt: &HostRuntime, order: Order<'_>) -> Result<u8, Fault> {
+fn follow(rt: &HostRuntime, order: Order<'_>) -> Result<u8, Fault>
+    requires { HasFirings order }
+{
     let alloc = rt.alloc();
     let mut out = io::writer(rt);
     match order {
