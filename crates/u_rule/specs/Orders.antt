@@ -1,5 +1,4 @@
 -- The orders of entries and of firings, in plain words.
-use Rattle.std.specs.Prelude.{ℕ, Option}
 use Rattle.std.specs.Option.{option_cmp}
 use Rattle.std.specs.Ordering.{ordering_then, nat_cmp}
 use Rattle.std.specs.Cmp.Lexicographic.{slice_cmp}
@@ -54,4 +53,4 @@ written_cmp a b = ordering_then (name_cmp a.writer b.writer) (value_cmp a.value 
 abbrev pub firing_order : Firing → Firing → Ordering
 firing_order a b =
     ordering_then (name_cmp a.activity b.activity)
-      (ordering_then (values_cmp a.values b.values) (option_cmp written_cmp a.write b.write))
+    (ordering_then (values_cmp a.values b.values) (option_cmp written_cmp a.write b.write))

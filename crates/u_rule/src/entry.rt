@@ -5,12 +5,10 @@
 ghost use Rattle.std.specs.Prelude.{◌≡◌, IfOk};
 ghost use Rattle.u_rule.specs.Orders.{entry_order};
 
+use crate::parts::{Fault, Token, Write};
 use std::alloc::AllocError;
 use std::cmp::Ordering;
-
 use u_value::Value;
-
-use crate::parts::{Fault, Token, Write};
 
 /// What a history has: a token, a write, a fault or an answer. Entries are ordered by kind, as the
 /// kinds stand here, and then by what they are made of, part by part.

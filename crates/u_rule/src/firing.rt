@@ -5,13 +5,11 @@
 ghost use Rattle.std.specs.Prelude.{◌≡◌, IfOk};
 ghost use Rattle.u_rule.specs.Orders.{firing_order};
 
+use crate::values::Values;
 use std::alloc::{AllocError, Global};
 use std::cmp::Ordering;
-
 use u_name::Name;
 use u_value::Value;
-
-use crate::values::Values;
 
 /// The write that a firing read: who wrote, and what. Its cell is given by the firing's first two values.
 #[derive(PartialEq, Eq, PartialOrd, Ord, Hash, Drop)]

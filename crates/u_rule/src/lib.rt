@@ -11,10 +11,9 @@ mod entry;
 mod firing;
 mod parts;
 mod rule;
-mod values;
-
 #[cfg(test)]
 mod tests;
+mod values;
 
 pub use entry::Entry;
 pub use firing::{Firing, Written};

@@ -5,7 +5,6 @@ ghost use Rattle.u_rule.specs.Parts.{token, IsToken};
 
 use std::alloc::AllocError;
 use std::marker::Model;
-
 use u_name::{Cell, Name};
 use u_value::{FaultKind, Value};
 

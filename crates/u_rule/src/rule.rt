@@ -12,17 +12,15 @@ ghost use Rattle.u_rule.specs.declared.rule.RuleError.TheVariants as errors;
 ghost use Rattle.u_rule.specs.Made.{outcome_of};
 ghost use Rattle.u_rule.specs.Rule.{statement_of, fits, result_of, sum_of, first_of, value_of, sent, placed, given, is_root, tokens_from, start_of, needs_of, gives_of, is_firing_of, fault_of};
 
-use std::alloc::{AllocError, AllocFailed, Global};
-
-use u_check::{Job, is_end, ports_of};
-use u_name::{BlockName, Context, Name, Node};
-use u_program::{Block, Constant, Destination, Kind, Statement};
-use u_value::{BinaryOperator, FaultKind, Value, apply2};
-
 use crate::entry::Entry;
 use crate::firing::Firing;
 use crate::parts::{Fault, Token};
 use crate::values::Values;
+use std::alloc::{AllocError, AllocFailed, Global};
+use u_check::{Job, is_end, ports_of};
+use u_name::{BlockName, Context, Name, Node};
+use u_program::{Block, Constant, Destination, Kind, Statement};
+use u_value::{BinaryOperator, FaultKind, Value, apply2};
 
 /// The block of that name, where the job has it.
 fn block_of<'a>(job: &'a Job, name: &BlockName) -> Option<&'a Block>
@@ -59,7 +57,8 @@ fn fits(region: u8, activity: &Name) -> bool
     ensures { result ≡ fits region activity.now }
 {
     let main = BlockName::new(b"main");
-    is_root(activity.context()) && (*activity.block() == main && (activity.initiation() == 1 && region == 0))
+    is_root(activity.context())
+        && (*activity.block() == main && (activity.initiation() == 1 && region == 0))
 }
 
 /// Whether it is a firing of the job: an activity that fits, with one value for each port of its statement.
@@ -71,7 +70,8 @@ pub fn is_firing(job: &Job, firing: &Firing) -> bool
         None => false,
         Some(statement) => {
             fits(statement.region(), &firing.activity)
-                && (firing.values.as_slice().len() == ports_of(statement.kind()) && firing.write.is_none())
+                && (firing.values.as_slice().len() == ports_of(statement.kind())
+                    && firing.write.is_none())
         }
     }
 }
@@ -156,7 +156,9 @@ fn send(
     ensures { OnOk result (given.new.items ≡ given.old.items ++ map (sent activity.now value.now) to.now) }
 {
     for destination in to {
-        let name = activity.plain(destination.statement).map_err(|_| AllocError)?;
+        let name = activity
+            .plain(destination.statement)
+            .map_err(|_| AllocError)?;
         given.push(Entry::Token(Token::new(name, destination.port, value.copy()?)))?;
     }
     Ok(())

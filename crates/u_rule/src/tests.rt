@@ -27,8 +27,8 @@ fn name(statement: u16) -> Name
 }
 
 fn token(statement: u16, port: u8, number: i64) -> Entry
-    requires { IsBetween 1 statement 999 }
-    requires { IsBetween 1 port 3 }
+    requires statement { IsBetween 1 statement 999 }
+    requires port { IsBetween 1 port 3 }
 {
     Entry::Token(Token::new(name(statement), port, Value::Int(number)))
 }
@@ -84,7 +84,10 @@ fn no_statement_no_firing(rt: HostRuntime) -> Result<(), Fail> {
     let values = Values::one(rt.alloc(), Value::Int(4))?;
     let firing = plain(99, values);
     assert!(rt; !is_firing(&job, &firing));
-    assert_eq!(rt; needs(rt.alloc(), &job, &firing).err(), Some(RuleError::NotAFiring));
+    assert_eq!(rt;
+        needs(rt.alloc(), &job, &firing).err(),
+        Some(RuleError::NotAFiring)
+    );
     Ok(())
 }
 
@@ -93,7 +96,10 @@ fn one_value_for_two_ports_is_no_firing(rt: HostRuntime) -> Result<(), Fail> {
     let job = double(rt.alloc())?;
     let values = Values::one(rt.alloc(), Value::Int(4))?;
     let firing = plain(2, values);
-    assert_eq!(rt; needs(rt.alloc(), &job, &firing).err(), Some(RuleError::NotAFiring));
+    assert_eq!(rt;
+        needs(rt.alloc(), &job, &firing).err(),
+        Some(RuleError::NotAFiring)
+    );
     Ok(())
 }
 
@@ -105,6 +111,9 @@ fn addition_reads_no_write(rt: HostRuntime) -> Result<(), Fail> {
         writer: name(1),
         value: Value::Int(4),
     });
-    assert_eq!(rt; needs(rt.alloc(), &job, &firing).err(), Some(RuleError::NotAFiring));
+    assert_eq!(rt;
+        needs(rt.alloc(), &job, &firing).err(),
+        Some(RuleError::NotAFiring)
+    );
     Ok(())
 }

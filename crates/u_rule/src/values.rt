@@ -12,7 +12,6 @@ use std::alloc::{AllocError, Global};
 use std::cmp::Ordering;
 use std::hash::{Hash, Hasher};
 use std::marker::Model;
-
 use u_value::Value;
 
 /// One to three values, in the order of the ports. Contracts see a list. Lists are ordered value by
