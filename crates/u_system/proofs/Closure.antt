@@ -1,10 +1,10 @@
 -- The closure of a set of firings: least, closed, monotone; what a settled list of firings holds.
-use Rattle.std.proofs.Common.{◌≡◌, ℕ, zero, suc, ◌<◌, List, [], ◌∷◌, ◌++◌, ◌⊎◌, inl, inr, refl, sym, ap, arith, length, append_assoc, append-nil, subst}
-use Rattle.std.specs.Prelude.{Contains, ◌↔◌, IsTrue}
-use Rattle.std.proofs.lemmas.List.Elements.{Contains-append_left, Contains-append_right, Contains-append_cases, Contains-push_cases, Contains-push}
+use Rattle.std.proofs.Common.{List, [], ◌∷◌, ◌++◌, ◌⊎◌, inl, inr, sym, append_assoc, append-nil, subst}
+use Rattle.std.specs.Prelude.{Contains}
+use Rattle.std.proofs.lemmas.List.Elements.{Contains-append_left, Contains-append_right, Contains-append_cases, Contains-push_cases}
 use Rattle.u_system.specs.Firing.{System, Held, Enabled, Closed, Derivation, Follows, Within, Cl, Whole, Same}
 use Rattle.u_system.proofs.Member.{Contains-nil, Contains-head, Contains-tail, Contains-cons_cases}
-use Rattle.u_system.proofs.Held.{Held-start, Held-nil, Held-of, Held-append_left, Held-append_right, Held-append_cases, Held-push, Enabled-mono, Follows-mono, Follows-append, Derivation-from_Follows, Follows-from_Derivation}
+use Rattle.u_system.proofs.Held.{Held-start, Held-nil, Held-append_left, Held-append_right, Held-append_cases, Held-push, Enabled-mono, Follows-mono, Follows-append, Derivation-from_Follows, Follows-from_Derivation}
 
 module _ {E F : Type 0} (s : System E F) where
   -- what holds of all that is held and of all that firings of the list give holds of all that is held after them
@@ -62,9 +62,12 @@ module _ {E F : Type 0} (s : System E F) where
       joined (all x (Contains-head x es)) (Cl-together M es (λ e m. all e (Contains-tail x e es m)))
     where
       joined : Cl s M x → (fs : List F) × Derivation s fs × Within M fs × ((e : E) → Contains es e → Held s fs e) → (fs : List F) × Derivation s fs × Within M fs × ((e : E) → Contains (x ∷ es) e → Held s fs e)
-      joined (fs, d, w, h) (gs, k, v, i) =
-          (fs ++ gs, Derivation-append fs gs d k, Within-append M fs gs w v,
-            λ e m. elim (Contains-cons_cases x e es m) [ inl p ↦ subst (λ y. Held s (fs ++ gs) y) p (Held-append_left s fs gs x h) | inr q ↦ Held-append_right s fs gs e (i e q) ])
+      joined (fs, d, w, h) (gs, k, v, i) = (
+        fs ++ gs,
+        Derivation-append fs gs d k,
+        Within-append M fs gs w v,
+        λ e m. elim (Contains-cons_cases x e es m) [ inl p ↦ subst (λ y. Held s (fs ++ gs) y) p (Held-append_left s fs gs x h) | inr q ↦ Held-append_right s fs gs e (i e q) ],
+      )
 
   -- what firings of M give that are enabled over the closure lies in it
   pub Cl-closed : (M : F → Type 0) (f : F) → M f → Enabled s (Cl s M) f → (e : E) → Contains (s.gives f) e → Cl s M e
@@ -114,6 +117,7 @@ module _ {E F : Type 0} (s : System E F) where
       all : (f : F) → M f ⊎ N f → Enabled s (Held s (fs ++ gs)) f → Contains (fs ++ gs) f
       all f (inl m) en = Contains-append_left fs gs f ((a f).0 m)
       all f (inr n) en = Contains-append_right fs gs f ((b f).0 n)
+
       back : Held s fs e ⊎ Held s gs e → Cl s (λ f. M f ⊎ N f) e
       back (inl h) = (fs, d, (λ f m. inl ((a f).1 m)), h)
       back (inr h) = (gs, k, (λ f m. inr ((b f).1 m)), h)

@@ -1,8 +1,8 @@
 -- Where clashes come from: the first clash of a derivation comes from one of its firings and an earlier one.
-use Rattle.std.proofs.Common.{◌≡◌, ℕ, List, [], ◌∷◌, ◌++◌, ◌⊎◌, inl, inr, refl, sym, subst}
-use Rattle.std.specs.Prelude.{Contains, ◌↔◌}
+use Rattle.std.proofs.Common.{List, [], ◌∷◌, ◌++◌, ◌⊎◌, inl, inr, subst}
+use Rattle.std.specs.Prelude.{Contains}
 use Rattle.std.proofs.lemmas.List.Elements.{Contains-push_cases}
-use Rattle.u_system.specs.Firing.{System, Held, Enabled, Derivation, Both, EachPlace, Whole}
+use Rattle.u_system.specs.Firing.{System, Held, Enabled, Derivation, Both, Whole}
 use Rattle.u_system.proofs.Member.{Contains-nil}
 use Rattle.u_system.proofs.Held.{Held-push, Held-append_left, Held-append_right, Held-nil, Enabled-mono}
 use Rattle.u_system.proofs.Closure.{Derivation-append, Derivation-nil, Derivation-push}
@@ -17,8 +17,8 @@ module _ {E F : Type 0} (s : System E F) where
   pub Derivation-enabled : (fs : List F) → Derivation s fs → (f : F) → Contains fs f → Enabled s (Held s fs) f
   Derivation-enabled =
       Derivation-along (λ fs. (f : F) → Contains fs f → Enabled s (Held s fs) f) (λ f m. absurd (Contains-nil f m))
-        (λ fs g q en f m. Enabled-mono s (Held s fs) (Held s (fs ++ g ∷ [])) (λ e h. Held-append_left s fs (g ∷ []) e h) f
-          (elim (Contains-push_cases fs g f m) [ inl a ↦ q f a | inr e ↦ subst (λ (x : F). Enabled s (Held s fs) x) e en ]))
+      (λ fs g q en f m. Enabled-mono s (Held s fs) (Held s (fs ++ g ∷ [])) (λ e h. Held-append_left s fs (g ∷ []) e h) f
+      (elim (Contains-push_cases fs g f m) [ inl a ↦ q f a | inr e ↦ subst (λ (x : F). Enabled s (Held s fs) x) e en ]))
 
 -- `Clash`, as two values at one port; `Cells`, as two pairs of one cell.
 -- `origin`: where two firings that are enabled over one history give entries that clash, that history has a clash or a cell with two pairs.
@@ -53,7 +53,7 @@ module _ {E F : Type 0} (s : System E F) (Clash Cells : E → E → Type 0) (tur
   unfolding Blames
   Derivation-blames fs d =
       (Derivation-along s Blames (Derivation-nil s, λ (a, b, h, k, c). absurd (never (subst (λ (x : E). Clash s.start x) (Held-nil s b k) (subst (λ (x : E). Clash x b) (Held-nil s a h) c))))
-        (λ gs f q en. (Derivation-push s gs f q.0 en, pushed gs f q.0 q.1 en)) fs d).1
+      (λ gs f q en. (Derivation-push s gs f q.0 en, pushed gs f q.0 q.1 en)) fs d).1
 
   -- and so for the whole history
   pub Whole-blames : Both Clash (Whole s) → Both Cells (Whole s)

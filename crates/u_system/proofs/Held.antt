@@ -1,9 +1,9 @@
 -- What a list of firings holds, and lists of firings that follow one another.
-use Rattle.std.proofs.Common.{◌≡◌, ℕ, zero, suc, ◌<◌, List, [], ◌∷◌, ◌++◌, ◌⊎◌, inl, inr, refl, sym, ap, arith, length, take, Some, None, append_assoc, append-nil, subst}
+use Rattle.std.proofs.Common.{◌≡◌, ℕ, zero, suc, List, [], ◌∷◌, ◌++◌, ◌⊎◌, inl, inr, refl, sym, take, Some, append_assoc, append-nil, subst}
 use Rattle.std.specs.Prelude.{Contains, slice_get, ◌↔◌}
 use Rattle.std.proofs.lemmas.List.Elements.{Contains-append_left, Contains-append_right, Contains-append_cases}
 use Rattle.u_system.specs.Firing.{System, Held, Enabled, Derivation, Follows}
-use Rattle.u_system.proofs.Member.{Contains-nil, Contains-head, Contains-tail, Contains-cons_cases}
+use Rattle.u_system.proofs.Member.{Contains-nil, Contains-head, Contains-cons_cases}
 
 module _ {E F : Type 0} (s : System E F) where
   pub Held-start : (fs : List F) → Held s fs s.start
@@ -36,9 +36,11 @@ module _ {E F : Type 0} (s : System E F) where
       given f e (inl p) = inl (inl p)
       given f e (inr (g, m, c)) =
           elim (Contains-cons_cases f g [] m) [ inl p ↦ inr (subst (λ x. Contains (s.gives x) e) (sym p) c) | inr n ↦ absurd (Contains-nil g n) ]
+
       to : (fs : List F) (f : F) (e : E) → Held s (fs ++ f ∷ []) e → Held s fs e ⊎ Contains (s.gives f) e
       to fs f e h =
           elim (Held-append_cases fs (f ∷ []) e h) [ inl a ↦ inl a | inr b ↦ elim (given f e b) [ inl p ↦ inl (inl (Held-nil e p)) | inr c ↦ inr c ] ]
+
       from_parts : (fs : List F) (f : F) (e : E) → Held s fs e ⊎ Contains (s.gives f) e → Held s (fs ++ f ∷ []) e
       from_parts fs f e (inl h) = Held-append_left fs (f ∷ []) e h
       from_parts fs f e (inr c) = inr (f, Contains-append_right fs (f ∷ []) f (Contains-head f []), c)

@@ -26,16 +26,18 @@ module _ {X : Type 0} (R : X → X → Ordering) (o : IsTotalOrder R) (exact : I
   pub found : (xs : List X) (x : X) → list_any (is_at (R x)) xs ≡ true → Contains xs x
   found [] x h = cc
   found (y ∷ ys) x h =
-      elim (or_true (is_at (R x) y) (list_any (is_at (R x)) ys) h)
-        [ inl e ↦ subst (λ (z : X). Contains (y ∷ ys) z) (sym (exact x y (is_equal (R x y) e))) (Contains-head y ys)
-        | inr k ↦ Contains-tail y x ys (found ys x k) ]
+      elim (or_true (is_at (R x) y) (list_any (is_at (R x)) ys) h) [
+        | inl e ↦ subst (λ (z : X). Contains (y ∷ ys) z) (sym (exact x y (is_equal (R x y) e))) (Contains-head y ys)
+        | inr k ↦ Contains-tail y x ys (found ys x k)
+      ]
 
   pub finds : (xs : List X) (x : X) → Contains xs x → list_any (is_at (R x)) xs ≡ true
   finds [] x m = absurd (Contains-nil x m)
   finds (y ∷ ys) x m =
-      elim (Contains-cons_cases y x ys m)
-        [ inl e ↦ ap (λ t. is_eq t || list_any (is_at (R x)) ys) (subst (λ (z : X). R x z ≡ Equal) (sym e) (tied_itself o x))
-        | inr k ↦ true_or (is_at (R x) y) (list_any (is_at (R x)) ys) (finds ys x k) ]
+      elim (Contains-cons_cases y x ys m) [
+        | inl e ↦ ap (λ t. is_eq t || list_any (is_at (R x)) ys) (subst (λ (z : X). R x z ≡ Equal) (sym e) (tied_itself o x))
+        | inr k ↦ true_or (is_at (R x) y) (list_any (is_at (R x)) ys) (finds ys x k)
+      ]
 
   -- the set with x besides
   pub inserts : (xs : List X) (x : X) → IsWith xs x (insert_key R xs x)
@@ -49,14 +51,17 @@ module _ {X : Type 0} (R : X → X → Ordering) (o : IsTotalOrder R) (exact : I
         where
           to : Contains (y ∷ insert_key R ys x) z → Contains (y ∷ ys) z ⊎ (x ≡ z)
           to m =
-              elim (Contains-cons_cases y z (insert_key R ys x) m)
-                [ inl p ↦ inl (subst (λ (w : X). Contains (y ∷ ys) w) p (Contains-head y ys))
-                | inr n ↦ elim ((rest z).0 n) [ inl k ↦ inl (Contains-tail y z ys k) | inr k ↦ inr k ] ]
+              elim (Contains-cons_cases y z (insert_key R ys x) m) [
+                | inl p ↦ inl (subst (λ (w : X). Contains (y ∷ ys) w) p (Contains-head y ys))
+                | inr n ↦ elim ((rest z).0 n) [ inl k ↦ inl (Contains-tail y z ys k) | inr k ↦ inr k ]
+              ]
+
           back : Contains (y ∷ ys) z ⊎ (x ≡ z) → Contains (y ∷ insert_key R ys x) z
           back (inl m) =
-              elim (Contains-cons_cases y z ys m)
-                [ inl p ↦ subst (λ (w : X). Contains (y ∷ insert_key R ys x) w) p (Contains-head y (insert_key R ys x))
-                | inr n ↦ Contains-tail y z (insert_key R ys x) ((rest z).1 (inl n)) ]
+              elim (Contains-cons_cases y z ys m) [
+                | inl p ↦ subst (λ (w : X). Contains (y ∷ insert_key R ys x) w) p (Contains-head y (insert_key R ys x))
+                | inr n ↦ Contains-tail y z (insert_key R ys x) ((rest z).1 (inl n))
+              ]
           back (inr e) = Contains-tail y z (insert_key R ys x) ((rest z).1 (inr e))
 
   turn : (x y : X) → R x y ≡ Greater → R y x ≡ Less

@@ -1,21 +1,22 @@
 -- Two ascending lists with the same members are the same list.
-use Rattle.std.proofs.Common.{◌≡◌, List, [], ◌∷◌, ◌⊎◌, inl, inr, refl, sym, subst, ap, ◌∙◌}
-use Rattle.std.specs.Prelude.{Contains, ◌↔◌}
+use Rattle.std.proofs.Common.{◌≡◌, List, [], ◌∷◌, inl, inr, refl, sym, subst, ◌∙◌}
+use Rattle.std.specs.Prelude.{Contains}
 use Rattle.u_system.specs.Firing.{Same, Ascending}
 use Rattle.u_system.proofs.Member.{Contains-nil, Contains-head, Contains-tail, Contains-cons_cases}
 
 module _ {X : Type 0} (lt : X → X → Type 0) (irreflexive : (x : X) → lt x x → ⊥) (transitive : (x y z : X) → lt x y → lt y z → lt x z) where
   same_head : (x y : X) (xs ys : List X) → Ascending lt (x ∷ xs) → Ascending lt (y ∷ ys) → Same (Contains (x ∷ xs)) (Contains (y ∷ ys)) → x ≡ y
   same_head x y xs ys a b s =
-      elim (Contains-cons_cases y x ys ((s x).0 (Contains-head x xs)))
-        [ inl e ↦ sym e
+      elim (Contains-cons_cases y x ys ((s x).0 (Contains-head x xs))) [
+        | inl e ↦ sym e
         | inr m ↦ elim (Contains-cons_cases x y xs ((s y).1 (Contains-head y ys)))
-            [ inl e ↦ e | inr n ↦ absurd (irreflexive x (transitive x y x (a.0 y n) (b.0 x m))) ] ]
+            [ inl e ↦ e | inr n ↦ absurd (irreflexive x (transitive x y x (a.0 y n) (b.0 x m))) ]
+      ]
 
   rest_in : (x y : X) (xs ys : List X) → Ascending lt (x ∷ xs) → x ≡ y → ((z : X) → Contains (x ∷ xs) z → Contains (y ∷ ys) z) → (z : X) → Contains xs z → Contains ys z
   rest_in x y xs ys a e s z m =
       elim (Contains-cons_cases y z ys (s z (Contains-tail x z xs m)))
-        [ inl p ↦ absurd (irreflexive x (subst (λ (w : X). lt x w) (sym (e ∙ p)) (a.0 z m))) | inr n ↦ n ]
+      [ inl p ↦ absurd (irreflexive x (subst (λ (w : X). lt x w) (sym (e ∙ p)) (a.0 z m))) | inr n ↦ n ]
 
   pub same_list : (xs ys : List X) → Ascending lt xs → Ascending lt ys → Same (Contains xs) (Contains ys) → xs ≡ ys
   same_list [] [] a b s = refl

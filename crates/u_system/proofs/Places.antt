@@ -1,8 +1,7 @@
 -- What a binary search finds in a list that rises, and what an insert makes of it.
-use Rattle.std.proofs.Common.{◌≡◌, ◌↔◌, ◌⊎◌, inl, inr, ℕ, ◌<◌, ◌≤◌, ◌+◌, ◌++◌, ◌∷◌, [], take, drop, length, get_or, Contains, subst, sym, ◌∙◌, arith, List, Ordering, refl, ap}
+use Rattle.std.proofs.Common.{◌≡◌, ◌⊎◌, inl, inr, ℕ, ◌<◌, ◌≤◌, ◌+◌, ◌++◌, ◌∷◌, [], take, length, get_or, Contains, subst, sym, arith, List, Ordering}
 use Rattle.std.specs.Cmp.{IsTotalOrder, tied_itself}
 use Rattle.std.specs.List.{insert}
-use Rattle.std.specs.List.Sorted.{IsPermutation}
 use Rattle.std.specs.declared.cmp.Ordering.TheVariants.{Less, Equal, Greater}
 use Rattle.std.proofs.lemmas.List.{take_more, take_all}
 use Rattle.std.proofs.lemmas.List.Sorted.{IsPermutation-insert, IsPermutation-sym, Contains-permutation}
@@ -10,7 +9,7 @@ use Rattle.std.proofs.lemmas.List.Elements.{Contains-append_left, Contains-push,
 use Rattle.u_system.proofs.Member.{Contains-nil, Contains-head, Contains-tail, Contains-cons_cases}
 use Rattle.u_system.proofs.Ordered.{same_list}
 use Rattle.u_system.specs.Firing.{Same}
-use Rattle.u_system.specs.Rising.{Rises, IsExact, IsWith, IsUnion, IsListOf}
+use Rattle.u_system.specs.Rising.{Rises, IsWith, IsUnion, IsListOf}
 
 module _ {X : Type 0} where
   pub inserted : (xs : List X) (i : ℕ) (y : X) → IsWith xs y (insert xs i y)
@@ -18,6 +17,7 @@ module _ {X : Type 0} where
     where
       to : Contains (insert xs i y) x → Contains xs x ⊎ (y ≡ x)
       to m = elim (Contains-cons_cases y x xs (Contains-permutation (insert xs i y) (y ∷ xs) x (IsPermutation-sym (y ∷ xs) (insert xs i y) (IsPermutation-insert xs i y)) m)) [ inl e ↦ inr e | inr k ↦ inl k ]
+
       back : Contains xs x ⊎ (y ≡ x) → Contains (insert xs i y) x
       back (inl m) = Contains-permutation (y ∷ xs) (insert xs i y) x (IsPermutation-insert xs i y) (Contains-tail y x xs m)
       back (inr e) = Contains-permutation (y ∷ xs) (insert xs i y) x (IsPermutation-insert xs i y) (subst (λ (w : X). Contains (y ∷ xs) w) e (Contains-head y xs))
@@ -31,6 +31,7 @@ module _ {X : Type 0} where
       to : Contains old x ⊎ (y ≡ x) → Contains left x ⊎ Contains (take i right ++ y ∷ []) x
       to (inl m) = elim ((u x).0 m) [ inl a ↦ inl a | inr b ↦ inr (Contains-append_left (take i right) (y ∷ []) x b) ]
       to (inr e) = inr (subst (λ (z : X). Contains (take i right ++ y ∷ []) z) e (Contains-push (take i right) y))
+
       back : Contains left x ⊎ Contains (take i right ++ y ∷ []) x → Contains new x
       back (inl a) = (w x).1 (inl ((u x).1 (inl a)))
       back (inr b) = elim (Contains-push_cases (take i right) y x b) [ inl m ↦ (w x).1 (inl ((u x).1 (inr m))) | inr e ↦ (w x).1 (inr e) ]
@@ -57,11 +58,12 @@ module _ {X : Type 0} where
       to : Contains left x → Contains right x
       to m =
           elim ((q x).0 m)
-            [ inl n ↦ elim ((p x).0 n) [ inl k ↦ (s x).1 (inl k) | inr k ↦ (s x).1 (inr ((r x).1 (inl k))) ] | inr k ↦ (s x).1 (inr ((r x).1 (inr k))) ]
+          [ inl n ↦ elim ((p x).0 n) [ inl k ↦ (s x).1 (inl k) | inr k ↦ (s x).1 (inr ((r x).1 (inl k))) ] | inr k ↦ (s x).1 (inr ((r x).1 (inr k))) ]
+
       back : Contains right x → Contains left x
       back m =
           elim ((s x).0 m)
-            [ inl k ↦ (q x).1 (inl ((p x).1 (inl k))) | inr n ↦ elim ((r x).0 n) [ inl k ↦ (q x).1 (inl ((p x).1 (inr k))) | inr k ↦ (q x).1 (inr k) ] ]
+          [ inl k ↦ (q x).1 (inl ((p x).1 (inl k))) | inr n ↦ elim ((r x).0 n) [ inl k ↦ (q x).1 (inl ((p x).1 (inr k))) | inr k ↦ (q x).1 (inr k) ] ]
 
   pub union_least : (a b c d : List X) → IsUnion a b c → ((x : X) → Contains a x → Contains d x) → ((x : X) → Contains b x → Contains d x) → (x : X) → Contains c x → Contains d x
   union_least a b c d u p q x m = elim ((u x).0 m) [ inl k ↦ p x k | inr k ↦ q x k ]
@@ -72,6 +74,7 @@ module _ {X : Type 0} (R : X → X → Ordering) (o : IsTotalOrder R) where
     where
       tie : R (get_or xs k x) x ≡ Equal
       tie = subst (λ (y : X). R y x ≡ Equal) (sym e) (tied_itself o x)
+
       sides : (k < i) ⊎ (i ≤ k)
       sides = grind arith
 

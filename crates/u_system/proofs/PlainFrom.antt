@@ -1,9 +1,7 @@
 -- Firing on from a set, and from nothing.
-use Rattle.std.proofs.Common.{◌≡◌, ℕ, ◌<◌, ◌+◌, ◌≤◌, List, [], ◌∷◌, ◌++◌, ◌⊎◌, inl, inr, refl, sym, subst, length, arith}
-use Rattle.std.specs.Prelude.{Contains, ◌↔◌}
-use Rattle.std.proofs.lemmas.List.Elements.{Contains-push_cases, Contains-append_left, Contains-push}
-use Rattle.u_system.specs.Firing.{System, Enabled, Held, Derivation, EachPlace, IsNext, IsNextFrom, IsExhausted, Plain, Cl, Same, Within}
-use Rattle.u_system.proofs.Member.{Contains-nil}
+use Rattle.std.proofs.Common.{◌≡◌, ℕ, ◌≤◌, List, ◌⊎◌, inl, inr, length}
+use Rattle.std.specs.Prelude.{Contains}
+use Rattle.u_system.specs.Firing.{System, Enabled, Held, Derivation, EachPlace, IsNext, IsNextFrom, IsExhausted, Plain, Cl, Same}
 use Rattle.u_system.proofs.Held.{Enabled-mono}
 use Rattle.u_system.proofs.Closure.{Derivation-nil, Derivation-push, Settled-is_Cl, Cl-mono}
 use Rattle.u_system.proofs.Plain.{EachPlace-nil, EachPlace-push, EachPlace-along}
@@ -23,10 +21,10 @@ module _ {E F : Type 0} (s : System E F) where
 
     next_from_nothing : (fs : List F) (f : F) → Derivation s fs → IsNextFrom s le M fs f → IsNext s le fs f
     next_from_nothing fs f d n = record {
-        enabled = Enabled-mono s (Cl s (Contains fs)) (Held s fs) (λ e. (Derivation-is_Cl fs d e).1) f (Enabled-Cl_mono (λ g. M g ⊎ Contains fs g) (Contains fs) (only fs) f n.enabled);
-        new = λ m. n.new (inr m);
-        least = λ g en. least g (n.least g (Enabled-Cl_mono (Contains fs) (λ h. M h ⊎ Contains fs h) (λ h m. inr m) g (Enabled-mono s (Held s fs) (Cl s (Contains fs)) (λ e. (Derivation-is_Cl fs d e).0) g en)))
-      }
+      enabled = Enabled-mono s (Cl s (Contains fs)) (Held s fs) (λ e. (Derivation-is_Cl fs d e).1) f (Enabled-Cl_mono (λ g. M g ⊎ Contains fs g) (Contains fs) (only fs) f n.enabled);
+      new = λ m. n.new (inr m);
+      least = λ g en. least g (n.least g (Enabled-Cl_mono (Contains fs) (λ h. M h ⊎ Contains fs h) (λ h m. inr m) g (Enabled-mono s (Held s fs) (Cl s (Contains fs)) (λ e. (Derivation-is_Cl fs d e).0) g en)));
+    }
       where
         least : (g : F) → (M g ⊎ Contains fs g) ⊎ le f g → Contains fs g ⊎ le f g
         least g (inl a) = inl (only fs g a)
@@ -35,7 +33,7 @@ module _ {E F : Type 0} (s : System E F) where
     plain_from_nothing : (fs : List F) → EachPlace (IsNextFrom s le M) fs → Derivation s fs × EachPlace (IsNext s le) fs
     plain_from_nothing =
         EachPlace-along (IsNextFrom s le M) (λ fs. Derivation s fs × EachPlace (IsNext s le) fs) (Derivation-nil s, EachPlace-nil (IsNext s le))
-          (λ fs f q n. let m = next_from_nothing fs f q.0 n in (Derivation-push s fs f q.0 m.enabled, EachPlace-push (IsNext s le) fs f q.1 m))
+        (λ fs f q n. let m = next_from_nothing fs f q.0 n in (Derivation-push s fs f q.0 m.enabled, EachPlace-push (IsNext s le) fs f q.1 m))
 
     -- from nothing taken it is the plain list
     pub Plain-from_nothing : (k : ℕ) (fs : List F) → EachPlace (IsNextFrom s le M) fs → length fs ≤ k → (length fs ≡ k) ⊎ IsExhausted s (λ g. M g ⊎ Contains fs g) → Plain s le k fs

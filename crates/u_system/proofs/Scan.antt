@@ -1,8 +1,8 @@
 -- A list that is gathered by going over another.
-use Rattle.std.proofs.Common.{◌≡◌, ℕ, ◌<◌, ◌≤◌, ◌+◌, List, [], ◌∷◌, ◌++◌, ◌⊎◌, inl, inr, refl, sym, subst, take, length, get_or}
+use Rattle.std.proofs.Common.{ℕ, ◌<◌, ◌≤◌, ◌+◌, List, [], ◌∷◌, ◌++◌, ◌⊎◌, inl, inr, sym, subst, take, length, get_or}
 use Rattle.std.specs.Prelude.{Contains, ◌↔◌}
 use Rattle.std.proofs.lemmas.List.{take_more, take_all}
-use Rattle.std.proofs.lemmas.List.Elements.{Contains-append_left, Contains-append_right, Contains-append_cases, Contains-push, Contains-push_cases}
+use Rattle.std.proofs.lemmas.List.Elements.{Contains-append_left, Contains-push, Contains-push_cases}
 use Rattle.u_system.specs.Firing.{SomeOf}
 use Rattle.u_system.proofs.Member.{Contains-nil}
 
@@ -20,14 +20,16 @@ module _ {Y F : Type 0} (P : Y → F → Type 0) (start : List F) where
       widen : Contains start f ⊎ SomeOf (take i ys) P f → Contains start f ⊎ SomeOf (take i ys ++ get_or ys i d ∷ []) P f
       widen (inl m) = inl m
       widen (inr (y, m, p)) = inr (y, Contains-append_left (take i ys) (get_or ys i d ∷ []) y m, p)
+
       to : Contains old f ⊎ P (get_or ys i d) f → Contains start f ⊎ SomeOf (take i ys ++ get_or ys i d ∷ []) P f
       to (inl m) = widen ((before f).0 m)
       to (inr p) = inr (get_or ys i d, Contains-push (take i ys) (get_or ys i d), p)
+
       back : Contains start f ⊎ SomeOf (take i ys ++ get_or ys i d ∷ []) P f → Contains new f
       back (inl m) = (step f).1 (inl ((before f).1 (inl m)))
       back (inr (y, m, p)) =
           elim (Contains-push_cases (take i ys) (get_or ys i d) y m)
-            [ inl a ↦ (step f).1 (inl ((before f).1 (inr (y, a, p)))) | inr e ↦ (step f).1 (inr (subst (λ (z : Y). P z f) (sym e) p)) ]
+          [ inl a ↦ (step f).1 (inl ((before f).1 (inr (y, a, p)))) | inr e ↦ (step f).1 (inr (subst (λ (z : Y). P z f) (sym e) p)) ]
 
   pub scan_all : (ys : List Y) (i : ℕ) (old : List F) → length ys ≤ i → ((f : F) → Contains old f ↔ (Contains start f ⊎ SomeOf (take i ys) P f)) → (f : F) → Contains old f ↔ (Contains start f ⊎ SomeOf ys P f)
   scan_all ys i old h all f = rw (take_all i ys h) at (all f)

@@ -1,15 +1,15 @@
 -- Ascending lists by a total order: what a binary search finds, and an insert at that place.
-use Rattle.std.proofs.Common.{◌≡◌, ℕ, zero, suc, ◌+◌, ◌<◌, ◌≤◌, List, [], ◌∷◌, ◌++◌, ◌⊎◌, inl, inr, refl, sym, subst, ap, ◌∙◌, take, drop, length, get_or, arith, add-one, Ordering, true, false}
-use Rattle.std.specs.Prelude.{Contains, IsSortedBy}
+use Rattle.std.proofs.Common.{◌≡◌, ℕ, zero, suc, ◌<◌, ◌≤◌, List, [], ◌∷◌, ◌++◌, inl, inr, subst, ap, ◌∙◌, take, drop, length, get_or, arith, add-one, Ordering, false}
+use Rattle.std.specs.Prelude.{IsSortedBy}
 use Rattle.std.specs.Cmp.{IsTotalOrder}
 use Rattle.std.specs.Ordering.{is_lt, ordering_index, ordering_reverse}
-use Rattle.std.specs.declared.cmp.Ordering.TheVariants.{Less, Equal, Greater}
-use Rattle.std.specs.List.Sorted.{IsNonDecreasingBy, IsPartitionPoint}
+use Rattle.std.specs.declared.cmp.Ordering.TheVariants.{Less, Greater}
+use Rattle.std.specs.List.Sorted.{IsNonDecreasingBy}
 use Rattle.std.proofs.lemmas.List.Sorted.{searchable_from_sorted}
 use Rattle.std.proofs.lemmas.List.Elements.{Contains-append_left, Contains-append_right, Contains-append_cases, Contains-get_or}
 use Rattle.std.proofs.lemmas.List.{take-append-drop}
 use Rattle.u_system.specs.Firing.{Ascending}
-use Rattle.u_system.proofs.Member.{Contains-nil, Contains-head, Contains-tail, Contains-cons_cases}
+use Rattle.u_system.proofs.Member.{Contains-cons_cases}
 
 module _ {X : Type 0} (R : X → X → Ordering) (o : IsTotalOrder R) where
   turn_greater : (x y : X) → R y x ≡ Greater → R x y ≡ Less
@@ -25,6 +25,7 @@ module _ {X : Type 0} (R : X → X → Ordering) (o : IsTotalOrder R) where
     where
       flat : (a b : X) → R a b ≡ Less → is_lt (R b a) ≡ false
       flat a b e = ap is_lt (o.antisymm b a ∙ ap ordering_reverse e)
+
       sorted : IsSortedBy (λ a b. is_lt (R a b)) xs
       sorted k d z l = rw add-one (flat (get_or xs k d) (get_or xs (suc k) d) (up_at xs k d (omega arith) up))
 
@@ -32,10 +33,13 @@ module _ {X : Type 0} (R : X → X → Ordering) (o : IsTotalOrder R) where
   Ascending-insert xs zero x l below above up =
       ((λ y (k, m, e). turn_greater x y (subst (λ (w : X). R w x ≡ Greater) e (above k y (omega arith) m))), up)
   Ascending-insert [] (suc i) x l below above up = absurd (omega arith)
-  Ascending-insert (z ∷ xs) (suc i) x l below above up =
-      ((λ y m. elim (Contains-append_cases (take i xs) (x ∷ drop i xs) y m)
-          [ inl a ↦ up.0 y (rw take-append-drop at (Contains-append_left (take i xs) (drop i xs) y a))
-          | inr b ↦ elim (Contains-cons_cases x y (drop i xs) b)
-              [ inl e ↦ subst (λ (w : X). R z w ≡ Less) e (below 0 z (omega arith))
-              | inr c ↦ up.0 y (rw take-append-drop at (Contains-append_right (take i xs) (drop i xs) y c)) ] ]),
-        Ascending-insert xs i x (omega arith) (λ k d h. below (suc k) d (omega arith)) (λ k d h m. above (suc k) d (omega arith) (omega arith)) up.1)
+  Ascending-insert (z ∷ xs) (suc i) x l below above up = (
+    (λ y m. elim (Contains-append_cases (take i xs) (x ∷ drop i xs) y m) [
+      | inl a ↦ up.0 y (rw take-append-drop at (Contains-append_left (take i xs) (drop i xs) y a))
+      | inr b ↦ elim (Contains-cons_cases x y (drop i xs) b) [
+        | inl e ↦ subst (λ (w : X). R z w ≡ Less) e (below 0 z (omega arith))
+        | inr c ↦ up.0 y (rw take-append-drop at (Contains-append_right (take i xs) (drop i xs) y c))
+      ]
+    ]),
+    Ascending-insert xs i x (omega arith) (λ k d h. below (suc k) d (omega arith)) (λ k d h m. above (suc k) d (omega arith) (omega arith)) up.1,
+  )
