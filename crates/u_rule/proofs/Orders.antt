@@ -1,16 +1,12 @@
 -- The derived orders of entries and of firings are those in plain words.
-use Rattle.std.specs.Prelude.{◌≡◌, List, [], ◌∷◌, Option, Some, None, refl}
+use Rattle.std.specs.Prelude.{◌≡◌, [], ◌∷◌, Option, Some, None, refl}
 use Rattle.std.proofs.Common.{ap, ◌∙◌}
 use Rattle.std.specs.Option.{option_cmp}
 use Rattle.std.specs.Ordering.{ordering_then, nat_cmp}
-use Rattle.std.specs.Cmp.Lexicographic.{slice_cmp}
-use Rattle.std.specs.declared.cmp.Ordering.{Ordering}
 use Rattle.u_name.specs.NameOrder.{name_cmp}
 use Rattle.u_name.specs.Cell.{cell_cmp}
 use Rattle.u_value.specs.Values.{value_cmp}
 use Rattle.u_value.proofs.Orders.{derived_value_cmp, derived_fault_kind_cmp}
-use Rattle.u_value.specs.declared.value.Value.{Value}
-use Rattle.u_value.specs.contracts.value.ValueOrd.TheImpl as value_ord
 use Rattle.u_rule.specs.Parts.{TokenParts, ValueList}
 use Rattle.u_rule.specs.ValuesOrder.{values_order}
 use Rattle.u_rule.specs.Orders.{token_cmp, write_cmp, fault_cmp, entry_order, values_cmp, written_cmp, firing_order}

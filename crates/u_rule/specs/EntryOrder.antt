@@ -1,20 +1,17 @@
 -- The orders of entries and of firings, which they derive; they are total, and tie only what is equal.
-use Rattle.std.specs.Prelude.{◌≡◌, ℕ, List, Option, Some, None, IsTrue, refl}
-use Rattle.std.proofs.Common.{ap, ◌∙◌, sym}
+use Rattle.std.specs.Prelude.{◌≡◌, List, Option, Some, None, refl}
+use Rattle.std.proofs.Common.{ap, ◌∙◌}
 use Rattle.std.specs.Cmp.{IsTotalOrder}
 use Rattle.std.specs.Coded.{Coded, coded_list}
 use Rattle.u_rule.specs.contracts.entry.Entry as entry_row
 use Rattle.u_rule.specs.contracts.firing.Firing as firing_row
 use Rattle.std.specs.Option.{option_cmp}
 use Rattle.std.specs.FinMap.{nat_cmp-IsAntisymmetric}
-use Rattle.std.specs.Ordering.{ordering_then, nat_cmp}
-use Rattle.std.specs.Cmp.Lexicographic.{slice_cmp}
 use Rattle.std.specs.declared.cmp.Ordering.{Ordering}
-use Rattle.std.specs.declared.cmp.Ordering.TheVariants.{Less, Equal, Greater}
+use Rattle.std.specs.declared.cmp.Ordering.TheVariants.{Equal}
 use Rattle.u_name.specs.Name.{Activity}
 use Rattle.u_name.specs.Cell.{CellOf}
 use Rattle.u_name.specs.ContextLaws.{both}
-use Rattle.u_name.specs.NameOrder.{name_cmp}
 use Rattle.u_name.proofs.ExactOrders.{name_cmp_ties, cell_cmp_ties}
 use Rattle.u_value.specs.declared.value.Value.{Value}
 use Rattle.u_value.proofs.Orders.{value_cmp_ties, derived_value_cmp, fault_kind_cmp_ties, derived_fault_kind_cmp}
@@ -22,7 +19,7 @@ use Rattle.u_value.specs.contracts.value.ValueOrd.TheImpl as value_ord
 use Rattle.u_value.specs.contracts.fault_kind.FaultKindOrd.TheImpl as fault_kind_ord
 use Rattle.u_value.specs.declared.fault_kind.FaultKind.{FaultKind}
 use Rattle.u_rule.specs.Parts.{TokenParts, token, ValueList}
-use Rattle.u_rule.specs.ValuesOrder.{values_order, values_order_ties}
+use Rattle.u_rule.specs.ValuesOrder.{values_order_ties}
 use Rattle.u_rule.specs.declared.parts.Write.{Write}
 use Rattle.u_rule.specs.declared.parts.Fault.{Fault}
 use Rattle.u_rule.specs.declared.entry.Entry.{Entry}

@@ -1,5 +1,4 @@
 -- The orders of entries and of firings, in plain words.
-use Rattle.std.specs.Prelude.{ℕ, Option}
 use Rattle.std.specs.Option.{option_cmp}
 use Rattle.std.specs.Ordering.{ordering_then, nat_cmp}
 use Rattle.std.specs.Cmp.Lexicographic.{slice_cmp}

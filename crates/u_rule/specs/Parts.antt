@@ -1,5 +1,5 @@
 -- Tokens, and the values of a firing.
-use Rattle.std.specs.Prelude.{◌≡◌, ℕ, List, length, refl}
+use Rattle.std.specs.Prelude.{ℕ, List, length, refl}
 use Rattle.std.specs.Coded.{Coded, code_by, coded×, coded_ℕ, coded_list}
 use Rattle.u_name.specs.Context.{IsBetween}
 use Rattle.u_name.specs.Name.{Activity, activity_code}

@@ -1,5 +1,5 @@
 -- The order and the hash of lists of values, over those that values derive.
-use Rattle.std.specs.Prelude.{◌≡◌, Bool, true, IsTrue, List, refl}
+use Rattle.std.specs.Prelude.{◌≡◌, true, IsTrue, refl}
 use Rattle.std.proofs.Common.{ap}
 use Rattle.std.specs.Hash as fed
 use Rattle.std.specs.Hash.{HashWrites}
@@ -10,7 +10,6 @@ use Rattle.std.specs.FinMap.{slice_cmp-IsAntisymmetric}
 use Rattle.std.specs.declared.cmp.Ordering.{Ordering}
 use Rattle.std.specs.declared.cmp.Ordering.TheVariants.{Less, Equal, Greater}
 use Rattle.std.proofs.lemmas.Cmp.{lists_total}
-use Rattle.u_value.specs.Values.{value_cmp}
 use Rattle.u_value.proofs.Orders.{value_cmp_ties, derived_value_cmp}
 use Rattle.u_value.specs.declared.value.Value.{Value}
 use Rattle.u_value.specs.contracts.value.ValueOrd.TheImpl as value_ord

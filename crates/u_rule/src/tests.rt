@@ -27,8 +27,8 @@ fn name(statement: u16) -> Name
 }
 
 fn token(statement: u16, port: u8, number: i64) -> Entry
-    requires { IsBetween 1 statement 999 }
-    requires { IsBetween 1 port 3 }
+    requires statement { IsBetween 1 statement 999 }
+    requires port { IsBetween 1 port 3 }
 {
     Entry::Token(Token::new(name(statement), port, Value::Int(number)))
 }

@@ -1,10 +1,10 @@
 -- The closure of a set of firings: least, closed, monotone; what a settled list of firings holds.
-use Rattle.std.proofs.Common.{◌≡◌, ℕ, zero, suc, ◌<◌, List, [], ◌∷◌, ◌++◌, ◌⊎◌, inl, inr, refl, sym, ap, arith, length, append_assoc, append-nil, subst}
-use Rattle.std.specs.Prelude.{Contains, ◌↔◌, IsTrue}
-use Rattle.std.proofs.lemmas.List.Elements.{Contains-append_left, Contains-append_right, Contains-append_cases, Contains-push_cases, Contains-push}
+use Rattle.std.proofs.Common.{List, [], ◌∷◌, ◌++◌, ◌⊎◌, inl, inr, sym, append_assoc, append-nil, subst}
+use Rattle.std.specs.Prelude.{Contains}
+use Rattle.std.proofs.lemmas.List.Elements.{Contains-append_left, Contains-append_right, Contains-append_cases, Contains-push_cases}
 use Rattle.u_system.specs.Firing.{System, Held, Enabled, Closed, Derivation, Follows, Within, Cl, Whole, Same}
 use Rattle.u_system.proofs.Member.{Contains-nil, Contains-head, Contains-tail, Contains-cons_cases}
-use Rattle.u_system.proofs.Held.{Held-start, Held-nil, Held-of, Held-append_left, Held-append_right, Held-append_cases, Held-push, Enabled-mono, Follows-mono, Follows-append, Derivation-from_Follows, Follows-from_Derivation}
+use Rattle.u_system.proofs.Held.{Held-start, Held-nil, Held-append_left, Held-append_right, Held-append_cases, Held-push, Enabled-mono, Follows-mono, Follows-append, Derivation-from_Follows, Follows-from_Derivation}
 
 module _ {E F : Type 0} (s : System E F) where
   -- what holds of all that is held and of all that firings of the list give holds of all that is held after them

@@ -1,8 +1,8 @@
 -- Where clashes come from: the first clash of a derivation comes from one of its firings and an earlier one.
-use Rattle.std.proofs.Common.{◌≡◌, ℕ, List, [], ◌∷◌, ◌++◌, ◌⊎◌, inl, inr, refl, sym, subst}
-use Rattle.std.specs.Prelude.{Contains, ◌↔◌}
+use Rattle.std.proofs.Common.{List, [], ◌∷◌, ◌++◌, ◌⊎◌, inl, inr, subst}
+use Rattle.std.specs.Prelude.{Contains}
 use Rattle.std.proofs.lemmas.List.Elements.{Contains-push_cases}
-use Rattle.u_system.specs.Firing.{System, Held, Enabled, Derivation, Both, EachPlace, Whole}
+use Rattle.u_system.specs.Firing.{System, Held, Enabled, Derivation, Both, Whole}
 use Rattle.u_system.proofs.Member.{Contains-nil}
 use Rattle.u_system.proofs.Held.{Held-push, Held-append_left, Held-append_right, Held-nil, Enabled-mono}
 use Rattle.u_system.proofs.Closure.{Derivation-append, Derivation-nil, Derivation-push}

@@ -1,9 +1,9 @@
 -- What a list of firings holds, and lists of firings that follow one another.
-use Rattle.std.proofs.Common.{◌≡◌, ℕ, zero, suc, ◌<◌, List, [], ◌∷◌, ◌++◌, ◌⊎◌, inl, inr, refl, sym, ap, arith, length, take, Some, None, append_assoc, append-nil, subst}
+use Rattle.std.proofs.Common.{◌≡◌, ℕ, zero, suc, List, [], ◌∷◌, ◌++◌, ◌⊎◌, inl, inr, refl, sym, take, Some, append_assoc, append-nil, subst}
 use Rattle.std.specs.Prelude.{Contains, slice_get, ◌↔◌}
 use Rattle.std.proofs.lemmas.List.Elements.{Contains-append_left, Contains-append_right, Contains-append_cases}
 use Rattle.u_system.specs.Firing.{System, Held, Enabled, Derivation, Follows}
-use Rattle.u_system.proofs.Member.{Contains-nil, Contains-head, Contains-tail, Contains-cons_cases}
+use Rattle.u_system.proofs.Member.{Contains-nil, Contains-head, Contains-cons_cases}
 
 module _ {E F : Type 0} (s : System E F) where
   pub Held-start : (fs : List F) → Held s fs s.start

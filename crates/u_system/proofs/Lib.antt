@@ -10,3 +10,4 @@ pub mod Sorted
 pub mod PlainFrom
 pub mod Places
 pub mod Keys
+pub mod Numbers

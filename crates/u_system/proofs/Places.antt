@@ -1,8 +1,7 @@
 -- What a binary search finds in a list that rises, and what an insert makes of it.
-use Rattle.std.proofs.Common.{◌≡◌, ◌↔◌, ◌⊎◌, inl, inr, ℕ, ◌<◌, ◌≤◌, ◌+◌, ◌++◌, ◌∷◌, [], take, drop, length, get_or, Contains, subst, sym, ◌∙◌, arith, List, Ordering, refl, ap}
+use Rattle.std.proofs.Common.{◌≡◌, ◌⊎◌, inl, inr, ℕ, ◌<◌, ◌≤◌, ◌+◌, ◌++◌, ◌∷◌, [], take, length, get_or, Contains, subst, sym, arith, List, Ordering}
 use Rattle.std.specs.Cmp.{IsTotalOrder, tied_itself}
 use Rattle.std.specs.List.{insert}
-use Rattle.std.specs.List.Sorted.{IsPermutation}
 use Rattle.std.specs.declared.cmp.Ordering.TheVariants.{Less, Equal, Greater}
 use Rattle.std.proofs.lemmas.List.{take_more, take_all}
 use Rattle.std.proofs.lemmas.List.Sorted.{IsPermutation-insert, IsPermutation-sym, Contains-permutation}
@@ -10,7 +9,7 @@ use Rattle.std.proofs.lemmas.List.Elements.{Contains-append_left, Contains-push,
 use Rattle.u_system.proofs.Member.{Contains-nil, Contains-head, Contains-tail, Contains-cons_cases}
 use Rattle.u_system.proofs.Ordered.{same_list}
 use Rattle.u_system.specs.Firing.{Same}
-use Rattle.u_system.specs.Rising.{Rises, IsExact, IsWith, IsUnion, IsListOf}
+use Rattle.u_system.specs.Rising.{Rises, IsWith, IsUnion, IsListOf}
 
 module _ {X : Type 0} where
   pub inserted : (xs : List X) (i : ℕ) (y : X) → IsWith xs y (insert xs i y)

@@ -1,7 +1,7 @@
 -- Facts about each place of a list, and what follows from `Plain`.
-use Rattle.std.proofs.Common.{◌≡◌, ℕ, zero, suc, ◌<◌, ◌+◌, ◌≤◌, List, [], ◌∷◌, ◌++◌, ◌⊎◌, inl, inr, refl, sym, subst, take, length, Some, None, append_assoc, append-nil, arith, ap, length-append}
-use Rattle.std.specs.Prelude.{Contains, slice_get}
-use Rattle.u_system.specs.Firing.{System, Enabled, Held, Derivation, Distinct, EachPlace, IsNext, Plain, Whole, Same}
+use Rattle.std.proofs.Common.{◌≡◌, ℕ, zero, suc, ◌<◌, List, [], ◌∷◌, ◌++◌, inl, inr, refl, subst, take, length, Some, append_assoc, append-nil, arith}
+use Rattle.std.specs.Prelude.{slice_get}
+use Rattle.u_system.specs.Firing.{System, Held, Derivation, Distinct, EachPlace, IsNext, Plain, Whole, Same}
 use Rattle.u_system.proofs.Apart.{Distinct-push}
 use Rattle.u_system.proofs.Closure.{Quiet-whole}
 

@@ -1,9 +1,7 @@
 -- Firing on from a set, and from nothing.
-use Rattle.std.proofs.Common.{◌≡◌, ℕ, ◌<◌, ◌+◌, ◌≤◌, List, [], ◌∷◌, ◌++◌, ◌⊎◌, inl, inr, refl, sym, subst, length, arith}
-use Rattle.std.specs.Prelude.{Contains, ◌↔◌}
-use Rattle.std.proofs.lemmas.List.Elements.{Contains-push_cases, Contains-append_left, Contains-push}
-use Rattle.u_system.specs.Firing.{System, Enabled, Held, Derivation, EachPlace, IsNext, IsNextFrom, IsExhausted, Plain, Cl, Same, Within}
-use Rattle.u_system.proofs.Member.{Contains-nil}
+use Rattle.std.proofs.Common.{◌≡◌, ℕ, ◌≤◌, List, ◌⊎◌, inl, inr, length}
+use Rattle.std.specs.Prelude.{Contains}
+use Rattle.u_system.specs.Firing.{System, Enabled, Held, Derivation, EachPlace, IsNext, IsNextFrom, IsExhausted, Plain, Cl, Same}
 use Rattle.u_system.proofs.Held.{Enabled-mono}
 use Rattle.u_system.proofs.Closure.{Derivation-nil, Derivation-push, Settled-is_Cl, Cl-mono}
 use Rattle.u_system.proofs.Plain.{EachPlace-nil, EachPlace-push, EachPlace-along}

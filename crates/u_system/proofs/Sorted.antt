@@ -1,15 +1,15 @@
 -- Ascending lists by a total order: what a binary search finds, and an insert at that place.
-use Rattle.std.proofs.Common.{◌≡◌, ℕ, zero, suc, ◌+◌, ◌<◌, ◌≤◌, List, [], ◌∷◌, ◌++◌, ◌⊎◌, inl, inr, refl, sym, subst, ap, ◌∙◌, take, drop, length, get_or, arith, add-one, Ordering, true, false}
-use Rattle.std.specs.Prelude.{Contains, IsSortedBy}
+use Rattle.std.proofs.Common.{◌≡◌, ℕ, zero, suc, ◌<◌, ◌≤◌, List, [], ◌∷◌, ◌++◌, inl, inr, subst, ap, ◌∙◌, take, drop, length, get_or, arith, add-one, Ordering, false}
+use Rattle.std.specs.Prelude.{IsSortedBy}
 use Rattle.std.specs.Cmp.{IsTotalOrder}
 use Rattle.std.specs.Ordering.{is_lt, ordering_index, ordering_reverse}
-use Rattle.std.specs.declared.cmp.Ordering.TheVariants.{Less, Equal, Greater}
-use Rattle.std.specs.List.Sorted.{IsNonDecreasingBy, IsPartitionPoint}
+use Rattle.std.specs.declared.cmp.Ordering.TheVariants.{Less, Greater}
+use Rattle.std.specs.List.Sorted.{IsNonDecreasingBy}
 use Rattle.std.proofs.lemmas.List.Sorted.{searchable_from_sorted}
 use Rattle.std.proofs.lemmas.List.Elements.{Contains-append_left, Contains-append_right, Contains-append_cases, Contains-get_or}
 use Rattle.std.proofs.lemmas.List.{take-append-drop}
 use Rattle.u_system.specs.Firing.{Ascending}
-use Rattle.u_system.proofs.Member.{Contains-nil, Contains-head, Contains-tail, Contains-cons_cases}
+use Rattle.u_system.proofs.Member.{Contains-cons_cases}
 
 module _ {X : Type 0} (R : X → X → Ordering) (o : IsTotalOrder R) where
   turn_greater : (x y : X) → R y x ≡ Greater → R x y ≡ Less

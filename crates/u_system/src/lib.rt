@@ -1,7 +1,18 @@
-// Sorted lists without repeats.
+//! Firing systems, and sets that are kept in order.
+//!
+//! `specs/Firing.antt` says what a firing system is: entries, firings, what each firing needs and
+//! what it gives. It is an abstract view of the rule of Arvind and Gostelow (1982), in which an
+//! activity that has all its tokens may fire and nothing that was given is taken away; that nothing
+//! is taken away is this project's profile. `proofs/` has its laws: derivations and what they hold,
+//! the closure of a set of firings and of two sets together, when a derivation holds all that can
+//! be derived, runs that fire the least ready firing each time, and where clashes come from.
+//!
+//! The code is what sets of entries and of firings need: `OrderedSet`, and lists that rise.
 #![tactic(auto)]
 
 mod ordered_set;
+#[cfg(test)]
+mod tests;
 
 ghost use Rattle.std.specs.Prelude.{◌≡◌, ◌↔◌, OnOk, OnErr, IfOk, IfErr, Contains, ◌⊎◌, IsTrue, IsFalse, length, ◌<◌};
 ghost use Rattle.u_system.specs.Rising.{Rises, IsExact, IsWith, IsUnion};
@@ -9,7 +20,7 @@ ghost use Rattle.u_system.specs.Rising.{Rises, IsExact, IsWith, IsUnion};
 pub use ordered_set::OrderedSet;
 use std::alloc::{AllocError, AllocFailed, Global};
 
-/// Whether the item is there.
+/// Whether the item is in the list, which rises.
 pub fn has<T: Ord>(list: &[T], item: &T) -> bool
     requires exact { IsExact T.cmp }
     requires rises { Rises T.cmp list.now }
@@ -21,7 +32,10 @@ pub fn has<T: Ord>(list: &[T], item: &T) -> bool
     }
 }
 
-/// Puts the item in its place, unless it is there. Answers whether it was new.
+/// Puts the item in its place in a list that rises, unless it is there. Answers whether it was new.
+///
+/// # Errors
+/// `AllocFailed` with the item where there is no memory; the list stays as it was.
 pub fn place_in<T: Ord + Drop>(list: &mut Vec<T>, item: T) -> Result<bool, AllocFailed<T>>
     requires exact { IsExact T.cmp }
     requires rises { Rises T.cmp list.old.items }
@@ -56,7 +70,10 @@ fn is_left_next<T: Ord>(left: &[T], i: usize, right: &[T], j: usize) -> bool
     left[i] < right[j]
 }
 
-/// The items of both, in order.
+/// The items of both, in order and without repeats; the two lists may stand in any order.
+///
+/// # Errors
+/// `AllocError` where there is no memory.
 pub fn union<T: Ord + Copy + Drop>(
     alloc: Global,
     left: &[T],

@@ -49,6 +49,9 @@ impl<K: Ord + Drop> OrderedSet<K> {
     }
 
     /// Puts the key in. Answers whether it was new.
+    ///
+    /// # Errors
+    /// `AllocFailed` with the key where there is no memory; the set stays as it was.
     pub fn insert(&mut self, key: K) -> Result<bool, AllocFailed<K>>
         requires { IsExact K.cmp }
         ensures ok { OnOk result (IsWith self.old key self.new) }

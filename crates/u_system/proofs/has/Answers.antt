@@ -1,4 +1,4 @@
-use Rattle.std.proofs.Common.{◌≡◌, arith, Contains, ◌<◌}
+use Rattle.std.proofs.Common.{arith}
 use Rattle.u_system.proofs.Sorted.{searchable}
 use Rattle.u_system.proofs.Places.{absent}
 use Rattle.u_system.proofs.has.Goals as goal

@@ -1,5 +1,4 @@
-use Rattle.std.proofs.Common.{◌≡◌, arith, Contains, ◌<◌, ◌≤◌, length, get_or, ℕ, refl}
-use Rattle.std.specs.declared.cmp.Ordering.TheVariants.{Less, Greater}
+use Rattle.std.proofs.Common.{arith, refl}
 use Rattle.u_system.proofs.Sorted.{searchable, Ascending-insert}
 use Rattle.u_system.proofs.Places.{absent, inserted}
 use Rattle.u_system.proofs.place_in.Goals as goal

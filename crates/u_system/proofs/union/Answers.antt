@@ -1,4 +1,4 @@
-use Rattle.std.proofs.Common.{◌≡◌, arith, take, refl}
+use Rattle.std.proofs.Common.{take, refl}
 use Rattle.u_system.proofs.Places.{union_left, union_more, union_end}
 use Rattle.u_system.proofs.union.Goals as goal
 
