@@ -1,2 +1,3 @@
 pub mod Destinations
 pub mod Orders
+pub mod InOrder

@@ -10,6 +10,8 @@ ghost use Rattle.u_check.specs.Rules.{block_named};
 ghost use Rattle.std.specs.List.{AllByRecursion};
 ghost use Rattle.u_rule.specs.declared.rule.RuleError.TheVariants as errors;
 ghost use Rattle.u_rule.specs.Made.{outcome_of};
+ghost use Rattle.u_rule.specs.EntryOrder.{entry_cmp};
+ghost use Rattle.u_system.specs.Rising.{Rises};
 ghost use Rattle.u_rule.specs.Rule.{statement_of, fits, result_of, sum_of, first_of, value_of, sent, placed, given, is_root, tokens_from, start_of, needs_of, gives_of, is_firing_of, fault_of};
 
 use crate::entry::Entry;
@@ -192,13 +194,14 @@ fn entries_of(
 }
 
 /// The entries that a firing of the job gives: its value at each destination, in their order, the
-/// answer from `end`, or the one fault.
+/// answer from `end`, or the one fault. They stand in the order of entries, each once.
 ///
 /// # Errors
 /// `NotAFiring` exactly where it is no firing of the job. `NoMemory` where there is no memory.
-#[tactic(auto, unfolding(crate::specs::Rule::gives_of, crate::specs::Rule::is_firing_of))]
+#[tactic(auto, unfolding(crate::specs::Rule::gives_of, crate::specs::Rule::is_firing_of), using(crate::proofs::InOrder::gives_rise))]
 pub fn gives(alloc: Global, job: &Job, firing: &Firing) -> Result<Vec<Entry>, RuleError>
     ensures ok { IfOk result (λ v. IsTrue (is_firing_of job.now firing.now) × (v.items ≡ gives_of job.now firing.now)) }
+    ensures order { IfOk result (λ v. Rises entry_cmp v.items) }
     ensures refused { result ≡ Err errors.NotAFiring ↔ (is_firing_of job.now firing.now ≡ false) }
 {
     if !is_firing(job, firing) {
@@ -227,12 +230,14 @@ fn add_tokens(tokens: &mut Vec<Entry>, activity: &Name, values: &[Value]) -> Res
 }
 
 /// The entries that a firing of the job needs: the token of its value at each port, from port 1 on.
+/// They stand in the order of entries, each once.
 ///
 /// # Errors
 /// `NotAFiring` exactly where it is no firing of the job. `NoMemory` where there is no memory.
-#[tactic(auto, unfolding(crate::specs::Rule::needs_of))]
+#[tactic(auto, unfolding(crate::specs::Rule::needs_of), using(crate::proofs::InOrder::tokens_rise))]
 pub fn needs(alloc: Global, job: &Job, firing: &Firing) -> Result<Vec<Entry>, RuleError>
     ensures ok { IfOk result (λ v. IsTrue (is_firing_of job.now firing.now) × (v.items ≡ needs_of firing.now)) }
+    ensures order { IfOk result (λ v. Rises entry_cmp v.items) }
     ensures refused { result ≡ Err errors.NotAFiring ↔ (is_firing_of job.now firing.now ≡ false) }
 {
     if !is_firing(job, firing) {
