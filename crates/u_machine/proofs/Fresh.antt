@@ -1,5 +1,5 @@
 -- A new machine.
-use Rattle.std.proofs.Common.{◌≡◌, ◌↔◌, ◌⊎◌, inl, inr, ◌∙◌, sym, refl, subst, ap, arith, ℕ, List, [], ◌∷◌, Contains, length, take}
+use Rattle.std.proofs.Common.{◌≡◌, ◌↔◌, ◌⊎◌, inl, inr, sym, subst, arith, ℕ, [], ◌∷◌, Contains}
 use Rattle.u_check.specs.Jobs.{JobParts}
 use Rattle.u_rule.specs.Rule.{system_of}
 use Rattle.u_rule.specs.EntryOrder.{entry_cmp, entry_cmp_total, EntryList, FiringList}

@@ -1,5 +1,5 @@
 -- Which firings two tokens join to.
-use Rattle.std.proofs.Common.{◌≡◌, ◌↔◌, ◌∙◌, sym, refl, subst, ap, Bool, true, false, IsTrue, ℕ, List, [], ◌∷◌, Option, Some, None}
+use Rattle.std.proofs.Common.{◌≡◌, ◌↔◌, ◌∙◌, sym, subst, ap, true, false, ℕ, [], ◌∷◌, Option, Some, None}
 use Rattle.u_name.specs.Name.{Activity}
 use Rattle.u_value.specs.declared.value.Value.{Value}
 use Rattle.u_check.specs.Jobs.{JobParts}

@@ -1,14 +1,13 @@
 -- The tokens of one activity lie together in a list of entries that rises.
-use Rattle.std.proofs.Common.{◌≡◌, ◌↔◌, ◌⊎◌, inl, inr, ◌∙◌, sym, refl, subst, ap, arith, Bool, true, false, IsTrue, ℕ, zero, suc, ◌<◌, ◌≤◌, ◌+◌, List, [], ◌∷◌, ◌++◌, take, drop, length, get_or, Contains, Ordering, add-one}
+use Rattle.std.proofs.Common.{◌≡◌, ◌⊎◌, inl, inr, ◌∙◌, sym, refl, subst, arith, ℕ, zero, suc, ◌<◌, ◌+◌, List, [], ◌∷◌, take, drop, length, get_or, Contains, Ordering}
 use Rattle.std.specs.Cmp.{tied_itself}
-use Rattle.std.specs.Ordering.{ordering_then, nat_cmp}
+use Rattle.std.specs.Ordering.{ordering_then}
 use Rattle.std.specs.declared.cmp.Ordering.TheVariants.{Less, Equal, Greater}
 use Rattle.std.proofs.lemmas.List.{take-append-drop}
 use Rattle.std.proofs.lemmas.List.Elements.{Contains-get_or, Contains-append_right}
 use Rattle.u_name.specs.Name.{Activity}
 use Rattle.u_name.specs.NameOrder.{name_cmp, name_cmp_total}
 use Rattle.u_name.proofs.ExactOrders.{name_cmp_ties}
-use Rattle.u_rule.specs.Parts.{TokenParts, token}
 use Rattle.u_rule.specs.EntryOrder.{entry_cmp, entry_cmp_total}
 use Rattle.u_rule.specs.declared.entry.Entry.{Entry}
 use Rattle.u_rule.specs.declared.entry.Entry.TheVariants as entries

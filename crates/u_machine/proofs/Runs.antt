@@ -1,20 +1,17 @@
 -- How runs go on.
-use Rattle.std.proofs.Common.{◌≡◌, ℕ, zero, suc, ◌+◌, ◌<◌, ◌≤◌, List, [], ◌∷◌, ◌++◌, ◌⊎◌, inl, inr, subst, sym, refl, length, take, arith, append-nil, append_assoc, ap, ◌∙◌, ◌%◌, Some, Ok, Err, length-append}
+use Rattle.std.proofs.Common.{◌≡◌, ℕ, ◌+◌, ◌<◌, ◌≤◌, List, [], ◌∷◌, ◌++◌, ◌⊎◌, inl, inr, subst, sym, refl, length, arith, append-nil, append_assoc, ap, ◌∙◌, Some, Ok, Err, length-append}
 use Rattle.std.proofs.Math.Nat.{zero-mod}
 use Rattle.std.specs.Result.{IsErrAnd}
-use Rattle.std.specs.Prelude.{Result, Contains, ◌↔◌, IsTrue, slice_get}
-use Rattle.std.proofs.lemmas.List.Elements.{Contains-append_left, Contains-append_right, Contains-append_cases, Contains-push, Contains-push_cases}
-use Rattle.u_system.specs.Firing.{System, Enabled, Cl, EachPlace, IsNextFrom, IsExhausted, Plain, Held, Whole, Same}
+use Rattle.std.specs.Prelude.{Result, Contains, slice_get}
+use Rattle.std.proofs.lemmas.List.Elements.{Contains-append_left, Contains-append_cases, Contains-push, Contains-push_cases}
+use Rattle.u_system.specs.Firing.{Enabled, Cl, IsNextFrom, IsExhausted, Plain, Held, Whole, Same}
 use Rattle.u_system.proofs.Member.{Contains-nil, Contains-cons_cases}
 use Rattle.u_system.proofs.Held.{Enabled-mono}
 use Rattle.u_system.proofs.Closure.{Cl-mono}
 use Rattle.u_system.proofs.Plain.{EachPlace-nil, EachPlace-push}
 use Rattle.u_system.proofs.PlainFrom.{Plain-from_nothing}
 use Rattle.u_system.specs.Rising.{Rises}
-use Rattle.u_rule.specs.declared.entry.Entry.{Entry}
 use Rattle.u_rule.specs.declared.firing.Firing.{Firing}
-use Rattle.u_check.specs.Jobs.{JobParts}
-use Rattle.u_machine.specs.declared.answer.Step.{Step}
 use Rattle.u_machine.specs.declared.answer.Step.TheVariants as step
 use Rattle.u_machine.specs.declared.answer.Ran.{Ran}
 use Rattle.u_machine.specs.declared.answer.Ran.TheVariants as ran
@@ -23,8 +20,8 @@ use Rattle.u_machine.specs.declared.answer.Refusal.TheVariants.{Full, NoMemory}
 use Rattle.u_rule.specs.Rule.{system_of}
 use Rattle.u_rule.specs.EntryOrder.{firing_cmp}
 use Rattle.u_machine.proofs.Lists.{slice_get_Contains, nil_of_length}
-use Rattle.u_machine.proofs.States.{settled_is_Cl, quiet_whole, applies_trans, ready_after, nothing_after, nothing_ready}
-use Rattle.u_machine.specs.States.{State, Taken, Applies, Takes, IsReady, AreReady, IsPick, IsSettled, IsMachine, NothingReady, count_of, FireAnswer, Runs, RunAnswer, firing_le}
+use Rattle.u_machine.proofs.States.{settled_is_Cl, quiet_whole, ready_after, nothing_after}
+use Rattle.u_machine.specs.States.{State, Taken, Applies, Takes, IsReady, AreReady, IsPick, IsSettled, IsMachine, NothingReady, FireAnswer, Runs, RunAnswer, firing_le}
 
 -- the first of a list that rises is its least
 pub first_least : (xs : List Firing) (f g : Firing) → Rises firing_cmp xs → slice_get xs 0 ≡ Some f → Contains xs g → firing_le f g

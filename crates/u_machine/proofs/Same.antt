@@ -1,5 +1,5 @@
 -- Two settled machines with one taken set hold one list of entries.
-use Rattle.std.proofs.Common.{◌≡◌, List, Contains, ◌↔◌, sym}
+use Rattle.std.proofs.Common.{◌≡◌, Contains}
 use Rattle.u_system.specs.Firing.{Same, Cl}
 use Rattle.u_system.proofs.Closure.{Cl-mono}
 use Rattle.u_system.specs.Rising.{Rises}

@@ -1,7 +1,7 @@
 -- What the scan finds is what is enabled.
-use Rattle.std.proofs.Common.{◌≡◌, ◌↔◌, ◌⊎◌, inl, inr, ◌∙◌, sym, refl, subst, ap, arith, Bool, true, false, ◌&&◌, IsTrue, ℕ, zero, suc, ◌<◌, ◌≤◌, ◌+◌, List, [], ◌∷◌, ◌++◌, take, drop, length, get_or, Contains, Ordering, Option, Some, None, nat_eq}
+use Rattle.std.proofs.Common.{◌≡◌, ◌↔◌, ◌⊎◌, inl, inr, ◌∙◌, sym, refl, subst, ap, arith, Bool, true, false, ◌&&◌, IsTrue, ℕ, ◌<◌, ◌+◌, List, [], ◌∷◌, drop, length, get_or, Contains, Ordering, Option, Some, None}
 use Rattle.std.specs.Prelude.{is_none, ◌==◌}
-use Rattle.std.specs.Ordering.{ordering_then, nat_cmp}
+use Rattle.std.specs.Ordering.{ordering_then}
 use Rattle.std.specs.Cmp.{tied_itself}
 use Rattle.std.specs.declared.cmp.Ordering.TheVariants.{Less, Equal, Greater}
 use Rattle.std.proofs.lemmas.Bool.Decides.{nat_tests}
@@ -13,8 +13,8 @@ use Rattle.u_program.specs.declared.program.Kind.TheVariants.{Begin, Const, Add,
 use Rattle.u_program.specs.Parts.{StatementParts}
 use Rattle.u_check.specs.Jobs.{JobParts}
 use Rattle.u_check.specs.Rules.{ports_of}
-use Rattle.u_rule.specs.Parts.{TokenParts, token, ValueList}
-use Rattle.u_rule.specs.Rule.{system_of, is_firing_of, is_firing_at, needs_of, tokens_from, statement_of, fits}
+use Rattle.u_rule.specs.Parts.{token, ValueList}
+use Rattle.u_rule.specs.Rule.{system_of, is_firing_of, is_firing_at, needs_of, statement_of, fits}
 use Rattle.u_rule.specs.EntryOrder.{entry_cmp, firing}
 use Rattle.u_rule.specs.declared.entry.Entry.{Entry}
 use Rattle.u_rule.specs.declared.entry.Entry.TheVariants as entries

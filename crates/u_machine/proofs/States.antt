@@ -1,21 +1,16 @@
 -- How a state goes on.
-use Rattle.std.proofs.Common.{◌≡◌, ℕ, ◌+◌, ◌<◌, ◌≤◌, List, [], ◌∷◌, ◌++◌, ◌⊎◌, inl, inr, subst, sym, refl, length, take, drop, get_or, arith, append-nil, append_assoc, ap, suc, ◌∙◌, drop-cons}
+use Rattle.std.proofs.Common.{◌≡◌, ℕ, ◌+◌, ◌<◌, List, [], ◌∷◌, ◌++◌, ◌⊎◌, inl, inr, subst, sym, refl, length, take, get_or, arith, append-nil, append_assoc, ◌∙◌}
 use Rattle.std.specs.Prelude.{Contains, ◌↔◌, IsTrue}
-use Rattle.std.proofs.lemmas.List.{take_more, take-append-drop, take_all}
+use Rattle.std.proofs.lemmas.List.{take_more, take_all}
 use Rattle.std.proofs.lemmas.List.{take-append-le}
-use Rattle.std.specs.List.{remove}
 use Rattle.std.proofs.Common.{length-append}
-use Rattle.std.proofs.lemmas.List.Edits.{length-remove}
-use Rattle.std.specs.List.Sorted.{IsPermutation}
-use Rattle.std.proofs.lemmas.List.Sorted.{IsPermutation-refl, IsPermutation-sym, IsPermutation-more, Contains-permutation}
 use Rattle.std.proofs.lemmas.List.Elements.{Contains-get_or, Contains-append_left, Contains-append_right, Contains-append_cases, Contains-push, Contains-push_cases}
-use Rattle.u_system.proofs.Apart.{Distinct-take_out, Distinct-put_in, Distinct-push, Distinct-left, Distinct-apart}
-use Rattle.u_system.specs.Firing.{Distinct, System, Held, Enabled, Derivation, Cl, Whole, Same, Closed}
-use Rattle.u_system.proofs.Held.{Held-push, Held-append_left, Held-of, Enabled-mono}
-use Rattle.u_system.proofs.Closure.{Cl-mono, Derivation-push, Derivation-nil, Settled-is_Cl, Quiet-whole, Quiet-closed}
+use Rattle.u_system.proofs.Apart.{Distinct-put_in}
+use Rattle.u_system.specs.Firing.{Held, Enabled, Cl, Whole, Same, Closed}
+use Rattle.u_system.proofs.Held.{Held-push, Held-append_left, Enabled-mono}
+use Rattle.u_system.proofs.Closure.{Cl-mono, Derivation-push, Settled-is_Cl, Quiet-whole}
 use Rattle.u_rule.specs.declared.entry.Entry.{Entry}
 use Rattle.u_rule.specs.declared.firing.Firing.{Firing}
-use Rattle.u_check.specs.Jobs.{JobParts}
 use Rattle.std.specs.Prelude.{Result, Ok, Err}
 use Rattle.std.specs.Result.{IsErrAnd}
 use Rattle.u_machine.specs.declared.answer.Refusal.{Refusal}

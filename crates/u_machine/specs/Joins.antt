@@ -1,9 +1,9 @@
 -- The tokens of a firing.
-use Rattle.std.specs.Prelude.{◌≡◌, IsTrue, Bool, true, false, List, [], ◌∷◌, ◌⊎◌, Option, Some, None}
+use Rattle.std.specs.Prelude.{◌≡◌, IsTrue, List, [], ◌∷◌, ◌⊎◌, None}
 use Rattle.u_name.specs.Name.{Activity}
 use Rattle.u_value.specs.declared.value.Value.{Value}
 use Rattle.u_check.specs.Jobs.{JobParts}
-use Rattle.u_rule.specs.Parts.{token, ValueList}
+use Rattle.u_rule.specs.Parts.{token}
 use Rattle.u_rule.specs.Rule.{is_firing_of}
 use Rattle.u_rule.specs.EntryOrder.{firing}
 use Rattle.u_rule.specs.declared.entry.Entry.{Entry}

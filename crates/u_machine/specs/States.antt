@@ -1,6 +1,6 @@
 -- What a machine is: a job, its taken firings (the log and the parked ones) and its history.
-use Rattle.std.specs.Prelude.{◌≡◌, ℕ, ◌<◌, ◌≤◌, ◌+◌, Bool, List, [], ◌∷◌, ◌++◌, ◌⊎◌, ◌↔◌, length, take, IsTrue, Contains, Result, Ok, Err, false, slice_get, Some, ◌%◌}
-use Rattle.u_system.specs.Firing.{Distinct, System, Held, Enabled, Closed, Derivation, Cl, Whole, Same, EachPlace, IsNextFrom}
+use Rattle.std.specs.Prelude.{◌≡◌, ℕ, ◌<◌, ◌≤◌, ◌+◌, List, [], ◌++◌, ◌⊎◌, ◌↔◌, length, take, IsTrue, Contains, Result, Ok, Err, slice_get, Some, ◌%◌}
+use Rattle.u_system.specs.Firing.{Distinct, Held, Enabled, Closed, Derivation, Cl, Whole, Same, EachPlace, IsNextFrom}
 use Rattle.u_system.specs.Rising.{Rises}
 use Rattle.u_rule.specs.declared.entry.Entry.{Entry}
 use Rattle.u_rule.specs.declared.firing.Firing.{Firing}

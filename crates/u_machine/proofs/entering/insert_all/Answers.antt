@@ -1,8 +1,6 @@
-use Rattle.std.proofs.Common.{◌≡◌, ◌↔◌, Contains, ◌⊎◌, ℕ, ◌+◌, ◌<◌, ◌≤◌, length, List, [], ◌∷◌, ◌++◌, take, slice_index_or, arith, subst, inl, inr}
+use Rattle.std.proofs.Common.{◌<◌, ◌≤◌, length, take, arith, inl, inr}
 use Rattle.std.proofs.lemmas.List.{take_more, take_all}
-use Rattle.std.proofs.lemmas.List.Elements.{Contains-get_or}
 use Rattle.u_rule.specs.declared.entry.Entry.{Entry}
-use Rattle.u_machine.proofs.Blank.{blank}
 use Rattle.u_machine.proofs.Lists.{grow_within, grow_kept, grow_all, Contains-taken}
 use Rattle.u_machine.proofs.entering.insert_all.Goals as goal
 

@@ -1,4 +1,4 @@
-use Rattle.std.proofs.Common.{◌≡◌, Contains, inl, inr, subst, sym, List, refl}
+use Rattle.std.proofs.Common.{Contains, inl, inr, subst, sym, refl}
 use Rattle.u_rule.specs.declared.firing.Firing.{Firing}
 use Rattle.u_system.specs.Rising.{IsWith}
 use Rattle.u_machine.proofs.scan.add_new.Goals as goal

@@ -1,9 +1,8 @@
-use Rattle.std.proofs.Common.{◌≡◌, ◌⊎◌, ◌↔◌, inl, inr, [], ◌∷◌, ◌+◌, List, Contains, subst, sym, drop, length, get_or}
+use Rattle.std.proofs.Common.{◌⊎◌, ◌↔◌, inl, inr, [], ◌∷◌, ◌+◌, List, Contains, subst, sym, drop}
 use Rattle.u_rule.specs.EntryOrder.{entry_cmp}
 use Rattle.u_rule.specs.declared.entry.Entry.{Entry}
 use Rattle.u_rule.specs.declared.firing.Firing.{Firing}
 use Rattle.u_machine.specs.Joins.{Joins}
-use Rattle.u_system.specs.Firing.{SomeOf}
 use Rattle.u_system.specs.Rising.{Rises}
 use Rattle.u_system.proofs.Scan.{scan_more, scan_all}
 use Rattle.u_system.proofs.Member.{Contains-nil}

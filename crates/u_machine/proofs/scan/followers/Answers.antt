@@ -1,4 +1,3 @@
-use Rattle.std.proofs.Common.{◌≡◌}
 use Rattle.u_machine.proofs.Neighbours.{together}
 use Rattle.u_machine.proofs.scan.followers.Goals as goal
 

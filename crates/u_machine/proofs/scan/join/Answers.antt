@@ -1,6 +1,5 @@
-use Rattle.std.proofs.Common.{◌≡◌, ◌∙◌, sym, subst, take, length, Contains, List}
+use Rattle.std.proofs.Common.{sym, subst, Contains, List}
 use Rattle.u_rule.specs.declared.entry.Entry.{Entry}
-use Rattle.u_machine.specs.Joins.{SameActivity}
 use Rattle.u_machine.proofs.ScanLaws.{join_adds}
 use Rattle.u_machine.proofs.Lists.{Contains-taken}
 use Rattle.u_machine.proofs.scan.join.Goals as goal

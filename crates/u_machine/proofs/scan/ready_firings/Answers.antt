@@ -1,7 +1,6 @@
-use Rattle.std.proofs.Common.{◌≡◌, ◌⊎◌, ◌↔◌, ◌∙◌, Contains, List, subst, sym, inl, inr}
+use Rattle.std.proofs.Common.{◌↔◌, ◌∙◌, Contains, subst, sym}
 use Rattle.u_rule.specs.Rule.{system_of}
 use Rattle.u_rule.specs.EntryOrder.{EntryList, FiringList}
-use Rattle.u_rule.specs.declared.entry.Entry.{Entry}
 use Rattle.u_rule.specs.declared.firing.Firing.{Firing}
 use Rattle.u_system.specs.Firing.{Enabled}
 use Rattle.u_machine.proofs.scan.ready_firings.Goals as goal

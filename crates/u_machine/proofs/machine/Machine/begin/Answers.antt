@@ -1,8 +1,8 @@
-use Rattle.std.proofs.Common.{◌≡◌, ◌∙◌, ◌++◌, ◌∷◌, [], subst, ap, List}
+use Rattle.std.proofs.Common.{◌≡◌, ◌∙◌, ◌++◌, ◌∷◌, [], subst, ap}
 use Rattle.u_rule.specs.declared.firing.Firing.{Firing}
 use Rattle.u_rule.specs.EntryOrder.{FiringList}
 use Rattle.u_system.specs.Rising.{IsWith}
-use Rattle.u_machine.specs.States.{state, Takes}
+use Rattle.u_machine.specs.States.{state}
 use Rattle.u_machine.proofs.States.{logged_takes, logged_is, logged_push, with_logged}
 use Rattle.u_machine.proofs.Fresh.{kept_with}
 use Rattle.u_machine.proofs.machine.Machine.begin.Goals as goal

@@ -1,6 +1,5 @@
-use Rattle.std.proofs.Common.{◌≡◌, ◌↔◌, ◌<◌, ◌+◌, [], ◌∷◌, Contains, ◌⊎◌, length, ℕ, List, ◌++◌, subst, get_or, ap, ◌∙◌, sym}
-use Rattle.u_rule.specs.Rule.{system_of, gives_of}
-use Rattle.u_machine.specs.States.{State, Applies, Taken, IsMachine}
+use Rattle.std.proofs.Common.{◌≡◌, ◌<◌, Contains, ◌⊎◌, length, subst, get_or, ap, ◌∙◌}
+use Rattle.u_rule.specs.Rule.{gives_of}
 use Rattle.u_rule.specs.declared.entry.Entry.{Entry}
 use Rattle.u_machine.proofs.States.{partly, entered, Applies-history}
 use Rattle.u_machine.proofs.machine.Machine.enter_next.Goals as goal

@@ -1,8 +1,7 @@
-use Rattle.std.proofs.Common.{◌≡◌, ◌<◌, ◌%◌, Contains, ◌++◌, ◌∷◌, [], inl, inr, refl, IsTrue, true, false, sym, ◌∙◌, arith, subst, ap, length, get_or, Some, List, ℕ}
+use Rattle.std.proofs.Common.{◌≡◌, ◌<◌, ◌%◌, Contains, inr, refl, sym, ◌∙◌, arith, subst, length, get_or, Some, ℕ}
 use Rattle.std.specs.Prelude.{slice_get}
 use Rattle.std.proofs.lemmas.List.Elements.{Contains-get_or}
-use Rattle.u_machine.specs.States.{State, Applies, Takes, Taken, IsSettled, IsMachine, AreReady, IsReady, IsPick, count_of}
-use Rattle.u_rule.specs.Rule.{system_of, is_firing_of}
+use Rattle.u_machine.specs.States.{IsReady, IsPick}
 use Rattle.u_rule.specs.declared.firing.Firing.{Firing}
 use Rattle.u_machine.proofs.States.{takes_between, room_before, fire_no_memory, ready_before, are_ready_before, nothing_before, nothing_ready, quiet_whole, ready_enabled}
 use Rattle.u_machine.proofs.Blank.{blank_firing}

@@ -1,4 +1,4 @@
-use Rattle.std.proofs.Common.{◌≡◌, arith, length, ◌∙◌, IsFalse, ◌<◌, nat_eq, ℕ, zero, suc}
+use Rattle.std.proofs.Common.{arith, IsFalse, ◌<◌, nat_eq, ℕ, zero, suc}
 use Rattle.u_machine.proofs.Runs.{some_ready}
 use Rattle.u_machine.proofs.machine.Machine.is_quiet.Goals as goal
 

@@ -1,5 +1,5 @@
 use Rattle.u_machine.proofs.States.{Applies-refl}
-use Rattle.std.proofs.Common.{[], ◌≡◌, ◌≤◌, arith, length, ◌∙◌, refl, subst, Ok}
+use Rattle.std.proofs.Common.{[], arith, refl, subst, Ok}
 use Rattle.u_machine.specs.declared.answer.Step.{Step}
 use Rattle.u_machine.specs.States.{FireAnswer}
 use Rattle.u_machine.proofs.Runs.{run_fails, run_quiet, run_fired, Runs-applies, Runs-nil, fails_with}
