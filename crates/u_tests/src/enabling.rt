@@ -6,6 +6,7 @@ ghost use Rattle.u_rule.specs.declared.firing.Firing.{Firing};
 ghost use Rattle.u_system.specs.Firing.{Enabled, SomeOf};
 ghost use Rattle.u_tests.specs.Tries.{IsOfOne, IsOfTwo, EnabledOver, FitsTwo, FitsFirst};
 
+use crate::among::add_new;
 use std::alloc::{AllocError, Global};
 use u_check::Job;
 use u_rule::{Entry, Firing, RuleError, Token, Values, needs};
@@ -93,7 +94,7 @@ fn record_of_two(
     }))
 }
 
-/// Adds the record, if there is one and it is an enabled firing.
+/// Adds the record, if there is one and it is an enabled firing, unless it is there.
 fn add(
     alloc: Global,
     job: &Job,
@@ -108,7 +109,7 @@ fn add(
     };
     let enabled = is_enabled(alloc, job, held, &firing)?;
     if enabled {
-        found.push(firing)?;
+        add_new(found, firing)?;
     }
     Ok(())
 }
@@ -147,7 +148,7 @@ fn add_firings(
 }
 
 /// All firings of the job that are enabled over the entries, which may stand in any order: of each
-/// entry, and of each two, the record that they make, where it is enabled.
+/// entry, and of each two, the record that they make, where it is enabled. None comes twice.
 ///
 /// # Errors
 /// `AllocError` where there is no memory.

@@ -4,10 +4,14 @@
 //! the machine answers can be compared with what they answer on worked programs.
 #![tactic(auto)]
 
+mod among;
 mod enabling;
 mod holding;
+mod rounds;
 #[cfg(test)]
 mod tests;
 
+pub use among::are_among;
 pub use enabling::{are_in, enabled, is_enabled};
 pub use holding::{are_firings, held};
+pub use rounds::whole;
