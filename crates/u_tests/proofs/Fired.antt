@@ -1,9 +1,9 @@
 -- Rounds: all that is enabled fires, until nothing new does.
-use Rattle.std.proofs.Common.{◌≡◌, ◌↔◌, ◌⊎◌, inl, inr, List, [], ◌∷◌, ◌++◌, sym, Contains, IsTrue, append_assoc, append-nil, subst}
+use Rattle.std.proofs.Common.{◌≡◌, ◌↔◌, List, [], ◌∷◌, ◌++◌, sym, Contains, IsTrue, append_assoc, append-nil, subst}
 use Rattle.u_system.specs.Firing.{System, Held, Enabled, Derivation, Whole, Within}
 use Rattle.u_system.proofs.Held.{Held-append_left, Enabled-mono}
 use Rattle.u_system.proofs.Member.{Contains-head, Contains-tail}
-use Rattle.u_system.proofs.Closure.{Derivation-nil, Derivation-push, Quiet-whole}
+use Rattle.u_system.proofs.Closure.{Derivation-push, Quiet-whole}
 use Rattle.u_machine.proofs.Lists.{slice_get_at}
 
 module _ {E F : Type 0} (s : System E F) where

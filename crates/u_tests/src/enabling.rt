@@ -77,11 +77,7 @@ fn record_of_one(alloc: Global, left: &Entry) -> Result<Option<Firing>, AllocErr
 }
 
 /// The record of the first token's activity with the values of both, if the entries are tokens.
-fn record_of_two(
-    alloc: Global,
-    left: &Entry,
-    right: &Entry,
-) -> Result<Option<Firing>, AllocError>
+fn record_of_two(alloc: Global, left: &Entry, right: &Entry) -> Result<Option<Firing>, AllocError>
     ensures { IfOk result (λ o. (f : Firing) → (o ≡ Some f) ↔ IsOfTwo left.now right.now f) }
 {
     let (Entry::Token(first), Entry::Token(second)) = (left, right) else {

@@ -25,8 +25,7 @@ fn scans_agree(alloc: Global, job: &Job, machine: &Machine<'_>) -> Result<bool, 
     let entries = machine.history().entries()?;
     let plain = enabled(alloc, job, &entries)?;
     let scanned = enabled_firings(alloc, job, &entries)?;
-    Ok(plain.len() == scanned.len()
-        && (are_among(&plain, &scanned) && are_among(&scanned, &plain)))
+    Ok(plain.len() == scanned.len() && (are_among(&plain, &scanned) && are_among(&scanned, &plain)))
 }
 
 /// Whether the machine's history has just what its applied firings hold.

@@ -1,4 +1,4 @@
-use Rattle.std.proofs.Common.{◌≡◌, ◌⊎◌, inl, inr, List, Contains, refl, subst}
+use Rattle.std.proofs.Common.{inl, inr, List, Contains, refl, subst}
 use Rattle.u_rule.specs.declared.firing.Firing.{Firing}
 use Rattle.u_tests.proofs.among.add_new.Goals as goal
 

@@ -1,4 +1,4 @@
-use Rattle.std.proofs.Common.{◌≡◌, sym, ◌∙◌, refl, Contains}
+use Rattle.std.proofs.Common.{◌≡◌, refl}
 use Rattle.u_rule.specs.declared.firing.Firing.{Firing}
 use Rattle.u_tests.proofs.Lists.{each_more, each_all, false_true}
 use Rattle.u_tests.proofs.among.is_among.Goals as goal

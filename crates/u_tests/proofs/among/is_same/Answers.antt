@@ -1,4 +1,4 @@
-use Rattle.std.proofs.Common.{◌≡◌, ◌∙◌, ap}
+use Rattle.std.proofs.Common.{◌∙◌, ap}
 use Rattle.std.specs.Ordering.{is_eq}
 use Rattle.u_tests.proofs.Entries.{firing_tied_exact}
 use Rattle.u_tests.proofs.among.is_same.Goals as goal

@@ -1,4 +1,4 @@
-use Rattle.std.proofs.Common.{◌≡◌, ◌⊎◌, inl, inr, sym, ◌∙◌, subst, ap, Some, Option}
+use Rattle.std.proofs.Common.{◌≡◌, inl, inr, sym, ◌∙◌, subst, ap, Some, Option}
 use Rattle.u_rule.specs.declared.firing.Firing.{Firing}
 use Rattle.u_tests.specs.Tries.{EnabledOver}
 use Rattle.u_tests.proofs.Lists.{false_true}

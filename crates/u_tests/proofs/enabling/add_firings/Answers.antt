@@ -1,4 +1,4 @@
-use Rattle.std.proofs.Common.{◌≡◌, ◌⊎◌, inl, inr}
+use Rattle.std.proofs.Common.{inl, inr}
 use Rattle.u_tests.proofs.enabling.add_firings.Goals as goal
 
 pub returns : goal.returns

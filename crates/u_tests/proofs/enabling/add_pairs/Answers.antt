@@ -1,4 +1,4 @@
-use Rattle.std.proofs.Common.{◌≡◌, ◌⊎◌, ◌↔◌, inl, inr, Some, take, Contains, get_or, subst}
+use Rattle.std.proofs.Common.{◌⊎◌, ◌↔◌, inl, inr, Contains, subst}
 use Rattle.u_rule.specs.declared.entry.Entry.{Entry}
 use Rattle.u_rule.specs.declared.firing.Firing.{Firing}
 use Rattle.u_system.proofs.Scan.{scan_more, scan_all}

@@ -1,4 +1,4 @@
-use Rattle.std.proofs.Common.{◌≡◌, ◌∙◌}
+use Rattle.std.proofs.Common.{◌∙◌}
 use Rattle.u_rule.specs.Rule.{system_of}
 use Rattle.u_tests.proofs.Lists.{held_more, held_all}
 use Rattle.u_tests.proofs.holding.held.Goals as goal

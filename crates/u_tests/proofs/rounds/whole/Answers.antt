@@ -1,4 +1,4 @@
-use Rattle.std.proofs.Common.{◌≡◌, ◌↔◌, ◌∙◌, ◌++◌, List, Contains, IsTrue, refl, sym, subst, ap}
+use Rattle.std.proofs.Common.{◌↔◌, ◌∙◌, ◌++◌, List, Contains, IsTrue, refl, sym, subst, ap}
 use Rattle.u_rule.specs.Rule.{system_of, is_firing_of}
 use Rattle.u_rule.specs.declared.entry.Entry.{Entry}
 use Rattle.u_rule.specs.declared.firing.Firing.{Firing}
@@ -26,4 +26,3 @@ loop-round-preserved c =
     (subst (λ (es : List Entry). (f : Firing) → Contains c.in_ok-ready.ready.items f ↔ Enabled (system_of c.args.job.now) (Contains es) f) c.deref-in-loop-round.ensures.value c.in_ok-ready.ensures)
     c.loop-round.invariant c.fire_all.new.fired.items
     (c.in_ok-fire_all.ensures ∙ ap (λ (gs : List Firing). c.loop-round.fired.items ++ gs) c.deref-in-loop-round-4.ensures.value)
-
