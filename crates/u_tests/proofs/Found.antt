@@ -1,0 +1,22 @@
+-- The firings that fit some first entry are those that are enabled.
+use Rattle.std.proofs.Common.{◌↔◌, inl, inr, List, Contains}
+use Rattle.u_check.specs.Jobs.{JobParts}
+use Rattle.u_rule.specs.Parts.{token}
+use Rattle.u_rule.specs.Rule.{system_of}
+use Rattle.u_rule.specs.declared.entry.Entry.{Entry}
+use Rattle.u_rule.specs.declared.firing.Firing.{Firing}
+use Rattle.u_system.specs.Firing.{Enabled, SomeOf}
+use Rattle.u_machine.specs.Joins.{Joins}
+use Rattle.u_machine.proofs.ScanLaws.{enabled_is_joined}
+use Rattle.u_tests.specs.Tries.{FitsFirst}
+
+pub enabled_fits : (job : JobParts) (h : List Entry) (f : Firing) → SomeOf h (FitsFirst job h) f ↔ Enabled (system_of job) (Contains h) f
+enabled_fits job h f = (to, λ en. back en ((enabled_is_joined job h f).0 en))
+  where
+    to : SomeOf h (FitsFirst job h) f → Enabled (system_of job) (Contains h) f
+    to (left, m, inl p) = p.1
+    to (left, m, inr s) = s.2.1
+
+    back : Enabled (system_of job) (Contains h) f → SomeOf h (Joins job h) f → SomeOf h (FitsFirst job h) f
+    back en (left, m, inl j) = (left, m, inl ((token j.activity 1 j.value, j.first, j.whole), en))
+    back en (left, m, inr (right, n, j)) = (left, m, inr (right, n, ((token j.activity 1 j.value, token j.activity 2 j.other, j.first, j.second, j.whole), en)))

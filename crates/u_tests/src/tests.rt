@@ -1,0 +1,110 @@
+//! Worked runs, where what the machine answers is compared with the plain programs.
+use crate::among::are_among;
+use crate::enabling::{are_in, enabled};
+use crate::holding::{are_firings, held};
+use crate::rounds::whole;
+use std::alloc::{AllocError, Global};
+use std::test::Fail;
+use u_check::{Job, check};
+use u_cli::STORED_PROGRAM;
+use u_machine::{Machine, Refusal, Step, enabled_firings};
+use u_program::read;
+
+/// Two constants go to the one port of `end`.
+const TWO_CONSTANTS: &[u8] =
+    b"u-program 1\nblock main\n1 0 begin -> 2.1 3.1\n2 0 const 5 -> 4.1\n3 0 const 6 -> 4.1\n4 0 end ->\n";
+
+fn job(alloc: Global, text: &[u8], argument: i64) -> Result<Job, AllocError> {
+    let program = read(alloc, text).map_err(|_| AllocError)?;
+    let checked = check(program).map_err(|_| AllocError)?;
+    Ok(Job::new(checked, argument))
+}
+
+/// Whether the plain program and the scan find the same firings, each of them once.
+fn scans_agree(alloc: Global, job: &Job, machine: &Machine<'_>) -> Result<bool, AllocError> {
+    let entries = machine.history().entries()?;
+    let plain = enabled(alloc, job, &entries)?;
+    let scanned = enabled_firings(alloc, job, &entries)?;
+    Ok(plain.len() == scanned.len() && (are_among(&plain, &scanned) && are_among(&scanned, &plain)))
+}
+
+/// Whether the machine's history has just what its applied firings hold.
+fn holds_what_was_fired(
+    alloc: Global,
+    job: &Job,
+    machine: &Machine<'_>,
+) -> Result<bool, AllocError> {
+    let applied = machine.applied();
+    if !are_firings(job, applied) {
+        return Ok(false);
+    }
+    let plain = held(alloc, job, applied)?;
+    let entries = machine.history().entries()?;
+    Ok(are_in(&plain, &entries) && are_in(&entries, &plain))
+}
+
+/// How many firings the machine applies until it is quiet, if the two agree before and after each.
+fn steps_agreed(
+    alloc: Global,
+    job: &Job,
+    machine: &mut Machine<'_>,
+) -> Result<Option<usize>, Refusal> {
+    for count in 0..10 {
+        let scans = scans_agree(alloc, job, machine)?;
+        let holds = holds_what_was_fired(alloc, job, machine)?;
+        if !(scans && holds) {
+            return Ok(None);
+        }
+        let step = machine.fire(0)?;
+        if step == Step::Quiet {
+            return Ok(Some(count));
+        }
+    }
+    Ok(None)
+}
+
+/// Whether the machine's history is all that can be derived from the job, which is found in so many
+/// rounds, and not in one less.
+fn is_whole_after(
+    alloc: Global,
+    job: &Job,
+    machine: &Machine<'_>,
+    rounds: usize,
+) -> Result<bool, AllocError> {
+    let early = whole(alloc, job, rounds.saturating_sub(1))?;
+    let Some(plain) = whole(alloc, job, rounds)? else {
+        return Ok(false);
+    };
+    let entries = machine.history().entries()?;
+    Ok(early.is_none() && (are_in(&plain, &entries) && are_in(&entries, &plain)))
+}
+
+#[test]
+fn agree_on_the_double(rt: HostRuntime) -> Result<(), Fail> {
+    let job = job(rt.alloc(), STORED_PROGRAM, 4)?;
+    let mut machine = Machine::new(rt.alloc(), &job, 100)?;
+    let steps = steps_agreed(rt.alloc(), &job, &mut machine)?;
+    assert_eq!(rt; steps, Some(3));
+    assert_eq!(rt; machine.history().len(), 5);
+    let is_whole = is_whole_after(rt.alloc(), &job, &machine, 4)?;
+    assert!(rt; is_whole);
+    Ok(())
+}
+
+#[test]
+fn agree_on_two_constants(rt: HostRuntime) -> Result<(), Fail> {
+    let job = job(rt.alloc(), TWO_CONSTANTS, 0)?;
+    let mut machine = Machine::new(rt.alloc(), &job, 100)?;
+    let steps = steps_agreed(rt.alloc(), &job, &mut machine)?;
+    assert_eq!(rt; steps, Some(5));
+    assert_eq!(rt; machine.history().len(), 7);
+    let is_whole = is_whole_after(rt.alloc(), &job, &machine, 4)?;
+    assert!(rt; is_whole);
+    Ok(())
+}
+
+#[test]
+fn stores_the_double(rt: HostRuntime) {
+    let text = b"u-program 1\nblock main\n1 0 begin -> 2.1 2.2\n2 0 add -> 3.1\n3 0 end ->\n";
+    assert_eq!(rt; STORED_PROGRAM, text.as_slice());
+}
