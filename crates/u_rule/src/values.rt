@@ -59,6 +59,25 @@ impl Values {
         Ok(Values { all })
     }
 
+    /// Three values.
+    ///
+    /// # Errors
+    /// `AllocError` where there is no memory.
+    pub fn three(
+        alloc: Global,
+        first: Value,
+        second: Value,
+        third: Value,
+    ) -> Result<Values, AllocError>
+        ensures { IfOk result (λ v. v ≡ first ∷ second ∷ third ∷ []) }
+    {
+        let mut all = Vec::new(alloc);
+        all.push(first)?;
+        all.push(second)?;
+        all.push(third)?;
+        Ok(Values { all })
+    }
+
     /// The values, in the order of the ports.
     pub fn as_slice(&self) -> &[Value]
         ensures values { result.now ≡ self.now }
