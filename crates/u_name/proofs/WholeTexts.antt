@@ -1,54 +1,80 @@
--- Whole names read: what is left behind the longest name is where the text goes wrong.
-use Rattle.std.proofs.Common.{◌≡◌, ℕ, ◌-◌, ◌≤◌, ◌<◌, List, [], ◌∷◌, ◌++◌, length, take, drop, Result, Ok, Err, sym, ◌∙◌, ap, arith, length-append, append_assoc}
-use Rattle.std.proofs.lemmas.List.{append-nil, take-append-drop, length-take}
-use Rattle.std.proofs.Math.Seq.{take-append_seam}
-use Rattle.u_text.specs.Reads.{Reads, longer, equal, shorter, cut}
-use Rattle.u_text.specs.Longest.{is_refused_at}
+-- Names read whole, and at an offset.
+use Rattle.std.proofs.Common.{◌≡◌, ℕ, zero, suc, ◌-◌, ◌≤◌, ◌<◌, Bool, true, false, cond, List, [], ◌∷◌, length, drop, Result, Ok, Err, refl, sym, ◌∙◌, ap, arith}
+use Rattle.std.specs.Prelude.{◌==◌, ◌⊎◌}
+use Rattle.std.proofs.Common.{inl, inr}
+use Rattle.u_text.specs.Reads.{◌>>=◌}
+use Rattle.u_text.specs.Choice.{mapped}
+use Rattle.u_text.specs.Parts.{alike, unlike, same_or}
+use Rattle.u_text.specs.TextAt.{read_within, refused_within, whole_read, refused_whole, left_over, found_at, missing_at, found_within, missing_within}
 use Rattle.u_name.specs.Name.{Activity}
-use Rattle.u_name.specs.NameText.{name_text}
-use Rattle.u_name.specs.NameSteps.{name_steps, name_steps_Reads, paren_span}
-use Rattle.u_name.specs.NameReading.{IsNoText, IsNameOf, IsNameErrorOf}
+use Rattle.u_name.specs.NameReader.{byte, opens_at, to_depth}
+use Rattle.u_name.specs.NameSteps.{name_steps, name_steps_Reads, paren_span, dash_at, rest_at}
+use Rattle.u_name.specs.NameReading.{IsNameOf, IsNameErrorOf, IsNameAt, IsNameErrorAt}
 use Rattle.u_name.specs.declared.reading.NameTextError.TheVariants.{BadName}
 
-module _ {X : Type 0} {text : X → List ℕ} {V : X → Type 0} {More : ℕ → Type 0} {P : List ℕ → Result (X × List ℕ) (List ℕ)} (p : Reads text V More P) where
-  pub refused_whole : (bs rest : List ℕ) → P bs ≡ Err rest → IsNoText text V bs (length bs - length rest)
-  refused_whole bs rest h =
-      let r = is_refused_at p bs rest h in
-      record { none = λ y v e. r.none y [] v (e ∙ sym (append-nil (text y))); within = r.within; begins = r.begins; longest = r.longest }
-
-  pub left_over : (bs : List ℕ) (x : X) (c : ℕ) (r : List ℕ) → P bs ≡ Ok (x, c ∷ r) → IsNoText text V bs (length bs - length (c ∷ r))
-  left_over bs x c r h =
-      let s = p.sound bs x (c ∷ r) h in
-      let n : length bs - length (c ∷ r) ≡ length (text x) = omega (arith, ap length s.1, length-append (text x) (c ∷ r)) in
-      let front : take (length bs - length (c ∷ r)) bs ≡ text x = ap (λ k. take k bs) n ∙ ap (λ t. take (length (text x)) t) s.1 ∙ take-append_seam (text x) (c ∷ r) in
-      record {
-        none = λ y v e. p.stops bs x c r h y r v (sym e ∙ s.1);
-        within = omega arith;
-        begins = (x, [], s.0, sym (append-nil (text x)) ∙ ap (λ q. q ++ []) (sym front));
-        longest = λ j le b. elim (cut (take j bs) (drop j bs) (text x) (c ∷ r) (take-append-drop j bs ∙ s.1)) [
-          | longer d u a e ↦ absurd (p.stops bs x d (u ++ drop j bs) (h ∙ ap (λ t. Ok (x, t)) e) b.0 (u ++ b.1) b.2 (b.3 ∙ ap (λ t. t ++ b.1) a ∙ append_assoc (text x) (d ∷ u) b.1))
-          | equal a e ↦ omega (arith, ap length a, length-take j bs)
-          | shorter d u a e ↦ omega (arith, ap length a, length-append (take j bs) (d ∷ u), length-take j bs)
-        ];
-      }
-
 pub name_whole : (bytes : List ℕ) (name : Activity) (rest : List ℕ) → name_steps bytes ≡ Ok (name, rest) → length rest ≡ 0 → IsNameOf bytes name
-name_whole bytes name [] e z = let s = name_steps_Reads.sound bytes name [] e in (s.0, s.1 ∙ append-nil (name_text name))
-name_whole bytes name (c ∷ r) e z = absurd (omega arith)
+name_whole = whole_read name_steps_Reads
 
 pub name_left_over : (bytes : List ℕ) (name : Activity) (rest : List ℕ) → paren_span 65 bytes ≤ 64 → name_steps bytes ≡ Ok (name, rest) → 0 < length rest → IsNameErrorOf bytes (BadName (length bytes - length rest))
-name_left_over bytes name [] d e z = absurd (omega arith)
-name_left_over bytes name (c ∷ r) d e z = (left_over name_steps_Reads bytes name c r e, d)
+name_left_over bytes name rest d e z = (left_over name_steps_Reads bytes name rest e z, d)
 
 pub name_refused_whole : (bytes rest : List ℕ) → paren_span 65 bytes ≤ 64 → name_steps bytes ≡ Err rest → IsNameErrorOf bytes (BadName (length bytes - length rest))
 name_refused_whole bytes rest d e = (refused_whole name_steps_Reads bytes rest e, d)
 
-pub left_within : (bytes : List ℕ) (name : Activity) (rest : List ℕ) → name_steps bytes ≡ Ok (name, rest) → length rest ≤ length bytes
-left_within bytes name rest e =
-    let s = name_steps_Reads.sound bytes name rest e in
-    omega (arith, ap length s.1, length-append (name_text name) rest)
+pub name_left_within : (bytes : List ℕ) (name : Activity) (rest : List ℕ) → name_steps bytes ≡ Ok (name, rest) → length rest ≤ length bytes
+name_left_within = read_within name_steps_Reads
 
-pub refused_within : (bytes rest : List ℕ) → name_steps bytes ≡ Err rest → length rest ≤ length bytes
-refused_within bytes rest e =
-    let s = name_steps_Reads.viable bytes rest e in
-    omega (arith, ap length s.3, length-append s.0 rest)
+pub name_refused_within : (bytes rest : List ℕ) → name_steps bytes ≡ Err rest → length rest ≤ length bytes
+name_refused_within = refused_within name_steps_Reads
+
+pub name_found : (bytes : List ℕ) (offset : ℕ) (name : Activity) (rest : List ℕ) → offset ≤ length bytes → name_steps (drop offset bytes) ≡ Ok (name, rest) → IsNameAt bytes offset name (length bytes - length rest)
+name_found = found_at name_steps_Reads
+
+pub name_missing : (bytes : List ℕ) (offset : ℕ) (rest : List ℕ) → offset ≤ length bytes → name_steps (drop offset bytes) ≡ Err rest → paren_span 65 (drop offset bytes) ≤ 64 → IsNameErrorAt bytes offset (BadName (length bytes - length rest))
+name_missing bytes offset rest h e d = (missing_at name_steps_Reads bytes offset rest h e, d)
+
+pub name_found_within : (bytes : List ℕ) (offset : ℕ) (name : Activity) (rest : List ℕ) → name_steps (drop offset bytes) ≡ Ok (name, rest) → length rest ≤ length bytes
+name_found_within = found_within name_steps_Reads
+
+pub name_missing_within : (bytes : List ℕ) (offset : ℕ) (rest : List ℕ) → name_steps (drop offset bytes) ≡ Err rest → length rest ≤ length bytes
+name_missing_within = missing_within name_steps_Reads
+
+-- too many `(`
+
+pub span_within : (room : ℕ) (bs : List ℕ) → paren_span room bs ≤ length bs
+span_within zero bs = omega arith
+span_within (suc n) [] = omega arith
+span_within (suc n) (b ∷ bs) = step (b == 40) (span_within n bs)
+  where
+    step : (t : Bool) → paren_span n bs ≤ length bs → cond t (suc (paren_span n bs)) 0 ≤ length (b ∷ bs)
+    step true h = omega arith
+    step false h = omega arith
+
+abbrev R : Type 0 → Type 0
+R A = Result A (List ℕ)
+
+no_dash : (n b : ℕ) (bs : List ℕ) → b ≡ 40 → ◌≡◌ {A = R (ℕ × List ℕ)} (mapped {X = Unit {0}} {Z = ℕ} (λ _. n) (byte 45) (b ∷ bs)) (Err (b ∷ bs))
+no_dash n b bs e = ap (λ c. mapped {X = Unit {0}} {Z = ℕ} (λ _. n) (byte 45) (c ∷ bs)) e ∙ ap (λ c. Err (c ∷ bs)) (sym e)
+
+opens_deep : (n : ℕ) (bs : List ℕ) → n < paren_span (suc n) bs → opens_at n bs ≡ Err (drop n bs)
+opens_deep n [] h = absurd (omega arith)
+opens_deep zero (b ∷ bs) h = elim (same_or b 40) [ alike e f ↦ no_dash 0 b bs e | unlike e f ↦ absurd (none f) ]
+  where
+    none : (b == 40) ≡ false → ⊥
+    none f = let g : paren_span 1 (b ∷ bs) ≡ 0 = ap (λ t. cond t 1 0) f in omega arith
+opens_deep (suc n) (b ∷ bs) h = step (λ k. opens_deep n bs k) (b == 40) h
+  where
+    step : (n < paren_span (suc n) bs → opens_at n bs ≡ Err (drop n bs)) → (t : Bool) → suc n < cond t (suc (paren_span (suc n) bs)) 0 →
+        ◌≡◌ {A = R (ℕ × List ℕ)}
+        (◌>>=◌ {A = (ℕ ⊎ Unit {0}) × List ℕ} {B = ℕ × List ℕ} (cond t (mapped {X = ℕ} {Z = ℕ ⊎ Unit {0}} inl (opens_at n) bs) (mapped {X = Unit {0}} {Z = ℕ ⊎ Unit {0}} inr (byte 45) (b ∷ bs))) (λ a. Ok (to_depth a.0, a.1)))
+        (Err (drop n bs))
+    step ih true h = ap (λ r. ◌>>=◌ {A = (ℕ ⊎ Unit {0}) × List ℕ} {B = ℕ × List ℕ} (◌>>=◌ {A = ℕ × List ℕ} {B = (ℕ ⊎ Unit {0}) × List ℕ} r (λ a. Ok (inl a.0, a.1))) (λ a. Ok (to_depth a.0, a.1))) (ih (omega arith))
+    step ih false h = absurd (omega arith)
+
+-- where 65 `(` stand the 65th is the byte that no text allows
+pub stuck_deep : (bs : List ℕ) → 64 < paren_span 65 bs → name_steps bs ≡ Err (drop 64 bs)
+unfolding dash_at
+stuck_deep bs h = ap (λ r. ◌>>=◌ {A = ℕ × List ℕ} {B = Activity × List ℕ} r (λ d. rest_at d.0 d.1)) (opens_deep 64 bs h)
+
+pub deep_within : (bs : List ℕ) → 64 < paren_span 65 bs → 64 ≤ length bs
+deep_within bs h = omega (arith, span_within 65 bs)

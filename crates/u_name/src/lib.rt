@@ -13,7 +13,7 @@ pub use block_name::BlockName;
 pub use cell::Cell;
 pub use context::{Context, Node};
 pub use name::{Name, NameError};
-pub use reading::NameTextError;
+pub use reading::{Front, NameTextError, front_block, front_name};
 
 #[cfg(test)]
 mod tests;

@@ -78,19 +78,18 @@ impl<'a> Cursor<'a> {
         }
     }
 
-    #[tactic(auto, using(crate::specs::BlockText::is_read_block))]
     fn block(&mut self) -> Result<BlockName, Stuck>
         ensures { MatchResult result
             (λ block. block_at self.old.rest.now ≡ Ok (block, self.new.rest.now))
             (λ _. block_at self.old.rest.now ≡ Err self.new.rest.now) }
     {
-        let bytes = self.rest;
-        if !begins_with_letter(bytes) {
-            return Err(Stuck);
+        match front_block(self.rest) {
+            Ok((name, rest)) => {
+                self.rest = rest;
+                Ok(name)
+            }
+            Err(_) => Err(Stuck),
         }
-        let (name, rest) = bytes.split_at(block_len(bytes));
-        self.rest = rest;
-        Ok(BlockName::new(name))
     }
 
     #[tactic(auto, using(u_text::specs::Number::number_bound))]
@@ -298,10 +297,48 @@ pub enum NameTextError {
     NoMemory,
 }
 
+/// The longest name of a block at the front, and what is left behind it. Where there is none, all
+/// the bytes: no name of a block begins with the first.
+#[tactic(auto, using(crate::specs::BlockText::is_read_block))]
+pub fn front_block(bytes: &[u8]) -> Result<(BlockName, &[u8]), &[u8]>
+    ensures { MatchResult result
+        (λ found. block_at bytes.now ≡ Ok (found.0, found.1.now))
+        (λ rest. block_at bytes.now ≡ Err rest.now) }
+{
+    if !begins_with_letter(bytes) {
+        return Err(bytes);
+    }
+    let (name, rest) = bytes.split_at(block_len(bytes));
+    Ok((BlockName::new(name), rest))
+}
+
+/// What was read at the front of some bytes, and what is left behind it; or what begins with the
+/// byte with which no text goes on.
+pub type Front<'a, T> = Result<(T, &'a [u8]), &'a [u8]>;
+
+/// The longest name at the front, and what is left behind it. Where there is none, what begins with
+/// the byte with which no name's text goes on; a 65th `(` is such a byte.
+///
+/// # Errors
+/// `AllocError` where there is no memory.
+pub fn front_name(alloc: Global, bytes: &[u8]) -> Result<Front<'_, Name>, AllocError>
+    ensures { IfOk result (λ front. MatchResult front
+        (λ found. name_steps bytes.now ≡ Ok (found.0, found.1.now))
+        (λ rest. name_steps bytes.now ≡ Err rest.now)) }
+{
+    let mut cursor = Cursor { rest: bytes };
+    match cursor.name(alloc) {
+        Ok(name) => Ok(Ok((name, cursor.rest))),
+        Err(ReadFault::Stuck) => Ok(Err(cursor.rest)),
+        Err(ReadFault::Deep) => Ok(Err(behind(bytes, 64))),
+        Err(ReadFault::NoMemory) => Err(AllocError),
+    }
+}
+
 impl Name {
     /// The name whose text the bytes are. A refusal's offset is where the longest front of a name's
     /// text ends.
-    #[tactic(auto, using(crate::proofs::WholeTexts::refused_within, crate::proofs::WholeTexts::name_refused_whole))]
+    #[tactic(auto, using(crate::proofs::WholeTexts::name_refused_within, crate::proofs::WholeTexts::name_refused_whole))]
     pub fn read(alloc: Global, bytes: &[u8]) -> Result<Name, NameTextError>
         ensures { MatchResult result (λ name. IsNameOf bytes.now name)
             (λ error. IsNameErrorOf bytes.now error) }

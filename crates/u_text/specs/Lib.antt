@@ -8,3 +8,7 @@ pub mod Pieces
 pub mod WholeWords
 pub mod Spaced
 pub mod Appending
+pub mod FromZero
+pub mod Signed
+pub mod Fixed
+pub mod TextAt

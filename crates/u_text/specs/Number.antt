@@ -239,6 +239,16 @@ module _ (max : ℕ) (low : 9 ≤ max) (high : max < 2 ^ 64) where
       heads : {a b : ℕ} {x y : List ℕ} → a ∷ x ≡ b ∷ y → a ≡ b
       heads h = cc
 
+  -- nor is it a zero
+  pub number_not_zero : (y : ℕ) (u v : List ℕ) → IsUpTo max y → decimal y ++ u ≡ 48 ∷ v → ⊥
+  number_not_zero y u v w e =
+      let s = spelled_in y w in
+      let f : s.first ≡ 48 = heads (ap (λ t. t ++ u) (sym s.whole) ∙ e) in
+      omega (arith, s.not_zero)
+    where
+      heads : {a b : ℕ} {x y : List ℕ} → a ∷ x ≡ b ∷ y → a ≡ b
+      heads h = cc
+
 -- a number that is read is in range
 pub number_bound : (max : ℕ) (bs : List ℕ) (x : ℕ) (rest : List ℕ) → 9 ≤ max → max < 2 ^ 64 → number max bs ≡ Ok (x, rest) → x ≤ max
 number_bound max bs x rest low high h = ((number_Reads max low high).sound bs x rest h).0.1
@@ -248,3 +258,14 @@ number_least max bs x rest low high h = ((number_Reads max low high).sound bs x 
 
 pub decimal_digits : (n : ℕ) → n < 2 ^ 64 → AllDigit (decimal n)
 decimal_digits n h = all_digits (decimal n) (digits_decimal own n h)
+
+-- a number begins with a digit
+pub decimal_first : (n : ℕ) → n < 2 ^ 64 → (c : ℕ) (u v : List ℕ) → decimal n ++ u ≡ c ∷ v → IsDigit c
+decimal_first n h c u v e =
+    let f = first_of (decimal n) (decimal_nonempty n h) in
+    let d = subst AllDigit f.2 (decimal_digits n h) in
+    let g : f.0 ≡ c = heads (ap (λ t. t ++ u) (sym f.2) ∙ e) in
+    subst IsDigit g d.0
+  where
+    heads : {a b : ℕ} {x y : List ℕ} → a ∷ x ≡ b ∷ y → a ≡ b
+    heads h = cc

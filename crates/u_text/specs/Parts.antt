@@ -36,6 +36,19 @@ empty_Reads {X} x = record {
   some = (x, refl);
 }
 
+-- more bytes may go on than do
+pub widened : {X : Type 0} {text : X → List ℕ} {V : X → Type 0} {More More' : ℕ → Type 0} {P : List ℕ → Result (X × List ℕ) (List ℕ)} → ((c : ℕ) → More c → More' c) → Reads text V More P → Reads text V More' P
+widened w p = record {
+  sound = p.sound;
+  stops = p.stops;
+  viable = p.viable;
+  stuck = p.stuck;
+  none = p.none;
+  grows = λ x y c u v k e. w c (p.grows x y c u v k e);
+  same = p.same;
+  some = p.some;
+}
+
 -- a byte in front
 abbrev pub after_byte : ℕ → Reader (Unit {0})
 after_byte c [] = Err []
