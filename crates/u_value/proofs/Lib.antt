@@ -1,3 +1,4 @@
 pub mod Orders
 pub mod Ranges
 pub mod Written
+pub mod Read

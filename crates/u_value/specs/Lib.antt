@@ -2,3 +2,4 @@ pub mod FaultKinds
 pub mod Operators
 pub mod Pointer
 pub mod Values
+pub mod Reading

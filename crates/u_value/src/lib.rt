@@ -3,12 +3,14 @@
 
 mod fault_kind;
 mod operators;
+mod reading;
 mod reference;
 mod value;
 mod writing;
 
 pub use fault_kind::FaultKind;
 pub use operators::{BinaryOperator, apply2};
+pub use reading::{ValueTextError, front_value};
 pub use reference::Reference;
 pub use value::Value;
 
