@@ -6,10 +6,9 @@ mod operators;
 mod reading;
 mod reference;
 mod value;
-mod writing;
 
 pub use fault_kind::FaultKind;
-pub use operators::{BinaryOperator, apply2};
+pub use operators::{BinaryOperator, UnaryOperator, apply1, apply2, select};
 pub use reading::{ValueTextError, front_value};
 pub use reference::Reference;
 pub use value::Value;
