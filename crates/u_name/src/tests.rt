@@ -59,6 +59,11 @@ fn a_text_is_refused_where_it_goes_wrong(rt: HostRuntime) {
         ("-.main.01.1", 7),
         ("-.main.0.1", 7),
         ("-.main.4", 8),
+        ("(-.main.L1.1).main.4.2x", 22),
+        ("(-.main.L01.1).main.4.2", 9),
+        ("(-.main.L100.1).main.4.2", 11),
+        ("-.main.1000.1", 10),
+        ("-.main.1.4294967296", 18),
         ("", 0),
     ] {
         let error = refusal(alloc, text);
@@ -81,6 +86,61 @@ fn a_name_ends_where_no_more_belongs_to_it(rt: HostRuntime) -> Result<(), Fail> 
 /// The text of what a linkage call gave.
 fn shown(alloc: Global, name: Result<Name, NameError>) -> Result<Vec<u8>, Fail> {
     written(alloc, &name?)
+}
+
+#[test]
+fn plain_stays_in_the_context(rt: HostRuntime) -> Result<(), Fail> {
+    let alloc = rt.alloc();
+    let name = read(alloc, "-.main.1.1")?;
+    let text = shown(alloc, name.plain(3))?;
+    assert_eq!(rt; text.as_slice(), b"-.main.3.1".as_slice());
+    assert!(rt; !name.in_loop() && !name.in_call());
+    assert_eq!(rt; name.depth(), 0);
+    Ok(())
+}
+
+#[test]
+fn last_goes_back_to_the_first_initiation(rt: HostRuntime) -> Result<(), Fail> {
+    let alloc = rt.alloc();
+    let name = read(alloc, "(-.main.L1.1).main.15.4")?;
+    let text = shown(alloc, name.last(16))?;
+    assert_eq!(rt; text.as_slice(), b"(-.main.L1.1).main.16.1".as_slice());
+    assert_eq!(rt; name.depth(), 1);
+    Ok(())
+}
+
+/// A name of that depth, each context a call's.
+fn deep(alloc: Global, depth: usize) -> Result<Name, Fail> {
+    let block = BlockName::read(b"fact").ok_or("no block")?;
+    let mut name = read(alloc, "-.main.3.1")?;
+    for _ in 0..depth {
+        name = name.call(alloc, block)?;
+    }
+    Ok(name)
+}
+
+/// Why a linkage call gave no name.
+fn refused(name: Result<Name, NameError>) -> Option<NameError> {
+    match name {
+        Ok(_) => None,
+        Err(error) => Some(error),
+    }
+}
+
+#[test]
+fn no_context_is_deeper_than_64(rt: HostRuntime) -> Result<(), Fail> {
+    let alloc = rt.alloc();
+    let block = BlockName::read(b"fact").ok_or("no block")?;
+    let name = deep(alloc, 64)?;
+    assert_eq!(rt; name.depth(), 64);
+    assert!(rt; refused(name.enter(alloc, 1, 5)) == Some(NameError::Deep));
+    assert!(rt; refused(name.call(alloc, block)) == Some(NameError::Deep));
+    let copy = name.copy()?;
+    assert!(rt; copy == name, "a copy is equal");
+    let text = written(alloc, &name)?;
+    let again = Name::read(alloc, text.as_slice())?;
+    assert!(rt; again == name, "it is read as it is written");
+    Ok(())
 }
 
 #[test]
@@ -134,11 +194,7 @@ fn back_goes_to_the_caller(rt: HostRuntime) -> Result<(), Fail> {
 #[test]
 fn the_greatest_initiation_is_the_last(rt: HostRuntime) -> Result<(), Fail> {
     let name = read(rt.alloc(), "-.main.1.4294967295")?;
-    let refused = match name.next(2) {
-        Ok(_) => None,
-        Err(error) => Some(error),
-    };
-    assert!(rt; refused == Some(NameError::Initiation));
+    assert!(rt; refused(name.next(2)) == Some(NameError::Initiation));
     Ok(())
 }
 

@@ -14,4 +14,6 @@ pub use reference::Reference;
 pub use value::Value;
 
 #[cfg(test)]
+mod reading_tests;
+#[cfg(test)]
 mod tests;
