@@ -7,9 +7,13 @@
 mod among;
 mod enabling;
 mod holding;
+#[cfg(test)]
+mod plain_texts;
 mod rounds;
 #[cfg(test)]
 mod tests;
+#[cfg(test)]
+mod text_tests;
 
 pub use among::are_among;
 pub use enabling::{are_in, enabled, is_enabled};
