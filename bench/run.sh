@@ -2,7 +2,7 @@
 # Times the built program on generated chains of sums: statement k adds the value of the statement
 # before it to itself. The argument is 0, so nothing overflows. For each chain it prints the
 # statements, the firings, the seconds and the growth: how often the time of the chain before, of
-# half as many statements.
+# half as many statements. Where `rt` is on PATH, it then builds `u_bench` and times copies of names.
 set -u
 export LC_ALL=C
 
@@ -50,4 +50,11 @@ for size in 75 150 300; do
         $((spent / 1000 % 1000)) "$growth"
     before=$spent
 done
+
+if command -v rt >/dev/null; then
+    if ! (cd "$top/crates/u_bench" && rt run -- names 1000000) </dev/null 2>"$temp/log"; then
+        tail -n 20 -- "$temp/log" >&2
+        failed=1
+    fi
+fi
 exit "$failed"

@@ -172,20 +172,36 @@ fn truth_values_are_joined(rt: HostRuntime) {
 
 #[test]
 fn structures_have_their_length(rt: HostRuntime) -> Result<(), Fail> {
-    let alloc = rt.alloc();
-    let length = apply1(UnaryOperator::Length, &reference(alloc)?);
+    let length = apply1(UnaryOperator::Length, &reference(rt.alloc())?);
     assert!(rt; length == Ok(Value::Int(10)));
-    for other in [Value::Int(10), Value::Bool(true), procedure()?] {
-        assert!(rt; apply1(UnaryOperator::Length, &other) == Err(FaultKind::Kind));
-    }
-    for other in [Value::Int(1), procedure()?, reference(alloc)?] {
-        assert!(rt; apply1(UnaryOperator::Not, &other) == Err(FaultKind::Kind));
-    }
     Ok(())
+}
+
+/// Whether the operator takes none of the operands.
+fn takes_none(operator: UnaryOperator, others: &[Value]) -> bool {
+    for other in others {
+        if apply1(operator, other) != Err(FaultKind::Kind) {
+            return false;
+        }
+    }
+    true
+}
+
+/// Whether the operator takes none of the operands on either side of the given one.
+fn takes_none_beside(operator: BinaryOperator, given: &Value, others: &[Value]) -> bool {
+    for other in others {
+        if apply2(operator, other, given) != Err(FaultKind::Kind)
+            || apply2(operator, given, other) != Err(FaultKind::Kind)
+        {
+            return false;
+        }
+    }
+    true
 }
 
 #[test]
 fn operators_on_numbers_take_no_others(rt: HostRuntime) -> Result<(), Fail> {
+    let others = [Value::Bool(true), procedure()?, reference(rt.alloc())?];
     let zero = Value::Int(0);
     for operator in [
         BinaryOperator::Add,
@@ -197,25 +213,25 @@ fn operators_on_numbers_take_no_others(rt: HostRuntime) -> Result<(), Fail> {
         BinaryOperator::Le,
         BinaryOperator::Eq,
     ] {
-        for other in [Value::Bool(true), procedure()?, reference(rt.alloc())?] {
-            assert!(rt; apply2(operator, &other, &zero) == Err(FaultKind::Kind));
-            assert!(rt; apply2(operator, &zero, &other) == Err(FaultKind::Kind));
-            assert!(rt; apply2(operator, &other, &other) == Err(FaultKind::Kind));
-        }
+        assert!(rt; takes_none_beside(operator, &zero, &others));
     }
     Ok(())
 }
 
 #[test]
 fn operators_on_truth_values_take_no_others(rt: HostRuntime) -> Result<(), Fail> {
+    let others = [Value::Int(1), procedure()?, reference(rt.alloc())?];
     let truth = Value::Bool(true);
-    for operator in [BinaryOperator::And, BinaryOperator::Or] {
-        for other in [Value::Int(1), procedure()?, reference(rt.alloc())?] {
-            assert!(rt; apply2(operator, &other, &truth) == Err(FaultKind::Kind));
-            assert!(rt; apply2(operator, &truth, &other) == Err(FaultKind::Kind));
-            assert!(rt; apply2(operator, &other, &other) == Err(FaultKind::Kind));
-        }
-    }
+    assert!(rt; takes_none(UnaryOperator::Not, &others));
+    assert!(rt; takes_none_beside(BinaryOperator::And, &truth, &others));
+    assert!(rt; takes_none_beside(BinaryOperator::Or, &truth, &others));
+    Ok(())
+}
+
+#[test]
+fn length_takes_no_others(rt: HostRuntime) -> Result<(), Fail> {
+    let others = [Value::Int(10), Value::Bool(true), procedure()?];
+    assert!(rt; takes_none(UnaryOperator::Length, &others));
     Ok(())
 }
 
@@ -225,9 +241,10 @@ fn one_of_two_values_is_chosen(rt: HostRuntime) -> Result<(), Fail> {
     let rec = Value::Proc(BlockName::read(b"rec").ok_or("no block")?);
     assert!(rt; select(&Value::Bool(true), &one, &rec)? == &one);
     assert!(rt; select(&Value::Bool(false), &one, &rec)? == &rec);
-    for control in [Value::Int(1), procedure()?, reference(rt.alloc())?] {
-        assert!(rt; select(&control, &one, &rec) == Err(FaultKind::Kind));
-    }
+    let structure = reference(rt.alloc())?;
+    assert!(rt; select(&Value::Int(1), &one, &rec) == Err(FaultKind::Kind));
+    assert!(rt; select(&one, &one, &rec) == Err(FaultKind::Kind));
+    assert!(rt; select(&structure, &one, &rec) == Err(FaultKind::Kind));
     Ok(())
 }
 
