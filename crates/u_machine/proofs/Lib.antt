@@ -3,6 +3,7 @@ pub mod Names
 pub mod Blank
 pub mod JoinLaws
 pub mod Neighbours
+pub mod Needs
 pub mod ScanLaws
 pub mod States
 pub mod Runs

@@ -3,8 +3,7 @@ use Rattle.std.proofs.Common.{◌≡◌, ◌⊎◌, inl, inr, ◌∙◌, sym, re
 use Rattle.std.specs.Cmp.{tied_itself}
 use Rattle.std.specs.Ordering.{ordering_then}
 use Rattle.std.specs.declared.cmp.Ordering.TheVariants.{Less, Equal, Greater}
-use Rattle.std.proofs.lemmas.List.{take-append-drop}
-use Rattle.std.proofs.lemmas.List.Elements.{Contains-get_or, Contains-append_right}
+use Rattle.std.proofs.lemmas.List.Elements.{Contains-get_or}
 use Rattle.u_name.specs.Name.{Activity}
 use Rattle.u_name.specs.NameOrder.{name_cmp, name_cmp_total}
 use Rattle.u_name.proofs.ExactOrders.{name_cmp_ties}
@@ -73,6 +72,3 @@ stands_behind (e ∷ es) (suc i) d x r l h m =
   where
     first_below : (xs : List Entry) (k : ℕ) → ((y : Entry) → Contains xs y → entry_cmp e y ≡ Less) → k < length xs → entry_cmp e (get_or xs k d) ≡ Less
     first_below xs k f l = f (get_or xs k d) (Contains-get_or xs k d l)
-
-pub behind_stands : (es : List Entry) (i : ℕ) (x : Entry) → Contains (drop i es) x → Contains es x
-behind_stands es i x m = rw take-append-drop at (Contains-append_right (take i es) (drop i es) x m)

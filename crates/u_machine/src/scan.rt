@@ -2,7 +2,8 @@
 //!
 //! The tokens of one activity stand side by side in a history, ordered by port and value. So each
 //! firing is found at its first token: a firing of one value by that token alone, a firing of two
-//! values by that token and each of the activity's tokens that stand behind it.
+//! values by that token and each of the activity's tokens that stand behind it, a firing of three
+//! values by two such tokens and each of those from the first one at port 3 on.
 ghost use Rattle.std.specs.Prelude.{◌≡◌, ◌↔◌, ◌<◌, ◌≤◌, ◌+◌, [], ◌∷◌, IfOk, OnOk, Contains, ◌⊎◌, Some, None, IsTrue, length, take, drop};
 ghost use Rattle.std.proofs.Common.{get_or};
 ghost use Rattle.u_rule.specs.Rule.{system_of};
@@ -12,7 +13,7 @@ ghost use Rattle.u_rule.specs.EntryOrder.{entry_cmp, firing_cmp, firing};
 ghost use Rattle.std.specs.Prelude.{MatchOption};
 ghost use Rattle.u_rule.specs.Parts.{TokenParts};
 ghost use Rattle.u_rule.specs.declared.entry.Entry.TheVariants as entries;
-ghost use Rattle.u_machine.specs.Joins.{Joins, OfOne, OfTwo, SameActivity};
+ghost use Rattle.u_machine.specs.Joins.{Joins, JoinsThree, OfOne, OfTwo, OfThree, SameActivity, IsAtPort};
 ghost use Rattle.u_system.specs.Firing.{Enabled, SomeOf};
 ghost use Rattle.u_system.specs.Rising.{Rises};
 
@@ -101,6 +102,81 @@ fn pair(alloc: Global, job: &Job, left: &Entry, right: &Entry) -> Result<Option<
     Ok(Some(joined))
 }
 
+/// The record of the first token's activity with the values of all three.
+fn record_of_three(
+    alloc: Global,
+    first: &Token,
+    second: &Token,
+    third: &Token,
+) -> Result<Firing, AllocError>
+    ensures { IfOk result (λ f. f ≡ firing first.now.activity (first.now.value ∷ second.now.value ∷ third.now.value ∷ []) None) }
+{
+    let value = first.value().copy()?;
+    let other = second.value().copy()?;
+    let last = third.value().copy()?;
+    Ok(Firing {
+        activity: first.activity().copy()?,
+        values: Values::three(alloc, value, other, last)?,
+        write: None,
+    })
+}
+
+/// The firing that has these three tokens, where there is one.
+#[tactic(auto, using(crate::proofs::JoinLaws::no_triple_at_second, crate::proofs::JoinLaws::no_triple_at_third, crate::proofs::JoinLaws::no_firing_of_three, crate::proofs::JoinLaws::firing_of_three))]
+fn triple(
+    alloc: Global,
+    job: &Job,
+    left: &Entry,
+    middle: &Entry,
+    right: &Entry,
+) -> Result<Option<Firing>, AllocError>
+    ensures { IfOk result (λ o. (f : Firing) → (o ≡ Some f) ↔ OfThree job.now left.now middle.now right.now f) }
+{
+    let Some(first) = token_at(left, 1) else {
+        return Ok(None);
+    };
+    let Some(second) = token_at(middle, 2) else {
+        return Ok(None);
+    };
+    let Some(third) = token_at(right, 3) else {
+        return Ok(None);
+    };
+    if !is_of_one_activity(first, second) {
+        return Ok(None);
+    }
+    if !is_of_one_activity(first, third) {
+        return Ok(None);
+    }
+    let tripled = record_of_three(alloc, first, second, third)?;
+    if !is_firing(job, &tripled) {
+        return Ok(None);
+    }
+    Ok(Some(tripled))
+}
+
+/// Whether the entry is a token at that port.
+fn is_at_port(entry: &Entry, port: u8) -> bool
+    ensures { IsTrue result ↔ IsAtPort port entry.now }
+{
+    match entry {
+        Entry::Token(token) => token.port() == port,
+        _ => false,
+    }
+}
+
+/// How many of the entries stand before the first token at that port; all, if there is none.
+fn before_port(others: &[Entry], port: u8) -> usize
+    ensures within { result ≤ length others.now }
+    ensures all { (x : Entry) → Contains others.now x → IsAtPort port x → Contains (drop result others.now) x }
+{
+    for (place, entry) in others.iter().enumerate() {
+        if is_at_port(entry, port) {
+            return place;
+        }
+    }
+    others.len()
+}
+
 /// How many of the entries that stand behind a token are, from the first on, tokens of its activity.
 #[tactic(auto, using(crate::proofs::Neighbours::together))]
 fn followers(left: &Entry, rest: &[Entry]) -> usize
@@ -143,6 +219,41 @@ fn join_two(
     Ok(())
 }
 
+/// Adds the firings that have these first two tokens and a third one of the list.
+fn join_thirds(
+    alloc: Global,
+    job: &Job,
+    left: &Entry,
+    middle: &Entry,
+    thirds: &[Entry],
+    found: &mut Vec<Firing>,
+) -> Result<(), AllocError>
+    ensures { OnOk result ((f : Firing) → Contains found.new.items f ↔ (Contains found.old.items f ⊎ SomeOf thirds.now (OfThree job.now left.now middle.now) f)) }
+{
+    for right in thirds {
+        let tripled = triple(alloc, job, left, middle, right)?;
+        add(found, tripled)?;
+    }
+    Ok(())
+}
+
+/// Adds the firings that have this first token, a second one and a third one of the two lists.
+fn join_three(
+    alloc: Global,
+    job: &Job,
+    left: &Entry,
+    seconds: &[Entry],
+    thirds: &[Entry],
+    found: &mut Vec<Firing>,
+) -> Result<(), AllocError>
+    ensures { OnOk result ((f : Firing) → Contains found.new.items f ↔ (Contains found.old.items f ⊎ JoinsThree job.now seconds.now thirds.now left.now f)) }
+{
+    for middle in seconds {
+        join_thirds(alloc, job, left, middle, thirds, found)?;
+    }
+    Ok(())
+}
+
 /// Adds the firings that have this first token, whose activity's other tokens begin the rest.
 fn join(
     alloc: Global,
@@ -159,6 +270,9 @@ fn join(
     let count = followers(left, rest);
     let seconds = front(rest, count);
     join_two(alloc, job, left, seconds, found)?;
+    let place = before_port(seconds, 3);
+    let thirds = behind(seconds, place);
+    join_three(alloc, job, left, seconds, thirds, found)?;
     Ok(())
 }
 

@@ -1,0 +1,93 @@
+-- How many values a firing has, and which tokens it needs for them.
+use Rattle.std.proofs.Common.{◌≡◌, ◌↔◌, ◌⊎◌, ◌∙◌, inl, inr, refl, sym, arith, ap, Bool, true, false, ◌&&◌, IsTrue, ℕ, ◌≤◌, [], ◌∷◌, length, Contains, Option, Some, None}
+use Rattle.std.specs.Prelude.{is_none, ◌==◌}
+use Rattle.std.proofs.lemmas.Bool.Decides.{nat_tests}
+use Rattle.u_name.specs.Name.{Activity}
+use Rattle.u_value.specs.declared.value.Value.{Value}
+use Rattle.u_program.specs.declared.program.Kind.{Kind}
+use Rattle.u_program.specs.declared.program.Kind.TheVariants.{Begin}
+use Rattle.u_program.specs.Parts.{StatementParts}
+use Rattle.u_check.specs.Jobs.{JobParts}
+use Rattle.u_check.specs.Rules.{ports_of}
+use Rattle.u_rule.specs.Parts.{token, ValueList}
+use Rattle.u_rule.specs.Rule.{is_firing_of, is_firing_at, needs_of, statement_of, fits}
+use Rattle.u_rule.specs.EntryOrder.{firing}
+use Rattle.u_rule.specs.declared.entry.Entry.{Entry}
+use Rattle.u_rule.specs.declared.entry.Entry.TheVariants as entries
+use Rattle.u_rule.specs.declared.firing.Firing.{Firing}
+use Rattle.u_rule.specs.declared.firing.Written.{Written}
+use Rattle.u_machine.proofs.Lists.{one_member, two_members, three_members}
+
+and_left : (a b : Bool) → (a && b) ≡ true → a ≡ true
+and_left true b h = refl
+and_left false b h = cc
+
+and_right : (a b : Bool) → (a && b) ≡ true → b ≡ true
+and_right true b h = h
+and_right false b h = cc
+
+same_number : (a b : ℕ) → (a == b) ≡ true → a ≡ b
+same_number a b h = grind (arith, nat_tests)
+
+no_write : (w : Option Written) → is_none w ≡ true → w ≡ None
+no_write None h = refl
+no_write (Some w) h = cc
+
+-- a statement has one to three ports, whatever its kind
+few_ports : (k : Kind) → (1 ≤ ports_of k) × (ports_of k ≤ 3)
+few_ports Begin = (omega arith, omega arith)
+few_ports k = (omega arith, omega arith)
+
+-- so many values
+abbrev pub OneValue : ValueList → Type 0
+OneValue vs = (v : Value) × (vs ≡ v ∷ [])
+
+abbrev pub TwoValues : ValueList → Type 0
+TwoValues vs = (v : Value) × (w : Value) × (vs ≡ v ∷ w ∷ [])
+
+abbrev pub ThreeValues : ValueList → Type 0
+ThreeValues vs = (v : Value) × (w : Value) × (u : Value) × (vs ≡ v ∷ w ∷ u ∷ [])
+
+listed : (vs : ValueList) → 1 ≤ length vs → length vs ≤ 3 → OneValue vs ⊎ (TwoValues vs ⊎ ThreeValues vs)
+listed [] low high = absurd (omega arith)
+listed (v ∷ []) low high = inl (v, refl)
+listed (v ∷ w ∷ []) low high = inr (inl (v, w, refl))
+listed (v ∷ w ∷ u ∷ []) low high = inr (inr (v, w, u, refl))
+listed (v ∷ w ∷ u ∷ x ∷ vs) low high = absurd (omega arith)
+
+-- the shape of a firing: one to three values, and no write
+pub record Shape (f : Firing) : Type 0 where
+  pub write : f.write ≡ None
+  pub values : OneValue f.values ⊎ (TwoValues f.values ⊎ ThreeValues f.values)
+
+shape_at : (s : Option StatementParts) (f : Firing) → is_firing_at s f ≡ true → Shape f
+shape_at None f h = cc
+shape_at (Some s) f h =
+    let r = and_right (fits s.region f.activity) _ h in
+    let n = same_number (length f.values) (ports_of s.kind) (and_left (length f.values == ports_of s.kind) (is_none f.write) r) in
+    let few = few_ports s.kind in
+    record {
+      write = no_write f.write (and_right (length f.values == ports_of s.kind) (is_none f.write) r);
+      values = listed f.values (omega (arith, n, few.0)) (omega (arith, n, few.1));
+    }
+
+pub shape_of : (job : JobParts) (f : Firing) → IsTrue (is_firing_of job f) → Shape f
+unfolding is_firing_of
+shape_of job f h = shape_at (statement_of job f.activity) f h
+
+-- a firing is its activity with its values
+pub rebuilt : (f : Firing) (vs : ValueList) → f.write ≡ None → f.values ≡ vs → f ≡ firing f.activity vs None
+rebuilt f vs w e = ap (λ (x : ValueList). firing f.activity x f.write) e ∙ ap (λ (x : Option Written). firing f.activity vs x) w
+
+-- what a firing of one value needs, one of two and one of three
+pub needs_one : (a : Activity) (v : Value) (e : Entry) → Contains (needs_of (firing a (v ∷ []) None)) e ↔ (entries.Token (token a 1 v) ≡ e)
+unfolding needs_of
+needs_one a v e = one_member (entries.Token (token a 1 v)) e
+
+pub needs_two : (a : Activity) (v w : Value) (e : Entry) → Contains (needs_of (firing a (v ∷ w ∷ []) None)) e ↔ ((entries.Token (token a 1 v) ≡ e) ⊎ (entries.Token (token a 2 w) ≡ e))
+unfolding needs_of
+needs_two a v w e = two_members (entries.Token (token a 1 v)) (entries.Token (token a 2 w)) e
+
+pub needs_three : (a : Activity) (v w u : Value) (e : Entry) → Contains (needs_of (firing a (v ∷ w ∷ u ∷ []) None)) e ↔ ((entries.Token (token a 1 v) ≡ e) ⊎ ((entries.Token (token a 2 w) ≡ e) ⊎ (entries.Token (token a 3 u) ≡ e)))
+unfolding needs_of
+needs_three a v w u e = three_members (entries.Token (token a 1 v)) (entries.Token (token a 2 w)) (entries.Token (token a 3 u)) e
