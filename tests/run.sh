@@ -1,6 +1,7 @@
 #!/usr/bin/env bash
 # Runs the built program on the cases of tests/cases, and compares standard output, standard error
-# and the exit status with what stands there. The last line is 'N passed, M failed'.
+# and the exit status with what stands there; and runs the examples of docs/LANGUAGE.md. The last
+# line is 'N passed, M failed'.
 #
 # The lines of a case:
 #   case: NAME            begins a case
@@ -172,6 +173,32 @@ while IFS= read -r row || [ -n "$row" ]; do
     esac
 done <tests/cases
 end_case
+
+# Runs the example whose command and wanted output stand in `command` and `wanted`.
+end_example() {
+    local got
+    [ -n "$command" ] || return 0
+    got=$(timeout 60 bash -c "${command//.\/u /\"$binary\" }" 2>&1 </dev/null)
+    if [ "$got" = "$wanted" ]; then
+        passed=$((passed + 1))
+    else
+        failed=$((failed + 1))
+        printf 'FAILED: the example of docs/LANGUAGE.md\n  %s\n' "$command"
+        diff <(printf '%s\n' "$wanted") <(printf '%s\n' "$got") | sed 's/^/  /'
+    fi
+    command=''
+}
+
+# The examples of the language's document: '    $ COMMAND', and then the lines that it prints.
+command='' wanted=''
+while IFS= read -r row || [ -n "$row" ]; do
+    case $row in
+        '    $ '*) end_example; command=${row#'    $ '} wanted='' ;;
+        '    '*) [ -z "$command" ] || wanted+=${wanted:+$'\n'}${row:4} ;;
+        *) end_example ;;
+    esac
+done <docs/LANGUAGE.md
+end_example
 
 echo "$passed passed, $failed failed"
 [ "$failed" -eq 0 ]
