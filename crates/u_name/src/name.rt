@@ -282,11 +282,11 @@ impl Name {
     {
         match self.context.node() {
             Node::Call {
-                outer,
+                outer: caller,
                 block,
                 initiation,
                 ..
-            } => Ok(outside(outer, block, statement, *initiation)?),
+            } => Ok(outside(caller, block, statement, *initiation)?),
             _ => unreachable!(),
         }
     }
