@@ -87,46 +87,28 @@ impl<'a> Machine<'a> {
         Ok(())
     }
 
-    /// Whether some firing of the log has entries that are still to enter.
+    /// Whether some firing of the log has entries that are still to enter. No firing is parked, since
+    /// each taken one was enabled.
     fn has_open(&self) -> bool
         ensures open { IsTrue result ↔ self.now.done < length self.now.log }
-        ensures entered { IsFalse result → self.now.done ≡ length self.now.log }
+        ensures settled { IsFalse result → IsSettled self.now }
     {
         self.done < self.log.len()
-    }
-
-    /// Lets all entries enter that firings of the log give. Those that entered before a refusal stay.
-    fn complete(&mut self) -> Result<(), AllocError>
-        ensures applies { Applies self.old self.new }
-        ensures log { self.new.log ≡ self.old.log }
-        ensures parked { self.new.parked ≡ self.old.parked }
-        ensures ok { OnOk result (self.new.done ≡ length self.new.log) }
-        ensures still { self.old.done ≡ length self.old.log → IsOk result × (self.new ≡ self.old) }
-    {
-        while self.has_open() {
-            self.enter_next()?;
-        }
-        Ok(())
-    }
-
-    /// No firing is parked, since each taken one was enabled.
-    fn has_none_parked(&self)
-        ensures { self.now.parked ≡ [] }
-    {
-        let _log = &self.log;
     }
 
     /// Goes on where an earlier call found no memory, until all that was fired has given its entries.
     ///
     /// # Errors
     /// `AllocError` where there is no memory; the entries that have entered stay.
+    #[tactic(auto, using(crate::proofs::States::applies_trans))]
     pub fn settle(&mut self) -> Result<(), AllocError>
         ensures applies { Applies self.old self.new }
         ensures ok { OnOk result (IsSettled self.new) }
         ensures still { IsSettled self.old → IsOk result × (self.new ≡ self.old) }
     {
-        self.complete()?;
-        self.has_none_parked();
+        while self.has_open() {
+            self.enter_next()?;
+        }
         Ok(())
     }
 

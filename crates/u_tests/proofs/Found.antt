@@ -15,8 +15,15 @@ enabled_fits job h f = (to, λ en. back en ((enabled_is_joined job h f).0 en))
   where
     to : SomeOf h (FitsFirst job h) f → Enabled (system_of job) (Contains h) f
     to (left, m, inl p) = p.1
-    to (left, m, inr s) = s.2.1
+    to (left, m, inr (inl s)) = s.2.1
+    to (left, m, inr (inr s)) = s.2.2.1
 
     back : Enabled (system_of job) (Contains h) f → SomeOf h (Joins job h) f → SomeOf h (FitsFirst job h) f
     back en (left, m, inl j) = (left, m, inl ((token j.activity 1 j.value, j.first, j.whole), en))
-    back en (left, m, inr (right, n, j)) = (left, m, inr (right, n, ((token j.activity 1 j.value, token j.activity 2 j.other, j.first, j.second, j.whole), en)))
+    back en (left, m, inr (inl (right, n, j))) =
+        (left, m, inr (inl (right, n, ((token j.activity 1 j.value, token j.activity 2 j.other, j.first, j.second, j.whole), en))))
+    back en (left, m, inr (inr (middle, n, (right, o, j)))) = (
+      left,
+      m,
+      inr (inr (middle, n, (right, o, ((token j.activity 1 j.value, token j.activity 2 j.other, token j.activity 3 j.last, j.first, j.second, j.third, j.whole), en)))),
+    )

@@ -1,4 +1,4 @@
--- The records of one or two values that a list of entries may make.
+-- The records of one, two or three values that a list of entries may make.
 use Rattle.std.specs.Prelude.{◌≡◌, List, [], ◌∷◌, ◌⊎◌, None, Contains}
 use Rattle.u_check.specs.Jobs.{JobParts}
 use Rattle.u_rule.specs.Parts.{TokenParts}
@@ -18,6 +18,12 @@ abbrev pub IsOfTwo : Entry → Entry → Firing → Type 0
 IsOfTwo left right f =
     (t : TokenParts) × (u : TokenParts) × (left ≡ entries.Token t) × (right ≡ entries.Token u) × (f ≡ firing t.activity (t.value ∷ u.value ∷ []) None)
 
+-- the first token's activity with the values of all three
+abbrev pub IsOfThree : Entry → Entry → Entry → Firing → Type 0
+IsOfThree left middle right f =
+    (t : TokenParts) × (u : TokenParts) × (w : TokenParts) × (left ≡ entries.Token t) × (middle ≡ entries.Token u) × (right ≡ entries.Token w)
+    × (f ≡ firing t.activity (t.value ∷ u.value ∷ w.value ∷ []) None)
+
 -- what is enabled over the list
 abbrev pub EnabledOver : JobParts → List Entry → Firing → Type 0
 EnabledOver job held f = Enabled (system_of job) (Contains held) f
@@ -26,6 +32,15 @@ EnabledOver job held f = Enabled (system_of job) (Contains held) f
 abbrev pub FitsTwo : JobParts → List Entry → Entry → Entry → Firing → Type 0
 FitsTwo job held left right f = IsOfTwo left right f × EnabledOver job held f
 
--- enabled, and made of this entry, or of this one and another one of the list
+-- enabled, and made of these three entries
+abbrev pub FitsThree : JobParts → List Entry → Entry → Entry → Entry → Firing → Type 0
+FitsThree job held left middle right f = IsOfThree left middle right f × EnabledOver job held f
+
+-- enabled, and made of this entry and two others of the list
+abbrev pub FitsTriple : JobParts → List Entry → Entry → Firing → Type 0
+FitsTriple job held left f = SomeOf held (λ middle. SomeOf held (FitsThree job held left middle)) f
+
+-- enabled, and made of this entry, or of this one and one or two others of the list
 abbrev pub FitsFirst : JobParts → List Entry → Entry → Firing → Type 0
-FitsFirst job held left f = (IsOfOne left f × EnabledOver job held f) ⊎ SomeOf held (FitsTwo job held left) f
+FitsFirst job held left f =
+    (IsOfOne left f × EnabledOver job held f) ⊎ (SomeOf held (FitsTwo job held left) f ⊎ FitsTriple job held left f)

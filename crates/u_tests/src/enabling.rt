@@ -4,7 +4,7 @@ ghost use Rattle.u_rule.specs.Rule.{system_of, needs_of, is_firing_of};
 ghost use Rattle.u_rule.specs.declared.entry.Entry.{Entry};
 ghost use Rattle.u_rule.specs.declared.firing.Firing.{Firing};
 ghost use Rattle.u_system.specs.Firing.{Enabled, SomeOf};
-ghost use Rattle.u_tests.specs.Tries.{IsOfOne, IsOfTwo, EnabledOver, FitsTwo, FitsFirst};
+ghost use Rattle.u_tests.specs.Tries.{IsOfOne, IsOfTwo, IsOfThree, EnabledOver, FitsTwo, FitsThree, FitsTriple, FitsFirst};
 
 use crate::among::add_new;
 use std::alloc::{AllocError, Global};
@@ -90,6 +90,29 @@ fn record_of_two(alloc: Global, left: &Entry, right: &Entry) -> Result<Option<Fi
     }))
 }
 
+/// The record of the first token's activity with the values of all three, if the entries are tokens.
+fn record_of_three(
+    alloc: Global,
+    left: &Entry,
+    middle: &Entry,
+    right: &Entry,
+) -> Result<Option<Firing>, AllocError>
+    ensures { IfOk result (λ o. (f : Firing) → (o ≡ Some f) ↔ IsOfThree left.now middle.now right.now f) }
+{
+    let (Entry::Token(first), Entry::Token(second), Entry::Token(third)) = (left, middle, right)
+    else {
+        return Ok(None);
+    };
+    let value = first.value().copy()?;
+    let other = second.value().copy()?;
+    let last = third.value().copy()?;
+    Ok(Some(Firing {
+        activity: first.activity().copy()?,
+        values: Values::three(alloc, value, other, last)?,
+        write: None,
+    }))
+}
+
 /// Adds the record, if there is one and it is an enabled firing, unless it is there.
 fn add(
     alloc: Global,
@@ -127,6 +150,40 @@ fn add_pairs(
     Ok(())
 }
 
+/// Adds the enabled firings of three values that have these two entries first.
+fn add_thirds(
+    alloc: Global,
+    job: &Job,
+    held: &[Entry],
+    left: &Entry,
+    middle: &Entry,
+    found: &mut Vec<Firing>,
+) -> Result<(), AllocError>
+    ensures { OnOk result ((f : Firing) → Contains found.new.items f ↔ (Contains found.old.items f ⊎ SomeOf held.now (FitsThree job.now held.now left.now middle.now) f)) }
+{
+    for right in held {
+        let made = record_of_three(alloc, left, middle, right)?;
+        add(alloc, job, held, made, found)?;
+    }
+    Ok(())
+}
+
+/// Adds the enabled firings of three values that have this entry first.
+fn add_triples(
+    alloc: Global,
+    job: &Job,
+    held: &[Entry],
+    left: &Entry,
+    found: &mut Vec<Firing>,
+) -> Result<(), AllocError>
+    ensures { OnOk result ((f : Firing) → Contains found.new.items f ↔ (Contains found.old.items f ⊎ FitsTriple job.now held.now left.now f)) }
+{
+    for middle in held {
+        add_thirds(alloc, job, held, left, middle, found)?;
+    }
+    Ok(())
+}
+
 /// Adds the enabled firings that have this entry first.
 fn add_firings(
     alloc: Global,
@@ -140,11 +197,12 @@ fn add_firings(
     let alone = record_of_one(alloc, left)?;
     add(alloc, job, held, alone, found)?;
     add_pairs(alloc, job, held, left, found)?;
+    add_triples(alloc, job, held, left, found)?;
     Ok(())
 }
 
 /// All firings of the job that are enabled over the entries, which may stand in any order: of each
-/// entry, and of each two, the record that they make, where it is enabled. None comes twice.
+/// entry, of each two and of each three, the record that they make, where it is enabled. None comes twice.
 ///
 /// # Errors
 /// `AllocError` where there is no memory.

@@ -1,12 +1,10 @@
 use Rattle.std.proofs.Common.{◌≡◌, ◌-◌, length}
 use Rattle.u_machine.specs.States.{Applies}
-use Rattle.u_machine.proofs.machine.Machine.complete.Given as goal
+use Rattle.u_machine.proofs.machine.Machine.settle.Given as goal
 
 abbrev pub invariant-loop-self : goal.invariant-loop-self
 invariant-loop-self l = record {
   applies : Applies l.fn.self l.self;
-  log : l.self.log ≡ l.fn.self.log;
-  parked : l.self.parked ≡ l.fn.self.parked;
   still : l.fn.self.done ≡ length l.fn.self.log → l.self ≡ l.fn.self;
 }
 
