@@ -4,6 +4,8 @@ use crate::read_error::ReadError;
 use crate::text::read;
 use std::alloc::{AllocError, Global};
 use std::test::Fail;
+use u_name::BlockName;
+use u_value::{BinaryOperator, UnaryOperator};
 
 fn is_written_as_read(alloc: Global, text: &[u8]) -> Result<bool, Fail> {
     let program = read(alloc, text)?;
@@ -75,6 +77,50 @@ fn writes_what_it_read(rt: HostRuntime) -> Result<(), Fail> {
 }
 
 #[test]
+fn reads_and_writes_every_kind(rt: HostRuntime) -> Result<(), Fail> {
+    let alloc = rt.alloc();
+    let kinds = [
+        (b"1 0 begin ->".as_slice(), Kind::Begin),
+        (
+            b"1 0 const @fact ->".as_slice(),
+            Kind::Const(Constant::Proc(BlockName::new(b"fact"))),
+        ),
+        (b"1 0 pass ->".as_slice(), Kind::Pass),
+        (b"1 0 not ->".as_slice(), Kind::Unary(UnaryOperator::Not)),
+        (
+            b"1 0 length ->".as_slice(),
+            Kind::Unary(UnaryOperator::Length),
+        ),
+        (b"1 0 and ->".as_slice(), Kind::Binary(BinaryOperator::And)),
+        (b"1 0 or ->".as_slice(), Kind::Binary(BinaryOperator::Or)),
+        (b"1 0 add ->".as_slice(), Kind::Binary(BinaryOperator::Add)),
+        (b"1 0 sub ->".as_slice(), Kind::Binary(BinaryOperator::Sub)),
+        (b"1 0 mul ->".as_slice(), Kind::Binary(BinaryOperator::Mul)),
+        (b"1 0 div ->".as_slice(), Kind::Binary(BinaryOperator::Div)),
+        (b"1 0 rem ->".as_slice(), Kind::Binary(BinaryOperator::Rem)),
+        (b"1 0 lt ->".as_slice(), Kind::Binary(BinaryOperator::Lt)),
+        (b"1 0 le ->".as_slice(), Kind::Binary(BinaryOperator::Le)),
+        (b"1 0 eq ->".as_slice(), Kind::Binary(BinaryOperator::Eq)),
+        (b"1 0 select ->".as_slice(), Kind::Select),
+        (b"1 0 end ->".as_slice(), Kind::End),
+    ];
+    for (line, kind) in kinds {
+        let text = with_line(alloc, line)?;
+        assert!(rt; first_kind(&read(alloc, &text)?) == Some(kind));
+        assert!(rt; is_written_as_read(alloc, &text)?);
+    }
+    Ok(())
+}
+
+#[test]
+fn writes_a_program_with_every_kind(rt: HostRuntime) -> Result<(), Fail> {
+    let text =
+        b"u-program 1\nblock main\n1 0 begin -> 2.1 3.1\n2 0 const true -> 4.1\n3 0 pass -> 5.1 5.2 6.1\n4 0 not -> 13.1\n5 0 add -> 7.1 8.1\n6 0 length ->\n7 0 sub -> 7.2 9.1\n8 0 mul -> 8.2 9.2\n9 0 div -> 10.1\n10 0 rem -> 10.2 11.1 12.1\n11 0 lt -> 11.2 14.1\n12 0 le -> 12.2 14.2\n13 0 and -> 13.2 16.1\n14 0 or -> 15.1\n15 0 eq -> 15.2 16.2\n16 0 select -> 16.3 17.1\n17 0 end ->\n";
+    assert!(rt; is_written_as_read(rt.alloc(), text.as_slice())?);
+    Ok(())
+}
+
+#[test]
 fn names_the_first_bad_line(rt: HostRuntime) -> Result<(), Fail> {
     let alloc = rt.alloc();
     let lines = [
@@ -99,6 +145,9 @@ fn names_the_first_bad_line(rt: HostRuntime) -> Result<(), Fail> {
         b"1 0 const @ ->".as_slice(),
         b"1 0 const @Fact ->".as_slice(),
         b"1 0 end -> 1.1".as_slice(),
+        b"1 0 select 1 ->".as_slice(),
+        b"1 0 subtract ->".as_slice(),
+        b"1 0 l ->".as_slice(),
         b"1 0 end -> ".as_slice(),
         b"1 0 begin -> 1.1 2.1 3.1 4.1 5.1 6.1 7.1 8.1 9.1 10.1 11.1 12.1 13.1 14.1 15.1 16.1 17.4".as_slice(),
         b"loop 1 0".as_slice(),
