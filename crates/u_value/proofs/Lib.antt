@@ -1,3 +1,4 @@
+pub mod Division
 pub mod Orders
 pub mod Ranges
 pub mod Written

@@ -1,3 +1,4 @@
+pub mod Division
 pub mod FaultKinds
 pub mod Operators
 pub mod Pointer

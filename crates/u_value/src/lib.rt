@@ -5,10 +5,9 @@ mod fault_kind;
 mod operators;
 mod reference;
 mod value;
-mod writing;
 
 pub use fault_kind::FaultKind;
-pub use operators::{BinaryOperator, apply2};
+pub use operators::{BinaryOperator, UnaryOperator, apply1, apply2, select};
 pub use reference::Reference;
 pub use value::Value;
 

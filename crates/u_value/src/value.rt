@@ -3,10 +3,10 @@ ghost use Rattle.std.specs.Prelude.{◌≡◌, ◌++◌, ◌∷◌, IfOk, OnOk};
 ghost use Rattle.u_value.specs.Values.{value_cmp, value_text};
 
 use crate::reference::Reference;
-use crate::writing::push_signed;
 use std::alloc::AllocError;
 use std::cmp::Ordering;
 use u_name::BlockName;
+use u_text::push_signed;
 
 /// A value, as a token carries one. The kinds come in this order, and then the values by number,
 /// false before true, the bytes of the block's name, and the reference's name and length.
