@@ -4,7 +4,6 @@ use crate::read_error::ReadError;
 use crate::text::read;
 use std::alloc::{AllocError, Global};
 use std::test::Fail;
-use u_name::BlockName;
 use u_value::{BinaryOperator, UnaryOperator};
 
 fn is_written_as_read(alloc: Global, text: &[u8]) -> Result<bool, Fail> {
@@ -76,38 +75,50 @@ fn writes_what_it_read(rt: HostRuntime) -> Result<(), Fail> {
     Ok(())
 }
 
+/// Whether a statement with that word is of that kind.
+fn is_read_as(alloc: Global, word: &[u8], kind: Kind) -> Result<bool, Fail> {
+    let mut line = Vec::new(alloc);
+    line.extend_from_slice(b"1 0 ")?;
+    line.extend_from_slice(word)?;
+    line.extend_from_slice(b" ->")?;
+    let text = with_line(alloc, &line)?;
+    Ok(first_kind(&read(alloc, &text)?) == Some(kind))
+}
+
 #[test]
-fn reads_and_writes_every_kind(rt: HostRuntime) -> Result<(), Fail> {
+fn reads_each_kind(rt: HostRuntime) -> Result<(), Fail> {
     let alloc = rt.alloc();
     let kinds = [
-        (b"1 0 begin ->".as_slice(), Kind::Begin),
-        (
-            b"1 0 const @fact ->".as_slice(),
-            Kind::Const(Constant::Proc(BlockName::new(b"fact"))),
-        ),
-        (b"1 0 pass ->".as_slice(), Kind::Pass),
-        (b"1 0 not ->".as_slice(), Kind::Unary(UnaryOperator::Not)),
-        (
-            b"1 0 length ->".as_slice(),
-            Kind::Unary(UnaryOperator::Length),
-        ),
-        (b"1 0 and ->".as_slice(), Kind::Binary(BinaryOperator::And)),
-        (b"1 0 or ->".as_slice(), Kind::Binary(BinaryOperator::Or)),
-        (b"1 0 add ->".as_slice(), Kind::Binary(BinaryOperator::Add)),
-        (b"1 0 sub ->".as_slice(), Kind::Binary(BinaryOperator::Sub)),
-        (b"1 0 mul ->".as_slice(), Kind::Binary(BinaryOperator::Mul)),
-        (b"1 0 div ->".as_slice(), Kind::Binary(BinaryOperator::Div)),
-        (b"1 0 rem ->".as_slice(), Kind::Binary(BinaryOperator::Rem)),
-        (b"1 0 lt ->".as_slice(), Kind::Binary(BinaryOperator::Lt)),
-        (b"1 0 le ->".as_slice(), Kind::Binary(BinaryOperator::Le)),
-        (b"1 0 eq ->".as_slice(), Kind::Binary(BinaryOperator::Eq)),
-        (b"1 0 select ->".as_slice(), Kind::Select),
-        (b"1 0 end ->".as_slice(), Kind::End),
+        (b"begin".as_slice(), Kind::Begin),
+        (b"pass".as_slice(), Kind::Pass),
+        (b"not".as_slice(), Kind::Unary(UnaryOperator::Not)),
+        (b"length".as_slice(), Kind::Unary(UnaryOperator::Length)),
+        (b"select".as_slice(), Kind::Select),
+        (b"end".as_slice(), Kind::End),
     ];
-    for (line, kind) in kinds {
-        let text = with_line(alloc, line)?;
-        assert!(rt; first_kind(&read(alloc, &text)?) == Some(kind));
-        assert!(rt; is_written_as_read(alloc, &text)?);
+    for (word, kind) in kinds {
+        assert!(rt; is_read_as(alloc, word, kind)?);
+    }
+    Ok(())
+}
+
+#[test]
+fn reads_each_operator_with_two_operands(rt: HostRuntime) -> Result<(), Fail> {
+    let alloc = rt.alloc();
+    let operators = [
+        (b"and".as_slice(), BinaryOperator::And),
+        (b"or".as_slice(), BinaryOperator::Or),
+        (b"add".as_slice(), BinaryOperator::Add),
+        (b"sub".as_slice(), BinaryOperator::Sub),
+        (b"mul".as_slice(), BinaryOperator::Mul),
+        (b"div".as_slice(), BinaryOperator::Div),
+        (b"rem".as_slice(), BinaryOperator::Rem),
+        (b"lt".as_slice(), BinaryOperator::Lt),
+        (b"le".as_slice(), BinaryOperator::Le),
+        (b"eq".as_slice(), BinaryOperator::Eq),
+    ];
+    for (word, operator) in operators {
+        assert!(rt; is_read_as(alloc, word, Kind::Binary(operator))?);
     }
     Ok(())
 }

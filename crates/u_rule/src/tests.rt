@@ -156,111 +156,129 @@ fn addition_reads_no_write(rt: HostRuntime) -> Result<(), Fail> {
     Ok(())
 }
 
-/// Whether statement 2 with that word, on these values, needs these entries and gives that one,
-/// and no others.
-fn fires(
-    alloc: Global,
-    word: &[u8],
-    values: Values,
-    needed: &[Entry],
-    given: &Entry,
-) -> Result<bool, Fail> {
+/// Whether the firing needs the token of its value at each of its ports, and nothing else.
+fn needs_its_values(alloc: Global, job: &Job, firing: &Firing) -> Result<bool, Fail> {
+    let needed = needs(alloc, job, firing)?;
+    let values = firing.values.as_slice();
+    for (i, (entry, value)) in needed.iter().zip(values).enumerate() {
+        let Entry::Token(token) = entry else {
+            return Ok(false);
+        };
+        if token.activity() != &firing.activity
+            || usize::from(token.port()) != i + 1
+            || token.value() != value
+        {
+            return Ok(false);
+        }
+    }
+    Ok(needed.len() == values.len())
+}
+
+/// Whether statement 2 with that word needs these values at its ports, and gives that entry alone.
+fn fires(alloc: Global, word: &[u8], values: Values, given: &Entry) -> Result<bool, Fail> {
     let job = one_statement(alloc, word, values.as_slice().len())?;
     let firing = plain(2, values);
-    let all_needed = needs(alloc, &job, &firing)?;
     let all_given = gives(alloc, &job, &firing)?;
-    Ok(all_needed.as_slice() == needed && all_given.len() == 1 && all_given.first() == Some(given))
+    let gives_it = all_given.len() == 1 && all_given.first() == Some(given);
+    Ok(needs_its_values(alloc, &job, &firing)? && gives_it)
 }
 
 /// Whether it fires so on one value.
-fn fires_on_one(alloc: Global, word: &[u8], first: Value, given: Entry) -> Result<bool, Fail> {
-    let needed = [token_with(2, 1, first.copy()?)];
-    let values = Values::one(alloc, first)?;
-    fires(alloc, word, values, &needed, &given)
+fn on_one(alloc: Global, word: &[u8], value: Value, given: &Entry) -> Result<bool, Fail> {
+    let values = Values::one(alloc, value)?;
+    fires(alloc, word, values, given)
 }
 
-/// Whether it fires so on two values.
-fn fires_on_two(
+/// Whether it fires so on two numbers, and gives that value to statement 3.
+fn on_numbers(
     alloc: Global,
     word: &[u8],
-    first: Value,
-    second: Value,
-    given: Entry,
+    first: i64,
+    second: i64,
+    made: Value,
 ) -> Result<bool, Fail> {
-    let needed = [
-        token_with(2, 1, first.copy()?),
-        token_with(2, 2, second.copy()?),
-    ];
-    let values = Values::two(alloc, first, second)?;
-    fires(alloc, word, values, &needed, &given)
+    let values = Values::two(alloc, Value::Int(first), Value::Int(second))?;
+    fires(alloc, word, values, &token_with(3, 1, made))
 }
 
-/// Whether `select` fires so on that truth value, 5 and 7.
-fn selects(alloc: Global, control: Value, given: Entry) -> Result<bool, Fail> {
-    let needed = [
-        token_with(2, 1, control.copy()?),
-        token(2, 2, 5),
-        token(2, 3, 7),
-    ];
+/// Whether it fires so on true and false, and gives that truth value to statement 3.
+fn on_truths(alloc: Global, word: &[u8], made: bool) -> Result<bool, Fail> {
+    let values = Values::two(alloc, Value::Bool(true), Value::Bool(false))?;
+    fires(alloc, word, values, &token_with(3, 1, Value::Bool(made)))
+}
+
+/// Whether `select` fires so on that value, 5 and 7.
+fn selects(alloc: Global, control: Value, given: &Entry) -> Result<bool, Fail> {
     let values = Values::three(alloc, control, Value::Int(5), Value::Int(7))?;
-    fires(alloc, b"select", values, &needed, &given)
+    fires(alloc, b"select", values, given)
 }
 
 #[test]
 fn statements_of_one_port_fire(rt: HostRuntime) -> Result<(), Fail> {
     let alloc = rt.alloc();
-    assert!(rt; fires_on_one(alloc, b"pass", Value::Int(4), token(3, 1, 4))?);
+    assert!(rt; on_one(alloc, b"pass", Value::Int(4), &token(3, 1, 4))?);
     let no = token_with(3, 1, Value::Bool(false));
-    assert!(rt; fires_on_one(alloc, b"not", Value::Bool(true), no)?);
+    assert!(rt; on_one(alloc, b"not", Value::Bool(true), &no)?);
+    assert!(rt; on_one(alloc, b"not", Value::Int(4), &fault(2, FaultKind::Kind))?);
+    Ok(())
+}
+
+#[test]
+fn length_fires(rt: HostRuntime) -> Result<(), Fail> {
     let structure = Value::Ref(Reference::new(name(1), 10));
-    assert!(rt; fires_on_one(alloc, b"length", structure, token(3, 1, 10))?);
-    let wrong = fault(2, FaultKind::Kind);
-    assert!(rt; fires_on_one(alloc, b"not", Value::Int(4), wrong)?);
+    assert!(rt; on_one(rt.alloc(), b"length", structure, &token(3, 1, 10))?);
     Ok(())
 }
 
 #[test]
-fn statements_of_two_numbers_fire(rt: HostRuntime) -> Result<(), Fail> {
-    let alloc = rt.alloc();
-    for (word, first, second, result) in [
-        (b"add".as_slice(), 7, 3, Value::Int(10)),
-        (b"sub".as_slice(), 7, 3, Value::Int(4)),
-        (b"mul".as_slice(), 7, 3, Value::Int(21)),
-        (b"div".as_slice(), 7, 3, Value::Int(2)),
-        (b"rem".as_slice(), 7, 3, Value::Int(1)),
-        (b"lt".as_slice(), 7, 3, Value::Bool(false)),
-        (b"le".as_slice(), 3, 3, Value::Bool(true)),
-        (b"eq".as_slice(), 7, 3, Value::Bool(false)),
-    ] {
-        let given = token_with(3, 1, result);
-        assert!(rt; fires_on_two(alloc, word, Value::Int(first), Value::Int(second), given)?);
+fn arithmetic_fires(rt: HostRuntime) -> Result<(), Fail> {
+    let results = [
+        (b"add".as_slice(), 10),
+        (b"sub".as_slice(), 4),
+        (b"mul".as_slice(), 21),
+        (b"div".as_slice(), 2),
+        (b"rem".as_slice(), 1),
+    ];
+    for (word, result) in results {
+        assert!(rt; on_numbers(rt.alloc(), word, 7, 3, Value::Int(result))?);
     }
     Ok(())
 }
 
 #[test]
-fn statements_of_two_truth_values_fire(rt: HostRuntime) -> Result<(), Fail> {
-    let alloc = rt.alloc();
-    for (word, result) in [(b"and".as_slice(), false), (b"or".as_slice(), true)] {
-        let given = token_with(3, 1, Value::Bool(result));
-        assert!(rt; fires_on_two(alloc, word, Value::Bool(true), Value::Bool(false), given)?);
+fn comparisons_fire(rt: HostRuntime) -> Result<(), Fail> {
+    let results = [
+        (b"lt".as_slice(), false),
+        (b"le".as_slice(), true),
+        (b"eq".as_slice(), true),
+    ];
+    for (word, result) in results {
+        assert!(rt; on_numbers(rt.alloc(), word, 3, 3, Value::Bool(result))?);
     }
+    Ok(())
+}
+
+#[test]
+fn conjunction_and_disjunction_fire(rt: HostRuntime) -> Result<(), Fail> {
+    assert!(rt; on_truths(rt.alloc(), b"and", false)?);
+    assert!(rt; on_truths(rt.alloc(), b"or", true)?);
     Ok(())
 }
 
 #[test]
 fn division_by_zero_gives_the_fault(rt: HostRuntime) -> Result<(), Fail> {
-    let zero = fault(2, FaultKind::Zero);
-    assert!(rt; fires_on_two(rt.alloc(), b"div", Value::Int(4), Value::Int(0), zero)?);
+    let alloc = rt.alloc();
+    let values = Values::two(alloc, Value::Int(4), Value::Int(0))?;
+    assert!(rt; fires(alloc, b"div", values, &fault(2, FaultKind::Zero))?);
     Ok(())
 }
 
 #[test]
 fn select_gives_one_of_two(rt: HostRuntime) -> Result<(), Fail> {
     let alloc = rt.alloc();
-    assert!(rt; selects(alloc, Value::Bool(true), token(3, 1, 5))?);
-    assert!(rt; selects(alloc, Value::Bool(false), token(3, 1, 7))?);
-    assert!(rt; selects(alloc, Value::Int(1), fault(2, FaultKind::Kind))?);
+    assert!(rt; selects(alloc, Value::Bool(true), &token(3, 1, 5))?);
+    assert!(rt; selects(alloc, Value::Bool(false), &token(3, 1, 7))?);
+    assert!(rt; selects(alloc, Value::Int(1), &fault(2, FaultKind::Kind))?);
     Ok(())
 }
 
