@@ -4,7 +4,7 @@ use Rattle.std.specs.List.{list_any, list_all, range_with_len}
 use lib.Pointwise.{pointwise}
 use Rattle.u_program.specs.declared.program.Constant.TheVariants as constants
 use Rattle.u_program.specs.declared.program.Kind.{Kind}
-use Rattle.u_program.specs.declared.program.Kind.TheVariants.{Begin, Const, Add, End}
+use Rattle.u_program.specs.declared.program.Kind.TheVariants.{Begin, Const, Pass, Unary, Binary, Select, End}
 use Rattle.u_program.specs.declared.program.Destination.{Destination}
 use Rattle.u_program.specs.Parts.{StatementParts, BlockParts}
 use Rattle.u_check.specs.declared.rule.Rule.{Rule}
@@ -14,20 +14,19 @@ use Rattle.u_check.specs.declared.rule.Rule.TheVariants.{BlockNamesDiffer, MainE
 abbrev pub ports_of : Kind → ℕ
 ports_of Begin = 1
 ports_of (Const c) = 1
-ports_of Add = 2
+ports_of Pass = 1
+ports_of (Unary o) = 1
+ports_of (Binary o) = 2
+ports_of Select = 3
 ports_of End = 1
 
 abbrev pub is_begin : Kind → Bool
 is_begin Begin = true
-is_begin (Const c) = false
-is_begin Add = false
-is_begin End = false
+is_begin k = false
 
 abbrev pub is_end : Kind → Bool
-is_end Begin = false
-is_end (Const c) = false
-is_end Add = false
 is_end End = true
+is_end k = false
 
 abbrev pub main_name : List ℕ
 main_name = codes "main"
@@ -73,12 +72,8 @@ lies_in region (Some s) = region == s.region
 
 -- a procedure that a statement gives is that of a block
 unfoldable pub gives_block : List BlockParts → Kind → Bool
-gives_block p Begin = true
-gives_block p (Const (constants.Int n)) = true
-gives_block p (Const (constants.Bool b)) = true
 gives_block p (Const (constants.Proc name)) = names_block p name
-gives_block p Add = true
-gives_block p End = true
+gives_block p k = true
 
 -- whether a destination of the statement is that port of statement n
 unfoldable pub sends_to : StatementParts → ℕ → ℕ → Bool

@@ -28,8 +28,9 @@ pub fn ports_of(kind: &Kind) -> usize
     ensures { result ≡ ports_of kind.now }
 {
     match kind {
-        Kind::Begin | Kind::Const(_) | Kind::End => 1,
-        Kind::Add => 2,
+        Kind::Begin | Kind::Const(_) | Kind::Pass | Kind::Unary(_) | Kind::End => 1,
+        Kind::Binary(_) => 2,
+        Kind::Select => 3,
     }
 }
 
@@ -37,20 +38,14 @@ pub fn ports_of(kind: &Kind) -> usize
 fn is_begin(kind: &Kind) -> bool
     ensures { result ≡ is_begin kind.now }
 {
-    match kind {
-        Kind::Begin => true,
-        Kind::Const(_) | Kind::Add | Kind::End => false,
-    }
+    matches!(kind, Kind::Begin)
 }
 
 /// Whether it is `end`.
 pub fn is_end(kind: &Kind) -> bool
     ensures { result ≡ is_end kind.now }
 {
-    match kind {
-        Kind::End => true,
-        Kind::Begin | Kind::Const(_) | Kind::Add => false,
-    }
+    matches!(kind, Kind::End)
 }
 
 /// Whether the statement lies in region 0.

@@ -44,6 +44,22 @@ fn the_first_breach_is_named(rt: HostRuntime) -> Result<(), Fail> {
             b"u-program 1\nblock main\n1 0 begin -> 2.1\n2 0 const @other -> 3.1\n3 0 end ->\n".as_slice(),
             "rule 10 block 1 statement 2",
         ),
+        (
+            b"u-program 1\nblock main\n1 0 begin -> 2.1 2.2 2.3\n2 0 select -> 3.1\n3 0 end ->\n".as_slice(),
+            "",
+        ),
+        (
+            b"u-program 1\nblock main\n1 0 begin -> 2.1 2.2\n2 0 select -> 3.1\n3 0 end ->\n".as_slice(),
+            "rule 16 block 1 statement 2",
+        ),
+        (
+            b"u-program 1\nblock main\n1 0 begin -> 2.1 2.2 2.3\n2 0 mul -> 3.1\n3 0 end ->\n".as_slice(),
+            "rule 5 block 1 statement 1",
+        ),
+        (
+            b"u-program 1\nblock main\n1 0 begin -> 2.1 2.2\n2 0 not -> 3.1\n3 0 end ->\n".as_slice(),
+            "rule 5 block 1 statement 1",
+        ),
     ];
     for (text, words) in programs {
         let printed = said(rt.alloc(), text)?;

@@ -1,6 +1,7 @@
 -- The reader of lines reads exactly their texts.
-use Rattle.std.specs.Prelude.{◌≡◌, ℕ, ◌^◌, ◌<◌, Bool, true, false, cond, List, [], ◌∷◌, ◌++◌, map, codes, Some, None, IsTrue, refl}
-use Rattle.std.specs.List.{AllByRecursion}
+use Rattle.std.specs.Prelude.{◌≡◌, ℕ, ◌^◌, ◌<◌, Bool, true, false, cond, nat_le, List, [], ◌∷◌, ◌++◌, map, codes, Some, None, IsTrue, refl}
+use Rattle.std.specs.List.{AllByRecursion, list_all}
+use Rattle.std.proofs.lemmas.Bool.{and_parts, leb-true}
 use Rattle.std.proofs.Common.{sym, ◌∙◌, ap, subst, arith, inl, inr}
 use Rattle.std.specs.Fmt.{decimal}
 use Rattle.u_name.specs.Block.{IsBlock, is_block_byte}
@@ -13,16 +14,42 @@ use Rattle.u_program.specs.declared.reading.Line.TheVariants.{Block, Statement}
 use Rattle.u_program.specs.declared.program.Constant.{Constant}
 use Rattle.u_program.specs.declared.program.Constant.TheVariants as constants
 use Rattle.u_program.specs.declared.program.Kind.{Kind}
-use Rattle.u_program.specs.declared.program.Kind.TheVariants.{Begin, Const, Add, End}
+use Rattle.u_program.specs.declared.program.Kind.TheVariants.{Begin, Const, Pass, Unary, Binary, Select, End}
+use Rattle.u_value.specs.declared.operators.UnaryOperator.{UnaryOperator}
+use Rattle.u_value.specs.declared.operators.UnaryOperator.TheVariants.{Not, Length}
+use Rattle.u_value.specs.declared.operators.BinaryOperator.{BinaryOperator}
+use Rattle.u_value.specs.declared.operators.BinaryOperator.TheVariants.{And, Or, Add, Sub, Mul, Div, Rem, Lt, Le, Eq}
 use Rattle.u_program.specs.declared.program.Destination.{Destination}
 use Rattle.u_program.specs.Parts.{StatementParts}
 use Rattle.u_program.specs.Limits.{Limits, IsConstant, IsKind, IsDestination, Ascending, rank, IsStatement, no_limits}
-use Rattle.u_program.specs.Text.{arrow, kind_word, constant_word, argument_words, destination_word, statement_words, block_line, statement_line}
+use Rattle.u_program.specs.Text.{arrow, unary_word, binary_word, kind_word, constant_word, argument_words, destination_word, statement_words, block_line, statement_line}
 use Rattle.u_program.specs.Reading.{Words, name_word, statement_at, name_line, alone, numbered, line_at}
 use Rattle.u_program.specs.Begun.{line_text, IsLine}
 use Rattle.u_program.proofs.WordLaws.{name_word_sound, name_word_complete, statement_sound, statement_complete}
 
 -- no byte of a word but a block's name is below 45
+
+-- whether each byte is at least 45
+all_high : List ℕ → Bool
+all_high w = list_all (λ b. nat_le 45 b) w
+
+unary_high : (o : UnaryOperator) → all_high (unary_word o) ≡ true
+unfolding all_high
+unary_high Not = refl
+unary_high Length = refl
+
+binary_high : (o : BinaryOperator) → all_high (binary_word o) ≡ true
+unfolding all_high
+binary_high And = refl
+binary_high Or = refl
+binary_high Add = refl
+binary_high Sub = refl
+binary_high Mul = refl
+binary_high Div = refl
+binary_high Rem = refl
+binary_high Lt = refl
+binary_high Le = refl
+binary_high Eq = refl
 
 module _ (c : ℕ) where
   block_free : (bs : List ℕ) → is_block_byte c ≡ false → AllByRecursion (λ b. IsTrue (is_block_byte b)) bs → Free c bs
@@ -32,11 +59,23 @@ module _ (c : ℕ) where
       not_both : {t : Bool} → IsTrue t → t ≡ false → ⊥
       not_both h e = cc
 
+  written_free : (w : List ℕ) → c < 45 → all_high w ≡ true → Free c w
+  unfolding all_high
+  written_free [] low h = tt
+  written_free (b ∷ w) low h =
+      let a = and_parts (nat_le 45 b) (list_all (λ d. nat_le 45 d) w) h in
+      let l = leb-true 45 b a.0 in
+      (λ e. omega arith, written_free w low a.1)
+
   kind_free : (k : Kind) → c < 45 → Free c (kind_word k)
-  kind_free Begin low = free_above c (codes "begin") low (omega arith, (omega arith, (omega arith, (omega arith, (omega arith, tt)))))
-  kind_free (Const k) low = free_above c (codes "const") low (omega arith, (omega arith, (omega arith, (omega arith, (omega arith, tt)))))
-  kind_free Add low = free_above c (codes "add") low (omega arith, (omega arith, (omega arith, tt)))
-  kind_free End low = free_above c (codes "end") low (omega arith, (omega arith, (omega arith, tt)))
+  unfolding all_high
+  kind_free Begin low = written_free (codes "begin") low refl
+  kind_free (Const k) low = written_free (codes "const") low refl
+  kind_free Pass low = written_free (codes "pass") low refl
+  kind_free (Unary o) low = written_free (unary_word o) low (unary_high o)
+  kind_free (Binary o) low = written_free (binary_word o) low (binary_high o)
+  kind_free Select low = written_free (codes "select") low refl
+  kind_free End low = written_free (codes "end") low refl
 
   constant_free : (k : Constant) → c < 45 → is_block_byte c ≡ false → IsConstant k → Free c (constant_word k)
   constant_free (constants.Int n) low m v = free_signed c n low v
@@ -45,10 +84,8 @@ module _ (c : ℕ) where
   constant_free (constants.Proc name) low m v = (λ e. omega arith, block_free name m v.each)
 
   argument_free : (k : Kind) → c < 45 → is_block_byte c ≡ false → IsKind k → AllFree c (argument_words k)
-  argument_free Begin low m v = tt
   argument_free (Const k) low m v = (constant_free k low m v, tt)
-  argument_free Add low m v = tt
-  argument_free End low m v = tt
+  argument_free k low m v = tt
 
   destination_free : (d : Destination) → c < 45 → IsDestination d → Free c (destination_word d)
   destination_free d low v = free_append c (decimal d.statement) (46 ∷ decimal d.port) (free_decimal c d.statement low (omega (arith, v.statement.1))) (λ e. omega arith, free_decimal c d.port low (omega (arith, v.port.1)))

@@ -1,13 +1,12 @@
 -- The readers of words read exactly the words of what they read.
-use Rattle.std.specs.Prelude.{◌≡◌, ℕ, suc, ◌^◌, ◌≤◌, ◌<◌, Bool, true, false, cond, ◌&&◌, nat_le, IsTrue, List, [], ◌∷◌, ◌++◌, map, codes, length, Option, Some, None, refl}
+use Rattle.std.specs.Prelude.{◌≡◌, ℕ, suc, ◌^◌, ◌≤◌, ◌<◌, Bool, true, false, cond, nat_le, List, [], ◌∷◌, ◌++◌, map, codes, Option, Some, None, refl}
 use Rattle.std.specs.List.{AllByRecursion}
 use Rattle.std.proofs.Common.{sym, ◌∙◌, ap, subst, arith, inl, inr, append_assoc}
 use Rattle.std.proofs.lemmas.List.{append-nil}
-use Rattle.std.proofs.lemmas.Bool.Decides.{nat_tests}
 use Rattle.std.specs.Fmt.{decimal}
 use lib.IntN.{ℤ, pos, negsuc}
-use Rattle.u_name.specs.Block.{IsBlock, StartsWithLetter, is_letter, is_block_byte}
-use Rattle.u_name.specs.BlockText.{block_Reads, begins_with_letter}
+use Rattle.u_name.specs.Block.{IsBlock}
+use Rattle.u_name.specs.BlockText.{block_Reads}
 use Rattle.u_text.specs.Reads.{Reads}
 use Rattle.u_text.specs.Parts.{lead_Reads, alike, unlike, same_or}
 use Rattle.u_text.specs.Then.{after, AreBoth, both_Reads}
@@ -16,12 +15,14 @@ use Rattle.u_text.specs.WholeWords.{◌then◌, whole, is, told, some_same, none
 use Rattle.u_program.specs.declared.program.Constant.{Constant}
 use Rattle.u_program.specs.declared.program.Constant.TheVariants as constants
 use Rattle.u_program.specs.declared.program.Kind.{Kind}
-use Rattle.u_program.specs.declared.program.Kind.TheVariants.{Begin, Const, Add, End}
+use Rattle.u_program.specs.declared.program.Kind.TheVariants.{Begin, Const, Pass, Unary, Binary, Select, End}
+use Rattle.u_value.specs.declared.operators.UnaryOperator.TheVariants.{Not, Length}
+use Rattle.u_value.specs.declared.operators.BinaryOperator.TheVariants.{And, Or, Add, Sub, Mul, Div, Rem, Lt, Le, Eq}
 use Rattle.u_program.specs.declared.program.Destination.{Destination}
 use Rattle.u_program.specs.Parts.{StatementParts, statement}
 use Rattle.u_program.specs.Limits.{IsConstant, IsKind, has_list, IsListed, IsDestination, Ascending, rank, IsStatement, no_limits}
 use Rattle.u_program.specs.Text.{arrow, kind_word, constant_word, argument_words, destination_word, statement_words}
-use Rattle.u_program.specs.Reading.{Words, all_block_bytes, is_block_name, name_word, dot_at, ported, destination_at, destinations_at, none_at, list_at, other_constant, constant_at, plain_kinds, kind_among, const_at, plain_at, kind_of, kind_at, arrow_at, statement_at}
+use Rattle.u_program.specs.Reading.{Words, name_word, dot_at, ported, destination_at, destinations_at, none_at, list_at, other_constant, constant_at, plain_kinds, kind_among, const_at, plain_at, kind_of, kind_at, arrow_at, statement_at}
 
 pub name_word_sound : (w name : List ℕ) → name_word w ≡ Some name → IsBlock name × (w ≡ name)
 unfolding name_word
@@ -37,53 +38,6 @@ name_word_none w n = at (name_word w) refl
     at : (r : Option (List ℕ)) → name_word w ≡ r → r ≡ None
     at None h = refl
     at (Some name) h = let s = name_word_sound w name h in absurd (n (subst IsBlock (sym s.1) s.0))
-
--- the test of a block's name
-
-and_true : (a b : Bool) → (a && b) ≡ true → (a ≡ true) × (b ≡ true)
-and_true true b h = (refl, h)
-and_true false b h = cc
-
-true_is : (b : Bool) → b ≡ true → IsTrue b
-true_is true h = refl
-true_is false h = cc
-
-both_true : (a b : Bool) → a ≡ true → b ≡ true → (a && b) ≡ true
-both_true a b e f = cc
-
-is_true : (b : Bool) → IsTrue b → b ≡ true
-is_true true h = refl
-is_true false h = cc
-
-all_bytes : (cs : List ℕ) → all_block_bytes cs ≡ true → AllByRecursion (λ c. IsTrue (is_block_byte c)) cs
-all_bytes [] h = tt
-all_bytes (c ∷ cs) h = let a = and_true (is_block_byte c) (all_block_bytes cs) h in (true_is (is_block_byte c) a.0, all_bytes cs a.1)
-
-starts : (cs : List ℕ) → begins_with_letter cs ≡ true → StartsWithLetter cs
-starts [] h = cc
-starts (c ∷ cs) h = true_is (is_letter c) h
-
-pub block_name_is : (w : List ℕ) → is_block_name w ≡ true → IsBlock w
-block_name_is w h =
-    let a = and_true (nat_le (length w) 16) (begins_with_letter w && all_block_bytes w) h in
-    let b = and_true (begins_with_letter w) (all_block_bytes w) a.1 in
-    record { short = grind (arith, nat_tests); first = starts w b.0; each = all_bytes w b.1 }
-
-bytes_hold : (cs : List ℕ) → AllByRecursion (λ c. IsTrue (is_block_byte c)) cs → all_block_bytes cs ≡ true
-bytes_hold [] v = refl
-bytes_hold (c ∷ cs) v = both_true (is_block_byte c) (all_block_bytes cs) (is_true (is_block_byte c) v.0) (bytes_hold cs v.1)
-
-starts_hold : (cs : List ℕ) → StartsWithLetter cs → begins_with_letter cs ≡ true
-starts_hold [] v = absurd v
-starts_hold (c ∷ cs) v = is_true (is_letter c) v
-
-block_name_holds : (w : List ℕ) → IsBlock w → is_block_name w ≡ true
-block_name_holds w v =
-    let s : nat_le (length w) 16 ≡ true = elim (le_cases (length w) 16) [ inl a ↦ a.0 | inr a ↦ absurd (omega (arith, v.short)) ] in
-    both_true (nat_le (length w) 16) (begins_with_letter w && all_block_bytes w) s (both_true (begins_with_letter w) (all_block_bytes w) (starts_hold w v.first) (bytes_hold w v.each))
-
-pub block_name_not : (w : List ℕ) → is_block_name w ≡ false → name_word w ≡ None
-block_name_not w h = name_word_none w (λ v. let e = block_name_holds w v in cc)
 
 no_dot : (c : ℕ) (t u : List ℕ) → IsDigit c → 46 ∷ t ≡ c ∷ u → ⊥
 no_dot c t u m e = let f : 46 ≡ c = cc in omega (arith, m.0)
@@ -271,7 +225,7 @@ among_sound (j ∷ ks) w k v h =
 
 are_plain : AllByRecursion IsPlain plain_kinds
 unfolding IsPlain
-are_plain = ((tt, refl), ((tt, refl), ((tt, refl), tt)))
+are_plain = ((tt, refl), ((tt, refl), ((tt, refl), ((tt, refl), ((tt, refl), ((tt, refl), ((tt, refl), ((tt, refl), ((tt, refl), ((tt, refl), ((tt, refl), ((tt, refl), ((tt, refl), ((tt, refl), ((tt, refl), ((tt, refl), tt))))))))))))))))
 
 SaysKind : List ℕ → Words → Kind → Words → Type 0
 SaysKind w ws k rest = IsKind k × (w ∷ ws ≡ kind_word k ∷ (argument_words k ++ rest))
@@ -313,9 +267,22 @@ kind_sound (w ∷ ws) k rest h = kind_of_sound w ws k rest h
 
 pub kind_complete : (k : Kind) (rest : Words) → IsKind k → kind_at (kind_word k ∷ (argument_words k ++ rest)) ≡ Some (k, rest)
 unfolding kind_at kind_among
-kind_complete Begin rest v = refl
 kind_complete (Const c) rest v = ap (λ r. r then λ c. Some (Const c, rest)) (constant_complete c v)
-kind_complete Add rest v = refl
+kind_complete Begin rest v = refl
+kind_complete Pass rest v = refl
+kind_complete (Unary Not) rest v = refl
+kind_complete (Unary Length) rest v = refl
+kind_complete (Binary And) rest v = refl
+kind_complete (Binary Or) rest v = refl
+kind_complete (Binary Add) rest v = refl
+kind_complete (Binary Sub) rest v = refl
+kind_complete (Binary Mul) rest v = refl
+kind_complete (Binary Div) rest v = refl
+kind_complete (Binary Rem) rest v = refl
+kind_complete (Binary Lt) rest v = refl
+kind_complete (Binary Le) rest v = refl
+kind_complete (Binary Eq) rest v = refl
+kind_complete Select rest v = refl
 kind_complete End rest v = refl
 
 pub arrow_sound : (ws : Words) (u : Unit {0}) (rest : Words) → arrow_at ws ≡ Some (u, rest) → ws ≡ arrow ∷ rest

@@ -6,7 +6,7 @@ use Rattle.u_name.specs.Context.{IsBetween}
 use Rattle.u_program.specs.declared.program.Constant.{Constant}
 use Rattle.u_program.specs.declared.program.Constant.TheVariants as constants
 use Rattle.u_program.specs.declared.program.Kind.{Kind}
-use Rattle.u_program.specs.declared.program.Kind.TheVariants.{Begin, Const, Add, End}
+use Rattle.u_program.specs.declared.program.Kind.TheVariants.{Const, End}
 use Rattle.u_program.specs.declared.program.Destination.{Destination}
 use Rattle.u_program.specs.Parts.{StatementParts, BlockParts}
 use Rattle.std.specs.Prelude.{FitsSigned}
@@ -35,10 +35,8 @@ IsConstant (constants.Bool b) = Unit {0}
 IsConstant (constants.Proc name) = IsBlock name
 
 abbrev pub IsKind : Kind → Type 0
-IsKind Begin = Unit {0}
 IsKind (Const c) = IsConstant c
-IsKind Add = Unit {0}
-IsKind End = Unit {0}
+IsKind k = Unit {0}
 
 -- whether a statement of the kind lists destinations
 abbrev pub has_list : Kind → Bool

@@ -1,7 +1,6 @@
 -- What is read of the words of a line.
-use Rattle.std.specs.Prelude.{ℕ, Bool, true, false, cond, ◌&&◌, ◌==◌, nat_le, length, List, [], ◌∷◌, codes, Option, Some, None}
-use Rattle.u_name.specs.BlockText.{block_at, begins_with_letter}
-use Rattle.u_name.specs.Block.{is_block_byte}
+use Rattle.std.specs.Prelude.{ℕ, true, false, cond, ◌==◌, nat_le, List, [], ◌∷◌, codes, Option, Some, None}
+use Rattle.u_name.specs.BlockText.{block_at}
 use Rattle.u_text.specs.Reads.{Reader}
 use Rattle.u_text.specs.Parts.{lead}
 use Rattle.u_text.specs.Then.{both}
@@ -10,7 +9,9 @@ use Rattle.u_text.specs.WholeWords.{◌then◌, whole, is, number_word, number0_
 use Rattle.u_program.specs.declared.program.Constant.{Constant}
 use Rattle.u_program.specs.declared.program.Constant.TheVariants as constants
 use Rattle.u_program.specs.declared.program.Kind.{Kind}
-use Rattle.u_program.specs.declared.program.Kind.TheVariants.{Begin, Const, Add, End}
+use Rattle.u_program.specs.declared.program.Kind.TheVariants.{Begin, Const, Pass, Unary, Binary, Select, End}
+use Rattle.u_value.specs.declared.operators.UnaryOperator.TheVariants.{Not, Length}
+use Rattle.u_value.specs.declared.operators.BinaryOperator.TheVariants.{And, Or, Add, Sub, Mul, Div, Rem, Lt, Le, Eq}
 use Rattle.u_program.specs.declared.program.Destination.{Destination}
 use Rattle.u_program.specs.declared.reading.Line.{Line}
 use Rattle.u_program.specs.declared.reading.Line.TheVariants.{Block, Statement}
@@ -24,13 +25,6 @@ Words = List (List ℕ)
 abbrev pub word_at : Words → Option (List ℕ × Words)
 word_at [] = None
 word_at (w ∷ ws) = Some (w, ws)
-
-abbrev pub all_block_bytes : List ℕ → Bool
-all_block_bytes [] = true
-all_block_bytes (c ∷ cs) = is_block_byte c && all_block_bytes cs
-
-abbrev pub is_block_name : List ℕ → Bool
-is_block_name w = nat_le (length w) 16 && (begins_with_letter w && all_block_bytes w)
 
 unfoldable pub name_word : List ℕ → Option (List ℕ)
 name_word w = whole (block_at w)
@@ -66,7 +60,12 @@ constant_at w = cond (is w (codes "true")) (Some (constants.Bool true)) (cond (i
 
 -- the kinds without an argument
 abbrev pub plain_kinds : List Kind
-plain_kinds = Begin ∷ Add ∷ End ∷ []
+plain_kinds =
+    Begin ∷ Pass ∷ Unary Not ∷ Unary Length
+    ∷ Binary And ∷ Binary Or
+    ∷ Binary Add ∷ Binary Sub ∷ Binary Mul ∷ Binary Div ∷ Binary Rem
+    ∷ Binary Lt ∷ Binary Le ∷ Binary Eq
+    ∷ Select ∷ End ∷ []
 
 -- the first of these kinds that has this word
 unfoldable pub kind_among : List Kind → List ℕ → Option Kind

@@ -4,7 +4,11 @@ use Rattle.std.specs.Fmt.{decimal, signed_decimal}
 use Rattle.u_program.specs.declared.program.Constant.{Constant}
 use Rattle.u_program.specs.declared.program.Constant.TheVariants as constants
 use Rattle.u_program.specs.declared.program.Kind.{Kind}
-use Rattle.u_program.specs.declared.program.Kind.TheVariants.{Begin, Const, Add, End}
+use Rattle.u_program.specs.declared.program.Kind.TheVariants.{Begin, Const, Pass, Unary, Binary, Select, End}
+use Rattle.u_value.specs.declared.operators.UnaryOperator.{UnaryOperator}
+use Rattle.u_value.specs.declared.operators.UnaryOperator.TheVariants.{Not, Length}
+use Rattle.u_value.specs.declared.operators.BinaryOperator.{BinaryOperator}
+use Rattle.u_value.specs.declared.operators.BinaryOperator.TheVariants.{And, Or, Add, Sub, Mul, Div, Rem, Lt, Le, Eq}
 use Rattle.u_program.specs.declared.program.Destination.{Destination}
 use Rattle.u_program.specs.Parts.{StatementParts, BlockParts}
 use Rattle.u_text.specs.Spaced.{spaced, ended}
@@ -16,10 +20,29 @@ header = codes "u-program 1"
 abbrev pub arrow : List ℕ
 arrow = codes "->"
 
+abbrev pub unary_word : UnaryOperator → List ℕ
+unary_word Not = codes "not"
+unary_word Length = codes "length"
+
+abbrev pub binary_word : BinaryOperator → List ℕ
+binary_word And = codes "and"
+binary_word Or = codes "or"
+binary_word Add = codes "add"
+binary_word Sub = codes "sub"
+binary_word Mul = codes "mul"
+binary_word Div = codes "div"
+binary_word Rem = codes "rem"
+binary_word Lt = codes "lt"
+binary_word Le = codes "le"
+binary_word Eq = codes "eq"
+
 abbrev pub kind_word : Kind → List ℕ
 kind_word Begin = codes "begin"
 kind_word (Const c) = codes "const"
-kind_word Add = codes "add"
+kind_word Pass = codes "pass"
+kind_word (Unary o) = unary_word o
+kind_word (Binary o) = binary_word o
+kind_word Select = codes "select"
 kind_word End = codes "end"
 
 -- `true`, `-7`, `@fact`

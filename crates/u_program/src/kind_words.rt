@@ -1,9 +1,38 @@
 //! The words of kinds.
 ghost use Rattle.std.specs.Prelude.{◌≡◌};
 ghost use Rattle.u_program.specs.Limits.{has_list};
-ghost use Rattle.u_program.specs.Text.{kind_word};
+ghost use Rattle.u_program.specs.Text.{unary_word, binary_word, kind_word};
 
 use crate::program::Kind;
+use u_value::{BinaryOperator, UnaryOperator};
+
+/// The word of an operator with one operand.
+fn unary_word(operator: UnaryOperator) -> &'static [u8]
+    ensures { result.now ≡ unary_word operator }
+{
+    match operator {
+        UnaryOperator::Not => b"not".as_slice(),
+        UnaryOperator::Length => b"length".as_slice(),
+    }
+}
+
+/// The word of an operator with two operands.
+fn binary_word(operator: BinaryOperator) -> &'static [u8]
+    ensures { result.now ≡ binary_word operator }
+{
+    match operator {
+        BinaryOperator::And => b"and".as_slice(),
+        BinaryOperator::Or => b"or".as_slice(),
+        BinaryOperator::Add => b"add".as_slice(),
+        BinaryOperator::Sub => b"sub".as_slice(),
+        BinaryOperator::Mul => b"mul".as_slice(),
+        BinaryOperator::Div => b"div".as_slice(),
+        BinaryOperator::Rem => b"rem".as_slice(),
+        BinaryOperator::Lt => b"lt".as_slice(),
+        BinaryOperator::Le => b"le".as_slice(),
+        BinaryOperator::Eq => b"eq".as_slice(),
+    }
+}
 
 /// The word of a kind.
 pub fn kind_word(kind: &Kind) -> &'static [u8]
@@ -12,7 +41,10 @@ pub fn kind_word(kind: &Kind) -> &'static [u8]
     match kind {
         Kind::Begin => b"begin".as_slice(),
         Kind::Const(_) => b"const".as_slice(),
-        Kind::Add => b"add".as_slice(),
+        Kind::Pass => b"pass".as_slice(),
+        Kind::Unary(operator) => unary_word(*operator),
+        Kind::Binary(operator) => binary_word(*operator),
+        Kind::Select => b"select".as_slice(),
         Kind::End => b"end".as_slice(),
     }
 }

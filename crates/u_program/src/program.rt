@@ -6,6 +6,7 @@ ghost use Rattle.u_program.specs.Parts.{statement, block};
 use std::alloc::{AllocFailed, Global};
 use std::marker::Model;
 use u_name::BlockName;
+use u_value::{BinaryOperator, UnaryOperator};
 
 /// Where a value goes: a port of a statement of the same block.
 #[derive(Clone, Copy, Debug, PartialEq, Eq)]
@@ -34,8 +35,14 @@ pub enum Kind {
     Begin,
     /// Gives a constant.
     Const(Constant),
-    /// Adds two numbers.
-    Add,
+    /// Hands on a value.
+    Pass,
+    /// Gives what the operator makes of a value.
+    Unary(UnaryOperator),
+    /// Gives what the operator makes of two values.
+    Binary(BinaryOperator),
+    /// Gives one of two values, which a truth value before them chooses.
+    Select,
     /// Hands on the result of its block.
     End,
 }

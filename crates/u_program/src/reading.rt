@@ -1,9 +1,7 @@
 //! Lines of a program's text, read.
 ghost use Rattle.std.specs.Prelude.{◌≡◌, ◌≤◌, Some, None, MatchOption, MatchResult};
-ghost use Rattle.u_program.specs.Reading.{plain_kinds, is_block_name, all_block_bytes, name_word, destination_at, destinations_at, list_at, constant_at, kind_among, kind_at, arrow_at, statement_at, line_at};
+ghost use Rattle.u_program.specs.Reading.{plain_kinds, name_word, destination_at, destinations_at, list_at, constant_at, kind_among, kind_at, arrow_at, statement_at, line_at};
 ghost use Rattle.u_program.specs.Refuses.{Refuses};
-ghost use Rattle.u_name.specs.Block.{is_letter, is_block_byte};
-ghost use Rattle.u_name.specs.BlockText.{begins_with_letter};
 ghost use Rattle.u_text.specs.Pieces.{words};
 
 use crate::kind_words::{has_list, kind_word};
@@ -11,6 +9,7 @@ use crate::program::{Constant, Destination, Kind, Statement};
 use std::alloc::{AllocFailed, Global};
 use u_name::BlockName;
 use u_text::{BadWord, Words, after, number_at, number_word, number0_word, signed_word};
+use u_value::{BinaryOperator, UnaryOperator};
 
 /// Why a line was not read: it is of no allowed form, or there is no memory.
 #[derive(Debug, Drop)]
@@ -41,50 +40,16 @@ impl<T: Drop> From<AllocFailed<T>> for WordFault {
     }
 }
 
-fn is_block_byte(byte: u8) -> bool
-    ensures { result ≡ is_block_byte byte }
-{
-    matches!(byte, b'a'..=b'z' | b'0'..=b'9' | b'_')
-}
-
-fn begins_with_letter(word: &[u8]) -> bool
-    ensures { result ≡ begins_with_letter word.now }
-{
-    match word.split_first() {
-        Some((first, _)) => matches!(*first, b'a'..=b'z'),
-        None => false,
-    }
-}
-
-fn all_block_bytes(word: &[u8]) -> bool
-    ensures { result ≡ all_block_bytes word.now }
-{
-    let mut rest = word;
-    while let Some((byte, others)) = rest.split_first() {
-        if !is_block_byte(*byte) {
-            return false;
-        }
-        rest = others;
-    }
-    true
-}
-
-fn is_block_name(word: &[u8]) -> bool
-    ensures { result ≡ is_block_name word.now }
-{
-    word.len() <= 16 && begins_with_letter(word) && all_block_bytes(word)
-}
-
-#[tactic(auto, using(crate::proofs::WordLaws::block_name_is, crate::proofs::WordLaws::block_name_not, crate::proofs::WordLaws::name_word_complete))]
+#[tactic(auto, using(crate::proofs::WordLaws::name_word_none, crate::proofs::WordLaws::name_word_complete))]
 fn name_word(word: &[u8]) -> Result<BlockName, BadWord>
     ensures { MatchResult result
         (λ name. name_word word.now ≡ Some name)
         (λ _. name_word word.now ≡ None) }
 {
-    if !is_block_name(word) {
-        return Err(BadWord);
+    match BlockName::read(word) {
+        Some(name) => Ok(name),
+        None => Err(BadWord),
     }
-    Ok(BlockName::new(word))
 }
 
 #[tactic(auto, unfolding(crate::specs::Reading::constant_at))]
@@ -125,14 +90,33 @@ fn kind_among(kinds: &[Kind], word: &[u8]) -> Result<Kind, BadWord>
     Err(BadWord)
 }
 
+/// The kinds without an argument.
+const PLAIN_KINDS: [Kind; 16] = [
+    Kind::Begin,
+    Kind::Pass,
+    Kind::Unary(UnaryOperator::Not),
+    Kind::Unary(UnaryOperator::Length),
+    Kind::Binary(BinaryOperator::And),
+    Kind::Binary(BinaryOperator::Or),
+    Kind::Binary(BinaryOperator::Add),
+    Kind::Binary(BinaryOperator::Sub),
+    Kind::Binary(BinaryOperator::Mul),
+    Kind::Binary(BinaryOperator::Div),
+    Kind::Binary(BinaryOperator::Rem),
+    Kind::Binary(BinaryOperator::Lt),
+    Kind::Binary(BinaryOperator::Le),
+    Kind::Binary(BinaryOperator::Eq),
+    Kind::Select,
+    Kind::End,
+];
+
 /// The kind without an argument that has this word.
 fn plain_kind(word: &[u8]) -> Result<Kind, BadWord>
     ensures { MatchResult result
         (λ k. kind_among plain_kinds word.now ≡ Some k)
         (λ _. kind_among plain_kinds word.now ≡ None) }
 {
-    let kinds = [Kind::Begin, Kind::Add, Kind::End];
-    kind_among(&kinds, word)
+    kind_among(&PLAIN_KINDS, word)
 }
 
 #[tactic(auto, unfolding(crate::specs::Reading::kind_at))]

@@ -4,6 +4,7 @@ use crate::read_error::ReadError;
 use crate::text::read;
 use std::alloc::{AllocError, Global};
 use std::test::Fail;
+use u_value::{BinaryOperator, UnaryOperator};
 
 fn is_written_as_read(alloc: Global, text: &[u8]) -> Result<bool, Fail> {
     let program = read(alloc, text)?;
@@ -74,6 +75,62 @@ fn writes_what_it_read(rt: HostRuntime) -> Result<(), Fail> {
     Ok(())
 }
 
+/// Whether a statement with that word is of that kind.
+fn is_read_as(alloc: Global, word: &[u8], kind: Kind) -> Result<bool, Fail> {
+    let mut line = Vec::new(alloc);
+    line.extend_from_slice(b"1 0 ")?;
+    line.extend_from_slice(word)?;
+    line.extend_from_slice(b" ->")?;
+    let text = with_line(alloc, &line)?;
+    Ok(first_kind(&read(alloc, &text)?) == Some(kind))
+}
+
+#[test]
+fn reads_each_kind(rt: HostRuntime) -> Result<(), Fail> {
+    let alloc = rt.alloc();
+    let kinds = [
+        (b"begin".as_slice(), Kind::Begin),
+        (b"pass".as_slice(), Kind::Pass),
+        (b"not".as_slice(), Kind::Unary(UnaryOperator::Not)),
+        (b"length".as_slice(), Kind::Unary(UnaryOperator::Length)),
+        (b"select".as_slice(), Kind::Select),
+        (b"end".as_slice(), Kind::End),
+    ];
+    for (word, kind) in kinds {
+        assert!(rt; is_read_as(alloc, word, kind)?);
+    }
+    Ok(())
+}
+
+#[test]
+fn reads_each_operator_with_two_operands(rt: HostRuntime) -> Result<(), Fail> {
+    let alloc = rt.alloc();
+    let operators = [
+        (b"and".as_slice(), BinaryOperator::And),
+        (b"or".as_slice(), BinaryOperator::Or),
+        (b"add".as_slice(), BinaryOperator::Add),
+        (b"sub".as_slice(), BinaryOperator::Sub),
+        (b"mul".as_slice(), BinaryOperator::Mul),
+        (b"div".as_slice(), BinaryOperator::Div),
+        (b"rem".as_slice(), BinaryOperator::Rem),
+        (b"lt".as_slice(), BinaryOperator::Lt),
+        (b"le".as_slice(), BinaryOperator::Le),
+        (b"eq".as_slice(), BinaryOperator::Eq),
+    ];
+    for (word, operator) in operators {
+        assert!(rt; is_read_as(alloc, word, Kind::Binary(operator))?);
+    }
+    Ok(())
+}
+
+#[test]
+fn writes_a_program_with_every_kind(rt: HostRuntime) -> Result<(), Fail> {
+    let text =
+        b"u-program 1\nblock main\n1 0 begin -> 2.1 3.1\n2 0 const true -> 4.1\n3 0 pass -> 5.1 5.2 6.1\n4 0 not -> 13.1\n5 0 add -> 7.1 8.1\n6 0 length ->\n7 0 sub -> 7.2 9.1\n8 0 mul -> 8.2 9.2\n9 0 div -> 10.1\n10 0 rem -> 10.2 11.1 12.1\n11 0 lt -> 11.2 14.1\n12 0 le -> 12.2 14.2\n13 0 and -> 13.2 16.1\n14 0 or -> 15.1\n15 0 eq -> 15.2 16.2\n16 0 select -> 16.3 17.1\n17 0 end ->\n";
+    assert!(rt; is_written_as_read(rt.alloc(), text.as_slice())?);
+    Ok(())
+}
+
 #[test]
 fn names_the_first_bad_line(rt: HostRuntime) -> Result<(), Fail> {
     let alloc = rt.alloc();
@@ -99,6 +156,9 @@ fn names_the_first_bad_line(rt: HostRuntime) -> Result<(), Fail> {
         b"1 0 const @ ->".as_slice(),
         b"1 0 const @Fact ->".as_slice(),
         b"1 0 end -> 1.1".as_slice(),
+        b"1 0 select 1 ->".as_slice(),
+        b"1 0 subtract ->".as_slice(),
+        b"1 0 l ->".as_slice(),
         b"1 0 end -> ".as_slice(),
         b"1 0 begin -> 1.1 2.1 3.1 4.1 5.1 6.1 7.1 8.1 9.1 10.1 11.1 12.1 13.1 14.1 15.1 16.1 17.4".as_slice(),
         b"loop 1 0".as_slice(),

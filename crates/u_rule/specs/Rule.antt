@@ -6,12 +6,13 @@ use Rattle.u_value.specs.declared.value.Value.{Value}
 use Rattle.u_value.specs.declared.value.Value.TheVariants as values
 use Rattle.u_value.specs.declared.fault_kind.FaultKind.{FaultKind}
 use Rattle.u_value.specs.declared.fault_kind.FaultKind.TheVariants as faults
-use Rattle.u_value.specs.declared.operators.BinaryOperator.TheVariants as operators
-use Rattle.u_value.specs.Operators.{applied2}
+use Rattle.u_value.specs.declared.operators.UnaryOperator.{UnaryOperator}
+use Rattle.u_value.specs.declared.operators.BinaryOperator.{BinaryOperator}
+use Rattle.u_value.specs.Operators.{applied1, applied2, chosen}
 use Rattle.u_program.specs.declared.program.Constant.{Constant}
 use Rattle.u_program.specs.declared.program.Constant.TheVariants as constants
 use Rattle.u_program.specs.declared.program.Kind.{Kind}
-use Rattle.u_program.specs.declared.program.Kind.TheVariants.{Begin, Const, Add, End}
+use Rattle.u_program.specs.declared.program.Kind.TheVariants.{Begin, Const, Pass, Unary, Binary, Select, End}
 use Rattle.u_program.specs.declared.program.Destination.{Destination}
 use Rattle.u_program.specs.Parts.{StatementParts, BlockParts}
 use Rattle.u_check.specs.Rules.{ports_of, is_end, main_name, same_name, block_named, statement_at}
@@ -67,15 +68,27 @@ abbrev pub first_of : ValueList → Result Value FaultKind
 first_of [] = Err faults.Kind
 first_of (v ∷ vs) = Ok v
 
-abbrev pub sum_of : ValueList → Result Value FaultKind
-sum_of (a ∷ b ∷ vs) = applied2 operators.Add a b
-sum_of vs = Err faults.Kind
+abbrev pub unary_of : UnaryOperator → ValueList → Result Value FaultKind
+unary_of operator [] = Err faults.Kind
+unary_of operator (a ∷ vs) = applied1 operator a
+
+abbrev pub binary_of : BinaryOperator → ValueList → Result Value FaultKind
+binary_of operator (a ∷ b ∷ vs) = applied2 operator a b
+binary_of operator vs = Err faults.Kind
+
+-- the first value chooses between the second and the third
+abbrev pub selected_of : ValueList → Result Value FaultKind
+selected_of (control ∷ a ∷ b ∷ vs) = chosen control a b
+selected_of vs = Err faults.Kind
 
 -- the value that a statement of that kind makes of the values at its ports, or why it makes none
 unfoldable pub result_of : Kind → ValueList → Result Value FaultKind
 result_of Begin vs = first_of vs
 result_of (Const c) vs = Ok (value_of c)
-result_of Add vs = sum_of vs
+result_of Pass vs = first_of vs
+result_of (Unary operator) vs = unary_of operator vs
+result_of (Binary operator) vs = binary_of operator vs
+result_of Select vs = selected_of vs
 result_of End vs = first_of vs
 
 -- the token of that value at a destination of the activity's statement

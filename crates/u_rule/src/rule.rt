@@ -12,7 +12,7 @@ ghost use Rattle.u_rule.specs.declared.rule.RuleError.TheVariants as errors;
 ghost use Rattle.u_rule.specs.Made.{outcome_of};
 ghost use Rattle.u_rule.specs.EntryOrder.{entry_cmp};
 ghost use Rattle.u_system.specs.Rising.{Rises};
-ghost use Rattle.u_rule.specs.Rule.{statement_of, fits, result_of, sum_of, first_of, value_of, sent, placed, given, is_root, tokens_from, start_of, needs_of, gives_of, is_firing_of, fault_of};
+ghost use Rattle.u_rule.specs.Rule.{statement_of, fits, result_of, first_of, unary_of, binary_of, selected_of, value_of, sent, placed, given, is_root, tokens_from, start_of, needs_of, gives_of, is_firing_of, fault_of};
 
 use crate::entry::Entry;
 use crate::firing::Firing;
@@ -22,7 +22,7 @@ use std::alloc::{AllocError, AllocFailed, Global};
 use u_check::{Job, is_end, ports_of};
 use u_name::{BlockName, Context, Name, Node};
 use u_program::{Block, Constant, Destination, Kind, Statement};
-use u_value::{BinaryOperator, FaultKind, Value, apply2};
+use u_value::{FaultKind, Value, apply1, apply2, select};
 
 /// The block of that name, where the job has it.
 fn block_of<'a>(job: &'a Job, name: &BlockName) -> Option<&'a Block>
@@ -131,6 +131,16 @@ enum Made {
     Fault(FaultKind),
 }
 
+/// What an operator gave.
+fn operated(given: Result<Value, FaultKind>) -> Made
+    ensures { outcome_of result ≡ given }
+{
+    match given {
+        Ok(value) => Made::Value(value),
+        Err(kind) => Made::Fault(kind),
+    }
+}
+
 /// What a statement of that kind makes of the values at its ports.
 #[tactic(auto, unfolding(crate::specs::Rule::result_of))]
 fn made_by(kind: &Kind, values: &[Value]) -> Result<Made, AllocError>
@@ -138,9 +148,13 @@ fn made_by(kind: &Kind, values: &[Value]) -> Result<Made, AllocError>
 {
     match (kind, values) {
         (Kind::Const(constant), _) => Ok(Made::Value(value_of(constant))),
-        (Kind::Begin | Kind::End, [first, ..]) => Ok(Made::Value(first.copy()?)),
-        (Kind::Add, [first, second, ..]) => match apply2(BinaryOperator::Add, first, second) {
-            Ok(sum) => Ok(Made::Value(sum)),
+        (Kind::Begin | Kind::Pass | Kind::End, [first, ..]) => Ok(Made::Value(first.copy()?)),
+        (Kind::Unary(operator), [first, ..]) => Ok(operated(apply1(*operator, first))),
+        (Kind::Binary(operator), [first, second, ..]) => {
+            Ok(operated(apply2(*operator, first, second)))
+        }
+        (Kind::Select, [control, first, second, ..]) => match select(control, first, second) {
+            Ok(value) => Ok(Made::Value(value.copy()?)),
             Err(kind) => Ok(Made::Fault(kind)),
         },
         _ => Ok(Made::Fault(FaultKind::Kind)),

@@ -1,9 +1,10 @@
-//! Worked rows: the program `double`, which adds its argument to itself, on 4.
+//! Worked rows: the program `double`, which adds its argument to itself, on 4, and a firing of each
+//! kind of statement.
 ghost use Rattle.u_name.specs.Context.{IsBetween};
 
 use crate::entry::Entry;
 use crate::firing::{Firing, Written};
-use crate::parts::Token;
+use crate::parts::{Fault, Token};
 use crate::rule::{RuleError, gives, is_firing, needs, start};
 use crate::values::Values;
 use std::alloc::{AllocError, Global};
@@ -11,13 +12,34 @@ use std::test::Fail;
 use u_check::{Job, check};
 use u_name::{BlockName, Context, Name};
 use u_program::read;
-use u_value::Value;
+use u_value::{FaultKind, Reference, Value};
+
+/// The job of running the program of that text on 4.
+fn job_of(alloc: Global, text: &[u8]) -> Result<Job, AllocError> {
+    let program = read(alloc, text).map_err(|_| AllocError)?;
+    let checked = check(program).map_err(|_| AllocError)?;
+    Ok(Job::new(checked, 4))
+}
 
 fn double(alloc: Global) -> Result<Job, AllocError> {
     let text = b"u-program 1\nblock main\n1 0 begin -> 2.1 2.2\n2 0 add -> 3.1\n3 0 end ->\n";
-    let program = read(alloc, text.as_slice()).map_err(|_| AllocError)?;
-    let checked = check(program).map_err(|_| AllocError)?;
-    Ok(Job::new(checked, 4))
+    job_of(alloc, text.as_slice())
+}
+
+/// A job whose statement 2 has that word and as many ports, and sends to port 1 of statement 3.
+fn one_statement(alloc: Global, word: &[u8], ports: usize) -> Result<Job, AllocError> {
+    let fed = match ports {
+        1 => b" 2.1".as_slice(),
+        2 => b" 2.1 2.2".as_slice(),
+        _ => b" 2.1 2.2 2.3".as_slice(),
+    };
+    let mut text = Vec::new(alloc);
+    text.extend_from_slice(b"u-program 1\nblock main\n1 0 begin ->")?;
+    text.extend_from_slice(fed)?;
+    text.extend_from_slice(b"\n2 0 ")?;
+    text.extend_from_slice(word)?;
+    text.extend_from_slice(b" -> 3.1\n3 0 end ->\n")?;
+    job_of(alloc, &text)
 }
 
 fn name(statement: u16) -> Name
@@ -26,11 +48,27 @@ fn name(statement: u16) -> Name
     Name::new(Context::root(), BlockName::new(b"main"), statement, 1)
 }
 
+fn token_with(statement: u16, port: u8, value: Value) -> Entry
+    requires statement { IsBetween 1 statement 999 }
+    requires port { IsBetween 1 port 3 }
+{
+    Entry::Token(Token::new(name(statement), port, value))
+}
+
 fn token(statement: u16, port: u8, number: i64) -> Entry
     requires statement { IsBetween 1 statement 999 }
     requires port { IsBetween 1 port 3 }
 {
-    Entry::Token(Token::new(name(statement), port, Value::Int(number)))
+    token_with(statement, port, Value::Int(number))
+}
+
+fn fault(statement: u16, kind: FaultKind) -> Entry
+    requires { IsBetween 1 statement 999 }
+{
+    Entry::Fault(Fault {
+        activity: name(statement),
+        kind,
+    })
 }
 
 fn plain(statement: u16, values: Values) -> Firing
@@ -115,5 +153,145 @@ fn addition_reads_no_write(rt: HostRuntime) -> Result<(), Fail> {
         needs(rt.alloc(), &job, &firing).err(),
         Some(RuleError::NotAFiring)
     );
+    Ok(())
+}
+
+/// Whether the firing needs the token of its value at each of its ports, and nothing else.
+fn needs_its_values(alloc: Global, job: &Job, firing: &Firing) -> Result<bool, Fail> {
+    let needed = needs(alloc, job, firing)?;
+    let values = firing.values.as_slice();
+    for (i, (entry, value)) in needed.iter().zip(values).enumerate() {
+        let Entry::Token(token) = entry else {
+            return Ok(false);
+        };
+        if token.activity() != &firing.activity
+            || usize::from(token.port()) != i + 1
+            || token.value() != value
+        {
+            return Ok(false);
+        }
+    }
+    Ok(needed.len() == values.len())
+}
+
+/// Whether statement 2 with that word needs these values at its ports, and gives that entry alone.
+fn fires(alloc: Global, word: &[u8], values: Values, given: &Entry) -> Result<bool, Fail> {
+    let job = one_statement(alloc, word, values.as_slice().len())?;
+    let firing = plain(2, values);
+    let all_given = gives(alloc, &job, &firing)?;
+    let gives_it = all_given.len() == 1 && all_given.first() == Some(given);
+    Ok(needs_its_values(alloc, &job, &firing)? && gives_it)
+}
+
+/// Whether it fires so on one value.
+fn on_one(alloc: Global, word: &[u8], value: Value, given: &Entry) -> Result<bool, Fail> {
+    let values = Values::one(alloc, value)?;
+    fires(alloc, word, values, given)
+}
+
+/// Whether it fires so on two numbers, and gives that value to statement 3.
+fn on_numbers(
+    alloc: Global,
+    word: &[u8],
+    first: i64,
+    second: i64,
+    made: Value,
+) -> Result<bool, Fail> {
+    let values = Values::two(alloc, Value::Int(first), Value::Int(second))?;
+    fires(alloc, word, values, &token_with(3, 1, made))
+}
+
+/// Whether it fires so on true and false, and gives that truth value to statement 3.
+fn on_truths(alloc: Global, word: &[u8], made: bool) -> Result<bool, Fail> {
+    let values = Values::two(alloc, Value::Bool(true), Value::Bool(false))?;
+    fires(alloc, word, values, &token_with(3, 1, Value::Bool(made)))
+}
+
+/// Whether `select` fires so on that value, 5 and 7.
+fn selects(alloc: Global, control: Value, given: &Entry) -> Result<bool, Fail> {
+    let values = Values::three(alloc, control, Value::Int(5), Value::Int(7))?;
+    fires(alloc, b"select", values, given)
+}
+
+#[test]
+fn statements_of_one_port_fire(rt: HostRuntime) -> Result<(), Fail> {
+    let alloc = rt.alloc();
+    assert!(rt; on_one(alloc, b"pass", Value::Int(4), &token(3, 1, 4))?);
+    let no = token_with(3, 1, Value::Bool(false));
+    assert!(rt; on_one(alloc, b"not", Value::Bool(true), &no)?);
+    assert!(rt; on_one(alloc, b"not", Value::Int(4), &fault(2, FaultKind::Kind))?);
+    Ok(())
+}
+
+#[test]
+fn length_fires(rt: HostRuntime) -> Result<(), Fail> {
+    let structure = Value::Ref(Reference::new(name(1), 10));
+    assert!(rt; on_one(rt.alloc(), b"length", structure, &token(3, 1, 10))?);
+    Ok(())
+}
+
+#[test]
+fn arithmetic_fires(rt: HostRuntime) -> Result<(), Fail> {
+    let results = [
+        (b"add".as_slice(), 10),
+        (b"sub".as_slice(), 4),
+        (b"mul".as_slice(), 21),
+        (b"div".as_slice(), 2),
+        (b"rem".as_slice(), 1),
+    ];
+    for (word, result) in results {
+        assert!(rt; on_numbers(rt.alloc(), word, 7, 3, Value::Int(result))?);
+    }
+    Ok(())
+}
+
+#[test]
+fn comparisons_fire(rt: HostRuntime) -> Result<(), Fail> {
+    let results = [
+        (b"lt".as_slice(), false),
+        (b"le".as_slice(), true),
+        (b"eq".as_slice(), true),
+    ];
+    for (word, result) in results {
+        assert!(rt; on_numbers(rt.alloc(), word, 3, 3, Value::Bool(result))?);
+    }
+    Ok(())
+}
+
+#[test]
+fn conjunction_and_disjunction_fire(rt: HostRuntime) -> Result<(), Fail> {
+    assert!(rt; on_truths(rt.alloc(), b"and", false)?);
+    assert!(rt; on_truths(rt.alloc(), b"or", true)?);
+    Ok(())
+}
+
+#[test]
+fn division_by_zero_gives_the_fault(rt: HostRuntime) -> Result<(), Fail> {
+    let alloc = rt.alloc();
+    let values = Values::two(alloc, Value::Int(4), Value::Int(0))?;
+    assert!(rt; fires(alloc, b"div", values, &fault(2, FaultKind::Zero))?);
+    Ok(())
+}
+
+#[test]
+fn select_gives_one_of_two(rt: HostRuntime) -> Result<(), Fail> {
+    let alloc = rt.alloc();
+    assert!(rt; selects(alloc, Value::Bool(true), &token(3, 1, 5))?);
+    assert!(rt; selects(alloc, Value::Bool(false), &token(3, 1, 7))?);
+    assert!(rt; selects(alloc, Value::Int(1), &fault(2, FaultKind::Kind))?);
+    Ok(())
+}
+
+#[test]
+fn four_times_four_is_answered(rt: HostRuntime) -> Result<(), Fail> {
+    let alloc = rt.alloc();
+    let job = one_statement(alloc, b"mul", 2)?;
+    let product = gives(alloc, &job, &four_and_four(alloc)?)?;
+    assert_eq!(rt; product.len(), 1);
+    assert!(rt; product.first() == Some(&token(3, 1, 16)));
+    let last = plain(3, Values::one(alloc, Value::Int(16))?);
+    let answers = gives(alloc, &job, &last)?;
+    assert_eq!(rt; answers.len(), 1);
+    assert!(rt; answers.first() == Some(&Entry::Answer(Value::Int(16))));
     Ok(())
 }
