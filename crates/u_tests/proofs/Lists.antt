@@ -1,18 +1,13 @@
 -- Going over a list: what holds of each member so far, and what a list of firings holds so far.
 use Rattle.std.proofs.Common.{◌≡◌, ◌↔◌, inl, inr, ℕ, ◌<◌, ◌≤◌, ◌+◌, List, [], ◌∷◌, ◌++◌, sym, subst, take, length, get_or, Contains, true, false}
 use Rattle.std.proofs.lemmas.List.{take_more, take_all}
-use Rattle.std.proofs.lemmas.List.Elements.{Contains-get_or, Contains-push_cases, Contains-append_cases, Contains-append_left, Contains-append_right}
+use Rattle.std.proofs.lemmas.List.Elements.{Contains-get_or, Contains-append_cases, Contains-append_left, Contains-append_right}
 use Rattle.u_system.specs.Firing.{System, Held}
 use Rattle.u_system.proofs.Held.{Held-push, Held-nil}
 use Rattle.u_system.proofs.Member.{Contains-nil, Contains-head, Contains-cons_cases}
 
 pub at_place : {X : Type 0} (xs : List X) (i : ℕ) (d : X) → i < length xs → d ≡ get_or xs i d → Contains xs d
 at_place {X} xs i d l e = subst (λ (x : X). Contains xs x) (sym e) (Contains-get_or xs i d l)
-
-pub each_more : {X : Type 0} (P : X → Type 0) (xs : List X) (i : ℕ) (d : X) → i < length xs → d ≡ get_or xs i d → P d → ((x : X) → Contains (take i xs) x → P x) → (x : X) → Contains (take (i + 1) xs) x → P x
-each_more {X} P xs i d l e p before x m =
-    elim (Contains-push_cases (take i xs) d x (subst (λ (y : X). Contains (take i xs ++ y ∷ []) x) (sym e) (rw (take_more xs i d l) at m)))
-    [ inl a ↦ before x a | inr q ↦ subst P q p ]
 
 pub each_all : {X : Type 0} (P : X → Type 0) (xs : List X) (i : ℕ) → length xs ≤ i → ((x : X) → Contains (take i xs) x → P x) → (x : X) → Contains xs x → P x
 each_all P xs i h all x m = all x (rw (take_all i xs h) m)

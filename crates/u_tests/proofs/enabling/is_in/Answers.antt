@@ -1,6 +1,7 @@
 use Rattle.std.proofs.Common.{◌≡◌, refl}
 use Rattle.u_rule.specs.declared.entry.Entry.{Entry}
-use Rattle.u_tests.proofs.Lists.{each_more, each_all, false_true}
+use Rattle.u_machine.proofs.Lists.{each_more}
+use Rattle.u_tests.proofs.Lists.{each_all, false_true}
 use Rattle.u_tests.proofs.enabling.is_in.Goals as goal
 
 pub loop-other-preserved : goal.loop-other-preserved
