@@ -14,6 +14,10 @@ use u_program::read;
 const TWO_CONSTANTS: &[u8] =
     b"u-program 1\nblock main\n1 0 begin -> 2.1 3.1\n2 0 const 5 -> 4.1\n3 0 const 6 -> 4.1\n4 0 end ->\n";
 
+/// The control of a selection gets both truth values.
+const SELECTED_TWICE: &[u8] =
+    b"u-program 1\nblock main\n1 0 begin -> 2.1 3.1 4.1 5.2\n2 0 const true -> 5.1\n3 0 const false -> 5.1\n4 0 const 0 -> 5.3\n5 0 select -> 6.1\n6 0 end ->\n";
+
 fn job(alloc: Global, text: &[u8], argument: i64) -> Result<Job, AllocError> {
     let program = read(alloc, text).map_err(|_| AllocError)?;
     let checked = check(program).map_err(|_| AllocError)?;
@@ -99,6 +103,18 @@ fn agree_on_two_constants(rt: HostRuntime) -> Result<(), Fail> {
     assert_eq!(rt; steps, Some(5));
     assert_eq!(rt; machine.history().len(), 7);
     let is_whole = is_whole_after(rt.alloc(), &job, &machine, 4)?;
+    assert!(rt; is_whole);
+    Ok(())
+}
+
+#[test]
+fn agree_on_a_selection(rt: HostRuntime) -> Result<(), Fail> {
+    let job = job(rt.alloc(), SELECTED_TWICE, 7)?;
+    let mut machine = Machine::new(rt.alloc(), &job, 100)?;
+    let steps = steps_agreed(rt.alloc(), &job, &mut machine)?;
+    assert_eq!(rt; steps, Some(8));
+    assert_eq!(rt; machine.history().len(), 12);
+    let is_whole = is_whole_after(rt.alloc(), &job, &machine, 5)?;
     assert!(rt; is_whole);
     Ok(())
 }
