@@ -11,7 +11,7 @@ use std::alloc::{AllocError, Global};
 use std::test::Fail;
 use u_check::{Job, check};
 use u_name::{BlockName, Context, Name};
-use u_program::read;
+use u_program::{Constant, read};
 use u_value::{FaultKind, Reference, Value};
 
 /// The job of running the program of that text on 4.
@@ -183,50 +183,86 @@ fn fires(alloc: Global, word: &[u8], values: Values, given: &Entry) -> Result<bo
     Ok(needs_its_values(alloc, &job, &firing)? && gives_it)
 }
 
-/// Whether it fires so on one value.
-fn on_one(alloc: Global, word: &[u8], value: Value, given: &Entry) -> Result<bool, Fail> {
-    let values = Values::one(alloc, value)?;
-    fires(alloc, word, values, given)
+fn value(constant: Constant) -> Value {
+    match constant {
+        Constant::Int(number) => Value::Int(number),
+        Constant::Bool(truth) => Value::Bool(truth),
+        Constant::Proc(block) => Value::Proc(block),
+    }
 }
 
-/// Whether it fires so on two numbers, and gives that value to statement 3.
-fn on_numbers(
+/// What statement 2 gives where it makes that.
+fn given(made: Result<Constant, FaultKind>) -> Entry {
+    match made {
+        Ok(constant) => token_with(3, 1, value(constant)),
+        Err(kind) => fault(2, kind),
+    }
+}
+
+/// Whether statement 2 with that word makes that of one value.
+fn on_one(
     alloc: Global,
     word: &[u8],
-    first: i64,
-    second: i64,
-    made: Value,
+    first: Constant,
+    made: Result<Constant, FaultKind>,
 ) -> Result<bool, Fail> {
-    let values = Values::two(alloc, Value::Int(first), Value::Int(second))?;
-    fires(alloc, word, values, &token_with(3, 1, made))
+    let values = Values::one(alloc, value(first))?;
+    fires(alloc, word, values, &given(made))
 }
 
-/// Whether it fires so on true and false, and gives that truth value to statement 3.
-fn on_truths(alloc: Global, word: &[u8], made: bool) -> Result<bool, Fail> {
-    let values = Values::two(alloc, Value::Bool(true), Value::Bool(false))?;
-    fires(alloc, word, values, &token_with(3, 1, Value::Bool(made)))
+/// Whether statement 2 with that word makes that of two values.
+fn on_two(
+    alloc: Global,
+    word: &[u8],
+    first: Constant,
+    second: Constant,
+    made: Result<Constant, FaultKind>,
+) -> Result<bool, Fail> {
+    let values = Values::two(alloc, value(first), value(second))?;
+    fires(alloc, word, values, &given(made))
 }
 
-/// Whether `select` fires so on that value, 5 and 7.
-fn selects(alloc: Global, control: Value, given: &Entry) -> Result<bool, Fail> {
-    let values = Values::three(alloc, control, Value::Int(5), Value::Int(7))?;
-    fires(alloc, b"select", values, given)
+/// Whether `select` makes that of the value, 5 and 7.
+fn selects(
+    alloc: Global,
+    control: Constant,
+    made: Result<Constant, FaultKind>,
+) -> Result<bool, Fail> {
+    let values = Values::three(alloc, value(control), Value::Int(5), Value::Int(7))?;
+    fires(alloc, b"select", values, &given(made))
+}
+
+/// Whether `length` makes 10 of a structure of that length.
+fn length_is_given(alloc: Global) -> Result<bool, Fail> {
+    let structure = Value::Ref(Reference::new(name(1), 10));
+    let values = Values::one(alloc, structure)?;
+    fires(alloc, b"length", values, &token(3, 1, 10))
+}
+
+/// Whether `end`, behind `mul`, answers the number.
+fn is_answered(alloc: Global, number: i64) -> Result<bool, Fail> {
+    let job = one_statement(alloc, b"mul", 2)?;
+    let firing = plain(3, Values::one(alloc, Value::Int(number))?);
+    let answers = gives(alloc, &job, &firing)?;
+    let answer = Entry::Answer(Value::Int(number));
+    Ok(answers.len() == 1 && answers.first() == Some(&answer))
 }
 
 #[test]
 fn statements_of_one_port_fire(rt: HostRuntime) -> Result<(), Fail> {
     let alloc = rt.alloc();
-    assert!(rt; on_one(alloc, b"pass", Value::Int(4), &token(3, 1, 4))?);
-    let no = token_with(3, 1, Value::Bool(false));
-    assert!(rt; on_one(alloc, b"not", Value::Bool(true), &no)?);
-    assert!(rt; on_one(alloc, b"not", Value::Int(4), &fault(2, FaultKind::Kind))?);
-    Ok(())
-}
-
-#[test]
-fn length_fires(rt: HostRuntime) -> Result<(), Fail> {
-    let structure = Value::Ref(Reference::new(name(1), 10));
-    assert!(rt; on_one(rt.alloc(), b"length", structure, &token(3, 1, 10))?);
+    let four = Constant::Int(4);
+    assert!(rt; on_one(alloc, b"pass", four, Ok(four))?);
+    assert!(rt;
+        on_one(
+            alloc,
+            b"not",
+            Constant::Bool(true),
+            Ok(Constant::Bool(false))
+        )?
+    );
+    assert!(rt; on_one(alloc, b"not", four, Err(FaultKind::Kind))?);
+    assert!(rt; length_is_given(alloc)?);
     Ok(())
 }
 
@@ -240,58 +276,55 @@ fn arithmetic_fires(rt: HostRuntime) -> Result<(), Fail> {
         (b"rem".as_slice(), 1),
     ];
     for (word, result) in results {
-        assert!(rt; on_numbers(rt.alloc(), word, 7, 3, Value::Int(result))?);
+        let made = Ok(Constant::Int(result));
+        assert!(rt; on_two(rt.alloc(), word, Constant::Int(7), Constant::Int(3), made)?);
     }
     Ok(())
 }
 
 #[test]
 fn comparisons_fire(rt: HostRuntime) -> Result<(), Fail> {
+    let three = Constant::Int(3);
     let results = [
         (b"lt".as_slice(), false),
         (b"le".as_slice(), true),
         (b"eq".as_slice(), true),
     ];
     for (word, result) in results {
-        assert!(rt; on_numbers(rt.alloc(), word, 3, 3, Value::Bool(result))?);
+        assert!(rt; on_two(rt.alloc(), word, three, three, Ok(Constant::Bool(result)))?);
     }
     Ok(())
 }
 
 #[test]
 fn conjunction_and_disjunction_fire(rt: HostRuntime) -> Result<(), Fail> {
-    assert!(rt; on_truths(rt.alloc(), b"and", false)?);
-    assert!(rt; on_truths(rt.alloc(), b"or", true)?);
+    let yes = Constant::Bool(true);
+    let no = Constant::Bool(false);
+    assert!(rt; on_two(rt.alloc(), b"and", yes, no, Ok(no))?);
+    assert!(rt; on_two(rt.alloc(), b"or", yes, no, Ok(yes))?);
     Ok(())
 }
 
 #[test]
 fn division_by_zero_gives_the_fault(rt: HostRuntime) -> Result<(), Fail> {
-    let alloc = rt.alloc();
-    let values = Values::two(alloc, Value::Int(4), Value::Int(0))?;
-    assert!(rt; fires(alloc, b"div", values, &fault(2, FaultKind::Zero))?);
+    let made = Err(FaultKind::Zero);
+    assert!(rt; on_two(rt.alloc(), b"div", Constant::Int(4), Constant::Int(0), made)?);
     Ok(())
 }
 
 #[test]
 fn select_gives_one_of_two(rt: HostRuntime) -> Result<(), Fail> {
     let alloc = rt.alloc();
-    assert!(rt; selects(alloc, Value::Bool(true), &token(3, 1, 5))?);
-    assert!(rt; selects(alloc, Value::Bool(false), &token(3, 1, 7))?);
-    assert!(rt; selects(alloc, Value::Int(1), &fault(2, FaultKind::Kind))?);
+    assert!(rt; selects(alloc, Constant::Bool(true), Ok(Constant::Int(5)))?);
+    assert!(rt; selects(alloc, Constant::Bool(false), Ok(Constant::Int(7)))?);
+    assert!(rt; selects(alloc, Constant::Int(1), Err(FaultKind::Kind))?);
     Ok(())
 }
 
 #[test]
 fn four_times_four_is_answered(rt: HostRuntime) -> Result<(), Fail> {
-    let alloc = rt.alloc();
-    let job = one_statement(alloc, b"mul", 2)?;
-    let product = gives(alloc, &job, &four_and_four(alloc)?)?;
-    assert_eq!(rt; product.len(), 1);
-    assert!(rt; product.first() == Some(&token(3, 1, 16)));
-    let last = plain(3, Values::one(alloc, Value::Int(16))?);
-    let answers = gives(alloc, &job, &last)?;
-    assert_eq!(rt; answers.len(), 1);
-    assert!(rt; answers.first() == Some(&Entry::Answer(Value::Int(16))));
+    let four = Constant::Int(4);
+    assert!(rt; on_two(rt.alloc(), b"mul", four, four, Ok(Constant::Int(16)))?);
+    assert!(rt; is_answered(rt.alloc(), 16)?);
     Ok(())
 }
