@@ -127,14 +127,8 @@ pub fn run_text<W: Write>(
     requires { firings ≤ 1000000 }
     ensures { RunTextAnswer program.now argument.now firings (W.contents writer.old) result (W.contents writer.new) }
 {
-    let job = match job_of(alloc, program, argument) {
-        Ok(job) => job,
-        Err(fault) => return Err(fault),
-    };
-    let (report, status) = match run_job(alloc, &job, firings) {
-        Ok(told) => told,
-        Err(fault) => return Err(fault),
-    };
+    let job = job_of(alloc, program, argument)?;
+    let (report, status) = run_job(alloc, &job, firings)?;
     match write_whole(writer, &report) {
         Ok(()) => Ok(status),
         Err(_) => Err(Fault::NotWritten),

@@ -1,7 +1,6 @@
 -- Fixed bytes.
-use Rattle.std.specs.Prelude.{◌≡◌, ℕ, List, [], ◌∷◌, Result, Ok}
-use Rattle.std.proofs.Common.{ap, subst}
-use Rattle.u_text.specs.Reads.{Reader, Reads, ◌>>=◌}
+use Rattle.std.specs.Prelude.{◌≡◌, ℕ, List, [], ◌∷◌}
+use Rattle.u_text.specs.Reads.{Reader, Reads}
 use Rattle.u_text.specs.Parts.{NoByte, empty, empty_Reads, lead, lead_Reads}
 
 -- these bytes

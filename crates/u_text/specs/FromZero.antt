@@ -1,10 +1,10 @@
 -- Numbers from 0 to a greatest one, without leading zeros.
-use Rattle.std.specs.Prelude.{◌≡◌, ℕ, zero, suc, ◌^◌, ◌<◌, ◌≤◌, ◌⊎◌, Bool, true, false, cond, ◌==◌, List, [], ◌∷◌, ◌++◌, Result, Ok, Err, refl}
-use Rattle.std.proofs.Common.{sym, ◌∙◌, ap, subst, arith, inl, inr}
+use Rattle.std.specs.Prelude.{◌≡◌, ℕ, zero, suc, ◌^◌, ◌<◌, ◌≤◌, ◌⊎◌, Bool, true, false, cond, ◌==◌, List, [], ◌∷◌, Result, Ok, Err, refl}
+use Rattle.std.proofs.Common.{subst, arith, inl, inr}
 use Rattle.std.specs.Fmt.{decimal}
 use Rattle.std.proofs.lemmas.Fmt.{decimal_digit}
 use Rattle.u_text.specs.Reads.{Reader, Reads, ◌>>=◌}
-use Rattle.u_text.specs.Parts.{NoByte, empty, empty_Reads, widened}
+use Rattle.u_text.specs.Parts.{empty, empty_Reads, widened}
 use Rattle.u_text.specs.Choice.{mapped, mapped_Reads, choice, choice_Reads, one_text, IsOne}
 use Rattle.u_text.specs.Number.{number, IsUpTo, IsDigit, number_Reads, number_not_zero}
 

@@ -1,25 +1,24 @@
 -- The reader of values reads the longest text of a value.
-use Rattle.std.proofs.Common.{◌≡◌, ℕ, ◌≤◌, ◌<◌, ◌-◌, ◌⊎◌, drop, inl, inr, true, false, cond, List, [], ◌∷◌, ◌++◌, length, Result, Ok, Err, refl, sym, ◌∙◌, ap, subst, arith}
-use Rattle.std.specs.Prelude.{◌==◌, nat_le, FitsSigned}
+use Rattle.std.proofs.Common.{◌≡◌, ℕ, ◌≤◌, ◌<◌, ◌-◌, ◌⊎◌, drop, inl, inr, true, false, cond, List, [], ◌∷◌, ◌++◌, length, Result, Ok, Err, refl, ◌∙◌, ap, arith}
+use Rattle.std.specs.Prelude.{FitsSigned}
 use Rattle.std.specs.Fmt.{decimal, signed_decimal}
 use Rattle.std.proofs.lemmas.Bool.Decides.{nat_tests}
 use Rattle.std.specs.Int.{w64}
 use lib.IntN.{ℤ}
 use Rattle.u_text.specs.Reads.{Reader, Reads, ◌>>=◌}
-use Rattle.u_text.specs.Parts.{NoByte, alike, unlike, same_or, lead, lead_Reads, widened}
+use Rattle.u_text.specs.Parts.{alike, unlike, same_or, lead_Reads, widened}
 use Rattle.u_text.specs.Then.{after, AreBoth, both_Reads}
 use Rattle.u_text.specs.Choice.{mapped, mapped_Reads, choice, choice_Reads, one_text, IsOne}
 use Rattle.u_text.specs.Number.{IsDigit}
-use Rattle.u_text.specs.FromZero.{number0, number0_Reads}
+use Rattle.u_text.specs.FromZero.{number0_Reads}
 use Rattle.u_text.specs.Signed.{signed, signed_Reads, signed_first}
 use Rattle.u_text.specs.Fixed.{fixed, fixed_Reads, IsUnit}
 use Rattle.u_text.specs.TextAt.{read_within, refused_within, whole_read, refused_whole, left_over, found_at, missing_at, found_within, missing_within}
-use Rattle.u_name.specs.Block.{IsBlock, is_block_byte}
+use Rattle.u_name.specs.Block.{IsBlock}
 use Rattle.u_name.specs.BlockText.{block_at, block_Reads, IsBlockByte}
 use Rattle.u_name.specs.Name.{Activity, IsName}
 use Rattle.u_name.specs.NameText.{name_text}
-use Rattle.u_name.specs.NameSteps.{name_steps, name_steps_Reads}
-use Rattle.u_value.specs.Pointer.{Pointer, pointer, IsPointer}
+use Rattle.u_name.specs.NameSteps.{name_steps_Reads}
 use Rattle.u_value.specs.Values.{value_text, pointer_text}
 use Rattle.u_value.specs.Reading.{IsValue, pointer_at, Read, reference_of, value_of, alse, rue, value_at, IsValueOf, IsValueErrorOf, IsValueAt, IsValueErrorAt}
 use Rattle.u_value.specs.declared.value.Value.{Value}

@@ -1,5 +1,5 @@
 -- Reading values.
-use Rattle.std.specs.Prelude.{ℕ, ◌⊎◌, List, [], ◌∷◌, true, false, codes, FitsSigned}
+use Rattle.std.specs.Prelude.{ℕ, ◌⊎◌, List, true, false, codes, FitsSigned}
 use Rattle.std.proofs.Common.{inl, inr}
 use Rattle.std.specs.Int.{w64}
 use lib.IntN.{ℤ}
@@ -15,7 +15,7 @@ use Rattle.u_text.specs.FromZero.{number0}
 use Rattle.u_text.specs.Signed.{signed}
 use Rattle.u_text.specs.Fixed.{fixed}
 use Rattle.u_text.specs.TextAt.{IsTextOf, IsNoText, IsTextAt, IsNoTextAt}
-use Rattle.u_value.specs.Pointer.{Pointer, pointer, IsPointer}
+use Rattle.u_value.specs.Pointer.{pointer, IsPointer}
 use Rattle.u_value.specs.Values.{value_text}
 use Rattle.u_value.specs.declared.value.Value.{Value}
 use Rattle.u_value.specs.declared.value.Value.TheVariants.{Int, Bool, Proc, Ref}
