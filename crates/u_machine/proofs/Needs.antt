@@ -1,5 +1,5 @@
 -- How many values a firing has, and which tokens it needs for them.
-use Rattle.std.proofs.Common.{◌≡◌, ◌↔◌, ◌⊎◌, ◌∙◌, inl, inr, refl, sym, arith, ap, Bool, true, false, ◌&&◌, IsTrue, ℕ, ◌≤◌, [], ◌∷◌, length, Contains, Option, Some, None}
+use Rattle.std.proofs.Common.{◌≡◌, ◌↔◌, ◌⊎◌, ◌∙◌, inl, inr, refl, arith, ap, Bool, true, false, ◌&&◌, IsTrue, ℕ, ◌≤◌, [], ◌∷◌, length, Contains, Option, Some, None}
 use Rattle.std.specs.Prelude.{is_none, ◌==◌}
 use Rattle.std.proofs.lemmas.Bool.Decides.{nat_tests}
 use Rattle.u_name.specs.Name.{Activity}

@@ -1,5 +1,5 @@
 -- What the scan finds is what is enabled.
-use Rattle.std.proofs.Common.{◌≡◌, ◌↔◌, ◌⊎◌, inl, inr, sym, refl, subst, ◌∙◌, IsTrue, ℕ, ◌<◌, ◌+◌, List, [], ◌∷◌, drop, length, get_or, Contains, Ordering, Option, Some, None}
+use Rattle.std.proofs.Common.{◌≡◌, ◌↔◌, ◌⊎◌, inl, inr, sym, refl, subst, ◌∙◌, ℕ, ◌<◌, ◌+◌, List, [], ◌∷◌, drop, length, get_or, Contains, Ordering, Option, Some, None}
 use Rattle.std.specs.Ordering.{ordering_then, nat_cmp}
 use Rattle.std.specs.Cmp.{tied_itself}
 use Rattle.std.specs.declared.cmp.Ordering.TheVariants.{Less, Equal, Greater}
