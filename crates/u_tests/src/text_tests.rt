@@ -74,7 +74,7 @@ fn all_agree(
             return Ok(false);
         }
         let others = rest.get(1..9).or(rest.get(1..)).unwrap_or_default();
-        if len % step == 0 && !changes_agree(alloc, subject, front, others)? {
+        if len.checked_rem(step) == Some(0) && !changes_agree(alloc, subject, front, others)? {
             return Ok(false);
         }
     }
