@@ -53,74 +53,74 @@ no_signed c a b z u v w e = elim (signed_first z w c u v e) [ inl f ↦ a f | in
 other_byte : (c d : ℕ) (t u : List ℕ) → (c ≡ d → ⊥) → c ∷ t ≡ d ∷ u → ⊥
 other_byte c d t u n e = n (let f : c ≡ d = cc in f)
 
-abbrev T1 : Type 0
-T1 = Unit {0} ⊎ ℤ
+abbrev TrueOrNumber : Type 0
+TrueOrNumber = Unit {0} ⊎ ℤ
 
-abbrev T2 : Type 0
-T2 = Unit {0} ⊎ T1
+abbrev TruthOrNumber : Type 0
+TruthOrNumber = Unit {0} ⊎ TrueOrNumber
 
-abbrev T3 : Type 0
-T3 = List ℕ ⊎ T2
+abbrev NoReference : Type 0
+NoReference = List ℕ ⊎ TruthOrNumber
 
-abbrev text1 : T1 → List ℕ
-text1 = one_text 116 (λ _. rue) signed_decimal
+abbrev true_or_number_text : TrueOrNumber → List ℕ
+true_or_number_text = one_text 116 (λ _. rue) signed_decimal
 
-abbrev V1 : T1 → Type 0
-V1 = IsOne IsUnit (FitsSigned w64)
+abbrev IsTrueOrNumber : TrueOrNumber → Type 0
+IsTrueOrNumber = IsOne IsUnit (FitsSigned w64)
 
-abbrev text2 : T2 → List ℕ
-text2 = one_text 102 (λ _. alse) text1
+abbrev truth_or_number_text : TruthOrNumber → List ℕ
+truth_or_number_text = one_text 102 (λ _. alse) true_or_number_text
 
-abbrev V2 : T2 → Type 0
-V2 = IsOne IsUnit V1
+abbrev IsTruthOrNumber : TruthOrNumber → Type 0
+IsTruthOrNumber = IsOne IsUnit IsTrueOrNumber
 
-abbrev text3 : T3 → List ℕ
-text3 = one_text 64 (λ b. b) text2
+abbrev no_reference_text : NoReference → List ℕ
+no_reference_text = one_text 64 (λ b. b) truth_or_number_text
 
-abbrev V3 : T3 → Type 0
-V3 = IsOne IsBlock V2
+abbrev IsNoReference : NoReference → Type 0
+IsNoReference = IsOne IsBlock IsTruthOrNumber
 
-abbrev text4 : Read → List ℕ
-text4 = one_text 38 pointer_read text3
+abbrev any_text : Read → List ℕ
+any_text = one_text 38 pointer_read no_reference_text
 
-abbrev V4 : Read → Type 0
-V4 = IsOne IsPointerRead V3
+abbrev IsAny : Read → Type 0
+IsAny = IsOne IsPointerRead IsNoReference
 
-apart1 : (c : ℕ) → (116 ≡ c → ⊥) → (c ≡ 45 → ⊥) → (IsDigit c → ⊥) → (y : T1) (u v : List ℕ) → V1 y → text1 y ++ u ≡ c ∷ v → ⊥
-apart1 c n a b (inl t) u v w e = other_byte 116 c _ v n e
-apart1 c n a b (inr z) u v w e = no_signed c a b z u v w e
+true_or_number_apart : (c : ℕ) → (116 ≡ c → ⊥) → (c ≡ 45 → ⊥) → (IsDigit c → ⊥) → (y : TrueOrNumber) (u v : List ℕ) → IsTrueOrNumber y → true_or_number_text y ++ u ≡ c ∷ v → ⊥
+true_or_number_apart c n a b (inl t) u v w e = other_byte 116 c _ v n e
+true_or_number_apart c n a b (inr z) u v w e = no_signed c a b z u v w e
 
-apart2 : (c : ℕ) → (102 ≡ c → ⊥) → (116 ≡ c → ⊥) → (c ≡ 45 → ⊥) → (IsDigit c → ⊥) → (y : T2) (u v : List ℕ) → V2 y → text2 y ++ u ≡ c ∷ v → ⊥
-apart2 c m n a b (inl t) u v w e = other_byte 102 c _ v m e
-apart2 c m n a b (inr z) u v w e = apart1 c n a b z u v w e
+truth_or_number_apart : (c : ℕ) → (102 ≡ c → ⊥) → (116 ≡ c → ⊥) → (c ≡ 45 → ⊥) → (IsDigit c → ⊥) → (y : TruthOrNumber) (u v : List ℕ) → IsTruthOrNumber y → truth_or_number_text y ++ u ≡ c ∷ v → ⊥
+truth_or_number_apart c m n a b (inl t) u v w e = other_byte 102 c _ v m e
+truth_or_number_apart c m n a b (inr z) u v w e = true_or_number_apart c n a b z u v w e
 
-apart3 : (y : T3) (u v : List ℕ) → V3 y → text3 y ++ u ≡ 38 ∷ v → ⊥
-apart3 (inl t) u v w e = other_byte 64 38 _ v (λ f. omega arith) e
-apart3 (inr z) u v w e = apart2 38 (λ f. omega arith) (λ f. omega arith) (λ f. omega arith) (λ d. omega (arith, d.0)) z u v w e
+no_reference_apart : (y : NoReference) (u v : List ℕ) → IsNoReference y → no_reference_text y ++ u ≡ 38 ∷ v → ⊥
+no_reference_apart (inl t) u v w e = other_byte 64 38 _ v (λ f. omega arith) e
+no_reference_apart (inr z) u v w e = truth_or_number_apart 38 (λ f. omega arith) (λ f. omega arith) (λ f. omega arith) (λ d. omega (arith, d.0)) z u v w e
 
-abbrev At1 : Reader T1
-At1 = choice 116 (fixed rue) signed
+abbrev true_or_number_at : Reader TrueOrNumber
+true_or_number_at = choice 116 (fixed rue) signed
 
-abbrev At2 : Reader T2
-At2 = choice 102 (fixed alse) At1
+abbrev truth_or_number_at : Reader TruthOrNumber
+truth_or_number_at = choice 102 (fixed alse) true_or_number_at
 
-abbrev At3 : Reader T3
-At3 = choice 64 block_at At2
+abbrev no_reference_at : Reader NoReference
+no_reference_at = choice 64 block_at truth_or_number_at
 
-reads1 : Reads text1 V1 IsBlockByte At1
-reads1 =
+true_or_number_Reads : Reads true_or_number_text IsTrueOrNumber IsBlockByte true_or_number_at
+true_or_number_Reads =
     choice_Reads 116 (widened (λ c n. absurd n) (fixed_Reads rue)) (widened digit_is_block_byte signed_Reads)
     (no_signed 116 (λ f. omega arith) (λ d. omega (arith, d.1)))
 
-reads2 : Reads text2 V2 IsBlockByte At2
-reads2 =
-    choice_Reads 102 (widened (λ c n. absurd n) (fixed_Reads alse)) reads1
-    (apart1 102 (λ f. omega arith) (λ f. omega arith) (λ d. omega (arith, d.1)))
+truth_or_number_Reads : Reads truth_or_number_text IsTruthOrNumber IsBlockByte truth_or_number_at
+truth_or_number_Reads =
+    choice_Reads 102 (widened (λ c n. absurd n) (fixed_Reads alse)) true_or_number_Reads
+    (true_or_number_apart 102 (λ f. omega arith) (λ f. omega arith) (λ d. omega (arith, d.1)))
 
-reads3 : Reads text3 V3 IsBlockByte At3
-reads3 =
-    choice_Reads 64 block_Reads reads2
-    (apart2 64 (λ f. omega arith) (λ f. omega arith) (λ f. omega arith) (λ d. omega (arith, d.1)))
+no_reference_Reads : Reads no_reference_text IsNoReference IsBlockByte no_reference_at
+no_reference_Reads =
+    choice_Reads 64 block_Reads truth_or_number_Reads
+    (truth_or_number_apart 64 (λ f. omega arith) (λ f. omega arith) (λ f. omega arith) (λ d. omega (arith, d.1)))
 
 -- from what is read to the value and back
 
@@ -131,14 +131,14 @@ read_of (Bool false) = inr (inr (inl tt))
 read_of (Proc b) = inr (inl b)
 read_of (Ref p) = inl (p.name, p.length)
 
-there : (x : Read) → V4 x → IsValue (value_of x)
+there : (x : Read) → IsAny x → IsValue (value_of x)
 there (inl p) v = (v.0, record { short = v.1 })
 there (inr (inl b)) v = v
 there (inr (inr (inl t))) v = tt
 there (inr (inr (inr (inl t)))) v = tt
 there (inr (inr (inr (inr z)))) v = v
 
-spelled : (x : Read) → V4 x → value_text (value_of x) ≡ text4 x
+spelled : (x : Read) → IsAny x → value_text (value_of x) ≡ any_text x
 unfolding value_text pointer_text
 spelled (inl p) v = refl
 spelled (inr (inl b)) v = refl
@@ -146,7 +146,7 @@ spelled (inr (inr (inl t))) v = refl
 spelled (inr (inr (inr (inl t)))) v = refl
 spelled (inr (inr (inr (inr z)))) v = refl
 
-back : (x : Value) → IsValue x → V4 (read_of x)
+back : (x : Value) → IsValue x → IsAny (read_of x)
 back (Int z) v = v
 back (Bool true) v = refl
 back (Bool false) v = refl
@@ -162,7 +162,7 @@ again (Ref p) v = refl
 
 pub value_Reads : Reads value_text IsValue IsBlockByte value_at
 unfolding value_at
-value_Reads = mapped_Reads (choice_Reads 38 pointer_Reads reads3 apart3) {f = value_of} {g = read_of} (record { there = there; spelled = spelled; back = back; again = again })
+value_Reads = mapped_Reads (choice_Reads 38 pointer_Reads no_reference_Reads no_reference_apart) {f = value_of} {g = read_of} (record { there = there; spelled = spelled; back = back; again = again })
 
 -- what stands behind the first byte
 
@@ -212,8 +212,8 @@ pub behind_no_mark : (bs : List ℕ) (r : R Value) → NotBehind 38 bs → NotBe
 unfolding value_at
 behind_no_mark bs r a b c d h =
     ap (on value_of)
-    (skipped 38 pointer_at At3 bs a
-    ∙ ap (on inr) (skipped 64 block_at At2 bs b ∙ ap (on inr) (skipped 102 (fixed alse) At1 bs c ∙ ap (on inr) (skipped 116 (fixed rue) signed bs d) ∙ twice inr inr (signed bs)) ∙ twice (λ n. inr (inr n)) inr (signed bs))
+    (skipped 38 pointer_at no_reference_at bs a
+    ∙ ap (on inr) (skipped 64 block_at truth_or_number_at bs b ∙ ap (on inr) (skipped 102 (fixed alse) true_or_number_at bs c ∙ ap (on inr) (skipped 116 (fixed rue) signed bs d) ∙ twice inr inr (signed bs)) ∙ twice (λ n. inr (inr n)) inr (signed bs))
     ∙ twice (λ n. inr (inr (inr n))) inr (signed bs))
     ∙ twice (λ n. inr (inr (inr (inr n)))) value_of (signed bs)
     ∙ h
