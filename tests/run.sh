@@ -1,7 +1,7 @@
 #!/usr/bin/env bash
 # Runs the built program on the cases of tests/cases, and compares standard output, standard error
-# and the exit status with what stands there; and runs the examples of docs/LANGUAGE.md. The last
-# line is 'N passed, M failed'.
+# and the exit status with what stands there; and runs the examples of docs/LANGUAGE.md and of
+# docs/programs. The last line is 'N passed, M failed'.
 #
 # The lines of a case:
 #   case: NAME            begins a case
@@ -183,22 +183,29 @@ end_example() {
         passed=$((passed + 1))
     else
         failed=$((failed + 1))
-        printf 'FAILED: the example of docs/LANGUAGE.md\n  %s\n' "$command"
+        printf 'FAILED: an example of %s\n  %s\n' "$document" "$command"
         diff <(printf '%s\n' "$wanted") <(printf '%s\n' "$got") | sed 's/^/  /'
     fi
     command=''
 }
 
-# The examples of the language's document: '    $ COMMAND', and then the lines that it prints.
-command='' wanted=''
-while IFS= read -r row || [ -n "$row" ]; do
-    case $row in
-        '    $ '*) end_example; command=${row#'    $ '} wanted='' ;;
-        '    '*) [ -z "$command" ] || wanted+=${wanted:+$'\n'}${row:4} ;;
-        *) end_example ;;
-    esac
-done <docs/LANGUAGE.md
-end_example
+# The examples of a document: '    $ COMMAND', and then the lines that it prints.
+run_examples() {
+    local row
+    document=$1 command='' wanted=''
+    while IFS= read -r row || [ -n "$row" ]; do
+        case $row in
+            '    $ '*) end_example; command=${row#'    $ '} wanted='' ;;
+            '    '*) [ -z "$command" ] || wanted+=${wanted:+$'\n'}${row:4} ;;
+            *) end_example ;;
+        esac
+    done <"$document"
+    end_example
+}
+
+for page in docs/LANGUAGE.md docs/programs/*.md; do
+    run_examples "$page"
+done
 
 echo "$passed passed, $failed failed"
 [ "$failed" -eq 0 ]

@@ -1,4 +1,4 @@
-//! The program `u`: it reads the words of its command line and FILE, and runs a dataflow program.
+//! The program `u`: it reads the words of its command line and FILE, and checks or runs a dataflow program.
 #![tactic(auto)]
 
 ghost use Rattle.u.specs.Orders.{HasFirings};
@@ -9,7 +9,7 @@ mod words;
 use std::alloc::Global;
 use std::process::ExitCode;
 use std::{fs, io};
-use u_cli::{Fault, STORED_PROGRAM, read_input, run_text};
+use u_cli::{Fault, STORED_PROGRAM, check_text, read_input, run_text};
 use words::{Order, not_text, parse};
 
 /// The argument of the stored run, and how often it may fire.
@@ -47,7 +47,7 @@ fn answer(rt: &HostRuntime) -> Result<u8, Fault> {
     }
 }
 
-/// Reads FILE and runs the program in it, or runs the stored one.
+/// Reads FILE and checks or runs the program in it, or runs the stored one.
 fn follow(rt: &HostRuntime, order: Order<'_>) -> Result<u8, Fault>
     requires { HasFirings order }
 {
@@ -61,6 +61,10 @@ fn follow(rt: &HostRuntime, order: Order<'_>) -> Result<u8, Fault>
             STORED_FIRINGS,
             &mut out,
         ),
+        Order::Check { file } => {
+            let program = read_file(rt, file)?;
+            check_text(alloc, program.as_slice(), &mut out)
+        }
         Order::Run {
             file,
             argument,

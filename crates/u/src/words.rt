@@ -1,18 +1,23 @@
 //! The words of the command line.
 ghost use Rattle.std.specs.Prelude.{◌≡◌, IfOk};
 ghost use Rattle.clap.specs.Words.{found_of};
-ghost use Rattle.u.specs.Orders.{HasFirings, IsRunOf, word_of};
+ghost use Rattle.u.specs.Orders.{HasFirings, IsCheckOf, IsRunOf, word_of};
 
 use crate::number::firings_of;
 use clap::error::ErrorKind;
 use clap::{Arg, ArgAction, ArgMatches, Command, Error, value_parser};
 use std::alloc::{AllocError, Global};
 
+/// The word of the command that checks.
+const CHECK: &str = "check";
+
 /// What a command line orders.
 #[derive(Clone, Copy, Debug, PartialEq, Eq, Drop)]
 pub enum Order<'a> {
     /// There is no word: the stored run.
     Stored,
+    /// `check FILE`.
+    Check { file: &'a str },
     /// `run FILE ARG`: at most `firings` firings, from 1 to 1000000.
     Run {
         file: &'a str,
@@ -29,8 +34,9 @@ pub fn parse<'a>(alloc: Global, words: &'a [String]) -> Result<Order<'a>, Error>
 {
     let matches: ArgMatches<'a> = commands(alloc)?.try_get_matches_from(words)?;
     match matches.subcommand() {
-        Some((_, run)) => run_order(alloc, run),
         None => Ok(Order::Stored),
+        Some((name, check)) if name == CHECK => Ok(check_order(check)),
+        Some((_, run)) => run_order(alloc, run),
     }
 }
 
@@ -40,6 +46,15 @@ pub fn not_text(alloc: Global) -> Result<Error, AllocError> {
         commands(alloc),
         "invalid UTF-8 was detected in one or more arguments",
     )
+}
+
+/// The words of `check`.
+fn check_order<'a>(matches: &ArgMatches<'a>) -> Order<'a>
+    ensures { IsCheckOf (found_of matches.now) result }
+{
+    Order::Check {
+        file: text(matches, "FILE"),
+    }
 }
 
 /// The words of `run`. The number of firings is read again, since `clap` takes a sign and
@@ -85,13 +100,19 @@ fn commands<'a>(alloc: Global) -> Result<Command<'a>, AllocError> {
     Command::new(alloc, "u")
         .bin_name("u")?
         .version("0.1.0")
-        .about("Runs dataflow programs. Without any word it runs a stored program.")
+        .about("Checks and runs dataflow programs. Without any word it runs a stored program.")
         .disable_help_subcommand(true)
+        .subcommand(check(alloc)?)?
         .subcommand(run(alloc, "run")?)
 }
 
+fn check<'a>(alloc: Global) -> Result<Command<'a>, AllocError> {
+    Command::new(alloc, CHECK)
+        .about("Checks the program and prints how many blocks and statements it has")
+        .arg(file(alloc))
+}
+
 fn run<'a>(alloc: Global, name: &'a str) -> Result<Command<'a>, AllocError> {
-    let file = word(alloc, "FILE").help("The program's file, or the word stdin for standard input");
     let argument = word(alloc, "ARG").help("The argument, a decimal number: n1 is -1");
     let firings = Arg::new(alloc, "firings")
         .long("firings")
@@ -102,9 +123,13 @@ fn run<'a>(alloc: Global, name: &'a str) -> Result<Command<'a>, AllocError> {
         .value_parser(value_parser!(u32).range(1..=1000000));
     Command::new(alloc, name)
         .about("Runs the program and prints its report")
-        .arg(file)?
+        .arg(file(alloc))?
         .arg(argument)?
         .arg(firings)
+}
+
+fn file<'a>(alloc: Global) -> Arg<'a> {
+    word(alloc, "FILE").help("The program's file, or the word stdin for standard input")
 }
 
 fn word<'a>(alloc: Global, name: &'a str) -> Arg<'a> {

@@ -2,4 +2,5 @@ pub mod Statuses
 pub mod Outputs
 pub mod Inputs
 pub mod Arguments
+pub mod Checks
 pub mod Runs

@@ -2,11 +2,9 @@
 use Rattle.std.specs.Prelude.{◌≡◌, ℕ, List, [], ◌∷◌, ◌⊎◌, Option, Result, Ok, Err, Contains, length}
 use Rattle.std.specs.Io.KnownBytes.{Keeps}
 use Rattle.u_program.specs.Parts.{BlockParts}
-use Rattle.u_program.specs.declared.read_error.ReadError.{ReadError}
-use Rattle.u_program.specs.declared.read_error.ReadError.TheVariants as read_errors
 use Rattle.u_program.specs.Answer.{IsTextOf}
 use Rattle.u_program.specs.Laws.{IsBadLine, IsTooMany, IsTruncated}
-use Rattle.u_check.specs.Rules.{IsChecked, IsFirstBreach}
+use Rattle.u_check.specs.Rules.{IsChecked}
 use Rattle.u_check.specs.Jobs.{JobParts}
 use Rattle.u_system.specs.Firing.{Held, Whole, Same, Enabled, Plain}
 use Rattle.u_value.specs.declared.value.Value.{Value}
@@ -27,8 +25,8 @@ use Rattle.u_history.specs.Report.{IsReportOf}
 use Rattle.u_cli.specs.Arguments.{IsArgumentOf}
 use Rattle.u_cli.specs.Outputs.{WritesAll, WritesPrefix}
 use Rattle.u_cli.specs.Statuses.{status_of}
+use Rattle.u_cli.specs.Checks.{BreaksRule}
 use Rattle.std.specs.Prelude.{ℤ}
-use Rattle.u_check.specs.declared.rule.Breach.{Breach}
 use Rattle.u_cli.specs.declared.fault.Fault.{Fault as Refused}
 use Rattle.u_cli.specs.declared.fault.Fault.TheVariants as faults
 
@@ -76,12 +74,6 @@ abbrev pub state_of : Ran → State
 state_of ran.Quiet = states.Quiet
 state_of ran.Paused = states.Paused
 
--- the program's text is that of a program which breaks the named rule first
-pub record BreaksRule (bytes : List ℕ) (breach : Breach) : Type 0 where
-  pub program : List BlockParts
-  pub text : IsTextOf bytes program
-  pub first : IsFirstBreach program breach.rule breach.block breach.statement
-
 -- the program breaks no rule, and the word gives no argument
 pub record GivesNoArgument (bytes word : List ℕ) : Type 0 where
   pub program : List BlockParts
@@ -110,9 +102,3 @@ JobRefused bytes word (faults.Rule breach) = BreaksRule bytes breach
 JobRefused bytes word faults.ArgumentNotAllowed = GivesNoArgument bytes word
 JobRefused bytes word faults.NoMemory = Unit {0}
 JobRefused bytes word fault = ⊥
-
-abbrev pub fault_of : ReadError → Refused
-fault_of (read_errors.BadLine n) = faults.LineNotAllowed n
-fault_of (read_errors.TooMany n) = faults.TooMany n
-fault_of read_errors.Truncated = faults.CutShort
-fault_of read_errors.NoMemory = faults.NoMemory

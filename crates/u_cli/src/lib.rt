@@ -2,6 +2,7 @@
 #![tactic(auto)]
 
 mod argument;
+mod checking;
 mod fault;
 mod input;
 mod output;
@@ -10,6 +11,7 @@ mod run;
 mod tests;
 
 pub use argument::argument_of;
+pub use checking::check_text;
 pub use fault::Fault;
 pub use input::{INPUT_LIMIT, read_input};
 pub use output::{Unwritten, write_whole};

@@ -1,49 +1,32 @@
 //! The command `run`.
 ghost use Rattle.std.specs.Prelude.{◌≡◌, ◌≤◌, IfOk, IfErr, MatchResult, IsTrue, List, ℕ, Contains, length};
-ghost use Rattle.u_program.specs.Answer.{IsTextOf};
 ghost use Rattle.u_check.specs.Jobs.{JobParts};
-ghost use Rattle.u_cli.specs.Runs.{IsJobOf, Runs, RunTextAnswer, JobRefused, IsStatusOf, fault_of, RunsJob, state_of};
+ghost use Rattle.u_cli.specs.Runs.{IsJobOf, Runs, RunTextAnswer, JobRefused, IsStatusOf, RunsJob, state_of};
 ghost use Rattle.u_cli.specs.declared.fault.Fault.TheVariants as faults;
 ghost use Rattle.u_history.specs.Report.{IsReportOf};
 ghost use Rattle.u_cli.specs.Statuses.{status_of};
 ghost use Rattle.u_history.specs.Verdicts.{judgement};
 
 use crate::argument::argument_of;
+use crate::checking::checked_of;
 use crate::fault::Fault;
 use crate::output::write_whole;
 use std::alloc::{AllocError, Global};
 use std::io::Write;
-use u_check::{Checked, Job, check};
+use u_check::Job;
 use u_history::{History, State, Verdict, report_text};
 use u_machine::{Machine, Ran, Refusal};
-use u_program::{ReadError, read};
 
 /// How many firings a machine of the program takes at most.
 pub const FIRING_LIMIT: usize = 1_000_000;
-
-/// The fault that is told of a program's text.
-fn fault_of(error: ReadError) -> Fault
-    ensures { result ≡ fault_of error }
-{
-    match error {
-        ReadError::BadLine(line) => Fault::LineNotAllowed(line),
-        ReadError::TooMany(line) => Fault::TooMany(line),
-        ReadError::Truncated => Fault::CutShort,
-        ReadError::NoMemory => Fault::NoMemory,
-    }
-}
 
 /// The job of the program with this text on the argument that the word gives.
 fn job_of(alloc: Global, bytes: &[u8], word: &[u8]) -> Result<Job, Fault>
     ensures { MatchResult result (λ job. IsJobOf bytes.now word.now job) (λ fault. JobRefused bytes.now word.now fault) }
 {
-    let program = match read(alloc, bytes) {
-        Ok(program) => program,
-        Err(error) => return Err(fault_of(error)),
-    };
-    let checked = match check(program) {
+    let checked = match checked_of(alloc, bytes) {
         Ok(checked) => checked,
-        Err(refused) => return Err(Fault::Rule(refused.breach)),
+        Err(fault) => return Err(fault),
     };
     match argument_of(word) {
         Some(argument) => Ok(Job::new(checked, argument)),

@@ -1,16 +1,17 @@
 -- How many values a firing has, and which tokens it needs for them.
-use Rattle.std.proofs.Common.{◌≡◌, ◌↔◌, ◌⊎◌, ◌∙◌, inl, inr, refl, arith, ap, Bool, true, false, ◌&&◌, IsTrue, ℕ, ◌≤◌, [], ◌∷◌, length, Contains, Option, Some, None}
+use Rattle.std.proofs.Common.{◌≡◌, ◌↔◌, ◌⊎◌, ◌∙◌, inl, inr, refl, arith, ap, Bool, true, false, ◌&&◌, IsTrue, ℕ, ◌≤◌, List, [], ◌∷◌, length, Contains, Option, Some, None}
 use Rattle.std.specs.Prelude.{is_none, ◌==◌}
 use Rattle.std.proofs.lemmas.Bool.Decides.{nat_tests}
 use Rattle.u_name.specs.Name.{Activity}
 use Rattle.u_value.specs.declared.value.Value.{Value}
 use Rattle.u_program.specs.declared.program.Kind.{Kind}
 use Rattle.u_program.specs.declared.program.Kind.TheVariants.{Begin}
-use Rattle.u_program.specs.Parts.{StatementParts}
+use Rattle.u_program.specs.Parts.{StatementParts, BlockParts}
 use Rattle.u_check.specs.Jobs.{JobParts}
 use Rattle.u_check.specs.Rules.{ports_of}
 use Rattle.u_rule.specs.Parts.{token, ValueList}
-use Rattle.u_rule.specs.Rule.{is_firing_of, is_firing_at, needs_of, statement_of, fits}
+use Rattle.u_rule.specs.Rule.{is_firing_of, is_firing_at, needs_of}
+use Rattle.u_rule.specs.Fits.{statement_of, fits_at}
 use Rattle.u_rule.specs.EntryOrder.{firing}
 use Rattle.u_rule.specs.declared.entry.Entry.{Entry}
 use Rattle.u_rule.specs.declared.entry.Entry.TheVariants as entries
@@ -60,10 +61,10 @@ pub record Shape (f : Firing) : Type 0 where
   pub write : f.write ≡ None
   pub values : OneValue f.values ⊎ (TwoValues f.values ⊎ ThreeValues f.values)
 
-shape_at : (s : Option StatementParts) (f : Firing) → is_firing_at s f ≡ true → Shape f
-shape_at None f h = cc
-shape_at (Some s) f h =
-    let r = and_right (fits s.region f.activity) _ h in
+shape_at : (p : List BlockParts) (s : Option StatementParts) (f : Firing) → is_firing_at p s f ≡ true → Shape f
+shape_at p None f h = cc
+shape_at p (Some s) f h =
+    let r = and_right (fits_at p s.region f.activity) _ h in
     let n = same_number (length f.values) (ports_of s.kind) (and_left (length f.values == ports_of s.kind) (is_none f.write) r) in
     let few = few_ports s.kind in
     record {
@@ -73,7 +74,7 @@ shape_at (Some s) f h =
 
 pub shape_of : (job : JobParts) (f : Firing) → IsTrue (is_firing_of job f) → Shape f
 unfolding is_firing_of
-shape_of job f h = shape_at (statement_of job f.activity) f h
+shape_of job f h = shape_at job.program (statement_of job.program f.activity.block f.activity.statement) f h
 
 -- a firing is its activity with its values
 pub rebuilt : (f : Firing) (vs : ValueList) → f.write ≡ None → f.values ≡ vs → f ≡ firing f.activity vs None

@@ -8,6 +8,7 @@ use std::test::Fail;
 use u_check::{Job, check};
 use u_cli::STORED_PROGRAM;
 use u_machine::{Machine, Refusal, Step, enabled_firings};
+use u_name::Name;
 use u_program::read;
 
 /// Two constants go to the one port of `end`.
@@ -17,6 +18,14 @@ const TWO_CONSTANTS: &[u8] =
 /// The control of a selection gets both truth values.
 const SELECTED_TWICE: &[u8] =
     b"u-program 1\nblock main\n1 0 begin -> 2.1 3.1 4.1 5.2\n2 0 const true -> 5.1\n3 0 const false -> 5.1\n4 0 const 0 -> 5.3\n5 0 select -> 6.1\n6 0 end ->\n";
+
+/// The sum of the numbers from the argument down to 1, over a loop.
+const SUM: &[u8] =
+    b"u-program 1\nblock main\nloop 1 0\n1 0 begin -> 2.1 3.1\n2 0 enter 1 -> 5.1 6.2 7.1 8.1 9.2\n3 0 const 0 -> 4.1\n4 0 enter 1 -> 9.1 12.1\n5 1 const 0 -> 6.1\n6 1 lt -> 10.2 11.2 12.2\n7 1 const 1 -> 8.2\n8 1 sub -> 10.1\n9 1 add -> 11.1\n10 1 switch -> 13.1 /\n11 1 switch -> 14.1 /\n12 1 switch -> / 15.1\n13 1 next -> 5.1 6.2 7.1 8.1 9.2\n14 1 next -> 9.1 12.1\n15 1 last -> 16.1\n16 1 leave -> 17.1\n17 0 end ->\n";
+
+/// The factorial, by calls.
+const FACTORIAL: &[u8] =
+    b"u-program 1\nblock main\n1 0 begin -> 2.1 3.2\n2 0 const @fact -> 3.1\n3 0 apply 4 ->\n4 0 back -> 5.1\n5 0 end ->\nblock fact\n1 0 begin -> 2.1 3.1 4.1 5.1 7.2\n2 0 const 0 -> 5.2\n3 0 const @one -> 6.2\n4 0 const @rec -> 6.3\n5 0 le -> 6.1\n6 0 select -> 7.1\n7 0 apply 8 ->\n8 0 back -> 9.1\n9 0 end ->\nblock rec\n1 0 begin -> 2.1 3.1 4.1 7.1\n2 0 const 1 -> 3.2\n3 0 sub -> 5.2\n4 0 const @fact -> 5.1\n5 0 apply 6 ->\n6 0 back -> 7.2\n7 0 mul -> 8.1\n8 0 end ->\nblock one\n1 0 begin -> 2.1\n2 0 const 1 -> 3.1\n3 0 end ->\n";
 
 fn job(alloc: Global, text: &[u8], argument: i64) -> Result<Job, AllocError> {
     let program = read(alloc, text).map_err(|_| AllocError)?;
@@ -53,7 +62,7 @@ fn steps_agreed(
     job: &Job,
     machine: &mut Machine<'_>,
 ) -> Result<Option<usize>, Refusal> {
-    for count in 0..10 {
+    for count in 0..40 {
         let scans = scans_agree(alloc, job, machine)?;
         let holds = holds_what_was_fired(alloc, job, machine)?;
         if !(scans && holds) {
@@ -116,6 +125,54 @@ fn agree_on_a_selection(rt: HostRuntime) -> Result<(), Fail> {
     assert_eq!(rt; machine.history().len(), 12);
     let is_whole = is_whole_after(rt.alloc(), &job, &machine, 5)?;
     assert!(rt; is_whole);
+    Ok(())
+}
+
+/// Whether the machine agrees with the plain programs at each of so many steps, until it is quiet
+/// with so many entries.
+fn agrees_until(
+    alloc: Global,
+    text: &[u8],
+    argument: i64,
+    firings: usize,
+    entries: usize,
+) -> Result<bool, Refusal> {
+    let job = job(alloc, text, argument)?;
+    let mut machine = Machine::new(alloc, &job, 100)?;
+    let steps = steps_agreed(alloc, &job, &mut machine)?;
+    Ok(steps == Some(firings) && machine.history().len() == entries)
+}
+
+#[test]
+fn agree_on_a_loop(rt: HostRuntime) -> Result<(), Fail> {
+    let agree = agrees_until(rt.alloc(), SUM, 0, 15, 22)?;
+    assert!(rt; agree);
+    Ok(())
+}
+
+#[test]
+fn agree_on_calls(rt: HostRuntime) -> Result<(), Fail> {
+    let agree = agrees_until(rt.alloc(), FACTORIAL, 0, 17, 23)?;
+    assert!(rt; agree);
+    Ok(())
+}
+
+/// Whether an activity of that name fires in the run.
+fn fires(alloc: Global, text: &[u8], argument: i64, name: &[u8]) -> Result<bool, Refusal> {
+    let activity = Name::read(alloc, name).map_err(|_| Refusal::NoMemory)?;
+    let job = job(alloc, text, argument)?;
+    let mut machine = Machine::new(alloc, &job, 1000)?;
+    let _ = machine.run(1000)?;
+    Ok(machine.applied().iter().any(|f| f.activity == activity))
+}
+
+#[test]
+fn the_inner_call_fires(rt: HostRuntime) -> Result<(), Fail> {
+    let name = b"((-.main.3.1).fact.7.1).rec.5.1";
+    let twice = fires(rt.alloc(), FACTORIAL, 2, name)?;
+    assert!(rt; twice);
+    let once = fires(rt.alloc(), FACTORIAL, 0, name)?;
+    assert!(rt; !once);
     Ok(())
 }
 
