@@ -52,9 +52,8 @@ pub fn not_text(alloc: Global) -> Result<Error, AllocError> {
 fn check_order<'a>(matches: &ArgMatches<'a>) -> Order<'a>
     ensures { IsCheckOf (found_of matches.now) result }
 {
-    Order::Check {
-        file: text(matches, "FILE"),
-    }
+    let file = text(matches, "FILE");
+    Order::Check { file }
 }
 
 /// The words of `run`. The number of firings is read again, since `clap` takes a sign and
