@@ -17,7 +17,9 @@ pub enum Order<'a> {
     /// There is no word: the stored run.
     Stored,
     /// `check FILE`.
-    Check { file: &'a str },
+    Check {
+        file: &'a str,
+    },
     /// `run FILE ARG`: at most `firings` firings, from 1 to 1000000.
     Run {
         file: &'a str,

@@ -1,8 +1,7 @@
 -- What a new machine that ran says of its job.
-use Rattle.std.proofs.Common.{◌≡◌, ◌↔◌, ◌⊎◌, inl, inr, ◌∙◌, sym, ap, refl, subst, ℕ, List, [], ◌∷◌, ◌++◌, ◌≤◌, append-nil, length, Contains, Ok, Err}
-use Rattle.std.specs.Prelude.{Result}
+use Rattle.std.proofs.Common.{◌≡◌, ◌∙◌, sym, ap, refl, subst, ℕ, List, [], ◌++◌, append-nil, length, Contains, Ok}
 use Rattle.u_check.specs.Jobs.{JobParts}
-use Rattle.u_system.specs.Firing.{Held, Whole, Same, Enabled, Plain, Cl}
+use Rattle.u_system.specs.Firing.{Held, Same, Enabled, Cl}
 use Rattle.u_system.proofs.Held.{Enabled-mono}
 use Rattle.u_rule.specs.Rule.{system_of}
 use Rattle.u_rule.specs.EntryOrder.{FiringList}
@@ -10,9 +9,9 @@ use Rattle.u_rule.specs.declared.entry.Entry.{Entry}
 use Rattle.u_rule.specs.declared.firing.Firing.{Firing}
 use Rattle.u_machine.specs.declared.answer.Ran.{Ran}
 use Rattle.u_machine.specs.declared.answer.Ran.TheVariants as ran
-use Rattle.u_machine.specs.States.{State, state, Taken, IsMachine, IsSettled, NothingReady, IsReady, RunAnswer, firing_le}
+use Rattle.u_machine.specs.States.{State, state, Taken, IsMachine, IsSettled, NothingReady, IsReady, RunAnswer}
 use Rattle.u_machine.proofs.States.{settled_is_Cl}
-use Rattle.u_machine.proofs.Runs.{run_done, run_plain, IsPlainRun}
+use Rattle.u_machine.proofs.Runs.{run_done}
 use Rattle.u_history.specs.declared.report.State.TheVariants as states
 use Rattle.u_history.specs.Report.{IsReportOf}
 use Rattle.u_history.proofs.Reports.{report_same, outcome_same}

@@ -1,5 +1,5 @@
 -- What was read of a reader.
-use Rattle.std.specs.Prelude.{◌≡◌, ℕ, ◌≤◌, ◌<◌, List, Option, Result, Ok, Err, IfSome, length}
+use Rattle.std.specs.Prelude.{◌≡◌, ℕ, ◌≤◌, ◌<◌, List, Option, IfSome, length}
 use Rattle.u_cli.specs.declared.fault.Fault.{Fault}
 use Rattle.u_cli.specs.declared.fault.Fault.TheVariants as faults
 

@@ -1,5 +1,5 @@
 -- What `run` answers to the bytes of a program and the word of an argument.
-use Rattle.std.specs.Prelude.{◌≡◌, ℕ, List, [], ◌∷◌, ◌⊎◌, Option, Result, Ok, Err, Contains, length}
+use Rattle.std.specs.Prelude.{◌≡◌, ℕ, List, Option, Result, Ok, Err, Contains, length}
 use Rattle.std.specs.Io.KnownBytes.{Keeps}
 use Rattle.u_program.specs.Parts.{BlockParts}
 use Rattle.u_program.specs.Answer.{IsTextOf}

@@ -49,6 +49,7 @@ fn statements_of(program: &Program) -> usize
 }
 
 /// The line that tells of a program which breaks no rule.
+#[tactic(auto, unfolding(crate::specs::Checks::checked_line), using(crate::proofs::Counts::join5))]
 fn checked_line(alloc: Global, program: &Program) -> Result<Vec<u8>, AllocError>
     ensures { IfOk result (λ v. v.items ≡ checked_line program.now) }
 {

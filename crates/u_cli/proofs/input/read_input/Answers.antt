@@ -1,4 +1,4 @@
-use Rattle.std.proofs.Common.{◌≡◌, ◌∙◌, ℕ, take, sym, length, ◌≤◌, ◌<◌, ◌+◌, arith, rules}
+use Rattle.std.proofs.Common.{take, length, ◌<◌, ◌+◌, arith, rules}
 use Rattle.u_cli.specs.Inputs.{input_limit}
 use Rattle.u_cli.proofs.Known.{read_end, read_over}
 use Rattle.u_cli.proofs.input.read_input.Goals as goal

@@ -1,6 +1,5 @@
-use Rattle.std.proofs.Common.{◌≡◌, ◌≤◌, length}
+use Rattle.std.proofs.Common.{◌≤◌, length}
 use Rattle.std.specs.Io.KnownBytes.{Consumes}
-use Rattle.u_cli.specs.Inputs.{input_limit}
 use Rattle.u_cli.proofs.input.read_input.Given as goal
 
 abbrev pub invariant-loop : goal.invariant-loop

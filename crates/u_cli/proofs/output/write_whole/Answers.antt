@@ -1,4 +1,4 @@
-use Rattle.std.proofs.Common.{◌≡◌, ◌∙◌, ◌++◌, List, ℕ, take, drop, ap, sym, append_assoc, length, ◌≤◌}
+use Rattle.std.proofs.Common.{◌≡◌, ◌∙◌, ◌++◌, List, ℕ, take, drop, ap, sym, append_assoc}
 use Rattle.std.proofs.lemmas.List.{take-append-drop}
 use Rattle.u_cli.proofs.Known.{appends_more}
 use Rattle.u_cli.proofs.output.write_whole.Goals as goal

@@ -1,4 +1,4 @@
-use Rattle.std.proofs.Common.{subst, ◌≡◌, sym}
+use Rattle.std.proofs.Common.{subst}
 use Rattle.u_history.specs.declared.report.State.{State}
 use Rattle.std.proofs.Common.{Contains, length}
 use Rattle.u_history.specs.Report.{IsReportOf}
