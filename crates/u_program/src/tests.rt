@@ -22,8 +22,8 @@ fn with_line(alloc: Global, line: &[u8]) -> Result<Vec<u8>, AllocError> {
     Ok(text)
 }
 
-/// The text of a block with as many loops and one statement.
-fn loops(alloc: Global, count: u32) -> Result<Vec<u8>, AllocError> {
+/// The text of a block with as many loops, and this line behind them.
+fn loops(alloc: Global, count: u32, line: &[u8]) -> Result<Vec<u8>, AllocError> {
     let mut text = Vec::new(alloc);
     text.extend_from_slice(b"u-program 1\nblock main\n")?;
     for i in 0..count {
@@ -31,7 +31,8 @@ fn loops(alloc: Global, count: u32) -> Result<Vec<u8>, AllocError> {
         u_text::push_number(&mut text, i + 1)?;
         text.extend_from_slice(b" 0\n")?;
     }
-    text.extend_from_slice(b"1 0 begin ->\n")?;
+    text.extend_from_slice(line)?;
+    text.push(b'\n')?;
     Ok(text)
 }
 
@@ -87,7 +88,7 @@ fn writes_what_it_read(rt: HostRuntime) -> Result<(), Fail> {
         assert!(rt; is_written_as_read(alloc, &text)?);
     }
     assert!(rt; is_written_as_read(alloc, &blocks(alloc, 64)?)?);
-    assert!(rt; is_written_as_read(alloc, &loops(alloc, 99)?)?);
+    assert!(rt; is_written_as_read(alloc, &loops(alloc, 99, b"1 0 begin ->")?)?);
     assert!(rt; is_written_as_read(alloc, &statements(alloc, 999)?)?);
     let text = with_line(alloc, b"1 0 const -7 ->")?;
     assert!(rt; first_kind(&read(alloc, &text)?) == Some(Kind::Const(Constant::Int(-7))));
@@ -165,7 +166,12 @@ const FACTORIAL: &[u8] =
     b"u-program 1\nblock main\n1 0 begin -> 2.1 3.2\n2 0 const @fact -> 3.1\n3 0 apply 4 ->\n4 0 back -> 5.1\n5 0 end ->\nblock fact\n1 0 begin -> 2.1 3.1 4.1 5.1 7.2\n2 0 const 0 -> 5.2\n3 0 const @one -> 6.2\n4 0 const @rec -> 6.3\n5 0 le -> 6.1\n6 0 select -> 7.1\n7 0 apply 8 ->\n8 0 back -> 9.1\n9 0 end ->\nblock rec\n1 0 begin -> 2.1 3.1 4.1 7.1\n2 0 const 1 -> 3.2\n3 0 sub -> 5.2\n4 0 const @fact -> 5.1\n5 0 apply 6 ->\n6 0 back -> 7.2\n7 0 mul -> 8.1\n8 0 end ->\nblock one\n1 0 begin -> 2.1\n2 0 const 1 -> 3.1\n3 0 end ->\n";
 
 /// Whether the first statement of the block is a `switch` of region 1 with these lists' lengths.
-fn lists_of_switch(alloc: Global, text: &[u8], on_true: usize, on_false: usize) -> Result<bool, Fail> {
+fn lists_of_switch(
+    alloc: Global,
+    text: &[u8],
+    on_true: usize,
+    on_false: usize,
+) -> Result<bool, Fail> {
     let program = read(alloc, text)?;
     let Some(block) = program.blocks().first() else {
         return Ok(false);
@@ -173,10 +179,12 @@ fn lists_of_switch(alloc: Global, text: &[u8], on_true: usize, on_false: usize) 
     let Some(statement) = block.statements().first() else {
         return Ok(false);
     };
-    Ok(*statement.kind() == Kind::Switch
-        && statement.region() == 1
-        && statement.destinations().len() == on_true
-        && statement.otherwise().len() == on_false)
+    Ok(
+        *statement.kind() == Kind::Switch
+            && statement.region() == 1
+            && statement.destinations().len() == on_true
+            && statement.otherwise().len() == on_false,
+    )
 }
 
 #[test]
@@ -196,8 +204,14 @@ fn refuses_structures(rt: HostRuntime) -> Result<(), Fail> {
         b"u-program 1\nblock main\n1 0 begin -> 2.1 3.1 4.1 5.1\n2 0 const 1 -> 6.1\n3 0 const 0 -> 7.2 8.2 9.2\n4 0 const 10 -> 7.3\n5 0 const 20 -> 8.3\n6 0 alloc -> 7.1 8.1 9.1\n7 0 store ->\n8 0 store ->\n9 0 fetch -> 10.1\n10 0 end ->\n";
     let no_writer =
         b"u-program 1\nblock main\n1 0 begin -> 2.1 3.1\n2 0 const 1 -> 4.1\n3 0 const 0 -> 5.2\n4 0 alloc -> 5.1\n5 0 fetch -> 6.1\n6 0 end ->\n";
-    assert_eq!(rt; read(alloc, two_writers.as_slice()).err(), Some(ReadError::BadLine(8)));
-    assert_eq!(rt; read(alloc, no_writer.as_slice()).err(), Some(ReadError::BadLine(6)));
+    assert_eq!(rt;
+        read(alloc, two_writers.as_slice()).err(),
+        Some(ReadError::BadLine(8))
+    );
+    assert_eq!(rt;
+        read(alloc, no_writer.as_slice()).err(),
+        Some(ReadError::BadLine(6))
+    );
     Ok(())
 }
 
@@ -317,12 +331,27 @@ fn names_the_line_that_has_too_many(rt: HostRuntime) -> Result<(), Fail> {
         b"1 0 switch -> / 1.1 2.1 3.1 4.1 5.1 6.1 7.1 8.1 9.1 10.1 11.1 12.1 13.1 14.1 15.1 16.1 17.1",
     )?;
     assert_eq!(rt; read(alloc, &text).err(), Some(ReadError::TooMany(3)));
-    let text = loops(alloc, 100)?;
-    assert_eq!(rt; read(alloc, &text).err(), Some(ReadError::TooMany(102)));
     let text = blocks(alloc, 65)?;
     assert_eq!(rt; read(alloc, &text).err(), Some(ReadError::TooMany(130)));
     let text = statements(alloc, 1000)?;
     assert_eq!(rt; read(alloc, &text).err(), Some(ReadError::TooMany(1002)));
+    Ok(())
+}
+
+#[test]
+fn tells_a_loop_too_many_from_a_bad_one(rt: HostRuntime) -> Result<(), Fail> {
+    let alloc = rt.alloc();
+    let lines = [
+        (b"loop 100 0".as_slice(), ReadError::TooMany(102)),
+        (b"loop 100 99".as_slice(), ReadError::TooMany(102)),
+        (b"loop 100 100".as_slice(), ReadError::BadLine(102)),
+        (b"loop 101 0".as_slice(), ReadError::BadLine(102)),
+        (b"loop 99 0".as_slice(), ReadError::BadLine(102)),
+    ];
+    for (line, fault) in lines {
+        let text = loops(alloc, 99, line)?;
+        assert_eq!(rt; read(alloc, &text).err(), Some(fault));
+    }
     Ok(())
 }
 
