@@ -1,12 +1,12 @@
 -- The ranges and limits within which a list of blocks is a program.
-use Rattle.std.specs.Prelude.{◌≡◌, Bool, true, false, ℕ, ◌+◌, ◌*◌, ◌≤◌, ◌<◌, List, [], ◌∷◌, length, Option, Some, None}
+use Rattle.std.specs.Prelude.{◌≡◌, Bool, true, false, ℕ, suc, ◌+◌, ◌*◌, ◌≤◌, ◌<◌, List, [], ◌∷◌, length, Option, Some, None}
 use Rattle.std.specs.List.{AllByRecursion}
 use Rattle.u_name.specs.Block.{IsBlock}
 use Rattle.u_name.specs.Context.{IsBetween}
 use Rattle.u_program.specs.declared.program.Constant.{Constant}
 use Rattle.u_program.specs.declared.program.Constant.TheVariants as constants
 use Rattle.u_program.specs.declared.program.Kind.{Kind}
-use Rattle.u_program.specs.declared.program.Kind.TheVariants.{Const, End}
+use Rattle.u_program.specs.declared.program.Kind.TheVariants.{Const, Switch, Enter, Apply, End}
 use Rattle.u_program.specs.declared.program.Destination.{Destination}
 use Rattle.u_program.specs.Parts.{StatementParts, BlockParts}
 use Rattle.std.specs.Prelude.{FitsSigned}
@@ -15,6 +15,7 @@ use Rattle.std.specs.Int.{w64}
 -- the limits on numbers of parts; None is no limit
 pub record Limits : Type 0 where
   pub blocks : Option ℕ
+  pub loops : Option ℕ
   pub statements : Option ℕ
   pub destinations : Option ℕ
 
@@ -22,12 +23,12 @@ abbrev pub AtMost : Option ℕ → ℕ → Type 0
 AtMost None n = Unit {0}
 AtMost (Some m) n = n ≤ m
 
--- 64 blocks, 999 statements of a block, 16 destinations of a list
+-- 64 blocks, 99 loops and 999 statements of a block, 16 destinations of a list
 abbrev pub the_limits : Limits
-the_limits = record { blocks = Some 64; statements = Some 999; destinations = Some 16 }
+the_limits = record { blocks = Some 64; loops = Some 99; statements = Some 999; destinations = Some 16 }
 
 abbrev pub no_limits : Limits
-no_limits = record { blocks = None; statements = None; destinations = None }
+no_limits = record { blocks = None; loops = None; statements = None; destinations = None }
 
 abbrev pub IsConstant : Constant → Type 0
 IsConstant (constants.Int n) = FitsSigned w64 n
@@ -36,12 +37,20 @@ IsConstant (constants.Proc name) = IsBlock name
 
 abbrev pub IsKind : Kind → Type 0
 IsKind (Const c) = IsConstant c
+IsKind (Enter l) = IsBetween 1 l 99
+IsKind (Apply b) = IsBetween 1 b 999
 IsKind k = Unit {0}
 
 -- whether a statement of the kind lists destinations
 abbrev pub has_list : Kind → Bool
+has_list (Apply b) = false
 has_list End = false
 has_list k = true
+
+-- whether it lists them twice: for true, and for false
+abbrev pub has_otherwise : Kind → Bool
+has_otherwise Switch = true
+has_otherwise k = false
 
 abbrev pub IsListed : Bool → List Destination → Type 0
 IsListed true to = Unit {0}
@@ -66,9 +75,19 @@ pub record IsStatement (limits : Limits) (s : StatementParts) : Type 0 where
   pub to : Ascending 0 s.to
   pub listed : IsListed (has_list s.kind) s.to
   pub few : AtMost limits.destinations (length s.to)
+  pub otherwise : Ascending 0 s.otherwise
+  pub listed_otherwise : IsListed (has_otherwise s.kind) s.otherwise
+  pub few_otherwise : AtMost limits.destinations (length s.otherwise)
+
+-- loops that count on from this number: each is held by region 0 or by an earlier loop, within 99
+abbrev pub AreLoops : ℕ → List ℕ → Type 0
+AreLoops n [] = Unit {0}
+AreLoops n (h ∷ hs) = (h < n) × (h ≤ 99) × AreLoops (suc n) hs
 
 pub record IsBlockOf (limits : Limits) (b : BlockParts) : Type 0 where
   pub name : IsBlock b.name
+  pub loops : AreLoops 1 b.loops
+  pub few_loops : AtMost limits.loops (length b.loops)
   pub each : AllByRecursion (IsStatement limits) b.statements
   pub few : AtMost limits.statements (length b.statements)
   pub some : 1 ≤ length b.statements

@@ -43,6 +43,20 @@ pub enum Kind {
     Binary(BinaryOperator),
     /// Gives one of two values, which a truth value before them chooses.
     Select,
+    /// Hands on its first value to one of two lists, which the truth value behind it chooses.
+    Switch,
+    /// Hands on a value into the loop of that number, 1 to 99.
+    Enter(u8),
+    /// Hands on a value to the next initiation of its loop.
+    Next,
+    /// Hands on a value to the first initiation of its loop.
+    Last,
+    /// Hands on a value out of its loop.
+    Leave,
+    /// Calls a procedure on an argument; its result comes back at the `back` of that number, 1 to 999.
+    Apply(u16),
+    /// Hands on the result of a call.
+    Back,
     /// Hands on the result of its block.
     End,
 }
@@ -53,6 +67,7 @@ pub struct Statement {
     region: u8,
     kind: Kind,
     to: Vec<Destination>,
+    otherwise: Vec<Destination>,
 }
 
 impl Model for Statement {
@@ -60,13 +75,14 @@ impl Model for Statement {
 
     ghost Value = { StatementParts };
 
-    ghost view = { λ s. statement s.region s.kind s.to.items };
+    ghost view = { λ s. statement s.region s.kind s.to.items s.otherwise.items };
 }
 
-/// A block of a program: a name and its statements, which are numbered 1, 2, and so on.
+/// A block of a program: a name, its loops and its statements, which are both numbered 1, 2, and so on.
 #[derive(Drop)]
 pub struct Block {
     name: BlockName,
+    loops: Vec<u8>,
     statements: Vec<Statement>,
 }
 
@@ -75,7 +91,7 @@ impl Model for Block {
 
     ghost Value = { BlockParts };
 
-    ghost view = { λ b. block b.name b.statements.items };
+    ghost view = { λ b. block b.name b.loops.items b.statements.items };
 }
 
 /// A program, as its text says it: a list of blocks.
@@ -98,10 +114,20 @@ impl Model for Program {
 
 impl Statement {
     /// A statement of these parts.
-    pub(crate) fn new(region: u8, kind: Kind, to: Vec<Destination>) -> Statement
-        ensures { result ≡ statement region kind to.items }
+    pub(crate) fn new(
+        region: u8,
+        kind: Kind,
+        to: Vec<Destination>,
+        otherwise: Vec<Destination>,
+    ) -> Statement
+        ensures { result ≡ statement region kind to.items otherwise.items }
     {
-        Statement { region, kind, to }
+        Statement {
+            region,
+            kind,
+            to,
+            otherwise,
+        }
     }
 
     /// The region: 0, or the number of the loop that holds the statement.
@@ -118,35 +144,65 @@ impl Statement {
         &self.kind
     }
 
-    /// Where its value goes, in ascending order.
+    /// Where its value goes, in ascending order; of a `switch`, where it goes on true.
     pub fn destinations(&self) -> &[Destination]
         ensures { result.now ≡ self.now.to }
     {
         &self.to
     }
+
+    /// Where the value of a `switch` goes on false, in ascending order; other kinds have no such list.
+    pub fn otherwise(&self) -> &[Destination]
+        ensures { result.now ≡ self.now.otherwise }
+    {
+        &self.otherwise
+    }
 }
 
 impl Block {
-    /// A block without statements.
+    /// A block without loops and statements.
     pub(crate) fn new(alloc: Global, name: BlockName) -> Block
-        ensures { result ≡ block name [] }
+        ensures { result ≡ block name [] [] }
     {
         Block {
             name,
+            loops: Vec::new(alloc),
             statements: Vec::new(alloc),
         }
     }
 
-    /// The block with one more statement.
-    pub(crate) fn with(self, statement: Statement) -> Result<Block, AllocFailed<Statement>>
-        ensures { IfOk result (λ b. b ≡ block self.name (self.statements ++ (statement ∷ []))) }
+    /// The block with one more loop, which that region holds.
+    pub(crate) fn with_loop(self, held_by: u8) -> Result<Block, AllocFailed<u8>>
+        ensures { IfOk result (λ b. b ≡ block self.name (self.loops ++ (held_by ∷ [])) self.statements) }
     {
         let Block {
             name,
+            mut loops,
+            statements,
+        } = self;
+        loops.push(held_by)?;
+        Ok(Block {
+            name,
+            loops,
+            statements,
+        })
+    }
+
+    /// The block with one more statement.
+    pub(crate) fn with(self, statement: Statement) -> Result<Block, AllocFailed<Statement>>
+        ensures { IfOk result (λ b. b ≡ block self.name self.loops (self.statements ++ (statement ∷ []))) }
+    {
+        let Block {
+            name,
+            loops,
             mut statements,
         } = self;
         statements.push(statement)?;
-        Ok(Block { name, statements })
+        Ok(Block {
+            name,
+            loops,
+            statements,
+        })
     }
 
     /// The block's name.
@@ -154,6 +210,13 @@ impl Block {
         ensures { result.now ≡ self.now.name }
     {
         &self.name
+    }
+
+    /// For each loop, the first being number 1, the region that holds it: 0, or an earlier loop.
+    pub fn loops(&self) -> &[u8]
+        ensures { result.now ≡ self.now.loops }
+    {
+        &self.loops
     }
 
     /// Its statements, the first being number 1.
