@@ -1,5 +1,6 @@
 pub mod Lists
 pub mod WordLaws
+pub mod ListLaws
 pub mod LineLaws
 pub mod Next
 pub mod Steps

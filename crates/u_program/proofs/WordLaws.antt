@@ -11,18 +11,18 @@ use Rattle.u_text.specs.Reads.{Reads}
 use Rattle.u_text.specs.Parts.{lead_Reads, alike, unlike, same_or}
 use Rattle.u_text.specs.Then.{after, AreBoth, both_Reads}
 use Rattle.u_text.specs.Number.{IsUpTo, IsDigit, AllDigit, number_Reads, decimal_digits}
-use Rattle.u_text.specs.WholeWords.{◌then◌, whole, is, told, some_same, none_some, then_some, le_cases, whole_sound, whole_complete, number0_word, number0_word_sound, number0_word_complete, signed_word, signed_word_sound, signed_word_complete}
+use Rattle.u_text.specs.WholeWords.{◌then◌, whole, is, told, some_same, none_some, then_some, le_cases, whole_sound, whole_complete, number0_word, number_word, number_word_sound, number_word_complete, number0_word_sound, signed_word, signed_word_sound, signed_word_complete}
 use Rattle.u_program.specs.declared.program.Constant.{Constant}
 use Rattle.u_program.specs.declared.program.Constant.TheVariants as constants
 use Rattle.u_program.specs.declared.program.Kind.{Kind}
-use Rattle.u_program.specs.declared.program.Kind.TheVariants.{Begin, Const, Pass, Unary, Binary, Select, End}
+use Rattle.u_program.specs.declared.program.Kind.TheVariants.{Begin, Const, Pass, Unary, Binary, Select, Switch, Enter, Next, Last, Leave, Apply, Back, End}
 use Rattle.u_value.specs.declared.operators.UnaryOperator.TheVariants.{Not, Length}
 use Rattle.u_value.specs.declared.operators.BinaryOperator.TheVariants.{And, Or, Add, Sub, Mul, Div, Rem, Lt, Le, Eq}
 use Rattle.u_program.specs.declared.program.Destination.{Destination}
 use Rattle.u_program.specs.Parts.{StatementParts, statement}
 use Rattle.u_program.specs.Limits.{IsConstant, IsKind, has_list, IsListed, IsDestination, Ascending, rank, IsStatement, no_limits}
 use Rattle.u_program.specs.Text.{arrow, kind_word, constant_word, argument_words, destination_word, statement_words}
-use Rattle.u_program.specs.Reading.{Words, name_word, dot_at, ported, destination_at, destinations_at, none_at, list_at, other_constant, constant_at, plain_kinds, kind_among, const_at, plain_at, kind_of, kind_at, arrow_at, statement_at}
+use Rattle.u_program.specs.Reading.{Words, word_at, name_word, dot_at, ported, destination_at, other_constant, constant_at, plain_kinds, kind_among, const_at, enter_at, apply_at, plain_at, kind_of, kind_at, arrow_at}
 
 pub name_word_sound : (w name : List ℕ) → name_word w ≡ Some name → IsBlock name × (w ≡ name)
 unfolding name_word
@@ -68,60 +68,6 @@ unfolding destination_at
 destination_complete d v =
     let c = whole_complete dot_Reads (d.statement, d.port) ((v.statement.0, v.statement.1), (v.port.0, omega (arith, v.port.1))) in
     ap (λ r. r then ported) c ∙ elim (le_cases d.port 3) [ inl a ↦ ap (λ t. cond t (Some d) None) a.0 | inr a ↦ absurd (omega (arith, v.port.1)) ]
-
-pub destinations_sound : (below : ℕ) (ws : Words) (ds : List Destination) → destinations_at below ws ≡ Some ds → Ascending below ds × (ws ≡ map destination_word ds)
-unfolding destinations_at
-destinations_sound below [] ds h = let e : [] ≡ ds = some_same [] ds h in subst (λ ds. Ascending below ds × ([] ≡ map destination_word ds)) e (tt, refl)
-destinations_sound below (w ∷ ws) ds h =
-    let a = then_some (destination_at w) (λ d. cond (nat_le (rank d) below) None (destinations_at (rank d) ws then λ ds. Some (d ∷ ds))) ds h in
-    let s = destination_sound w a.0 a.1 in
-    elim (le_cases (rank a.0) below) [
-      | inl b ↦ absurd (none_some ds (ap (λ t. cond t None (destinations_at (rank a.0) ws then λ ds. Some (a.0 ∷ ds))) (sym b.0) ∙ a.2))
-      | inr b ↦
-          let g = then_some (destinations_at (rank a.0) ws) (λ ds. Some (a.0 ∷ ds)) ds (ap (λ t. cond t None (destinations_at (rank a.0) ws then λ ds. Some (a.0 ∷ ds))) (sym b.0) ∙ a.2) in
-          let i = destinations_sound (rank a.0) ws g.0 g.1 in
-          let e : a.0 ∷ g.0 ≡ ds = some_same _ ds g.2 in
-          subst (λ ds. Ascending below ds × (w ∷ ws ≡ map destination_word ds)) e ((s.0, b.1, i.0), ap (λ w. w ∷ ws) s.1 ∙ ap (λ ws. destination_word a.0 ∷ ws) i.1)
-    ]
-
-pub destinations_complete : (below : ℕ) (ds : List Destination) → Ascending below ds → destinations_at below (map destination_word ds) ≡ Some ds
-unfolding destinations_at
-destinations_complete below [] v = refl
-destinations_complete below (d ∷ ds) v =
-    ap (λ r. r then λ d. cond (nat_le (rank d) below) None (destinations_at (rank d) (map destination_word ds) then λ ds. Some (d ∷ ds))) (destination_complete d v.0)
-    ∙ elim (le_cases (rank d) below) [
-      | inl b ↦ absurd (omega (arith, v.1))
-      | inr b ↦ ap (λ t. cond t None (destinations_at (rank d) (map destination_word ds) then λ ds. Some (d ∷ ds))) b.0 ∙ ap (λ r. r then λ ds. Some (d ∷ ds)) (destinations_complete (rank d) ds v.2)
-    ]
-
--- lists of destinations
-
-listed_at : Bool → Words → Option (List Destination)
-listed_at b ws = cond b (destinations_at 0 ws) (none_at ws)
-
-none_sound : (ws : Words) (ds : List Destination) → none_at ws ≡ Some ds → (ds ≡ []) × (ws ≡ [])
-none_sound [] ds h = (sym (some_same [] ds h), refl)
-none_sound (w ∷ ws) ds h = absurd (none_some ds h)
-
-listed_sound : (b : Bool) (ws : Words) (ds : List Destination) → listed_at b ws ≡ Some ds → Ascending 0 ds × IsListed b ds × (ws ≡ map destination_word ds)
-unfolding listed_at
-listed_sound true ws ds h = let s = destinations_sound 0 ws ds h in (s.0, tt, s.1)
-listed_sound false ws ds h =
-    let s = none_sound ws ds h in
-    subst (λ ds. Ascending 0 ds × IsListed false ds × (ws ≡ map destination_word ds)) (sym s.0) (tt, refl, s.1)
-
-pub list_sound : (k : Kind) (ws : Words) (ds : List Destination) → list_at k ws ≡ Some ds → Ascending 0 ds × IsListed (has_list k) ds × (ws ≡ map destination_word ds)
-unfolding list_at listed_at
-list_sound k ws ds h = listed_sound (has_list k) ws ds h
-
-listed_complete : (b : Bool) (ds : List Destination) → Ascending 0 ds → IsListed b ds → listed_at b (map destination_word ds) ≡ Some ds
-unfolding listed_at
-listed_complete true ds v l = destinations_complete 0 ds v
-listed_complete false ds v l = ap (λ ds. none_at (map destination_word ds)) l ∙ ap (λ ds. Some ds) (sym l)
-
-pub list_complete : (k : Kind) (ds : List Destination) → Ascending 0 ds → IsListed (has_list k) ds → list_at k (map destination_word ds) ≡ Some ds
-unfolding list_at listed_at
-list_complete k ds v l = listed_complete (has_list k) ds v l
 
 -- constants
 
@@ -225,7 +171,7 @@ among_sound (j ∷ ks) w k v h =
 
 are_plain : AllByRecursion IsPlain plain_kinds
 unfolding IsPlain
-are_plain = ((tt, refl), ((tt, refl), ((tt, refl), ((tt, refl), ((tt, refl), ((tt, refl), ((tt, refl), ((tt, refl), ((tt, refl), ((tt, refl), ((tt, refl), ((tt, refl), ((tt, refl), ((tt, refl), ((tt, refl), ((tt, refl), tt))))))))))))))))
+are_plain = ((tt, refl), ((tt, refl), ((tt, refl), ((tt, refl), ((tt, refl), ((tt, refl), ((tt, refl), ((tt, refl), ((tt, refl), ((tt, refl), ((tt, refl), ((tt, refl), ((tt, refl), ((tt, refl), ((tt, refl), ((tt, refl), ((tt, refl), ((tt, refl), ((tt, refl), ((tt, refl), ((tt, refl), tt)))))))))))))))))))))
 
 SaysKind : List ℕ → Words → Kind → Words → Type 0
 SaysKind w ws k rest = IsKind k × (w ∷ ws ≡ kind_word k ∷ (argument_words k ++ rest))
@@ -242,6 +188,22 @@ const_sound w (v ∷ ws) k rest e h =
     subst (λ k. IsKind k × (w ∷ v ∷ ws ≡ kind_word k ∷ (argument_words k ++ rest))) f
     (s.0, ap (λ w. w ∷ v ∷ ws) e ∙ ap (λ v. codes "const" ∷ v ∷ ws) s.1 ∙ ap (λ ws. codes "const" ∷ constant_word a.0 ∷ ws) g)
 
+-- a kind whose argument is a number from 1 on
+abbrev counted_at : ℕ → (ℕ → Kind) → Words → Option (Kind × Words)
+counted_at max make ws = word_at ws then λ a. number_word max a.0 then λ n. Some (make n, a.1)
+
+counted_sound : (max : ℕ) (word : List ℕ) (make : ℕ → Kind) → 9 ≤ max → max < 2 ^ 64 → ((n : ℕ) → IsUpTo max n → IsKind (make n)) → ((n : ℕ) → kind_word (make n) ≡ word) → ((n : ℕ) → argument_words (make n) ≡ decimal n ∷ []) → (w : List ℕ) (ws : Words) (k : Kind) (rest : Words) → w ≡ word → counted_at max make ws ≡ Some (k, rest) → SaysKind w ws k rest
+unfolding SaysKind
+counted_sound max word make low high valid named said w [] k rest e h = absurd (none_some _ h)
+counted_sound max word make low high valid named said w (v ∷ ws) k rest e h =
+    let a = then_some (number_word max v) (λ n. Some (make n, ws)) (k, rest) h in
+    let s = number_word_sound max v a.0 low high a.1 in
+    let o = some_same (make a.0, ws) (k, rest) a.2 in
+    let f : make a.0 ≡ k = ap (λ t. t.0) o in
+    let g : ws ≡ rest = ap (λ t. t.1) o in
+    subst (λ k. IsKind k × (w ∷ v ∷ ws ≡ kind_word k ∷ (argument_words k ++ rest))) f
+    (valid a.0 s.0, ap (λ w. w ∷ v ∷ ws) (e ∙ sym (named a.0)) ∙ ap (λ v. kind_word (make a.0) ∷ v ∷ ws) s.1 ∙ ap (λ ws. kind_word (make a.0) ∷ decimal a.0 ∷ ws) g ∙ ap (λ t. kind_word (make a.0) ∷ (t ++ rest)) (sym (said a.0)))
+
 plain_sound : (w : List ℕ) (ws : Words) (k : Kind) (rest : Words) → plain_at w ws ≡ Some (k, rest) → SaysKind w ws k rest
 unfolding SaysKind IsPlain
 plain_sound w ws k rest h =
@@ -253,11 +215,24 @@ plain_sound w ws k rest h =
     subst (λ k. IsKind k × (w ∷ ws ≡ kind_word k ∷ (argument_words k ++ rest))) f
     (s.0.0, ap (λ w. w ∷ ws) s.1 ∙ ap (λ ws. kind_word a.0 ∷ ws) (g ∙ ap (λ l. l ++ rest) (sym s.0.1)))
 
+abbrev after_enter : Bool → List ℕ → Words → Option (Kind × Words)
+after_enter b w ws = cond b (enter_at ws) (cond (is w (codes "apply")) (apply_at ws) (plain_at w ws))
+
 kind_of_sound : (w : List ℕ) (ws : Words) (k : Kind) (rest : Words) → kind_of w ws ≡ Some (k, rest) → SaysKind w ws k rest
 kind_of_sound w ws k rest h =
     elim (told w (codes "const") (is w (codes "const")) refl) [
-      | inl a ↦ const_sound w ws k rest a.1 (ap (λ b. cond b (const_at ws) (plain_at w ws)) (sym a.0) ∙ h)
-      | inr a ↦ plain_sound w ws k rest (ap (λ b. cond b (const_at ws) (plain_at w ws)) (sym a) ∙ h)
+      | inl a ↦ const_sound w ws k rest a.1 (ap (λ b. cond b (const_at ws) (after_enter (is w (codes "enter")) w ws)) (sym a.0) ∙ h)
+      | inr a ↦
+          let i = ap (λ b. cond b (const_at ws) (after_enter (is w (codes "enter")) w ws)) (sym a) ∙ h in
+          elim (told w (codes "enter") (is w (codes "enter")) refl) [
+            | inl d ↦ counted_sound 99 (codes "enter") (λ l. Enter l) (omega arith) (omega arith) (λ n v. v) (λ n. refl) (λ n. refl) w ws k rest d.1 (ap (λ b. after_enter b w ws) (sym d.0) ∙ i)
+            | inr d ↦
+                let j = ap (λ b. after_enter b w ws) (sym d) ∙ i in
+                elim (told w (codes "apply") (is w (codes "apply")) refl) [
+                  | inl f ↦ counted_sound 999 (codes "apply") (λ b. Apply b) (omega arith) (omega arith) (λ n v. v) (λ n. refl) (λ n. refl) w ws k rest f.1 (ap (λ b. cond b (apply_at ws) (plain_at w ws)) (sym f.0) ∙ j)
+                  | inr f ↦ plain_sound w ws k rest (ap (λ b. cond b (apply_at ws) (plain_at w ws)) (sym f) ∙ j)
+                ]
+          ]
     ]
 
 pub kind_sound : (ws : Words) (k : Kind) (rest : Words) → kind_at ws ≡ Some (k, rest) → IsKind k × (ws ≡ kind_word k ∷ (argument_words k ++ rest))
@@ -268,6 +243,8 @@ kind_sound (w ∷ ws) k rest h = kind_of_sound w ws k rest h
 pub kind_complete : (k : Kind) (rest : Words) → IsKind k → kind_at (kind_word k ∷ (argument_words k ++ rest)) ≡ Some (k, rest)
 unfolding kind_at kind_among
 kind_complete (Const c) rest v = ap (λ r. r then λ c. Some (Const c, rest)) (constant_complete c v)
+kind_complete (Enter l) rest v = ap (λ r. r then λ l. Some (Enter l, rest)) (number_word_complete 99 l (omega arith) (omega arith) v)
+kind_complete (Apply b) rest v = ap (λ r. r then λ b. Some (Apply b, rest)) (number_word_complete 999 b (omega arith) (omega arith) v)
 kind_complete Begin rest v = refl
 kind_complete Pass rest v = refl
 kind_complete (Unary Not) rest v = refl
@@ -283,6 +260,11 @@ kind_complete (Binary Lt) rest v = refl
 kind_complete (Binary Le) rest v = refl
 kind_complete (Binary Eq) rest v = refl
 kind_complete Select rest v = refl
+kind_complete Switch rest v = refl
+kind_complete Next rest v = refl
+kind_complete Last rest v = refl
+kind_complete Leave rest v = refl
+kind_complete Back rest v = refl
 kind_complete End rest v = refl
 
 pub arrow_sound : (ws : Words) (u : Unit {0}) (rest : Words) → arrow_at ws ≡ Some (u, rest) → ws ≡ arrow ∷ rest
@@ -296,73 +278,13 @@ arrow_sound (w ∷ ws) u rest h =
       | inr a ↦ absurd (none_some _ (ap (λ b. cond b (Some (tt, ws)) None) (sym a) ∙ h))
     ]
 
--- statements
-
-abbrev tail_of : ℕ → Kind × Words → Option StatementParts
-tail_of region k = arrow_at k.1 then λ b. list_at k.0 b.1 then λ to. Some (statement region k.0 to)
-
-abbrev rest_of : Words → ℕ → Option StatementParts
-rest_of ws region = kind_at ws then tail_of region
-
-pub statement_sound : (ws : Words) (s : StatementParts) → statement_at ws ≡ Some s → IsStatement no_limits s × (ws ≡ statement_words s)
-unfolding statement_at
-statement_sound [] s h = absurd (none_some s h)
-statement_sound (w ∷ ws) s h =
-    let a = then_some (number0_word 99 w) (rest_of ws) s h in
-    let b = number0_word_sound 99 w a.0 (omega arith) (omega arith) a.1 in
-    let c = then_some (kind_at ws) (tail_of a.0) s a.2 in
-    let d = kind_sound ws c.0.0 c.0.1 c.1 in
-    let e = then_some (arrow_at c.0.1) (λ b. list_at c.0.0 b.1 then λ to. Some (statement a.0 c.0.0 to)) s c.2 in
-    let f = arrow_sound c.0.1 e.0.0 e.0.1 e.1 in
-    let g = then_some (list_at c.0.0 e.0.1) (λ to. Some (statement a.0 c.0.0 to)) s e.2 in
-    let i = list_sound c.0.0 e.0.1 g.0 g.1 in
-    let j = some_same (statement a.0 c.0.0 g.0) s g.2 in
-    subst (λ s. IsStatement no_limits s × (w ∷ ws ≡ statement_words s)) j (
-      record { region = b.0; kind = d.0; to = i.0; listed = i.1; few = tt },
-      ap (λ w. w ∷ ws) b.1 ∙ ap (λ ws. decimal a.0 ∷ ws) (d.1 ∙ ap (λ t. kind_word c.0.0 ∷ (argument_words c.0.0 ++ t)) (f ∙ ap (λ t. arrow ∷ t) i.2)),
-    )
-
-pub statement_complete : (s : StatementParts) → IsStatement no_limits s → statement_at (statement_words s) ≡ Some s
-unfolding statement_at arrow_at
-statement_complete s v =
-    ap (λ r. r then rest_of (kind_word s.kind ∷ (argument_words s.kind ++ (arrow ∷ map destination_word s.to)))) (number0_word_complete 99 s.region (omega arith) (omega arith) v.region)
-    ∙ ap (λ r. r then tail_of s.region) (kind_complete s.kind (arrow ∷ map destination_word s.to) v.kind)
-    ∙ ap (λ r. r then λ to. Some (statement s.region s.kind to)) (list_complete s.kind s.to v.to v.listed)
-
--- for the loop over destinations
-
-abbrev pub onto_read : List Destination → Option (List Destination) → Option (List Destination)
-onto_read to r = r then λ ds. Some (to ++ ds)
-
-onto_more : (to : List Destination) (d : Destination) (r : Option (List Destination)) → onto_read to (r then λ ds. Some (d ∷ ds)) ≡ onto_read (to ++ (d ∷ [])) r
-onto_more to d (Some ds) = ap (λ t. Some t) (sym (append_assoc to (d ∷ []) ds))
-onto_more to d None = refl
-
-pub destinations_turn : (below : ℕ) (w : List ℕ) (ws : Words) (d : Destination) (to : List Destination) → destination_at w ≡ Some d → below < rank d → onto_read to (destinations_at below (w ∷ ws)) ≡ onto_read (to ++ (d ∷ [])) (destinations_at (rank d) ws)
-unfolding destinations_at
-destinations_turn below w ws d to h lt =
-    ap (λ r. onto_read to (r then λ d. cond (nat_le (rank d) below) None (destinations_at (rank d) ws then λ ds. Some (d ∷ ds)))) h
-    ∙ elim (le_cases (rank d) below) [
-      | inl b ↦ absurd (omega arith)
-      | inr b ↦ ap (λ t. onto_read to (cond t None (destinations_at (rank d) ws then λ ds. Some (d ∷ ds)))) b.0 ∙ onto_more to d (destinations_at (rank d) ws)
-    ]
-
-pub destinations_low : (below : ℕ) (w : List ℕ) (ws : Words) (d : Destination) (to : List Destination) → destination_at w ≡ Some d → rank d ≤ below → onto_read to (destinations_at below (w ∷ ws)) ≡ None
-unfolding destinations_at
-destinations_low below w ws d to h le =
-    ap (λ r. onto_read to (r then λ d. cond (nat_le (rank d) below) None (destinations_at (rank d) ws then λ ds. Some (d ∷ ds)))) h
-    ∙ elim (le_cases (rank d) below) [
-      | inl b ↦ ap (λ t. onto_read to (cond t None (destinations_at (rank d) ws then λ ds. Some (d ∷ ds)))) b.0
-      | inr b ↦ absurd (omega arith)
-    ]
-
-pub destinations_bad : (below : ℕ) (w : List ℕ) (ws : Words) (to : List Destination) → destination_at w ≡ None → onto_read to (destinations_at below (w ∷ ws)) ≡ None
-unfolding destinations_at
-destinations_bad below w ws to h = ap (λ r. onto_read to (r then λ d. cond (nat_le (rank d) below) None (destinations_at (rank d) ws then λ ds. Some (d ∷ ds)))) h
-
-pub destinations_end : (below : ℕ) (to : List Destination) → onto_read to (destinations_at below []) ≡ Some to
-unfolding destinations_at
-destinations_end below to = ap (λ t. Some t) (append-nil to)
+-- bounds of numbers
 
 pub region_bound : (w : List ℕ) (n : ℕ) → number0_word 99 w ≡ Some n → n ≤ 99
 region_bound w n h = (number0_word_sound 99 w n (omega arith) (omega arith) h).0
+
+pub loop_bound : (w : List ℕ) (n : ℕ) → number_word 99 w ≡ Some n → n ≤ 99
+loop_bound w n h = (number_word_sound 99 w n (omega arith) (omega arith) h).0.1
+
+pub back_bound : (w : List ℕ) (n : ℕ) → number_word 999 w ≡ Some n → n ≤ 999
+back_bound w n h = (number_word_sound 999 w n (omega arith) (omega arith) h).0.1

@@ -1,21 +1,23 @@
 -- A program of which some lines were read: whole blocks, and the last one.
-use Rattle.std.specs.Prelude.{◌≡◌, ℕ, ◌+◌, List, ◌++◌, length}
+use Rattle.std.specs.Prelude.{◌≡◌, ℕ, ◌+◌, ◌≤◌, List, ◌++◌, length}
 use Rattle.std.specs.List.{AllByRecursion}
 use Rattle.u_name.specs.Block.{IsBlock}
 use Rattle.u_text.specs.Number.{IsUpTo}
 use Rattle.u_text.specs.Pieces.{pieces}
 use Rattle.u_program.specs.declared.reading.Line.{Line}
-use Rattle.u_program.specs.declared.reading.Line.TheVariants.{Block, Statement}
+use Rattle.u_program.specs.declared.reading.Line.TheVariants.{Block, Loop, Statement}
 use Rattle.u_program.specs.Parts.{BlockParts}
-use Rattle.u_program.specs.Limits.{Limits, AtMost, IsStatement, IsBlockOf, no_limits}
-use Rattle.u_program.specs.Text.{block_line, statement_line, block_lines, blocks_lines}
+use Rattle.u_program.specs.Limits.{Limits, AtMost, AreLoops, IsStatement, IsBlockOf, no_limits}
+use Rattle.u_program.specs.Text.{block_line, loop_line, statement_line, block_lines, blocks_lines}
 
 abbrev pub line_text : Line → List ℕ
 line_text (Block name) = block_line name
+line_text (Loop n h) = loop_line n h
 line_text (Statement n s) = statement_line n s
 
 abbrev pub IsLine : Line → Type 0
 IsLine (Block name) = IsBlock name
+IsLine (Loop n h) = IsUpTo 100 n × (h ≤ 99)
 IsLine (Statement n s) = IsUpTo 1000 n × IsStatement no_limits s
 
 -- the lines behind the header
@@ -25,6 +27,8 @@ part_lines done last = blocks_lines done ++ block_lines last
 pub record IsPart (limits : Limits) (done : List BlockParts) (last : BlockParts) : Type 0 where
   pub each : AllByRecursion (IsBlockOf limits) done
   pub name : IsBlock last.name
+  pub loops : AreLoops 1 last.loops
+  pub few_loops : AtMost limits.loops (length last.loops)
   pub statements : AllByRecursion (IsStatement limits) last.statements
   pub few : AtMost limits.statements (length last.statements)
   pub one : AtMost limits.statements 1

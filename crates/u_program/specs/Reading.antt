@@ -1,5 +1,5 @@
 -- What is read of the words of a line.
-use Rattle.std.specs.Prelude.{ℕ, true, false, cond, ◌==◌, nat_le, List, [], ◌∷◌, codes, Option, Some, None}
+use Rattle.std.specs.Prelude.{ℕ, Bool, true, false, ◌&&◌, cond, ◌==◌, nat_le, List, [], ◌∷◌, codes, Option, Some, None}
 use Rattle.u_name.specs.BlockText.{block_at}
 use Rattle.u_text.specs.Reads.{Reader}
 use Rattle.u_text.specs.Parts.{lead}
@@ -9,15 +9,15 @@ use Rattle.u_text.specs.WholeWords.{◌then◌, whole, is, number_word, number0_
 use Rattle.u_program.specs.declared.program.Constant.{Constant}
 use Rattle.u_program.specs.declared.program.Constant.TheVariants as constants
 use Rattle.u_program.specs.declared.program.Kind.{Kind}
-use Rattle.u_program.specs.declared.program.Kind.TheVariants.{Begin, Const, Pass, Unary, Binary, Select, End}
+use Rattle.u_program.specs.declared.program.Kind.TheVariants.{Begin, Const, Pass, Unary, Binary, Select, Switch, Enter, Next, Last, Leave, Apply, Back, End}
 use Rattle.u_value.specs.declared.operators.UnaryOperator.TheVariants.{Not, Length}
 use Rattle.u_value.specs.declared.operators.BinaryOperator.TheVariants.{And, Or, Add, Sub, Mul, Div, Rem, Lt, Le, Eq}
 use Rattle.u_program.specs.declared.program.Destination.{Destination}
 use Rattle.u_program.specs.declared.reading.Line.{Line}
-use Rattle.u_program.specs.declared.reading.Line.TheVariants.{Block, Statement}
+use Rattle.u_program.specs.declared.reading.Line.TheVariants.{Block, Loop, Statement}
 use Rattle.u_program.specs.Parts.{StatementParts, statement}
-use Rattle.u_program.specs.Limits.{has_list, rank}
-use Rattle.u_program.specs.Text.{kind_word, arrow}
+use Rattle.u_program.specs.Limits.{has_list, has_otherwise, rank}
+use Rattle.u_program.specs.Text.{kind_word, arrow, slash}
 
 abbrev pub Words : Type 0
 Words = List (List ℕ)
@@ -38,17 +38,26 @@ ported d = cond (nat_le d.1 3) (Some (record { statement = d.0; port = d.1 })) N
 unfoldable pub destination_at : List ℕ → Option Destination
 destination_at w = whole (dot_at w) then ported
 
--- destinations above this rank
-unfoldable pub destinations_at : ℕ → Words → Option (List Destination)
-destinations_at below [] = Some []
-destinations_at below (w ∷ ws) = destination_at w then λ d. cond (nat_le (rank d) below) None (destinations_at (rank d) ws then λ ds. Some (d ∷ ds))
+-- whether the word is the slash behind which a list for false stands
+abbrev pub is_slash : List ℕ → Bool
+is_slash w = is w slash
 
-abbrev pub none_at : Words → Option (List Destination)
-none_at [] = Some []
+-- destinations above this rank, up to a slash, or without one up to the end of the line
+unfoldable pub destinations_at : Bool → ℕ → Words → Option (List Destination × Words)
+destinations_at slashed below [] = cond slashed None (Some ([], []))
+destinations_at slashed below (w ∷ ws) = cond (slashed && is_slash w) (Some ([], ws)) (destination_at w then λ d. cond (nat_le (rank d) below) None (destinations_at slashed (rank d) ws then λ ds. Some (d ∷ ds.0, ds.1)))
+
+abbrev pub none_at : Words → Option (List Destination × Words)
+none_at [] = Some ([], [])
 none_at (w ∷ ws) = None
 
-unfoldable pub list_at : Kind → Words → Option (List Destination)
-list_at k ws = cond (has_list k) (destinations_at 0 ws) (none_at ws)
+-- the destinations of a statement of the kind; of a `switch`, those for true
+unfoldable pub list_at : Kind → Words → Option (List Destination × Words)
+list_at k ws = cond (has_list k) (destinations_at (has_otherwise k) 0 ws) (none_at ws)
+
+-- behind them those of a `switch` for false
+unfoldable pub otherwise_at : Kind → Words → Option (List Destination × Words)
+otherwise_at k ws = cond (has_otherwise k) (destinations_at false 0 ws) (Some ([], ws))
 
 -- a procedure or a number
 abbrev pub other_constant : List ℕ → Option Constant
@@ -65,7 +74,7 @@ plain_kinds =
     ∷ Binary And ∷ Binary Or
     ∷ Binary Add ∷ Binary Sub ∷ Binary Mul ∷ Binary Div ∷ Binary Rem
     ∷ Binary Lt ∷ Binary Le ∷ Binary Eq
-    ∷ Select ∷ End ∷ []
+    ∷ Select ∷ Switch ∷ Next ∷ Last ∷ Leave ∷ Back ∷ End ∷ []
 
 -- the first of these kinds that has this word
 unfoldable pub kind_among : List Kind → List ℕ → Option Kind
@@ -75,11 +84,17 @@ kind_among (k ∷ ks) w = cond (is w (kind_word k)) (Some k) (kind_among ks w)
 abbrev pub const_at : Words → Option (Kind × Words)
 const_at ws = word_at ws then λ a. constant_at a.0 then λ c. Some (Const c, a.1)
 
+abbrev pub enter_at : Words → Option (Kind × Words)
+enter_at ws = word_at ws then λ a. number_word 99 a.0 then λ l. Some (Enter l, a.1)
+
+abbrev pub apply_at : Words → Option (Kind × Words)
+apply_at ws = word_at ws then λ a. number_word 999 a.0 then λ b. Some (Apply b, a.1)
+
 abbrev pub plain_at : List ℕ → Words → Option (Kind × Words)
 plain_at w ws = kind_among plain_kinds w then λ k. Some (k, ws)
 
 abbrev pub kind_of : List ℕ → Words → Option (Kind × Words)
-kind_of w ws = cond (is w (codes "const")) (const_at ws) (plain_at w ws)
+kind_of w ws = cond (is w (codes "const")) (const_at ws) (cond (is w (codes "enter")) (enter_at ws) (cond (is w (codes "apply")) (apply_at ws) (plain_at w ws)))
 
 unfoldable pub kind_at : Words → Option (Kind × Words)
 kind_at ws = word_at ws then λ a. kind_of a.0 a.1
@@ -89,18 +104,25 @@ arrow_at ws = word_at ws then λ a. cond (is a.0 arrow) (Some (tt, a.1)) None
 
 -- what stands behind a statement's number
 unfoldable pub statement_at : Words → Option StatementParts
-statement_at ws = word_at ws then λ a. number0_word 99 a.0 then λ region. kind_at a.1 then λ k. arrow_at k.1 then λ b. list_at k.0 b.1 then λ to. Some (statement region k.0 to)
+statement_at ws = word_at ws then λ a. number0_word 99 a.0 then λ region. kind_at a.1 then λ k. arrow_at k.1 then λ b. list_at k.0 b.1 then λ to. otherwise_at k.0 to.1 then λ otherwise. Some (statement region k.0 to.0 otherwise.0)
 
--- the last word is the name
-abbrev pub alone : List ℕ → Words → Option Line
-alone name [] = Some (Block name)
-alone name (w ∷ ws) = None
+-- where no word stands behind it
+abbrev pub alone : Line → Words → Option Line
+alone l [] = Some l
+alone l (w ∷ ws) = None
 
 abbrev pub name_line : Words → Option Line
-name_line ws = word_at ws then λ a. name_word a.0 then λ name. alone name a.1
+name_line ws = word_at ws then λ a. name_word a.0 then λ name. alone (Block name) a.1
+
+-- what stands behind the word `loop`: a number, and the region that holds the loop
+unfoldable pub numbers_at : Words → Option Line
+numbers_at ws = word_at ws then λ a. number_word 100 a.0 then λ n. word_at a.1 then λ b. number0_word 99 b.0 then λ h. alone (Loop n h) b.1
 
 abbrev pub numbered : List ℕ → Words → Option Line
 numbered w ws = number_word 1000 w then λ n. statement_at ws then λ s. Some (Statement n s)
 
+abbrev pub line_of : List ℕ → Words → Option Line
+line_of w ws = cond (is w (codes "block")) (name_line ws) (cond (is w (codes "loop")) (numbers_at ws) (numbered w ws))
+
 abbrev pub line_at : Words → Option Line
-line_at ws = word_at ws then λ a. cond (is a.0 (codes "block")) (name_line a.1) (numbered a.0 a.1)
+line_at ws = word_at ws then λ a. line_of a.0 a.1

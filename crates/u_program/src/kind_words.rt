@@ -1,6 +1,6 @@
 //! The words of kinds.
 ghost use Rattle.std.specs.Prelude.{◌≡◌};
-ghost use Rattle.u_program.specs.Limits.{has_list};
+ghost use Rattle.u_program.specs.Limits.{has_list, has_otherwise};
 ghost use Rattle.u_program.specs.Text.{unary_word, binary_word, kind_word};
 
 use crate::program::Kind;
@@ -45,6 +45,13 @@ pub fn kind_word(kind: &Kind) -> &'static [u8]
         Kind::Unary(operator) => unary_word(*operator),
         Kind::Binary(operator) => binary_word(*operator),
         Kind::Select => b"select".as_slice(),
+        Kind::Switch => b"switch".as_slice(),
+        Kind::Enter(_) => b"enter".as_slice(),
+        Kind::Next => b"next".as_slice(),
+        Kind::Last => b"last".as_slice(),
+        Kind::Leave => b"leave".as_slice(),
+        Kind::Apply(_) => b"apply".as_slice(),
+        Kind::Back => b"back".as_slice(),
         Kind::End => b"end".as_slice(),
     }
 }
@@ -53,5 +60,12 @@ pub fn kind_word(kind: &Kind) -> &'static [u8]
 pub fn has_list(kind: &Kind) -> bool
     ensures { result ≡ has_list kind.now }
 {
-    !matches!(kind, Kind::End)
+    !matches!(kind, Kind::Apply(_) | Kind::End)
+}
+
+/// Whether they list them twice: for true, and behind a slash for false.
+pub fn has_otherwise(kind: &Kind) -> bool
+    ensures { result ≡ has_otherwise kind.now }
+{
+    matches!(kind, Kind::Switch)
 }

@@ -1,7 +1,7 @@
 //! A program of which some lines were read.
 ghost use Rattle.std.specs.Prelude.{◌≡◌, ◌++◌, ◌∷◌, [], MatchResult, IfOk};
 ghost use Rattle.u_program.specs.declared.reading.Line.TheVariants as variants;
-ghost use Rattle.u_program.specs.Text.{header, block_line, statement_line};
+ghost use Rattle.u_program.specs.Text.{header, block_line, loop_line, statement_line};
 ghost use Rattle.u_program.specs.Limits.{IsProgram, the_limits};
 ghost use Rattle.u_program.specs.Begun.{IsLine, part_lines, IsPart};
 ghost use Rattle.u_program.specs.Faults.{IsLineFault};
@@ -65,6 +65,29 @@ impl Part {
         })
     }
 
+    /// The part with the line of a loop.
+    #[tactic(auto, using(crate::proofs::Steps::loop_wrong, crate::proofs::Steps::loop_over, crate::proofs::Steps::loop_taken))]
+    fn with_loop(self, number: u32, held_by: u8) -> Result<Part, LineFault>
+        requires part { IsPart the_limits self.done.items self.last }
+        requires line { IsLine (variants.Loop number held_by) }
+        ensures { MatchResult result
+            (λ new. IsPart the_limits new.done.items new.last × (part_lines new.done.items new.last ≡ part_lines self.done.items self.last ++ (loop_line number held_by ∷ [])))
+            (λ fault. IsLineFault fault (header ∷ part_lines self.done.items self.last) (loop_line number held_by)) }
+    {
+        let Part { done, last } = self;
+        if last.statements().len() != 0 {
+            return Err(LineFault::Bad);
+        }
+        if number as usize != last.loops().len() + 1 || u32::from(held_by) >= number {
+            return Err(LineFault::Bad);
+        }
+        if number > 99 {
+            return Err(LineFault::TooMany);
+        }
+        let last = last.with_loop(held_by)?;
+        Ok(Part { done, last })
+    }
+
     /// The part with the line of a statement.
     #[tactic(auto, using(crate::proofs::Steps::number_wrong, crate::proofs::Steps::statement_over, crate::proofs::Steps::statement_taken))]
     fn with_statement(self, number: u32, statement: Statement) -> Result<Part, LineFault>
@@ -78,7 +101,10 @@ impl Part {
         if number as usize != last.statements().len() + 1 {
             return Err(LineFault::Bad);
         }
-        if number > 999 || statement.destinations().len() > 16 {
+        if number > 999 {
+            return Err(LineFault::TooMany);
+        }
+        if statement.destinations().len() > 16 || statement.otherwise().len() > 16 {
             return Err(LineFault::TooMany);
         }
         let last = last.with(statement)?;
@@ -100,6 +126,7 @@ impl Part {
         };
         match line {
             Line::Block(name) => self.with_block(alloc, name),
+            Line::Loop(number, held_by) => self.with_loop(number, held_by),
             Line::Statement(number, statement) => self.with_statement(number, statement),
         }
     }
@@ -118,7 +145,7 @@ impl Part {
         };
         let name = match line {
             Line::Block(name) => name,
-            Line::Statement(_, _) => return Err(LineFault::Bad),
+            Line::Loop(_, _) | Line::Statement(_, _) => return Err(LineFault::Bad),
         };
         Ok(Part {
             done: Vec::new(alloc),

@@ -1,10 +1,10 @@
 //! Lines of a program's text, read.
-ghost use Rattle.std.specs.Prelude.{◌≡◌, ◌≤◌, Some, None, MatchOption, MatchResult};
-ghost use Rattle.u_program.specs.Reading.{plain_kinds, name_word, destination_at, destinations_at, list_at, constant_at, kind_among, kind_at, arrow_at, statement_at, line_at};
+ghost use Rattle.std.specs.Prelude.{◌≡◌, ◌≤◌, ◌&&◌, Some, None, MatchOption, MatchResult};
+ghost use Rattle.u_program.specs.Reading.{plain_kinds, name_word, destination_at, is_slash, destinations_at, list_at, otherwise_at, constant_at, kind_among, kind_at, arrow_at, statement_at, numbers_at, line_at};
 ghost use Rattle.u_program.specs.Refuses.{Refuses};
 ghost use Rattle.u_text.specs.Pieces.{words};
 
-use crate::kind_words::{has_list, kind_word};
+use crate::kind_words::{has_list, has_otherwise, kind_word};
 use crate::program::{Constant, Destination, Kind, Statement};
 use std::alloc::{AllocFailed, Global};
 use u_name::BlockName;
@@ -91,7 +91,7 @@ fn kind_among(kinds: &[Kind], word: &[u8]) -> Result<Kind, BadWord>
 }
 
 /// The kinds without an argument.
-const PLAIN_KINDS: [Kind; 16] = [
+const PLAIN_KINDS: [Kind; 21] = [
     Kind::Begin,
     Kind::Pass,
     Kind::Unary(UnaryOperator::Not),
@@ -107,6 +107,11 @@ const PLAIN_KINDS: [Kind; 16] = [
     Kind::Binary(BinaryOperator::Le),
     Kind::Binary(BinaryOperator::Eq),
     Kind::Select,
+    Kind::Switch,
+    Kind::Next,
+    Kind::Last,
+    Kind::Leave,
+    Kind::Back,
     Kind::End,
 ];
 
@@ -119,7 +124,7 @@ fn plain_kind(word: &[u8]) -> Result<Kind, BadWord>
     kind_among(&PLAIN_KINDS, word)
 }
 
-#[tactic(auto, unfolding(crate::specs::Reading::kind_at))]
+#[tactic(auto, unfolding(crate::specs::Reading::kind_at), using(crate::proofs::WordLaws::loop_bound, crate::proofs::WordLaws::back_bound))]
 fn kind(words: &mut Words<'_>) -> Result<Kind, BadWord>
     ensures { MatchResult result
         (λ k. kind_at words.old ≡ Some (k, words.new))
@@ -129,6 +134,14 @@ fn kind(words: &mut Words<'_>) -> Result<Kind, BadWord>
     if word == b"const".as_slice() {
         let argument = words.word()?;
         return Ok(Kind::Const(constant(argument)?));
+    }
+    if word == b"enter".as_slice() {
+        let number = number_word(words.word()?, 99)?;
+        return Ok(Kind::Enter(number as u8));
+    }
+    if word == b"apply".as_slice() {
+        let number = number_word(words.word()?, 999)?;
+        return Ok(Kind::Apply(number as u16));
     }
     plain_kind(word)
 }
@@ -171,16 +184,30 @@ fn destination(word: &[u8]) -> Result<Destination, BadWord>
     })
 }
 
-/// The destinations that the rest of the line lists.
-#[tactic(auto, using(crate::proofs::WordLaws::destinations_turn, crate::proofs::WordLaws::destinations_bad, crate::proofs::WordLaws::destinations_low, crate::proofs::WordLaws::destinations_end))]
-fn destinations(alloc: Global, words: &mut Words<'_>) -> Result<Vec<Destination>, WordFault>
+/// Whether a list that a slash ends, if `slashed`, ends with this word.
+fn ends_list(word: &[u8], slashed: bool) -> bool
+    ensures { result ≡ (slashed && is_slash word.now) }
+{
+    slashed && word == b"/".as_slice()
+}
+
+/// The destinations that stand before a slash, or if not `slashed` in all the rest of the line.
+#[tactic(auto, using(crate::proofs::ListLaws::destinations_turn, crate::proofs::ListLaws::destinations_bad, crate::proofs::ListLaws::destinations_low, crate::proofs::ListLaws::destinations_slash, crate::proofs::ListLaws::destinations_end, crate::proofs::ListLaws::destinations_open))]
+fn destinations(
+    alloc: Global,
+    words: &mut Words<'_>,
+    slashed: bool,
+) -> Result<Vec<Destination>, WordFault>
     ensures { MatchResult result
-        (λ to. destinations_at 0 words.old ≡ Some to.items)
-        (λ fault. Refuses fault (destinations_at 0 words.old)) }
+        (λ to. destinations_at slashed 0 words.old ≡ Some (to.items, words.new))
+        (λ fault. Refuses fault (destinations_at slashed 0 words.old)) }
 {
     let mut to = Vec::new(alloc);
     let mut below = 0;
     while let Some(word) = words.next() {
+        if ends_list(word, slashed) {
+            return Ok(to);
+        }
         let next = destination(word)?;
         let rank = 4 * u32::from(next.statement) + u32::from(next.port);
         if rank <= below {
@@ -189,22 +216,43 @@ fn destinations(alloc: Global, words: &mut Words<'_>) -> Result<Vec<Destination>
         below = rank;
         to.push(next)?;
     }
+    if slashed {
+        return Err(WordFault::Bad);
+    }
     Ok(to)
 }
 
+/// The destinations of a statement of the kind; of a `switch`, those for true.
 #[tactic(auto, unfolding(crate::specs::Reading::list_at))]
 fn list(alloc: Global, kind: &Kind, words: &mut Words<'_>) -> Result<Vec<Destination>, WordFault>
     ensures { MatchResult result
-        (λ to. list_at kind.now words.old ≡ Some to.items)
+        (λ to. list_at kind.now words.old ≡ Some (to.items, words.new))
         (λ fault. Refuses fault (list_at kind.now words.old)) }
 {
     if has_list(kind) {
-        return destinations(alloc, words);
+        return destinations(alloc, words, has_otherwise(kind));
     }
     match words.next() {
         None => Ok(Vec::new(alloc)),
         Some(_) => Err(WordFault::Bad),
     }
+}
+
+/// The destinations of a `switch` for false, which stand behind those for true.
+#[tactic(auto, unfolding(crate::specs::Reading::otherwise_at))]
+fn otherwise(
+    alloc: Global,
+    kind: &Kind,
+    words: &mut Words<'_>,
+) -> Result<Vec<Destination>, WordFault>
+    ensures { MatchResult result
+        (λ to. otherwise_at kind.now words.old ≡ Some (to.items, words.new))
+        (λ fault. Refuses fault (otherwise_at kind.now words.old)) }
+{
+    if has_otherwise(kind) {
+        return destinations(alloc, words, false);
+    }
+    Ok(Vec::new(alloc))
 }
 
 /// What stands behind a statement's number.
@@ -218,7 +266,8 @@ fn statement(alloc: Global, words: &mut Words<'_>) -> Result<Statement, WordFaul
     let kind = kind(words)?;
     arrow(words)?;
     let to = list(alloc, &kind, words)?;
-    Ok(Statement::new(region as u8, kind, to))
+    let otherwise = otherwise(alloc, &kind, words)?;
+    Ok(Statement::new(region as u8, kind, to, otherwise))
 }
 
 /// A line of a block.
@@ -226,8 +275,25 @@ fn statement(alloc: Global, words: &mut Words<'_>) -> Result<Statement, WordFaul
 pub enum Line {
     /// The line that begins a block.
     Block(BlockName),
+    /// A loop's number, and the region that holds it.
+    Loop(u32, u8),
     /// A statement with its number.
     Statement(u32, Statement),
+}
+
+/// What stands behind the word `loop`.
+#[tactic(auto, unfolding(crate::specs::Reading::numbers_at), using(crate::proofs::WordLaws::region_bound))]
+fn loop_numbers(words: &mut Words<'_>) -> Result<Line, WordFault>
+    ensures { MatchResult result
+        (λ l. numbers_at words.old ≡ Some l)
+        (λ fault. Refuses fault (numbers_at words.old)) }
+{
+    let number = number_word(words.word()?, 100)?;
+    let held_by = number0_word(words.word()?, 99)?;
+    match words.next() {
+        None => Ok(Line::Loop(number, held_by as u8)),
+        Some(_) => Err(WordFault::Bad),
+    }
 }
 
 /// Reads one line.
@@ -244,6 +310,9 @@ pub fn read_line(alloc: Global, text: &[u8]) -> Result<Line, WordFault>
             None => Ok(Line::Block(name)),
             Some(_) => Err(WordFault::Bad),
         };
+    }
+    if first == b"loop".as_slice() {
+        return loop_numbers(&mut words);
     }
     let number = number_word(first, 1000)?;
     let statement = statement(alloc, &mut words)?;

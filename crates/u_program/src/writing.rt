@@ -2,10 +2,10 @@
 ghost use Rattle.std.specs.Prelude.{◌≡◌, ◌+◌, ◌<◌, ◌^◌, ◌++◌, ◌∷◌, [], map, OnOk, OnErr};
 ghost use Rattle.u_text.specs.Appending.{Extends};
 ghost use Rattle.u_text.specs.Spaced.{spaced, ended};
-ghost use Rattle.u_program.specs.Limits.{IsProgram, the_limits};
-ghost use Rattle.u_program.specs.Text.{kind_word, constant_word, argument_words, destination_word, tail_words, statement_line, statement_lines, block_lines, blocks_lines, program_text};
+ghost use Rattle.u_program.specs.Limits.{IsProgram, the_limits, has_otherwise};
+ghost use Rattle.u_program.specs.Text.{kind_word, constant_word, argument_words, destination_word, otherwise_words, tail_words, loop_line, loop_lines, statement_line, statement_lines, block_line, block_lines, blocks_lines, program_text};
 
-use crate::kind_words::kind_word;
+use crate::kind_words::{has_otherwise, kind_word};
 use crate::program::{Block, Constant, Destination, Kind, Program, Statement};
 use std::alloc::AllocError;
 use u_text::{push_behind, push_long, push_number, push_signed, push_spaced};
@@ -37,6 +37,8 @@ fn push_kind(out: &mut Vec<u8>, kind: &Kind) -> Result<(), AllocError>
     push_spaced(out, kind_word(kind))?;
     match kind {
         Kind::Const(constant) => push_constant(out, constant),
+        Kind::Enter(number) => push_behind(out, b' ', u32::from(*number)),
+        Kind::Apply(number) => push_behind(out, b' ', u32::from(*number)),
         _ => Ok(()),
     }
 }
@@ -61,15 +63,35 @@ fn push_list(out: &mut Vec<u8>, to: &[Destination]) -> Result<(), AllocError>
     Ok(())
 }
 
+/// Appends the list of a `switch` for false, behind its slash.
+#[tactic(auto, using(u_text::specs::Appending::extends_same, u_text::specs::Appending::extends_behind, std::proofs::Common::append_assoc))]
+fn push_otherwise(out: &mut Vec<u8>, kind: &Kind, to: &[Destination]) -> Result<(), AllocError>
+    ensures ok { OnOk result (out.new.items ≡ out.old.items ++ spaced (otherwise_words (has_otherwise kind.now) to.now)) }
+    ensures err { OnErr result (Extends out.old.items out.new.items) }
+{
+    if !has_otherwise(kind) {
+        return Ok(());
+    }
+    push_spaced(out, b"/")?;
+    push_list(out, to)?;
+    Ok(())
+}
+
 /// Appends what stands behind a statement's region.
 #[tactic(auto, using(u_text::specs::Appending::extends_behind, crate::proofs::Written::tail_text))]
-fn push_tail(out: &mut Vec<u8>, kind: &Kind, to: &[Destination]) -> Result<(), AllocError>
-    ensures ok { OnOk result (out.new.items ≡ out.old.items ++ spaced (tail_words kind.now to.now)) }
+fn push_tail(
+    out: &mut Vec<u8>,
+    kind: &Kind,
+    to: &[Destination],
+    otherwise: &[Destination],
+) -> Result<(), AllocError>
+    ensures ok { OnOk result (out.new.items ≡ out.old.items ++ spaced (tail_words kind.now to.now otherwise.now)) }
     ensures err { OnErr result (Extends out.old.items out.new.items) }
 {
     push_kind(out, kind)?;
     push_spaced(out, b"->")?;
     push_list(out, to)?;
+    push_otherwise(out, kind, otherwise)?;
     Ok(())
 }
 
@@ -80,7 +102,12 @@ fn push_statement(out: &mut Vec<u8>, number: u64, statement: &Statement) -> Resu
 {
     push_long(out, number)?;
     push_behind(out, b' ', u32::from(statement.region()))?;
-    push_tail(out, statement.kind(), statement.destinations())?;
+    push_tail(
+        out,
+        statement.kind(),
+        statement.destinations(),
+        statement.otherwise(),
+    )?;
     out.push(b'\n')?;
     Ok(())
 }
@@ -96,14 +123,47 @@ fn push_statements(out: &mut Vec<u8>, statements: &[Statement]) -> Result<(), Al
     Ok(())
 }
 
-#[tactic(auto, using(u_text::specs::Appending::extends_same, u_text::specs::Appending::extends_behind, crate::proofs::Written::block_text))]
+#[tactic(auto, using(u_text::specs::Appending::extends_same, u_text::specs::Appending::extends_behind, crate::proofs::Written::loop_text))]
+fn push_loop(out: &mut Vec<u8>, number: u64, held_by: u8) -> Result<(), AllocError>
+    ensures ok { OnOk result (out.new.items ≡ out.old.items ++ (loop_line number held_by ++ (10 ∷ []))) }
+    ensures err { OnErr result (Extends out.old.items out.new.items) }
+{
+    out.extend_from_slice(b"loop ")?;
+    push_long(out, number)?;
+    push_behind(out, b' ', u32::from(held_by))?;
+    out.push(b'\n')?;
+    Ok(())
+}
+
+#[tactic(auto, using(u_text::specs::Appending::extends_by, u_text::specs::Appending::extends_behind, crate::proofs::Written::loops_more))]
+fn push_loops(out: &mut Vec<u8>, loops: &[u8]) -> Result<(), AllocError>
+    ensures ok { OnOk result (out.new.items ≡ out.old.items ++ ended (loop_lines 1 loops.now)) }
+    ensures err { OnErr result (Extends out.old.items out.new.items) }
+{
+    for (i, held_by) in loops.iter().enumerate() {
+        push_loop(out, i as u64 + 1, *held_by)?;
+    }
+    Ok(())
+}
+
+#[tactic(auto, using(u_text::specs::Appending::extends_same, u_text::specs::Appending::extends_behind, crate::proofs::Written::begun_text))]
+fn push_block_line(out: &mut Vec<u8>, name: &[u8]) -> Result<(), AllocError>
+    ensures ok { OnOk result (out.new.items ≡ out.old.items ++ (block_line name.now ++ (10 ∷ []))) }
+    ensures err { OnErr result (Extends out.old.items out.new.items) }
+{
+    out.extend_from_slice(b"block")?;
+    push_spaced(out, name)?;
+    out.push(b'\n')?;
+    Ok(())
+}
+
+#[tactic(auto, using(u_text::specs::Appending::extends_behind, crate::proofs::Written::block_text))]
 fn push_block(out: &mut Vec<u8>, block: &Block) -> Result<(), AllocError>
     ensures ok { OnOk result (out.new.items ≡ out.old.items ++ ended (block_lines block.now)) }
     ensures err { OnErr result (Extends out.old.items out.new.items) }
 {
-    out.extend_from_slice(b"block")?;
-    push_spaced(out, block.name().as_bytes())?;
-    out.push(b'\n')?;
+    push_block_line(out, block.name().as_bytes())?;
+    push_loops(out, block.loops())?;
     push_statements(out, block.statements())?;
     Ok(())
 }
