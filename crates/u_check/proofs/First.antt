@@ -15,21 +15,21 @@ one_of : {X : Type 0} (xs : List X) (i : ℕ) (x y : X) → slice_get xs i ≡ S
 one_of xs i x y a b = let e = sym a ∙ sym (at_place xs i) ∙ b in cc
 
 module _ (p : List BlockParts) (rule : Rule) where
-  module _ (ss : List StatementParts) where
-    pub none_below : (m : ℕ) → m < 1 → StatementBreaks p rule ss m → ⊥
+  module _ (b : BlockParts) where
+    pub none_below : (m : ℕ) → m < 1 → StatementBreaks p rule b m → ⊥
     none_below m h w = omega (arith, w.counts)
 
-    pub statement_passes : (i : ℕ) (s : StatementParts) → slice_get ss i ≡ Some s → statement_keeps rule p ss (i + 1) s ≡ true → StatementBreaks p rule ss (i + 1) → ⊥
+    pub statement_passes : (i : ℕ) (s : StatementParts) → slice_get b.statements i ≡ Some s → statement_keeps rule p b (i + 1) s ≡ true → StatementBreaks p rule b (i + 1) → ⊥
     statement_passes i s at k w =
-        let e = one_of ss i s w.it at w.stands in
-        false≢true (sym w.broken ∙ ap (λ (t : StatementParts). statement_keeps rule p ss (i + 1) t) (sym e) ∙ k)
+        let e = one_of b.statements i s w.it at w.stands in
+        false≢true (sym w.broken ∙ ap (λ (t : StatementParts). statement_keeps rule p b (i + 1) t) (sym e) ∙ k)
 
-    pub statement_breaks : (i : ℕ) (s : StatementParts) → slice_get ss i ≡ Some s → statement_keeps rule p ss (i + 1) s ≡ false → StatementBreaks p rule ss (i + 1)
-    statement_breaks i s at k = record { counts = omega arith; it = s; stands = at_place ss i ∙ at; broken = k }
+    pub statement_breaks : (i : ℕ) (s : StatementParts) → slice_get b.statements i ≡ Some s → statement_keeps rule p b (i + 1) s ≡ false → StatementBreaks p rule b (i + 1)
+    statement_breaks i s at k = record { counts = omega arith; it = s; stands = at_place b.statements i ∙ at; broken = k }
 
-    pub none_at_all : (i : ℕ) → length ss ≤ i → ((m : ℕ) → m < i + 1 → StatementBreaks p rule ss m → ⊥) → (m : ℕ) → StatementBreaks p rule ss m → ⊥
-    none_at_all i l before m w =
-        let b = slice_get_within ss (m - 1) w.it w.stands in
+    pub none_at_all : (i : ℕ) → length b.statements ≤ i → ((m : ℕ) → m < i + 1 → StatementBreaks p rule b m → ⊥) → (m : ℕ) → StatementBreaks p rule b m → ⊥
+    none_at_all i k before m w =
+        let l = slice_get_within b.statements (m - 1) w.it w.stands in
         before m (omega (arith, w.counts)) w
 
   -- a program that keeps the rule as a whole has no breach at place 0
@@ -38,14 +38,14 @@ module _ (p : List BlockParts) (rule : Rule) where
   no_block_below k b s h (inr (inl w)) = omega (arith, w.counts)
   no_block_below k b s h (inr (inr w)) = omega (arith, w.counts)
 
-  pub block_passes : (i : ℕ) (it : BlockParts) → slice_get p i ≡ Some it → program_keeps rule p ≡ true → block_keeps rule p (i + 1) it ≡ true → ((m : ℕ) → StatementBreaks p rule it.statements m → ⊥) → (s : ℕ) → Breaches p rule (i + 1) s → ⊥
+  pub block_passes : (i : ℕ) (it : BlockParts) → slice_get p i ≡ Some it → program_keeps rule p ≡ true → block_keeps rule p (i + 1) it ≡ true → ((m : ℕ) → StatementBreaks p rule it m → ⊥) → (s : ℕ) → Breaches p rule (i + 1) s → ⊥
   block_passes i it at k bk all s (inl w) = false≢true (sym w.broken ∙ k)
   block_passes i it at k bk all s (inr (inl w)) =
       let e = one_of p i it w.it at w.stands in
       false≢true (sym w.broken ∙ ap (λ (t : BlockParts). block_keeps rule p (i + 1) t) (sym e) ∙ bk)
   block_passes i it at k bk all s (inr (inr w)) =
       let e = one_of p i it w.it at w.stands in
-      all s (subst (λ (t : BlockParts). StatementBreaks p rule t.statements s) (sym e) w.breach)
+      all s (subst (λ (t : BlockParts). StatementBreaks p rule t s) (sym e) w.breach)
 
   pub all_pass : (i : ℕ) → length p ≤ i → ((b s : ℕ) → b < i + 1 → Breaches p rule b s → ⊥) → (b s : ℕ) → Breaches p rule b s → ⊥
   all_pass i l before b s (inl w) = before b s (omega (arith, w.no_block)) (inl w)
@@ -68,7 +68,7 @@ module _ (p : List BlockParts) (rule : Rule) where
     first = λ b s w e. elim e [ inl h ↦ before b s h w | inr h ↦ omega (arith, h.1) ];
   }
 
-  pub first_at_statement : (i : ℕ) (it : BlockParts) (n : ℕ) → slice_get p i ≡ Some it → program_keeps rule p ≡ true → block_keeps rule p (i + 1) it ≡ true → StatementBreaks p rule it.statements n → ((m : ℕ) → m < n → StatementBreaks p rule it.statements m → ⊥) → ((b s : ℕ) → b < i + 1 → Breaches p rule b s → ⊥) → IsFirstOfRule p rule (i + 1) n
+  pub first_at_statement : (i : ℕ) (it : BlockParts) (n : ℕ) → slice_get p i ≡ Some it → program_keeps rule p ≡ true → block_keeps rule p (i + 1) it ≡ true → StatementBreaks p rule it n → ((m : ℕ) → m < n → StatementBreaks p rule it m → ⊥) → ((b s : ℕ) → b < i + 1 → Breaches p rule b s → ⊥) → IsFirstOfRule p rule (i + 1) n
   first_at_statement i it n at k bk w earlier before = record {
     breach = inr (inr (record { counts = omega arith; it = it; stands = at_place p i ∙ at; breach = w }));
     first = λ b s v e. elim e [ inl h ↦ before b s h v | inr h ↦ here b s h.0 h.1 v ];
@@ -81,4 +81,4 @@ module _ (p : List BlockParts) (rule : Rule) where
           false≢true (sym v.broken ∙ ap (λ (m : ℕ). block_keeps rule p m v.it) e ∙ ap (λ (t : BlockParts). block_keeps rule p (i + 1) t) (sym q) ∙ bk)
       here b s e lt (inr (inr v)) =
           let q = one_of p i it v.it at (subst (λ (m : ℕ). slice_get p (m - 1) ≡ Some v.it) e v.stands) in
-          earlier s lt (subst (λ (t : BlockParts). StatementBreaks p rule t.statements s) (sym q) v.breach)
+          earlier s lt (subst (λ (t : BlockParts). StatementBreaks p rule t s) (sym q) v.breach)

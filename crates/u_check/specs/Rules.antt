@@ -1,14 +1,14 @@
 -- The rules of the checker, and what it is to break one.
-use Rattle.std.specs.Prelude.{◌≡◌, ℕ, ◌-◌, ◌<◌, ◌≤◌, Bool, true, false, not, ◌&&◌, ◌||◌, ◌==◌, ◌⊎◌, nat_le, if◌then◌else◌, List, take, Option, Some, None, slice_get, codes, find}
+use Rattle.std.specs.Prelude.{◌≡◌, ℕ, ◌-◌, ◌<◌, ◌≤◌, Bool, true, false, not, ◌&&◌, ◌||◌, ◌==◌, ◌⊎◌, nat_le, if◌then◌else◌, List, ◌++◌, length, take, Option, Some, None, slice_get, codes, find}
 use Rattle.std.specs.List.{list_any, list_all, range_with_len}
 use lib.Pointwise.{pointwise}
 use Rattle.u_program.specs.declared.program.Constant.TheVariants as constants
 use Rattle.u_program.specs.declared.program.Kind.{Kind}
-use Rattle.u_program.specs.declared.program.Kind.TheVariants.{Begin, Const, Pass, Unary, Binary, Select, End}
+use Rattle.u_program.specs.declared.program.Kind.TheVariants.{Begin, Const, Pass, Unary, Binary, Select, Switch, Enter, Next, Last, Leave, Apply, Back, End}
 use Rattle.u_program.specs.declared.program.Destination.{Destination}
 use Rattle.u_program.specs.Parts.{StatementParts, BlockParts}
 use Rattle.u_check.specs.declared.rule.Rule.{Rule}
-use Rattle.u_check.specs.declared.rule.Rule.TheVariants.{BlockNamesDiffer, MainExists, BeginComesFirst, RegionExists, DestinationExists, BeginTakesNothing, ConstantNamesBlock, EndInOuterRegion, OwnRegion, PortsAreFed}
+use Rattle.u_check.specs.declared.rule.Rule.TheVariants.{BlockNamesDiffer, MainExists, BeginComesFirst, RegionExists, DestinationExists, EntriesTakeNothing, EnterReachesItsLoop, ApplyNamesBack, BackIsNamed, ConstantNamesBlock, LoopStatementsInLoops, LastSendsToLeave, LeaveSendsOut, EndInOuterRegion, OwnRegion, PortsAreFed}
 
 -- how many ports a statement of that kind has
 abbrev pub ports_of : Kind → ℕ
@@ -18,15 +18,57 @@ ports_of Pass = 1
 ports_of (Unary o) = 1
 ports_of (Binary o) = 2
 ports_of Select = 3
+ports_of Switch = 2
+ports_of (Enter l) = 1
+ports_of Next = 1
+ports_of Last = 1
+ports_of Leave = 1
+ports_of (Apply n) = 2
+ports_of Back = 1
 ports_of End = 1
 
 abbrev pub is_begin : Kind → Bool
 is_begin Begin = true
 is_begin k = false
 
+abbrev pub is_back : Kind → Bool
+is_back Back = true
+is_back k = false
+
+abbrev pub is_last : Kind → Bool
+is_last Last = true
+is_last k = false
+
+abbrev pub is_leave : Kind → Bool
+is_leave Leave = true
+is_leave k = false
+
+abbrev pub is_apply : Kind → Bool
+is_apply (Apply n) = true
+is_apply k = false
+
 abbrev pub is_end : Kind → Bool
 is_end End = true
 is_end k = false
+
+-- whether its value comes from outside: from a call of its block, or from a call that it made
+abbrev pub is_entry : Kind → Bool
+is_entry Begin = true
+is_entry Back = true
+is_entry k = false
+
+-- whether it stands in a loop alone
+abbrev pub is_of_loop : Kind → Bool
+is_of_loop Next = true
+is_of_loop Last = true
+is_of_loop Leave = true
+is_of_loop k = false
+
+-- whether it sends from one region into another
+abbrev pub crosses : Kind → Bool
+crosses (Enter l) = true
+crosses Leave = true
+crosses k = false
 
 abbrev pub main_name : List ℕ
 main_name = codes "main"
@@ -42,17 +84,29 @@ block_named p name = find (λ (b : BlockParts). same_name b.name name) p
 abbrev pub statement_at : List StatementParts → ℕ → Option StatementParts
 statement_at ss n = slice_get ss (n - 1)
 
+-- the region that holds the loop of that number, which counts from 1
+unfoldable pub held_by : List ℕ → ℕ → Option ℕ
+held_by loops n = if n == 0 then None else slice_get loops (n - 1)
+
+-- where a statement sends, a `switch` on true first
+abbrev pub sends : StatementParts → List Destination
+sends s = s.to ++ s.otherwise
+
 -- whether a block of the list has that name
 abbrev pub names_block : List BlockParts → List ℕ → Bool
 names_block bs name = list_any (λ (b : BlockParts). same_name b.name name) bs
 
--- a statement's region is 0, since no block has a loop
+-- the statement lies in region 0
 abbrev pub is_outer : StatementParts → Bool
 is_outer s = s.region == 0
 
 -- statement 1 is `begin` in region 0, and no other is `begin`
 unfoldable pub begins_well : ℕ → StatementParts → Bool
 begins_well n s = if n == 1 then is_begin s.kind && is_outer s else not (is_begin s.kind)
+
+-- a region is 0, or one of the loops, which count from 1
+abbrev pub has_region : List ℕ → ℕ → Bool
+has_region loops region = nat_le region (length loops)
 
 abbrev pub has_port : Option StatementParts → ℕ → Bool
 has_port None port = false
@@ -62,69 +116,108 @@ has_port (Some s) port = nat_le port (ports_of s.kind)
 unfoldable pub reaches : List StatementParts → Destination → Bool
 reaches ss d = nat_le 1 d.statement && (nat_le 1 d.port && has_port (statement_at ss d.statement) d.port)
 
+-- no destination is a `begin` or a `back`
 abbrev pub takes_tokens : Option StatementParts → Bool
 takes_tokens None = true
-takes_tokens (Some s) = not (is_begin s.kind)
+takes_tokens (Some s) = not (is_entry s.kind)
 
 abbrev pub lies_in : ℕ → Option StatementParts → Bool
 lies_in region None = true
 lies_in region (Some s) = region == s.region
+
+abbrev pub holds : ℕ → Option ℕ → Bool
+holds region None = false
+holds region (Some h) = region == h
+
+-- the loop of an `enter` is held by the statement's region
+unfoldable pub enters_inward : List ℕ → ℕ → Kind → Bool
+enters_inward loops region (Enter l) = holds region (held_by loops l)
+enters_inward loops region k = true
+
+-- a destination of an `enter` lies in its loop
+unfoldable pub lies_in_entered : Kind → Option StatementParts → Bool
+lies_in_entered (Enter l) t = lies_in l t
+lies_in_entered k t = true
+
+abbrev pub is_back_in : ℕ → Option StatementParts → Bool
+is_back_in region None = false
+is_back_in region (Some s) = is_back s.kind && region == s.region
+
+-- an `apply` names a `back` of its region
+unfoldable pub names_back : List StatementParts → ℕ → Kind → Bool
+names_back ss region (Apply n) = nat_le 1 n && is_back_in region (statement_at ss n)
+names_back ss region k = true
+
+abbrev pub applies_to : ℕ → Kind → Bool
+applies_to n (Apply m) = m == n
+applies_to n k = false
+
+-- whether some `apply` names statement n
+unfoldable pub is_applied : List StatementParts → ℕ → Bool
+is_applied ss n = list_any (λ (s : StatementParts). applies_to n s.kind) ss
 
 -- a procedure that a statement gives is that of a block
 unfoldable pub gives_block : List BlockParts → Kind → Bool
 gives_block p (Const (constants.Proc name)) = names_block p name
 gives_block p k = true
 
+-- a destination of a `last` is a `leave`, and of no other statement is
+abbrev pub leaves_after_last : Bool → Option StatementParts → Bool
+leaves_after_last last None = true
+leaves_after_last last (Some t) = if last then is_leave t.kind else not (is_leave t.kind)
+
+abbrev pub lies_in_some : Option ℕ → Option StatementParts → Bool
+lies_in_some None t = false
+lies_in_some (Some region) t = lies_in region t
+
 -- whether a destination of the statement is that port of statement n
 unfoldable pub sends_to : StatementParts → ℕ → ℕ → Bool
-sends_to s n port = list_any (λ (d : Destination). d.statement == n && d.port == port) s.to
+sends_to s n port = list_any (λ (d : Destination). d.statement == n && d.port == port) (sends s)
 
 -- whether some statement sends to that port of statement n
 unfoldable pub is_fed : List StatementParts → ℕ → ℕ → Bool
 is_fed ss n port = list_any (λ (s : StatementParts). sends_to s n port) ss
 
--- whether every port of statement n is some destination of the block; `begin` needs none
+-- whether every port of statement n is some destination of the block; `begin` and `back` need none
 unfoldable pub is_whole : List StatementParts → ℕ → Kind → Bool
-is_whole ss n kind = is_begin kind || list_all (λ port. is_fed ss n port) (range_with_len 1 (ports_of kind))
+is_whole ss n kind = is_entry kind || list_all (λ port. is_fed ss n port) (range_with_len 1 (ports_of kind))
 
 -- what a rule demands of a program as a whole
 abbrev pub program_keeps : Rule → List BlockParts → Bool
-program_keeps BlockNamesDiffer p = true
 program_keeps MainExists p = names_block p main_name
-program_keeps BeginComesFirst p = true
-program_keeps RegionExists p = true
-program_keeps DestinationExists p = true
-program_keeps BeginTakesNothing p = true
-program_keeps ConstantNamesBlock p = true
-program_keeps EndInOuterRegion p = true
-program_keeps OwnRegion p = true
-program_keeps PortsAreFed p = true
+program_keeps rule p = true
 
 -- what a rule demands of block number n
 abbrev pub block_keeps : Rule → List BlockParts → ℕ → BlockParts → Bool
 block_keeps BlockNamesDiffer p n b = not (names_block (take (n - 1) p) b.name)
-block_keeps MainExists p n b = true
-block_keeps BeginComesFirst p n b = true
-block_keeps RegionExists p n b = true
-block_keeps DestinationExists p n b = true
-block_keeps BeginTakesNothing p n b = true
-block_keeps ConstantNamesBlock p n b = true
-block_keeps EndInOuterRegion p n b = true
-block_keeps OwnRegion p n b = true
-block_keeps PortsAreFed p n b = true
+block_keeps rule p n b = true
 
--- what a rule demands of statement number n of a block whose statements are ss
-abbrev pub statement_keeps : Rule → List BlockParts → List StatementParts → ℕ → StatementParts → Bool
-statement_keeps BlockNamesDiffer p ss n s = true
-statement_keeps MainExists p ss n s = true
-statement_keeps BeginComesFirst p ss n s = begins_well n s
-statement_keeps RegionExists p ss n s = is_outer s
-statement_keeps DestinationExists p ss n s = list_all (λ d. reaches ss d) s.to
-statement_keeps BeginTakesNothing p ss n s = list_all (λ (d : Destination). takes_tokens (statement_at ss d.statement)) s.to
-statement_keeps ConstantNamesBlock p ss n s = gives_block p s.kind
-statement_keeps EndInOuterRegion p ss n s = not (is_end s.kind) || is_outer s
-statement_keeps OwnRegion p ss n s = list_all (λ (d : Destination). lies_in s.region (statement_at ss d.statement)) s.to
-statement_keeps PortsAreFed p ss n s = is_whole ss n s.kind
+-- what a rule demands of statement number n of block b, its destinations apart
+abbrev pub itself_keeps : Rule → List BlockParts → BlockParts → ℕ → StatementParts → Bool
+itself_keeps BeginComesFirst p b n s = begins_well n s
+itself_keeps RegionExists p b n s = has_region b.loops s.region
+itself_keeps EnterReachesItsLoop p b n s = enters_inward b.loops s.region s.kind
+itself_keeps ApplyNamesBack p b n s = names_back b.statements s.region s.kind
+itself_keeps BackIsNamed p b n s = not (is_back s.kind) || is_applied b.statements n
+itself_keeps ConstantNamesBlock p b n s = gives_block p s.kind
+itself_keeps LoopStatementsInLoops p b n s = not (is_of_loop s.kind) || not (is_outer s)
+itself_keeps EndInOuterRegion p b n s = not (is_end s.kind) || is_outer s
+itself_keeps PortsAreFed p b n s = is_whole b.statements n s.kind
+itself_keeps rule p b n s = true
+
+-- what a rule demands of a destination of statement s of block b
+abbrev pub destination_keeps : Rule → BlockParts → StatementParts → Destination → Bool
+destination_keeps DestinationExists b s d = reaches b.statements d
+destination_keeps EntriesTakeNothing b s d = takes_tokens (statement_at b.statements d.statement)
+destination_keeps EnterReachesItsLoop b s d = lies_in_entered s.kind (statement_at b.statements d.statement)
+destination_keeps LastSendsToLeave b s d = leaves_after_last (is_last s.kind) (statement_at b.statements d.statement)
+destination_keeps LeaveSendsOut b s d = not (is_leave s.kind) || lies_in_some (held_by b.loops s.region) (statement_at b.statements d.statement)
+destination_keeps OwnRegion b s d = crosses s.kind || lies_in s.region (statement_at b.statements d.statement)
+destination_keeps rule b s d = true
+
+-- what a rule demands of statement number n of block b
+unfoldable pub statement_keeps : Rule → List BlockParts → BlockParts → ℕ → StatementParts → Bool
+statement_keeps rule p b n s = itself_keeps rule p b n s && list_all (λ d. destination_keeps rule b s d) (sends s)
 
 -- the rule's number
 abbrev pub number_of : Rule → ℕ
@@ -133,8 +226,14 @@ number_of MainExists = 2
 number_of BeginComesFirst = 3
 number_of RegionExists = 4
 number_of DestinationExists = 5
-number_of BeginTakesNothing = 6
+number_of EntriesTakeNothing = 6
+number_of EnterReachesItsLoop = 7
+number_of ApplyNamesBack = 8
+number_of BackIsNamed = 9
 number_of ConstantNamesBlock = 10
+number_of LoopStatementsInLoops = 11
+number_of LastSendsToLeave = 12
+number_of LeaveSendsOut = 13
 number_of EndInOuterRegion = 14
 number_of OwnRegion = 15
 number_of PortsAreFed = 16
@@ -153,19 +252,19 @@ pub record BlockBreaks (p : List BlockParts) (rule : Rule) (block statement : �
   pub broken : block_keeps rule p block it ≡ false
   pub no_statement : statement ≡ 0
 
--- the statement of that number, from 1, breaks the rule
-pub record StatementBreaks (p : List BlockParts) (rule : Rule) (ss : List StatementParts) (statement : ℕ) : Type 0 where
+-- the statement of that number, from 1, of block b breaks the rule
+pub record StatementBreaks (p : List BlockParts) (rule : Rule) (b : BlockParts) (statement : ℕ) : Type 0 where
   pub counts : 1 ≤ statement
   pub it : StatementParts
-  pub stands : statement_at ss statement ≡ Some it
-  pub broken : statement_keeps rule p ss statement it ≡ false
+  pub stands : statement_at b.statements statement ≡ Some it
+  pub broken : statement_keeps rule p b statement it ≡ false
 
 -- a statement of the block of that number, from 1, breaks the rule
 pub record InBlockBreaks (p : List BlockParts) (rule : Rule) (block statement : ℕ) : Type 0 where
   pub counts : 1 ≤ block
   pub it : BlockParts
   pub stands : slice_get p (block - 1) ≡ Some it
-  pub breach : StatementBreaks p rule it.statements statement
+  pub breach : StatementBreaks p rule it statement
 
 -- the rule is broken there: at the program, at a block, or at a statement of a block
 abbrev pub Breaches : List BlockParts → Rule → ℕ → ℕ → Type 0

@@ -5,17 +5,23 @@ ghost use Rattle.u_check.specs.Rules.{IsChecked, Breaches, StatementBreaks, IsFi
 use crate::job::Checked;
 use crate::keeps::{block_keeps, program_keeps, statement_keeps};
 use crate::rule::{Breach, Rule};
-use u_program::{Block, Program, Statement};
+use u_program::{Block, Program};
 
 /// The rules, in the order of their numbers.
-const RULES: [Rule; 10] = [
+const RULES: [Rule; 16] = [
     Rule::BlockNamesDiffer,
     Rule::MainExists,
     Rule::BeginComesFirst,
     Rule::RegionExists,
     Rule::DestinationExists,
-    Rule::BeginTakesNothing,
+    Rule::EntriesTakeNothing,
+    Rule::EnterReachesItsLoop,
+    Rule::ApplyNamesBack,
+    Rule::BackIsNamed,
     Rule::ConstantNamesBlock,
+    Rule::LoopStatementsInLoops,
+    Rule::LastSendsToLeave,
+    Rule::LeaveSendsOut,
     Rule::EndInOuterRegion,
     Rule::OwnRegion,
     Rule::PortsAreFed,
@@ -31,14 +37,14 @@ pub struct Refused {
 }
 
 /// The number of the first statement that breaks the rule.
-fn first_statement(rule: Rule, blocks: &[Block], statements: &[Statement]) -> Option<usize>
-    ensures breach { IfSome result (λ n. StatementBreaks blocks.now rule statements.now n) }
+fn first_statement(rule: Rule, blocks: &[Block], block: &Block) -> Option<usize>
+    ensures breach { IfSome result (λ n. StatementBreaks blocks.now rule block.now n) }
     ensures first { IfSome result
-        (λ n. (m : ℕ) → m < n → StatementBreaks blocks.now rule statements.now m → ⊥) }
-    ensures none { IfNone result ((m : ℕ) → StatementBreaks blocks.now rule statements.now m → ⊥) }
+        (λ n. (m : ℕ) → m < n → StatementBreaks blocks.now rule block.now m → ⊥) }
+    ensures none { IfNone result ((m : ℕ) → StatementBreaks blocks.now rule block.now m → ⊥) }
 {
-    for (i, statement) in statements.iter().enumerate() {
-        if !statement_keeps(rule, blocks, statements, i + 1, statement) {
+    for (i, statement) in block.statements().iter().enumerate() {
+        if !statement_keeps(rule, blocks, block, i + 1, statement) {
             return Some(i + 1);
         }
     }
@@ -66,7 +72,7 @@ fn first_of_rule(rule: Rule, blocks: &[Block]) -> Option<Breach>
                 statement: 0,
             });
         }
-        if let Some(statement) = first_statement(rule, blocks, block.statements()) {
+        if let Some(statement) = first_statement(rule, blocks, block) {
             return Some(Breach {
                 rule,
                 block: i + 1,

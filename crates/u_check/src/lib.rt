@@ -4,11 +4,14 @@
 mod checker;
 mod job;
 mod keeps;
+mod kinds;
+mod places;
 mod rule;
 #[cfg(test)]
 mod tests;
 
 pub use checker::{Refused, check};
 pub use job::{Checked, Job};
-pub use keeps::{is_end, ports_of};
+pub use kinds::{is_back, is_begin, is_end, is_entry, is_last, is_leave, ports_of};
+pub use places::held_by;
 pub use rule::{Breach, Rule};

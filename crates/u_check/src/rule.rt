@@ -4,7 +4,7 @@ ghost use Rattle.u_check.specs.Rules.{number_of};
 
 use std::fmt;
 
-/// What the checker demands of a program.
+/// What the checker demands of a program: this project's profile of the programs that it runs.
 #[derive(Clone, Copy, Debug, PartialEq, Eq)]
 pub enum Rule {
     /// The names of the blocks differ. Broken by the later block.
@@ -17,20 +17,32 @@ pub enum Rule {
     RegionExists,
     /// A destination names a statement of the block and a port of it. Broken by the sender.
     DestinationExists,
-    /// No destination is a `begin`. Broken by the sender.
-    BeginTakesNothing,
+    /// No destination is a `begin` or a `back`. Broken by the sender.
+    EntriesTakeNothing,
+    /// The loop of an `enter` is held by the statement's region, and all its destinations lie in it.
+    EnterReachesItsLoop,
+    /// The `back` of an `apply` is a `back` of the block in the same region.
+    ApplyNamesBack,
+    /// A `back` is named by some `apply` of its block.
+    BackIsNamed,
     /// The procedure of a `const` names a block.
     ConstantNamesBlock,
+    /// A `next`, a `last` and a `leave` lie in a loop.
+    LoopStatementsInLoops,
+    /// A `last` sends to a `leave` only, and nothing else sends to a `leave`. Broken by the sender.
+    LastSendsToLeave,
+    /// A `leave` sends only into the region that holds its loop.
+    LeaveSendsOut,
     /// An `end` lies in region 0.
     EndInOuterRegion,
-    /// A statement sends into its own region. Broken by the sender.
+    /// Every statement but `enter` and `leave` sends into its own region. Broken by the sender.
     OwnRegion,
-    /// Every port of every statement but `begin` is some destination of the block.
+    /// Every port of every statement but `begin` and `back` is some destination of the block.
     PortsAreFed,
 }
 
 impl Rule {
-    /// The rule's number, by which rules are ordered: 1 to 6, 10, and 14 to 16.
+    /// The rule's number, 1 to 16, by which rules are ordered.
     pub fn number(self) -> u8
         ensures { result ≡ number_of self }
     {
@@ -40,8 +52,14 @@ impl Rule {
             Rule::BeginComesFirst => 3,
             Rule::RegionExists => 4,
             Rule::DestinationExists => 5,
-            Rule::BeginTakesNothing => 6,
+            Rule::EntriesTakeNothing => 6,
+            Rule::EnterReachesItsLoop => 7,
+            Rule::ApplyNamesBack => 8,
+            Rule::BackIsNamed => 9,
             Rule::ConstantNamesBlock => 10,
+            Rule::LoopStatementsInLoops => 11,
+            Rule::LastSendsToLeave => 12,
+            Rule::LeaveSendsOut => 13,
             Rule::EndInOuterRegion => 14,
             Rule::OwnRegion => 15,
             Rule::PortsAreFed => 16,

@@ -1,0 +1,73 @@
+//! What the rules ask of a statement's kind.
+ghost use Rattle.std.specs.Prelude.{◌≡◌};
+ghost use Rattle.u_check.specs.Rules.{ports_of, is_begin, is_back, is_last, is_leave, is_end, is_entry, is_of_loop, crosses};
+
+use u_program::Kind;
+
+/// How many ports a statement of that kind has.
+pub fn ports_of(kind: &Kind) -> usize
+    ensures { result ≡ ports_of kind.now }
+{
+    match kind {
+        Kind::Select => 3,
+        Kind::Binary(_) | Kind::Switch | Kind::Apply(_) => 2,
+        _ => 1,
+    }
+}
+
+/// Whether it is `begin`.
+pub fn is_begin(kind: &Kind) -> bool
+    ensures { result ≡ is_begin kind.now }
+{
+    matches!(kind, Kind::Begin)
+}
+
+/// Whether it is `back`.
+pub fn is_back(kind: &Kind) -> bool
+    ensures { result ≡ is_back kind.now }
+{
+    matches!(kind, Kind::Back)
+}
+
+/// Whether it is `last`.
+pub fn is_last(kind: &Kind) -> bool
+    ensures { result ≡ is_last kind.now }
+{
+    matches!(kind, Kind::Last)
+}
+
+/// Whether it is `leave`.
+pub fn is_leave(kind: &Kind) -> bool
+    ensures { result ≡ is_leave kind.now }
+{
+    matches!(kind, Kind::Leave)
+}
+
+/// Whether it is `end`.
+pub fn is_end(kind: &Kind) -> bool
+    ensures { result ≡ is_end kind.now }
+{
+    matches!(kind, Kind::End)
+}
+
+/// Whether its value comes from no statement of its block: `begin`, which takes the argument of a call,
+/// and `back`, which takes the result of one.
+pub fn is_entry(kind: &Kind) -> bool
+    ensures { result ≡ is_entry kind.now }
+{
+    matches!(kind, Kind::Begin | Kind::Back)
+}
+
+/// Whether it stands only in loops: `next`, `last` and `leave`.
+pub fn is_of_loop(kind: &Kind) -> bool
+    ensures { result ≡ is_of_loop kind.now }
+{
+    matches!(kind, Kind::Next | Kind::Last | Kind::Leave)
+}
+
+/// Whether it sends from one region into another: `enter` and `leave`.
+pub fn crosses(kind: &Kind) -> bool
+    ensures { result ≡ crosses kind.now }
+{
+    matches!(kind, Kind::Enter(_) | Kind::Leave)
+}

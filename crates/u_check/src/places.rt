@@ -1,0 +1,168 @@
+//! Where statements stand: their regions, and the statements that others name.
+ghost use Rattle.std.specs.Prelude.{◌≡◌, ◌-◌, ◌<◌, ◌≤◌};
+ghost use Rattle.u_check.specs.Rules.{is_outer, has_region, held_by, statement_at, begins_well, reaches, takes_tokens, lies_in, lies_in_some, lies_in_entered, enters_inward, names_back, applies_to, is_applied, leaves_after_last};
+
+use crate::kinds::{is_back, is_begin, is_entry, is_leave, ports_of};
+use u_program::{Destination, Kind, Statement};
+
+/// Whether the statement lies in region 0.
+pub fn is_outer(statement: &Statement) -> bool
+    ensures { result ≡ is_outer statement.now }
+{
+    statement.region() == 0
+}
+
+/// Whether the region is 0 or one of the loops.
+pub fn has_region(loops: &[u8], region: u8) -> bool
+    ensures { result ≡ has_region loops.now region }
+{
+    usize::from(region) <= loops.len()
+}
+
+/// The region that holds the loop of that number, which counts from 1: none where there is no such loop.
+#[tactic(auto, unfolding(crate::specs::Rules::held_by))]
+pub fn held_by(loops: &[u8], number: u8) -> Option<u8>
+    ensures { result ≡ held_by loops.now number }
+{
+    if number == 0 {
+        return None;
+    }
+    loops.get(usize::from(number) - 1).copied()
+}
+
+/// Whether statement 1 is `begin` in region 0, and no other is `begin`.
+#[tactic(auto, unfolding(crate::specs::Rules::begins_well))]
+pub fn begins_well(number: usize, statement: &Statement) -> bool
+    ensures { result ≡ begins_well number statement.now }
+{
+    let begin = is_begin(statement.kind());
+    if number == 1 {
+        return begin && is_outer(statement);
+    }
+    !begin
+}
+
+/// Whether the loop of an `enter` is held by the statement's region.
+#[tactic(auto, unfolding(crate::specs::Rules::enters_inward))]
+pub fn enters_inward(loops: &[u8], region: u8, kind: &Kind) -> bool
+    ensures { result ≡ enters_inward loops.now region kind.now }
+{
+    match kind {
+        Kind::Enter(number) => match held_by(loops, *number) {
+            Some(holder) => region == holder,
+            None => false,
+        },
+        _ => true,
+    }
+}
+
+/// Whether the statement of that number is a `back` in the region.
+fn is_back_in(region: u8, statements: &[Statement], number: u16) -> bool
+    ensures { result ≡ is_back_in region (statement_at statements.now number) }
+{
+    match statements.get(usize::from(number).saturating_sub(1)) {
+        Some(statement) => is_back(statement.kind()) && region == statement.region(),
+        None => false,
+    }
+}
+
+/// Whether the statement that an `apply` names is a `back` in its region.
+#[tactic(auto, unfolding(crate::specs::Rules::names_back))]
+pub fn names_back(statements: &[Statement], region: u8, kind: &Kind) -> bool
+    ensures { result ≡ names_back statements.now region kind.now }
+{
+    match kind {
+        Kind::Apply(number) => *number >= 1 && is_back_in(region, statements, *number),
+        _ => true,
+    }
+}
+
+/// Whether it is an `apply` that names the statement of that number.
+fn applies_to(number: usize, kind: &Kind) -> bool
+    ensures { result ≡ applies_to number kind.now }
+{
+    match kind {
+        Kind::Apply(named) => usize::from(*named) == number,
+        _ => false,
+    }
+}
+
+/// Whether some `apply` names the statement of that number.
+#[tactic(auto, unfolding(crate::specs::Rules::is_applied))]
+pub fn is_applied(statements: &[Statement], number: usize) -> bool
+    ensures { result ≡ is_applied statements.now number }
+{
+    statements.iter().any(|s| applies_to(number, s.kind()))
+}
+
+/// Whether the destination names a statement of the block and a port of it.
+#[tactic(auto, unfolding(crate::specs::Rules::reaches))]
+pub fn reaches(statements: &[Statement], destination: &Destination) -> bool
+    ensures { result ≡ reaches statements.now destination.now }
+{
+    if destination.statement == 0 || destination.port == 0 {
+        return false;
+    }
+    match statements.get(usize::from(destination.statement) - 1) {
+        Some(statement) => usize::from(destination.port) <= ports_of(statement.kind()),
+        None => false,
+    }
+}
+
+/// Whether the destination is no `begin` and no `back`.
+pub fn takes_tokens(statements: &[Statement], destination: &Destination) -> bool
+    ensures { result ≡ takes_tokens (statement_at statements.now destination.now.statement) }
+{
+    match statements.get(usize::from(destination.statement).saturating_sub(1)) {
+        Some(statement) => !is_entry(statement.kind()),
+        None => true,
+    }
+}
+
+/// Whether the destination lies in that region.
+pub fn lies_in(region: u8, statements: &[Statement], destination: &Destination) -> bool
+    ensures { result ≡ lies_in region (statement_at statements.now destination.now.statement) }
+{
+    match statements.get(usize::from(destination.statement).saturating_sub(1)) {
+        Some(statement) => region == statement.region(),
+        None => true,
+    }
+}
+
+/// Whether there is such a region, and the destination lies in it.
+pub fn lies_in_some(
+    region: Option<u8>,
+    statements: &[Statement],
+    destination: &Destination,
+) -> bool
+    ensures { result ≡ lies_in_some region (statement_at statements.now destination.now.statement) }
+{
+    match region {
+        Some(region) => lies_in(region, statements, destination),
+        None => false,
+    }
+}
+
+/// Whether the destination of an `enter` lies in its loop.
+#[tactic(auto, unfolding(crate::specs::Rules::lies_in_entered))]
+pub fn lies_in_entered(kind: &Kind, statements: &[Statement], destination: &Destination) -> bool
+    ensures { result ≡ lies_in_entered kind.now (statement_at statements.now destination.now.statement) }
+{
+    match kind {
+        Kind::Enter(number) => lies_in(*number, statements, destination),
+        _ => true,
+    }
+}
+
+/// Whether the destination is a `leave` where a `last` sends to it, and none where another does.
+pub fn leaves_after_last(last: bool, statements: &[Statement], destination: &Destination) -> bool
+    ensures { result ≡ leaves_after_last last (statement_at statements.now destination.now.statement) }
+{
+    match statements.get(usize::from(destination.statement).saturating_sub(1)) {
+        Some(statement) => {
+            let leave = is_leave(statement.kind());
+            if last { leave } else { !leave }
+        }
+        None => true,
+    }
+}
