@@ -1,7 +1,7 @@
 -- What a statement made, as a result; and when a statement can hand on what it made.
 use Rattle.std.specs.Prelude.{◌≡◌, IsTrue, is_some, List, Some, Result, Ok, Err}
-use Rattle.u_name.specs.Context.{Tree, Top, InLoop, InCall, IsInLoop}
-use Rattle.u_name.specs.Name.{Activity}
+use Rattle.u_name.specs.Context.{Tree, Top, InLoop, InCall}
+use Rattle.u_name.specs.Name.{Activity, IsInLoop}
 use Rattle.u_name.specs.declared.name.NameError.{NameError}
 use Rattle.u_name.specs.declared.name.NameError.TheVariants as errors
 use Rattle.u_value.specs.declared.value.Value.{Value}

@@ -136,6 +136,7 @@ fn reached(alloc: Global, kind: &Kind, activity: &Name) -> Result<Name, NameErro
 }
 
 /// The value at each of the destinations, or the fault why the statement reaches none.
+#[tactic(auto, using(crate::proofs::Linkage::sent_on, crate::proofs::Linkage::refused_on))]
 fn delivered(
     alloc: Global,
     kind: &Kind,
@@ -161,6 +162,7 @@ fn delivered(
 }
 
 /// What a statement that makes a value hands on.
+#[tactic(auto, using(crate::proofs::Destinations::list_in_range))]
 fn handed_on(
     alloc: Global,
     statement: &Statement,
