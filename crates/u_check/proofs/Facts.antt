@@ -1,22 +1,25 @@
 -- What holds of a program that breaks no rule.
-use Rattle.std.proofs.Common.{◌≡◌, ℕ, zero, suc, ◌+◌, ◌-◌, ◌≤◌, inl, inr, refl, sym, ap, ◌∙◌, arith, Bool, true, false, ◌&&◌, ◌==◌, List, take, Option, Some, None}
-use Rattle.std.specs.Prelude.{slice_get, Contains, nat_le}
+use Rattle.std.proofs.Common.{◌≡◌, ℕ, zero, suc, ◌+◌, ◌-◌, ◌<◌, ◌≤◌, inl, inr, refl, sym, ap, ◌∙◌, arith, eq-eqb, Bool, true, false, ◌&&◌, ◌||◌, ◌==◌, not, List, [], ◌∷◌, length, get_or, take, Option, Some, None}
+use Rattle.std.specs.Prelude.{slice_get, Contains, nat_le, if◌then◌else◌}
 use Rattle.std.specs.List.{list_all, range_with_len}
 use Rattle.std.proofs.lemmas.Bool.{false≢true, and_parts, or_cases, leb-true, eqb-true, not-true, true_from_ne_false, ne_eqb}
 use Rattle.std.proofs.lemmas.List.Sums.{AllPass-from_list_all}
-use Rattle.std.proofs.lemmas.List.Elements.{All-contains}
+use Rattle.std.proofs.lemmas.List.Elements.{All-contains, Contains-append_left, Contains-append_right}
 use Rattle.std.proofs.lemmas.List.Folds.{Any-from_list_any}
+use Rattle.std.proofs.lemmas.Option.{slice_get-get_or, slice_get_within}
 use Rattle.std.proofs.lemmas.List.FromFn.{get_or-range_with_len, length-range_with_len}
 use Rattle.u_program.specs.declared.program.Constant.TheVariants as constants
 use Rattle.u_program.specs.declared.program.Kind.{Kind}
-use Rattle.u_program.specs.declared.program.Kind.TheVariants.{Const}
+use Rattle.u_program.specs.declared.program.Kind.TheVariants.{Const, Enter, Last, Leave, Apply, Back, End}
 use Rattle.u_program.specs.declared.program.Destination.{Destination}
+use Rattle.u_program.specs.Limits.{AreLoops}
 use Rattle.u_program.specs.Parts.{StatementParts, BlockParts}
 use Rattle.u_check.specs.declared.rule.Rule.{Rule}
-use Rattle.u_check.specs.declared.rule.Rule.TheVariants.{BlockNamesDiffer, MainExists, BeginComesFirst, RegionExists, DestinationExists, BeginTakesNothing, ConstantNamesBlock, OwnRegion, PortsAreFed}
-use Rattle.u_check.specs.Rules.{ports_of, is_begin, is_outer, main_name, names_block, block_named, statement_at, begins_well, has_port, reaches, takes_tokens, lies_in, gives_block, sends_to, is_fed, is_whole, program_keeps, block_keeps, statement_keeps, IsChecked}
+use Rattle.u_check.specs.declared.rule.Rule.TheVariants.{BlockNamesDiffer, MainExists, BeginComesFirst, RegionExists, DestinationExists, EntriesTakeNothing, EnterReachesItsLoop, ApplyNamesBack, BackIsNamed, ConstantNamesBlock, LoopStatementsInLoops, LastSendsToLeave, LeaveSendsOut, EndInOuterRegion, OwnRegion, PortsAreFed}
+use Rattle.u_check.specs.Rules.{ports_of, is_begin, is_back, is_last, is_leave, is_end, is_entry, is_of_loop, crosses, main_name, names_block, block_named, statement_at, held_by, sends, begins_well, is_outer, has_port, reaches, takes_tokens, lies_in, holds, enters_inward, lies_in_entered, is_back_in, names_back, applies_to, is_applied, leaves_after_last, lies_in_some, gives_block, sends_to, is_fed, is_whole, program_keeps, block_keeps, itself_keeps, destination_keeps, statement_keeps, IsChecked}
 use Rattle.u_check.proofs.First.{statement_breaks, at_place}
 use Rattle.u_check.proofs.Blocks.{place_of_member, named_first, named_some}
+use Rattle.u_check.proofs.KindTests.{back_kind}
 
 -- a destination and the statement that it names
 pub record Target (ss : List StatementParts) (d : Destination) : Type 0 where
@@ -31,7 +34,7 @@ pub record Sender (ss : List StatementParts) (n port : ℕ) : Type 0 where
   pub it : StatementParts
   pub stands : Contains ss it
   pub to : Destination
-  pub sends : Contains it.to to
+  pub sends_there : Contains (sends it) to
   pub to_statement : to.statement ≡ n
   pub to_port : to.port ≡ port
 
@@ -61,25 +64,142 @@ target ss d e =
     let b = and_parts (nat_le 1 d.port) (has_port (statement_at ss d.statement) d.port) a.1 in
     has_port_of ss d (statement_at ss d.statement) refl (leb-true 1 d.statement a.0) (leb-true 1 d.port b.0) b.1
 
+-- the statement that an `apply` in that region names, which is a `back` in it
+pub record Returned (ss : List StatementParts) (region n : ℕ) : Type 0 where
+  pub it : StatementParts
+  pub number : 1 ≤ n
+  pub stands : statement_at ss n ≡ Some it
+  pub is_a_back : it.kind ≡ Back
+  pub in_region : it.region ≡ region
+
+-- an `apply` that names statement n
+pub record Applied (ss : List StatementParts) (n : ℕ) : Type 0 where
+  pub it : StatementParts
+  pub stands : Contains ss it
+  pub names : it.kind ≡ Apply n
+
+-- what is in one of a statement's lists is sent to
+pub in_to : (s : StatementParts) (d : Destination) → Contains s.to d → Contains (sends s) d
+in_to s d w = Contains-append_left s.to s.otherwise d w
+
+pub in_otherwise : (s : StatementParts) (d : Destination) → Contains s.otherwise d → Contains (sends s) d
+in_otherwise s d w = Contains-append_right s.to s.otherwise d w
+
 procedure : (p : List BlockParts) (name : List ℕ) → gives_block p (Const (constants.Proc name)) ≡ true → names_block p name ≡ true
 unfolding gives_block
 procedure p name e = e
+
+entered_from : (loops : List ℕ) (region l : ℕ) (o : Option ℕ) → held_by loops l ≡ o → holds region o ≡ true → held_by loops l ≡ Some region
+entered_from loops region l None q e = absurd (false≢true e)
+entered_from loops region l (Some h) q e = q ∙ ap (λ (r : ℕ). Some r) (sym (eqb-true region h e))
+
+entered : (loops : List ℕ) (region l : ℕ) → enters_inward loops region (Enter l) ≡ true → held_by loops l ≡ Some region
+unfolding enters_inward
+entered loops region l e = entered_from loops region l (held_by loops l) refl e
+
+entered_into : (l : ℕ) (t : StatementParts) → lies_in_entered (Enter l) (Some t) ≡ true → l ≡ t.region
+unfolding lies_in_entered
+entered_into l t e = eqb-true l t.region e
+
+returned_from : (ss : List StatementParts) (region n : ℕ) (o : Option StatementParts) → 1 ≤ n → statement_at ss n ≡ o → is_back_in region o ≡ true → Returned ss region n
+returned_from ss region n None l q e = absurd (false≢true e)
+returned_from ss region n (Some t) l q e =
+    let a = and_parts (is_back t.kind) (region == t.region) e in
+    record { it = t; number = l; stands = q; is_a_back = back_kind t.kind a.0; in_region = sym (eqb-true region t.region a.1) }
+
+returned : (ss : List StatementParts) (region n : ℕ) → names_back ss region (Apply n) ≡ true → Returned ss region n
+unfolding names_back
+returned ss region n e =
+    let a = and_parts (nat_le 1 n) (is_back_in region (statement_at ss n)) e in
+    returned_from ss region n (statement_at ss n) (leb-true 1 n a.0) refl a.1
+
+apply_of : (n : ℕ) (k : Kind) → applies_to n k ≡ true → k ≡ Apply n
+apply_of n (Apply m) e = ap (λ (j : ℕ). Apply j) (eqb-true m n e)
+apply_of n k e = absurd (false≢true e)
+
+applied : (ss : List StatementParts) (n : ℕ) → is_applied ss n ≡ true → Applied ss n
+unfolding is_applied
+applied ss n e =
+    let a = Any-from_list_any (λ (s : StatementParts). applies_to n s.kind) ss e in
+    record { it = a.1; stands = (a.0, a.2, a.3); names = apply_of n a.1.kind a.4 }
 
 sender : (ss : List StatementParts) (n port : ℕ) → is_fed ss n port ≡ true → Sender ss n port
 unfolding is_fed sends_to
 sender ss n port e =
     let a = Any-from_list_any (λ (s : StatementParts). sends_to s n port) ss e in
-    let b = Any-from_list_any (λ (d : Destination). d.statement == n && d.port == port) a.1.to a.4 in
+    let b = Any-from_list_any (λ (d : Destination). d.statement == n && d.port == port) (sends a.1) a.4 in
     let c = and_parts (b.1.statement == n) (b.1.port == port) b.4 in
-    record { it = a.1; stands = (a.0, a.2, a.3); to = b.1; sends = (b.0, b.2, b.3); to_statement = eqb-true b.1.statement n c.0; to_port = eqb-true b.1.port port c.1 }
+    record { it = a.1; stands = (a.0, a.2, a.3); to = b.1; sends_there = (b.0, b.2, b.3); to_statement = eqb-true b.1.statement n c.0; to_port = eqb-true b.1.port port c.1 }
 
-whole : (ss : List StatementParts) (n : ℕ) (kind : Kind) → is_whole ss n kind ≡ true → is_begin kind ≡ false → (port : ℕ) → 1 ≤ port → port ≤ ports_of kind → is_fed ss n port ≡ true
+whole : (ss : List StatementParts) (n : ℕ) (kind : Kind) → is_whole ss n kind ≡ true → is_entry kind ≡ false → (port : ℕ) → 1 ≤ port → port ≤ ports_of kind → is_fed ss n port ≡ true
 unfolding is_whole
-whole ss n kind e nb port from to =
-    let all : list_all (λ (j : ℕ). is_fed ss n j) (range_with_len 1 (ports_of kind)) ≡ true = elim (or_cases (is_begin kind) (list_all (λ (j : ℕ). is_fed ss n j) (range_with_len 1 (ports_of kind))) e) [ inl b ↦ absurd (false≢true (sym nb ∙ b)) | inr r ↦ r ] in
+whole ss n kind e ne port from to =
+    let all : list_all (λ (j : ℕ). is_fed ss n j) (range_with_len 1 (ports_of kind)) ≡ true = elim (or_cases (is_entry kind) (list_all (λ (j : ℕ). is_fed ss n j) (range_with_len 1 (ports_of kind))) e) [ inl b ↦ absurd (false≢true (sym ne ∙ b)) | inr r ↦ r ] in
     let r = get_or-range_with_len 1 (ports_of kind) (port - 1) port (omega arith) in
     let l = length-range_with_len 1 (ports_of kind) in
     pass_of (λ (j : ℕ). is_fed ss n j) (range_with_len 1 (ports_of kind)) port all (port - 1, omega arith, omega arith)
+
+-- of two tests of which one holds, the other holds where the first does not
+other : (a b : Bool) → (a || b) ≡ true → a ≡ false → b ≡ true
+other true b e f = absurd (false≢true (sym f))
+other false b e f = e
+
+not_other : (a b : Bool) → (not a || b) ≡ true → a ≡ true → b ≡ true
+not_other true b e f = e
+not_other false b e f = absurd (false≢true f)
+
+leave_of_last : (last leave : Bool) → (if last then leave else not leave) ≡ true → last ≡ leave
+leave_of_last true true e = refl
+leave_of_last true false e = absurd (false≢true e)
+leave_of_last false true e = absurd (false≢true e)
+leave_of_last false false e = refl
+
+lies_out : (o : Option ℕ) (t : StatementParts) → lies_in_some o (Some t) ≡ true → o ≡ Some t.region
+lies_out None t e = absurd (false≢true e)
+lies_out (Some h) t e = ap (λ (r : ℕ). Some r) (eqb-true h t.region e)
+
+-- a region of a block that is not 0 is held by one
+pub region_is_held : (loops : List ℕ) (region : ℕ) → 1 ≤ region → region ≤ length loops → (h : ℕ) × (held_by loops region ≡ Some h)
+unfolding held_by
+region_is_held loops region from to =
+    let n : (region == 0) ≡ false = ne_eqb region 0 (λ e. omega arith) in
+    let g = slice_get-get_or loops (region - 1) 0 (omega arith) in
+    (get_or loops (region - 1) 0, rw n g)
+
+-- a loop that is held is one of the block
+pub held_is_loop : (loops : List ℕ) (l h : ℕ) → held_by loops l ≡ Some h → (1 ≤ l) × (l ≤ length loops)
+unfolding held_by
+held_is_loop loops l h e = held_at (l == 0) refl
+  where
+    held_at : (z : Bool) → (l == 0) ≡ z → (1 ≤ l) × (l ≤ length loops)
+    held_at true q = let k = rw q at e in cc
+    held_at false q =
+        let k : slice_get loops (l - 1) ≡ Some h = rw q at e in
+        let w = slice_get_within loops (l - 1) h k in
+        let n : l ≡ 0 → ⊥ = λ z. false≢true (sym q ∙ eq-eqb l 0 z) in
+        (omega arith, omega arith)
+
+-- by a region of a smaller number
+pub held_by_smaller : (loops : List ℕ) (l h : ℕ) → AreLoops 1 loops → held_by loops l ≡ Some h → (h < l) × (h ≤ 99)
+unfolding held_by
+held_by_smaller loops l h a e = below (l == 0) refl
+  where
+    counted : (n : ℕ) (hs : List ℕ) (i : ℕ) → AreLoops n hs → slice_get hs i ≡ Some h → (h < n + i) × (h ≤ 99)
+    counted n [] i v q = cc
+    counted n (x ∷ xs) zero v q =
+        let z : x ≡ h = cc in
+        (omega (arith, v.0), omega (arith, v.1))
+    counted n (x ∷ xs) (suc i) v q =
+        let r = counted (suc n) xs i v.2 q in
+        (omega (arith, r.0), r.1)
+
+    below : (z : Bool) → (l == 0) ≡ z → (h < l) × (h ≤ 99)
+    below true q = let k = rw q at e in cc
+    below false q =
+        let k : slice_get loops (l - 1) ≡ Some h = rw q at e in
+        let n : l ≡ 0 → ⊥ = λ z. false≢true (sym q ∙ eq-eqb l 0 z) in
+        let r = counted 1 loops (l - 1) a k in
+        (omega (arith, r.0), r.1)
 
 module _ (p : List BlockParts) (c : IsChecked p) where
   keeps_program : (rule : Rule) → program_keeps rule p ≡ true
@@ -89,12 +209,6 @@ module _ (p : List BlockParts) (c : IsChecked p) where
   keeps_block : (rule : Rule) (i : ℕ) (b : BlockParts) → slice_get p i ≡ Some b → block_keeps rule p (i + 1) b ≡ true
   keeps_block rule i b e =
       true_from_ne_false (block_keeps rule p (i + 1) b) (λ k. c.keeps_all rule (i + 1) 0 (inr (inl (record { counts = omega arith; it = b; stands = at_place p i ∙ e; broken = k; no_statement = refl }))))
-
-  keeps_statement : (rule : Rule) (b : BlockParts) → Contains p b → (k : ℕ) (s : StatementParts) → slice_get b.statements k ≡ Some s → statement_keeps rule p b.statements (k + 1) s ≡ true
-  keeps_statement rule b m k s e =
-      let i = place_of_member p b m in
-      true_from_ne_false (statement_keeps rule p b.statements (k + 1) s)
-      (λ w. c.keeps_all rule (i.0 + 1) (k + 1) (inr (inr (record { counts = omega arith; it = b; stands = at_place p i.0 ∙ i.1; breach = statement_breaks p rule b.statements k s e w }))))
 
   -- a block is the one of its name
   pub block_by_name : (b : BlockParts) → Contains p b → block_named p b.name ≡ Some b
@@ -115,45 +229,112 @@ module _ (p : List BlockParts) (c : IsChecked p) where
   pub main_block : (b : BlockParts) × (block_named p main_name ≡ Some b)
   main_block = named_some p main_name (keeps_program MainExists)
 
-  -- statement 1 of a block is `begin` in region 0
-  pub begin_first : (b : BlockParts) → Contains p b → (s : StatementParts) → statement_at b.statements 1 ≡ Some s → (is_begin s.kind ≡ true) × (s.region ≡ 0)
-  begin_first b m s e = begins_first s (keeps_statement BeginComesFirst b m 0 s e)
+  -- of a statement of a block
+  module _ (b : BlockParts) (m : Contains p b) (k : ℕ) (s : StatementParts) (e : slice_get b.statements k ≡ Some s) where
+    keeps_statement : (rule : Rule) → statement_keeps rule p b (k + 1) s ≡ true
+    keeps_statement rule =
+        let i = place_of_member p b m in
+        true_from_ne_false (statement_keeps rule p b (k + 1) s)
+        (λ w. c.keeps_all rule (i.0 + 1) (k + 1) (inr (inr (record { counts = omega arith; it = b; stands = at_place p i.0 ∙ i.1; breach = statement_breaks p rule b k s e w }))))
 
-  -- and no other is
-  pub begin_only : (b : BlockParts) → Contains p b → (k : ℕ) (s : StatementParts) → slice_get b.statements k ≡ Some s → is_begin s.kind ≡ true → k ≡ 0
-  begin_only b m zero s e h = refl
-  begin_only b m (suc k) s e h =
-      let w = keeps_statement BeginComesFirst b m (suc k) s e in
-      let n : suc k + 1 ≡ suc (suc k) = omega arith in
-      absurd (false≢true (sym (begins_later k s (rw n at w)) ∙ h))
+    keeps_parts : (rule : Rule) → (itself_keeps rule p b (k + 1) s ≡ true) × (list_all (λ (d : Destination). destination_keeps rule b s d) (sends s) ≡ true)
+    unfolding statement_keeps
+    keeps_parts rule =
+        and_parts (itself_keeps rule p b (k + 1) s) (list_all (λ (d : Destination). destination_keeps rule b s d) (sends s)) (keeps_statement rule)
 
-  -- every region is 0
-  pub outer_region : (b : BlockParts) → Contains p b → (k : ℕ) (s : StatementParts) → slice_get b.statements k ≡ Some s → s.region ≡ 0
-  outer_region b m k s e = eqb-true s.region 0 (keeps_statement RegionExists b m k s e)
+    keeps_itself : (rule : Rule) → itself_keeps rule p b (k + 1) s ≡ true
+    keeps_itself rule = (keeps_parts rule).0
 
-  -- a destination names a statement of the block and a port of it
-  pub target_exists : (b : BlockParts) → Contains p b → (k : ℕ) (s : StatementParts) → slice_get b.statements k ≡ Some s → (d : Destination) → Contains s.to d → Target b.statements d
-  target_exists b m k s e d w =
-      target b.statements d (pass_of (λ (x : Destination). reaches b.statements x) s.to d (keeps_statement DestinationExists b m k s e) w)
+    keeps_destination : (rule : Rule) (d : Destination) → Contains (sends s) d → destination_keeps rule b s d ≡ true
+    keeps_destination rule d w =
+        pass_of (λ (x : Destination). destination_keeps rule b s x) (sends s) d (keeps_parts rule).1 w
 
-  -- and that statement is no `begin`
-  pub target_takes : (b : BlockParts) → Contains p b → (k : ℕ) (s : StatementParts) → slice_get b.statements k ≡ Some s → (d : Destination) → Contains s.to d → (t : StatementParts) → statement_at b.statements d.statement ≡ Some t → is_begin t.kind ≡ false
-  target_takes b m k s e d w t q =
-      let h = pass_of (λ (x : Destination). takes_tokens (statement_at b.statements x.statement)) s.to d (keeps_statement BeginTakesNothing b m k s e) w in
-      not-true (is_begin t.kind) (sym (ap takes_tokens q) ∙ h)
+    -- statement 1 of a block is `begin` in region 0
+    pub begin_first : k ≡ 0 → (is_begin s.kind ≡ true) × (s.region ≡ 0)
+    begin_first z = begins_first s (rw z at keeps_itself BeginComesFirst)
 
-  -- in the sender's region
-  pub target_region : (b : BlockParts) → Contains p b → (k : ℕ) (s : StatementParts) → slice_get b.statements k ≡ Some s → (d : Destination) → Contains s.to d → (t : StatementParts) → statement_at b.statements d.statement ≡ Some t → s.region ≡ t.region
-  target_region b m k s e d w t q =
-      let h = pass_of (λ (x : Destination). lies_in s.region (statement_at b.statements x.statement)) s.to d (keeps_statement OwnRegion b m k s e) w in
-      eqb-true s.region t.region (sym (ap (lies_in s.region) q) ∙ h)
+    -- and no other is
+    pub begin_only : is_begin s.kind ≡ true → k ≡ 0
+    begin_only h = only k refl
+      where
+        only : (j : ℕ) → k ≡ j → k ≡ 0
+        only zero q = q
+        only (suc j) q =
+            let n : k + 1 ≡ suc (suc j) = omega arith in
+            let w = keeps_itself BeginComesFirst in
+            absurd (false≢true (sym (begins_later j s (rw n at w)) ∙ h))
 
-  -- a procedure that a statement gives is that of a block
-  pub procedure_exists : (b : BlockParts) → Contains p b → (k : ℕ) (s : StatementParts) → slice_get b.statements k ≡ Some s → (name : List ℕ) → s.kind ≡ Const (constants.Proc name) → (t : BlockParts) × (block_named p name ≡ Some t)
-  procedure_exists b m k s e name q =
-      named_some p name (procedure p name (sym (ap (gives_block p) q) ∙ keeps_statement ConstantNamesBlock b m k s e))
+    -- its region is 0 or a loop of the block
+    pub region_exists : s.region ≤ length b.loops
+    region_exists = leb-true s.region (length b.loops) (keeps_itself RegionExists)
 
-  -- every port of a statement that is no `begin` is some destination of the block
-  pub port_fed : (b : BlockParts) → Contains p b → (k : ℕ) (s : StatementParts) → slice_get b.statements k ≡ Some s → is_begin s.kind ≡ false → (port : ℕ) → 1 ≤ port → port ≤ ports_of s.kind → Sender b.statements (k + 1) port
-  port_fed b m k s e nb port from to =
-      sender b.statements (k + 1) port (whole b.statements (k + 1) s.kind (keeps_statement PortsAreFed b m k s e) nb port from to)
+    -- the loop of an `enter` is held by its region
+    pub enter_held : (l : ℕ) → s.kind ≡ Enter l → held_by b.loops l ≡ Some s.region
+    enter_held l q = entered b.loops s.region l (sym (ap (enters_inward b.loops s.region) q) ∙ keeps_itself EnterReachesItsLoop)
+
+    -- an `apply` names a `back` in its region
+    pub apply_returned : (n : ℕ) → s.kind ≡ Apply n → Returned b.statements s.region n
+    apply_returned n q = returned b.statements s.region n (sym (ap (names_back b.statements s.region) q) ∙ keeps_itself ApplyNamesBack)
+
+    -- some `apply` names a `back`
+    pub back_applied : is_back s.kind ≡ true → Applied b.statements (k + 1)
+    back_applied q = applied b.statements (k + 1) (not_other (is_back s.kind) (is_applied b.statements (k + 1)) (keeps_itself BackIsNamed) q)
+
+    -- a `next`, a `last` and a `leave` lie in a loop
+    pub lies_in_loop : is_of_loop s.kind ≡ true → 1 ≤ s.region
+    lies_in_loop q =
+        let h = not-true (is_outer s) (not_other (is_of_loop s.kind) (not (is_outer s)) (keeps_itself LoopStatementsInLoops) q) in
+        let n : s.region ≡ 0 → ⊥ = λ z. false≢true (sym h ∙ eq-eqb s.region 0 z) in
+        omega arith
+
+    -- which some region holds
+    pub loop_is_held : is_of_loop s.kind ≡ true → (h : ℕ) × (held_by b.loops s.region ≡ Some h)
+    loop_is_held q = region_is_held b.loops s.region (lies_in_loop q) region_exists
+
+    -- an `end` lies in region 0
+    pub end_outside : is_end s.kind ≡ true → s.region ≡ 0
+    end_outside q = eqb-true s.region 0 (not_other (is_end s.kind) (is_outer s) (keeps_itself EndInOuterRegion) q)
+
+    -- a procedure that a statement gives is that of a block
+    pub procedure_exists : (name : List ℕ) → s.kind ≡ Const (constants.Proc name) → (t : BlockParts) × (block_named p name ≡ Some t)
+    procedure_exists name q =
+        named_some p name (procedure p name (sym (ap (gives_block p) q) ∙ keeps_itself ConstantNamesBlock))
+
+    -- every port of a statement that is no `begin` and no `back` is some destination of the block
+    pub port_fed : is_entry s.kind ≡ false → (port : ℕ) → 1 ≤ port → port ≤ ports_of s.kind → Sender b.statements (k + 1) port
+    port_fed ne port from to =
+        sender b.statements (k + 1) port (whole b.statements (k + 1) s.kind (keeps_itself PortsAreFed) ne port from to)
+
+    -- of a destination
+    module _ (d : Destination) (w : Contains (sends s) d) where
+      -- a destination names a statement of the block and a port of it
+      pub target_exists : Target b.statements d
+      target_exists = target b.statements d (keeps_destination DestinationExists d w)
+
+      -- of the statement there
+      module _ (t : StatementParts) (q : statement_at b.statements d.statement ≡ Some t) where
+        -- that is no `begin` and no `back`
+        pub target_takes : is_entry t.kind ≡ false
+        target_takes = not-true (is_entry t.kind) (sym (ap takes_tokens q) ∙ keeps_destination EntriesTakeNothing d w)
+
+        -- from an `enter`, that lies in its loop
+        pub target_of_enter : (l : ℕ) → s.kind ≡ Enter l → t.region ≡ l
+        target_of_enter l z =
+            let h = keeps_destination EnterReachesItsLoop d w in
+            sym (entered_into l t (rw (z, q) at h))
+
+        -- that is a `leave` where the sender is a `last`, and only there
+        pub leave_from_last : is_last s.kind ≡ is_leave t.kind
+        leave_from_last = leave_of_last (is_last s.kind) (is_leave t.kind) (sym (ap (leaves_after_last (is_last s.kind)) q) ∙ keeps_destination LastSendsToLeave d w)
+
+        -- from a `leave`, that lies in the region that holds its loop
+        pub target_of_leave : is_leave s.kind ≡ true → held_by b.loops s.region ≡ Some t.region
+        target_of_leave z =
+            let h = not_other (is_leave s.kind) (lies_in_some (held_by b.loops s.region) (statement_at b.statements d.statement)) (keeps_destination LeaveSendsOut d w) z in
+            lies_out (held_by b.loops s.region) t (sym (ap (lies_in_some (held_by b.loops s.region)) q) ∙ h)
+
+        -- from any other, that lies in its own region
+        pub target_region : crosses s.kind ≡ false → t.region ≡ s.region
+        target_region z =
+            let h = other (crosses s.kind) (lies_in s.region (statement_at b.statements d.statement)) (keeps_destination OwnRegion d w) z in
+            sym (eqb-true s.region t.region (sym (ap (lies_in s.region) q) ∙ h))

@@ -1,6 +1,7 @@
 //! What each rule demands of a program, a block, a statement and a destination.
-ghost use Rattle.std.specs.Prelude.{◌≡◌, ◌-◌, ◌<◌, ◌≤◌, ◌==◌, ◌&&◌, not, length, take};
-ghost use Rattle.std.specs.List.{list_all};
+ghost use Rattle.std.specs.Prelude.{◌≡◌, ◌-◌, ◌<◌, ◌≤◌, ◌==◌, ◌&&◌, ◌||◌, not, length, take};
+ghost use Rattle.std.specs.List.{list_any, list_all, range_with_len};
+ghost use Rattle.u_program.specs.declared.program.Destination.{Destination};
 ghost use Rattle.u_check.specs.Rules.{main_name, names_block, gives_block, sends_to, is_fed, is_whole, program_keeps, block_keeps, itself_keeps, destination_keeps, statement_keeps};
 
 use crate::kinds::{crosses, is_back, is_end, is_entry, is_last, is_leave, is_of_loop, ports_of};
@@ -45,7 +46,7 @@ fn lists(sent: &[Destination], number: usize, port: usize) -> bool
 }
 
 /// Whether a destination of the statement is that port of the statement of that number.
-#[tactic(auto, unfolding(crate::specs::Rules::sends_to))]
+#[tactic(auto, using(crate::proofs::Lists::sends_either))]
 fn sends_to(statement: &Statement, number: usize, port: usize) -> bool
     ensures { result ≡ sends_to statement.now number port }
 {
@@ -60,15 +61,20 @@ fn is_fed(statements: &[Statement], number: usize, port: usize) -> bool
     statements.iter().any(|s| sends_to(s, number, port))
 }
 
+/// Whether each of so many ports of the statement of that number is some destination of the block.
+fn all_fed(statements: &[Statement], number: usize, ports: usize) -> bool
+    requires { ports ≤ 3 }
+    ensures { result ≡ list_all (λ port. is_fed statements.now number port) (range_with_len 1 ports) }
+{
+    (1..ports + 1).all(|port| is_fed(statements, number, port))
+}
+
 /// Whether every port of the statement is some destination of the block.
 #[tactic(auto, unfolding(crate::specs::Rules::is_whole))]
 fn is_whole(statements: &[Statement], number: usize, kind: &Kind) -> bool
     ensures { result ≡ is_whole statements.now number kind.now }
 {
-    if is_entry(kind) {
-        return true;
-    }
-    (1..ports_of(kind) + 1).all(|port| is_fed(statements, number, port))
+    is_entry(kind) || all_fed(statements, number, ports_of(kind))
 }
 
 /// Whether the program as a whole keeps the rule.
@@ -151,7 +157,7 @@ fn all_keep(rule: Rule, block: &Block, statement: &Statement, sent: &[Destinatio
 }
 
 /// Whether the statement of that number of the block keeps the rule.
-#[tactic(auto, unfolding(crate::specs::Rules::statement_keeps))]
+#[tactic(auto, using(crate::proofs::Lists::statement_in_parts))]
 pub fn statement_keeps(
     rule: Rule,
     blocks: &[Block],

@@ -1,6 +1,6 @@
 //! Where statements stand: their regions, and the statements that others name.
 ghost use Rattle.std.specs.Prelude.{◌≡◌, ◌-◌, ◌<◌, ◌≤◌};
-ghost use Rattle.u_check.specs.Rules.{is_outer, has_region, held_by, statement_at, begins_well, reaches, takes_tokens, lies_in, lies_in_some, lies_in_entered, enters_inward, names_back, applies_to, is_applied, leaves_after_last};
+ghost use Rattle.u_check.specs.Rules.{is_outer, has_region, held_by, statement_at, begins_well, has_port, reaches, takes_tokens, lies_in, lies_in_some, lies_in_entered, enters_inward, is_back_in, names_back, applies_to, is_applied, leaves_after_last};
 
 use crate::kinds::{is_back, is_begin, is_entry, is_leave, ports_of};
 use u_program::{Destination, Kind, Statement};
@@ -95,18 +95,24 @@ pub fn is_applied(statements: &[Statement], number: usize) -> bool
     statements.iter().any(|s| applies_to(number, s.kind()))
 }
 
+/// Whether there is a statement of that number, and its ports go up to that one.
+fn has_port(statements: &[Statement], number: u16, port: u8) -> bool
+    ensures { result ≡ has_port (statement_at statements.now number) port }
+{
+    match statements.get(usize::from(number).saturating_sub(1)) {
+        Some(statement) => usize::from(port) <= ports_of(statement.kind()),
+        None => false,
+    }
+}
+
 /// Whether the destination names a statement of the block and a port of it.
 #[tactic(auto, unfolding(crate::specs::Rules::reaches))]
 pub fn reaches(statements: &[Statement], destination: &Destination) -> bool
     ensures { result ≡ reaches statements.now destination.now }
 {
-    if destination.statement == 0 || destination.port == 0 {
-        return false;
-    }
-    match statements.get(usize::from(destination.statement) - 1) {
-        Some(statement) => usize::from(destination.port) <= ports_of(statement.kind()),
-        None => false,
-    }
+    let number = destination.statement;
+    let port = destination.port;
+    number >= 1 && port >= 1 && has_port(statements, number, port)
 }
 
 /// Whether the destination is no `begin` and no `back`.

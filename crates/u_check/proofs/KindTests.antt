@@ -1,0 +1,35 @@
+-- What the tests on a statement's kind say.
+use Rattle.std.proofs.Common.{◌≡◌, ℕ, inl, inr, ◌⊎◌, refl, sym, Bool, true, false}
+use Rattle.std.proofs.lemmas.Bool.{false≢true}
+use Rattle.u_program.specs.declared.program.Kind.{Kind}
+use Rattle.u_program.specs.declared.program.Kind.TheVariants.{Begin, Last, Leave, Enter, Next, Apply, Back, End}
+use Rattle.u_check.specs.Rules.{is_begin, is_back, is_last, is_leave, is_apply, is_end, is_entry, is_of_loop, crosses, applies_to}
+
+pub begin_kind : (k : Kind) → is_begin k ≡ true → k ≡ Begin
+begin_kind Begin e = refl
+begin_kind k e = absurd (false≢true e)
+
+pub back_kind : (k : Kind) → is_back k ≡ true → k ≡ Back
+back_kind Back e = refl
+back_kind k e = absurd (false≢true e)
+
+pub last_kind : (k : Kind) → is_last k ≡ true → k ≡ Last
+last_kind Last e = refl
+last_kind k e = absurd (false≢true e)
+
+pub leave_kind : (k : Kind) → is_leave k ≡ true → k ≡ Leave
+leave_kind Leave e = refl
+leave_kind k e = absurd (false≢true e)
+
+pub end_kind : (k : Kind) → is_end k ≡ true → k ≡ End
+end_kind End e = refl
+end_kind k e = absurd (false≢true e)
+
+-- what takes tokens is neither a `begin` nor a `back`
+pub no_begin : (k : Kind) → is_entry k ≡ false → is_begin k ≡ false
+no_begin Begin e = absurd (false≢true (sym e))
+no_begin k e = refl
+
+pub no_back : (k : Kind) → is_entry k ≡ false → is_back k ≡ false
+no_back Back e = absurd (false≢true (sym e))
+no_back k e = refl
