@@ -1,3 +1,4 @@
 pub mod Destinations
 pub mod Orders
+pub mod Linkage
 pub mod InOrder

@@ -1,7 +1,7 @@
 -- The firing rule: which firings a job has, what each needs and what each gives.
 use Rattle.std.specs.Prelude.{ℕ, ◌+◌, Bool, true, false, ◌&&◌, ◌==◌, if◌then◌else◌, List, [], ◌∷◌, length, map, Option, Some, None, Result, Ok, Err, is_none}
-use Rattle.u_name.specs.Context.{Tree, Top, InLoop, InCall}
-use Rattle.u_name.specs.Name.{Activity, activity}
+use Rattle.u_name.specs.Context.{Tree, Top, InLoop, InCall, depth}
+use Rattle.u_name.specs.Name.{Activity, activity, loop_context, call_context, left, returned}
 use Rattle.u_value.specs.declared.value.Value.{Value}
 use Rattle.u_value.specs.declared.value.Value.TheVariants as values
 use Rattle.u_value.specs.declared.fault_kind.FaultKind.{FaultKind}
@@ -12,43 +12,25 @@ use Rattle.u_value.specs.Operators.{applied1, applied2, chosen}
 use Rattle.u_program.specs.declared.program.Constant.{Constant}
 use Rattle.u_program.specs.declared.program.Constant.TheVariants as constants
 use Rattle.u_program.specs.declared.program.Kind.{Kind}
-use Rattle.u_program.specs.declared.program.Kind.TheVariants.{Begin, Const, Pass, Unary, Binary, Select, End}
+use Rattle.u_program.specs.declared.program.Kind.TheVariants.{Const, Unary, Binary, Select, Switch, Enter, Next, Last, Leave, Apply}
 use Rattle.u_program.specs.declared.program.Destination.{Destination}
 use Rattle.u_program.specs.Parts.{StatementParts, BlockParts}
-use Rattle.u_check.specs.Rules.{ports_of, is_end, main_name, same_name, block_named, statement_at}
+use Rattle.u_check.specs.Rules.{ports_of, is_end, is_apply, main_name, names_block}
 use Rattle.u_check.specs.Jobs.{JobParts}
 use Rattle.u_system.specs.Firing.{System}
 use Rattle.u_rule.specs.Parts.{ValueList, token}
+use Rattle.u_rule.specs.Fits.{statement_of, fits_at}
 use Rattle.u_rule.specs.declared.entry.Entry.{Entry}
 use Rattle.u_rule.specs.declared.entry.Entry.TheVariants as entries
 use Rattle.u_rule.specs.declared.firing.Firing.{Firing}
 
--- the statement of that number in the block, where there is a block
-abbrev pub statement_in : Option BlockParts → ℕ → Option StatementParts
-statement_in None n = None
-statement_in (Some b) n = statement_at b.statements n
-
--- the statement that an activity executes
-abbrev pub statement_of : JobParts → Activity → Option StatementParts
-statement_of job a = statement_in (block_named job.program a.block) a.statement
-
-abbrev pub is_root : Tree → Bool
-is_root Top = true
-is_root (InLoop outer block number initiation) = false
-is_root (InCall outer block statement initiation) = false
-
--- An activity fits a statement of that region: there are no loops and no calls yet,
--- so its context is the root, its block is `main` and its initiation is 1.
-abbrev pub fits : ℕ → Activity → Bool
-fits region a = is_root a.context && (same_name a.block main_name && (a.initiation == 1 && region == 0))
-
--- a firing of that statement has one value for each port, and no write, since no statement reads a cell yet
-abbrev pub is_firing_at : Option StatementParts → Firing → Bool
-is_firing_at None f = false
-is_firing_at (Some s) f = fits s.region f.activity && (length f.values == ports_of s.kind && is_none f.write)
+-- a firing of that statement has one value for each port, and no write, since no statement reads a cell
+abbrev pub is_firing_at : List BlockParts → Option StatementParts → Firing → Bool
+is_firing_at p None f = false
+is_firing_at p (Some s) f = fits_at p s.region f.activity && (length f.values == ports_of s.kind && is_none f.write)
 
 unfoldable pub is_firing_of : JobParts → Firing → Bool
-is_firing_of job f = is_firing_at (statement_of job f.activity) f
+is_firing_of job f = is_firing_at job.program (statement_of job.program f.activity.block f.activity.statement) f
 
 -- the tokens of an activity that have these values at its ports, from that port on
 abbrev pub tokens_from : Activity → ℕ → ValueList → List Entry
@@ -81,38 +63,109 @@ abbrev pub selected_of : ValueList → Result Value FaultKind
 selected_of (control ∷ a ∷ b ∷ vs) = chosen control a b
 selected_of vs = Err faults.Kind
 
--- the value that a statement of that kind makes of the values at its ports, or why it makes none
+-- the first value, where the second is a truth value
+abbrev pub switched_of : ValueList → Result Value FaultKind
+switched_of (v ∷ values.Bool b ∷ vs) = Ok v
+switched_of vs = Err faults.Kind
+
+-- the value that a statement of that kind makes of the values at its ports, or why it makes none;
+-- a kind that makes no other hands on the first
 unfoldable pub result_of : Kind → ValueList → Result Value FaultKind
-result_of Begin vs = first_of vs
 result_of (Const c) vs = Ok (value_of c)
-result_of Pass vs = first_of vs
 result_of (Unary operator) vs = unary_of operator vs
 result_of (Binary operator) vs = binary_of operator vs
 result_of Select vs = selected_of vs
-result_of End vs = first_of vs
+result_of Switch vs = switched_of vs
+result_of k vs = first_of vs
 
--- the token of that value at a destination of the activity's statement
-abbrev pub sent : Activity → Value → Destination → Entry
-sent a v d = entries.Token (token (activity a.context a.block d.statement a.initiation) d.port v)
+-- where a statement of that kind sends its value: `switch` has a list for each truth value
+abbrev pub list_of : Kind → StatementParts → ValueList → List Destination
+list_of Switch s (v ∷ values.Bool false ∷ vs) = s.otherwise
+list_of k s vs = s.to
 
--- where the value goes: to each destination, or, from `end` in the root, into the answer
-abbrev pub placed : StatementParts → Activity → Value → List Entry
-placed s a v = if is_end s.kind then entries.Answer v ∷ [] else map (sent a v) s.to
+-- the activity of another statement, of the same context and initiation
+abbrev pub beside : Activity → ℕ → Activity
+beside a t = activity a.context a.block t a.initiation
+
+-- The activity of statement t that a statement of that kind reaches from its own activity: `enter`
+-- one in a new context of the loop, at initiation 1; `next` one at the next initiation and `last`
+-- one at the first; `leave` one outside of the loop, where it was entered; the others one beside.
+abbrev pub reached : Kind → Activity → ℕ → Activity
+reached (Enter l) a t = activity (loop_context a l) a.block t 1
+reached Next a t = activity a.context a.block t (a.initiation + 1)
+reached Last a t = activity a.context a.block t 1
+reached Leave a t = left a t
+reached k a t = beside a t
+
+-- why it reaches none: contexts are at most 64 deep, and the greatest initiation is 4294967295
+abbrev pub refusal_of : Kind → Activity → Option FaultKind
+refusal_of (Enter l) a = if depth a.context == 64 then Some faults.Deep else None
+refusal_of Next a = if a.initiation == 4294967295 then Some faults.Initiation else None
+refusal_of k a = None
+
+-- the token of that value at a destination
+abbrev pub sent : (ℕ → Activity) → Value → Destination → Entry
+sent to v d = entries.Token (token (to d.statement) d.port v)
 
 abbrev pub fault_of : Activity → FaultKind → Entry
 fault_of a kind = entries.Fault (record { activity = a; kind = kind })
 
-abbrev pub given : StatementParts → Activity → Result Value FaultKind → List Entry
-given s a (Ok v) = placed s a v
-given s a (Err kind) = fault_of a kind ∷ []
+-- the value at each destination, or the fault why the statement reaches none
+abbrev pub delivered : Option FaultKind → Kind → Activity → List Destination → Value → List Entry
+delivered None k a to v = map (sent (reached k a) v) to
+delivered (Some kind) k a to v = fault_of a kind ∷ []
 
-abbrev pub given_at : Option StatementParts → Firing → List Entry
-given_at None f = []
-given_at (Some s) f = given s f.activity (result_of s.kind f.values)
+-- what a statement that has a value, or has none, hands on
+abbrev pub handed_on : Kind → Activity → List Destination → Result Value FaultKind → List Entry
+handed_on k a to (Ok v) = delivered (refusal_of k a) k a to v
+handed_on k a to (Err kind) = fault_of a kind ∷ []
+
+-- an `apply` of a procedure begins its block: the argument goes to statement 1, in the context of the call
+abbrev pub begun : Activity → List ℕ → Value → List Entry
+begun a block v = if depth a.context == 64 then fault_of a faults.Deep ∷ [] else entries.Token (token (activity (call_context a) block 1 1) 1 v) ∷ []
+
+abbrev pub called : List BlockParts → Activity → ValueList → List Entry
+called p a (values.Proc block ∷ v ∷ vs) = if names_block p block then begun a block v else fault_of a faults.Kind ∷ []
+called p a vs = fault_of a faults.Kind ∷ []
+
+-- the `back` that an `apply` names
+abbrev pub back_named : Kind → Option ℕ
+back_named (Apply b) = Some b
+back_named k = None
+
+abbrev pub back_of : Option StatementParts → Option ℕ
+back_of None = None
+back_of (Some s) = back_named s.kind
+
+-- the result of a call goes to the `back`, in the context of the caller
+abbrev pub brought_back : Activity → Value → Option ℕ → List Entry
+brought_back a v None = []
+brought_back a v (Some b) = entries.Token (token (returned a b) 1 v) ∷ []
+
+-- what `end` gives: in the root the answer, in a call its result
+abbrev pub finished : List BlockParts → Activity → Tree → Value → List Entry
+finished p a Top v = entries.Answer v ∷ []
+finished p a (InLoop outer block number initiation) v = []
+finished p a (InCall outer block statement initiation) v = brought_back a v (back_of (statement_of p block statement))
+
+abbrev pub ended : List BlockParts → Activity → Result Value FaultKind → List Entry
+ended p a (Ok v) = finished p a a.context v
+ended p a (Err kind) = fault_of a kind ∷ []
+
+-- what a statement gives on these values
+abbrev pub given : List BlockParts → StatementParts → Activity → ValueList → List Entry
+given p s a vs =
+    if is_apply s.kind then called p a vs
+    else if is_end s.kind then ended p a (first_of vs)
+    else handed_on s.kind a (list_of s.kind s vs) (result_of s.kind vs)
+
+abbrev pub given_at : List BlockParts → Option StatementParts → Firing → List Entry
+given_at p None f = []
+given_at p (Some s) f = given p s f.activity f.values
 
 -- a firing gives its value, or the fault why there is none
 unfoldable pub gives_of : JobParts → Firing → List Entry
-gives_of job f = given_at (statement_of job f.activity) f
+gives_of job f = given_at job.program (statement_of job.program f.activity.block f.activity.statement) f
 
 -- the one start token: the argument, for statement 1 of `main`
 unfoldable pub start_of : JobParts → Entry

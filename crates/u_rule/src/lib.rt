@@ -9,6 +9,8 @@
 
 mod entry;
 mod firing;
+mod fits;
+mod giving;
 mod parts;
 mod rule;
 #[cfg(test)]

@@ -1,6 +1,0 @@
-use Rattle.std.proofs.Common.{◌≡◌, ◌++◌, map, take}
-use Rattle.u_rule.specs.Rule.{sent}
-use Rattle.u_rule.proofs.rule.send.Given as goal
-
-abbrev pub invariant-loop-destination : goal.invariant-loop-destination
-invariant-loop-destination l = l.given.items ≡ l.fn.given.items ++ map (sent l.activity l.value) (take l.destination-index l.to)

@@ -1,0 +1,291 @@
+//! What a statement gives on the values at its ports.
+//!
+//! The linkage statements are those of Arvind and Gostelow (1982): `enter`, `next`, `last` and
+//! `leave` for loops, `apply` and `back` for calls. That contexts are at most 64 deep and initiations
+//! at most 4294967295, and that a fault is given beyond, is this project's profile.
+ghost use Rattle.std.specs.Prelude.{◌≡◌, ◌++◌, ◌∷◌, [], map, true, Ok, IfOk, IfSome, OnOk, MatchResult, None};
+ghost use Rattle.std.specs.List.{AllByRecursion};
+ghost use Rattle.u_name.specs.Context.{IsBetween};
+ghost use Rattle.u_program.specs.Limits.{IsDestination, IsStatement, IsKind, the_limits};
+ghost use Rattle.u_check.specs.Rules.{is_end};
+ghost use Rattle.u_rule.specs.Made.{outcome_of, IsReachable, IsRefusal, IsEndable};
+ghost use Rattle.u_rule.specs.Fits.{statement_of};
+ghost use Rattle.u_rule.specs.Rule.{first_of, result_of, value_of, list_of, sent, beside, reached, refusal_of, handed_on, begun, called, back_of, finished, ended, given, fault_of};
+
+use crate::entry::Entry;
+use crate::fits::{is_apply, names_block, statement_of};
+use crate::parts::{Fault, Token};
+use std::alloc::{AllocError, Global};
+use u_check::is_end;
+use u_name::{BlockName, Name, NameError, Node};
+use u_program::{Constant, Destination, Kind, Program, Statement};
+use u_value::{FaultKind, Value, apply1, apply2, select};
+
+/// The constant as a value.
+fn value_of(constant: &Constant) -> Value
+    ensures { result ≡ value_of constant.now }
+{
+    match constant {
+        Constant::Int(number) => Value::Int(*number),
+        Constant::Bool(truth) => Value::Bool(*truth),
+        Constant::Proc(block) => Value::Proc(*block),
+    }
+}
+
+/// What a statement made, or why it made nothing.
+#[derive(Drop)]
+enum Made {
+    Value(Value),
+    Fault(FaultKind),
+}
+
+/// What an operator gave.
+fn operated(given: Result<Value, FaultKind>) -> Made
+    ensures { outcome_of result ≡ given }
+{
+    match given {
+        Ok(value) => Made::Value(value),
+        Err(kind) => Made::Fault(kind),
+    }
+}
+
+/// What a statement of that kind makes of the values at its ports.
+#[tactic(auto, unfolding(crate::specs::Rule::result_of))]
+fn made_by(kind: &Kind, values: &[Value]) -> Result<Made, AllocError>
+    ensures { IfOk result (λ m. result_of kind.now values.now ≡ outcome_of m) }
+{
+    match (kind, values) {
+        (Kind::Const(constant), _) => Ok(Made::Value(value_of(constant))),
+        (Kind::Unary(operator), [first, ..]) => Ok(operated(apply1(*operator, first))),
+        (Kind::Binary(operator), [first, second, ..]) => {
+            Ok(operated(apply2(*operator, first, second)))
+        }
+        (Kind::Select, [control, first, second, ..]) => match select(control, first, second) {
+            Ok(value) => Ok(Made::Value(value.copy()?)),
+            Err(kind) => Ok(Made::Fault(kind)),
+        },
+        (Kind::Switch, [data, Value::Bool(_), ..]) => Ok(Made::Value(data.copy()?)),
+        (Kind::Unary(_) | Kind::Binary(_) | Kind::Select | Kind::Switch, _) => {
+            Ok(Made::Fault(FaultKind::Kind))
+        }
+        (_, [first, ..]) => Ok(Made::Value(first.copy()?)),
+        _ => Ok(Made::Fault(FaultKind::Kind)),
+    }
+}
+
+/// Where a statement sends its value.
+fn list_of<'a>(statement: &'a Statement, values: &[Value]) -> &'a [Destination]
+    ensures { result.now ≡ list_of statement.now.kind statement.now values.now }
+{
+    match (statement.kind(), values) {
+        (Kind::Switch, [_, Value::Bool(false), ..]) => statement.otherwise(),
+        _ => statement.destinations(),
+    }
+}
+
+/// One entry.
+fn alone(alloc: Global, entry: Entry) -> Result<Vec<Entry>, AllocError>
+    ensures { IfOk result (λ v. v.items ≡ entry ∷ []) }
+{
+    let mut entries = Vec::new(alloc);
+    entries.push(entry)?;
+    Ok(entries)
+}
+
+/// The fault of the activity.
+fn fault(alloc: Global, activity: &Name, kind: FaultKind) -> Result<Vec<Entry>, AllocError>
+    ensures { IfOk result (λ v. v.items ≡ fault_of activity.now kind ∷ []) }
+{
+    let activity = activity.copy()?;
+    alone(alloc, Entry::Fault(Fault { activity, kind }))
+}
+
+/// Adds the tokens of the value at the destinations, beside the activity.
+fn send(
+    given: &mut Vec<Entry>,
+    activity: &Name,
+    value: &Value,
+    to: &[Destination],
+) -> Result<(), AllocError>
+    requires { AllByRecursion IsDestination to.now }
+    ensures { OnOk result (given.new.items ≡ given.old.items ++ map (sent (beside activity.now) value.now) to.now) }
+{
+    for destination in to {
+        let name = activity
+            .plain(destination.statement)
+            .map_err(|_| AllocError)?;
+        given.push(Entry::Token(Token::new(name, destination.port, value.copy()?)))?;
+    }
+    Ok(())
+}
+
+/// The activity beside which the destinations lie of a statement of that kind.
+fn reached(alloc: Global, kind: &Kind, activity: &Name) -> Result<Name, NameError>
+    requires reaches { IsReachable kind.now activity.now }
+    requires limits { IsKind kind.now }
+    ensures { MatchResult result (λ n. (n ≡ reached kind.now activity.now activity.now.statement) × (refusal_of kind.now activity.now ≡ None)) (λ e. IsRefusal kind.now activity.now e) }
+{
+    let statement = activity.statement();
+    match kind {
+        Kind::Enter(number) => activity.enter(alloc, *number, statement),
+        Kind::Next => activity.next(statement),
+        Kind::Last => activity.last(statement),
+        Kind::Leave => activity.leave(statement),
+        _ => activity.plain(statement),
+    }
+}
+
+/// The value at each of the destinations, or the fault why the statement reaches none.
+#[tactic(auto, using(crate::proofs::Linkage::sent_on, crate::proofs::Linkage::refused_on))]
+fn delivered(
+    alloc: Global,
+    kind: &Kind,
+    activity: &Name,
+    to: &[Destination],
+    value: &Value,
+) -> Result<Vec<Entry>, AllocError>
+    requires reaches { IsReachable kind.now activity.now }
+    requires limits { IsKind kind.now }
+    requires within { AllByRecursion IsDestination to.now }
+    ensures { IfOk result (λ v. v.items ≡ handed_on kind.now activity.now to.now (Ok value.now)) }
+{
+    match reached(alloc, kind, activity) {
+        Ok(near) => {
+            let mut entries = Vec::new(alloc);
+            send(&mut entries, &near, value, to)?;
+            Ok(entries)
+        }
+        Err(NameError::Deep) => fault(alloc, activity, FaultKind::Deep),
+        Err(NameError::Initiation) => fault(alloc, activity, FaultKind::Initiation),
+        Err(NameError::NoMemory) => Err(AllocError),
+    }
+}
+
+/// What a statement that makes a value hands on.
+#[tactic(auto, using(crate::proofs::Destinations::list_in_range))]
+fn handed_on(
+    alloc: Global,
+    statement: &Statement,
+    activity: &Name,
+    values: &[Value],
+) -> Result<Vec<Entry>, AllocError>
+    requires reaches { IsReachable statement.now.kind activity.now }
+    requires limits { IsStatement the_limits statement.now }
+    ensures { IfOk result (λ v. v.items ≡ handed_on statement.now.kind activity.now (list_of statement.now.kind statement.now values.now) (result_of statement.now.kind values.now)) }
+{
+    match made_by(statement.kind(), values)? {
+        Made::Fault(kind) => fault(alloc, activity, kind),
+        Made::Value(value) => {
+            let to = list_of(statement, values);
+            delivered(alloc, statement.kind(), activity, to, &value)
+        }
+    }
+}
+
+/// The argument at the first statement of the called block, or the fault where the context is the deepest.
+fn begun(
+    alloc: Global,
+    activity: &Name,
+    block: &BlockName,
+    argument: &Value,
+) -> Result<Vec<Entry>, AllocError>
+    ensures { IfOk result (λ v. v.items ≡ begun activity.now block.now argument.now) }
+{
+    match activity.call(alloc, *block) {
+        Ok(first) => alone(alloc, Entry::Token(Token::new(first, 1, argument.copy()?))),
+        Err(NameError::NoMemory) => Err(AllocError),
+        Err(_) => fault(alloc, activity, FaultKind::Deep),
+    }
+}
+
+/// What `apply` gives.
+fn called(
+    alloc: Global,
+    program: &Program,
+    activity: &Name,
+    values: &[Value],
+) -> Result<Vec<Entry>, AllocError>
+    ensures { IfOk result (λ v. v.items ≡ called program.now activity.now values.now) }
+{
+    match values {
+        [Value::Proc(block), argument, ..] if names_block(program, block) => {
+            begun(alloc, activity, block, argument)
+        }
+        _ => fault(alloc, activity, FaultKind::Kind),
+    }
+}
+
+/// The `back` that a statement names, which is an `apply`.
+fn back_of(program: &Program, block: &BlockName, number: u16) -> Option<u16>
+    ensures back { result ≡ back_of (statement_of program.now block.now number) }
+    ensures limits { IfSome result (λ b. IsBetween 1 b 999) }
+{
+    match statement_of(program, block, number)?.kind() {
+        Kind::Apply(back) => Some(*back),
+        _ => None,
+    }
+}
+
+/// What `end` gives of its value: in the root the answer, in a call its result.
+fn finished(
+    alloc: Global,
+    program: &Program,
+    activity: &Name,
+    value: Value,
+) -> Result<Vec<Entry>, AllocError>
+    requires { IsEndable program.now activity.now.context }
+    ensures { IfOk result (λ v. v.items ≡ finished program.now activity.now activity.now.context value) }
+{
+    match activity.context().node() {
+        Node::Root => alone(alloc, Entry::Answer(value)),
+        Node::Loop { .. } => unreachable!(),
+        Node::Call {
+            block, statement, ..
+        } => match back_of(program, block, *statement) {
+            None => unreachable!(),
+            Some(back) => {
+                let name = activity.back(back).map_err(|_| AllocError)?;
+                alone(alloc, Entry::Token(Token::new(name, 1, value)))
+            }
+        },
+    }
+}
+
+/// What `end` gives.
+fn ended(
+    alloc: Global,
+    program: &Program,
+    activity: &Name,
+    values: &[Value],
+) -> Result<Vec<Entry>, AllocError>
+    requires { IsEndable program.now activity.now.context }
+    ensures { IfOk result (λ v. v.items ≡ ended program.now activity.now (first_of values.now)) }
+{
+    match values {
+        [first, ..] => finished(alloc, program, activity, first.copy()?),
+        _ => fault(alloc, activity, FaultKind::Kind),
+    }
+}
+
+/// What a statement gives on the values at its ports.
+pub(crate) fn given(
+    alloc: Global,
+    program: &Program,
+    statement: &Statement,
+    activity: &Name,
+    values: &[Value],
+) -> Result<Vec<Entry>, AllocError>
+    requires limits { IsStatement the_limits statement.now }
+    requires reaches { IsReachable statement.now.kind activity.now }
+    requires ends { is_end statement.now.kind ≡ true → IsEndable program.now activity.now.context }
+    ensures { IfOk result (λ v. v.items ≡ given program.now statement.now activity.now values.now) }
+{
+    let kind = statement.kind();
+    if is_apply(kind) {
+        return called(alloc, program, activity, values);
+    }
+    if is_end(kind) {
+        return ended(alloc, program, activity, values);
+    }
+    handed_on(alloc, statement, activity, values)
+}
