@@ -3,35 +3,53 @@ use Rattle.std.specs.Prelude.{◌≡◌, ℕ, suc, ◌+◌, ◌≤◌, List, [],
 use Rattle.std.proofs.Common.{sym, ◌∙◌, ap, arith, append_assoc}
 use Rattle.std.specs.List.{AllByRecursion}
 use Rattle.u_text.specs.Pieces.{pieces}
-use Rattle.u_program.specs.declared.reading.Line.TheVariants.{Block, Statement}
+use Rattle.u_program.specs.declared.reading.Line.TheVariants.{Block, Loop, Statement}
 use Rattle.u_program.specs.Parts.{StatementParts, BlockParts, block}
-use Rattle.u_program.specs.Limits.{IsStatement, IsBlockOf, IsProgram, the_limits, no_limits}
-use Rattle.u_program.specs.Text.{statement_line, statement_lines, blocks_lines, program_lines, program_text}
+use Rattle.u_program.specs.Limits.{AreLoops, IsStatement, IsBlockOf, IsProgram, the_limits}
+use Rattle.u_program.specs.Text.{loop_lines, statement_lines, inner_lines, blocks_lines, program_lines, program_text}
 use Rattle.u_program.specs.Laws.{IsFirstBad}
 use Rattle.u_program.specs.declared.read_error.ReadError.{ReadError}
 use Rattle.u_program.specs.declared.read_error.ReadError.TheVariants as errors
 use Rattle.u_program.specs.Answer.{IsTextOf, IsReadError}
 use Rattle.u_program.proofs.Lists.{heads, tails, empty_is}
 use Rattle.u_program.proofs.LineLaws.{line_same}
-use Rattle.u_program.proofs.Next.{lines_differ}
+use Rattle.u_program.proofs.Next.{NoLoop, blocks_no_statement, behind_no_loop}
+use Rattle.u_program.proofs.Steps.{lifted}
 use Rattle.u_program.proofs.Whole.{pieces-program_text}
-
-no_statement : (ps : List BlockParts) (n : ℕ) (s : StatementParts) (t : List (List ℕ)) → 1 ≤ n → n ≤ 1000 → blocks_lines ps ≡ statement_line n s ∷ t → ⊥
-no_statement [] n s t low high h = empty_is h
-no_statement (p ∷ ps) n s t low high h = lines_differ p.name n s low high (heads h)
-
-lifted : (s : StatementParts) → IsStatement the_limits s → IsStatement no_limits s
-lifted s v = record { region = v.region; kind = v.kind; to = v.to; listed = v.listed; few = tt }
 
 same_statements : (n : ℕ) (ss ts : List StatementParts) (ps qs : List BlockParts) → 1 ≤ n → n + length ss ≤ 1000 → n + length ts ≤ 1000 → AllByRecursion (IsStatement the_limits) ss → AllByRecursion (IsStatement the_limits) ts → statement_lines n ss ++ blocks_lines ps ≡ statement_lines n ts ++ blocks_lines qs → (ss ≡ ts) × (blocks_lines ps ≡ blocks_lines qs)
 same_statements n [] [] ps qs low a b v w h = (refl, h)
-same_statements n [] (t ∷ ts) ps qs low a b v w h = absurd (no_statement ps n t _ low (omega arith) h)
-same_statements n (s ∷ ss) [] ps qs low a b v w h = absurd (no_statement qs n s _ low (omega arith) (sym h))
+same_statements n [] (t ∷ ts) ps qs low a b v w h = absurd (blocks_no_statement ps n t _ low (omega arith) h)
+same_statements n (s ∷ ss) [] ps qs low a b v w h = absurd (blocks_no_statement qs n s _ low (omega arith) (sym h))
 same_statements n (s ∷ ss) (t ∷ ts) ps qs low a b v w h =
-    let e = line_same (Statement n s) (Statement n t) ((low, omega arith), lifted s v.0) ((low, omega arith), lifted t w.0) (heads h) in
+    let e = line_same (Statement n s) (Statement n t) ((low, omega arith), lifted the_limits s v.0) ((low, omega arith), lifted the_limits t w.0) (heads h) in
     let f : s ≡ t = cc in
     let i = same_statements (suc n) ss ts ps qs (omega arith) (omega arith) (omega arith) v.1 w.1 (tails h) in
     (ap (λ s. s ∷ ss) f ∙ ap (λ ss. t ∷ ss) i.0, i.1)
+
+same_loops : (n : ℕ) (gs hs : List ℕ) (X Y : List (List ℕ)) → 1 ≤ n → n + length gs ≤ 100 → n + length hs ≤ 100 → AreLoops n gs → AreLoops n hs → NoLoop X → NoLoop Y → loop_lines n gs ++ X ≡ loop_lines n hs ++ Y → (gs ≡ hs) × (X ≡ Y)
+same_loops n [] [] X Y low a b v w x y e = (refl, e)
+same_loops n [] (h ∷ hs) X Y low a b v w x y e = absurd (x n h _ e)
+same_loops n (g ∷ gs) [] X Y low a b v w x y e = absurd (y n g _ (sym e))
+same_loops n (g ∷ gs) (h ∷ hs) X Y low a b v w x y e =
+    let f = line_same (Loop n g) (Loop n h) ((low, omega arith), v.1) ((low, omega arith), w.1) (heads e) in
+    let k : g ≡ h = cc in
+    let i = same_loops (suc n) gs hs X Y (omega arith) (omega arith) (omega arith) v.2 w.2 x y (tails e) in
+    (ap (λ g. g ∷ gs) k ∙ ap (λ gs. h ∷ gs) i.0, i.1)
+
+-- loops, and then statements
+same_inner : (p q : BlockParts) (ps qs : List BlockParts) → IsBlockOf the_limits p → IsBlockOf the_limits q → inner_lines p ++ blocks_lines ps ≡ inner_lines q ++ blocks_lines qs → (p.loops ≡ q.loops) × (p.statements ≡ q.statements) × (blocks_lines ps ≡ blocks_lines qs)
+same_inner p q ps qs v w h =
+    let a = v.few in
+    let b = w.few in
+    let c = v.few_loops in
+    let d = w.few_loops in
+    let X = blocks_lines ps in
+    let Y = blocks_lines qs in
+    let f : loop_lines 1 p.loops ++ (statement_lines 1 p.statements ++ X) ≡ loop_lines 1 q.loops ++ (statement_lines 1 q.statements ++ Y) = sym (append_assoc (loop_lines 1 p.loops) (statement_lines 1 p.statements) X) ∙ h ∙ append_assoc (loop_lines 1 q.loops) (statement_lines 1 q.statements) Y in
+    let i = same_loops 1 p.loops q.loops (statement_lines 1 p.statements ++ X) (statement_lines 1 q.statements ++ Y) (omega arith) (omega arith) (omega arith) v.loops w.loops (behind_no_loop p.statements ps) (behind_no_loop q.statements qs) f in
+    let j = same_statements 1 p.statements q.statements ps qs (omega arith) (omega arith) (omega arith) v.each w.each i.1 in
+    (i.0, j.0, j.1)
 
 same_blocks : (ps qs : List BlockParts) → AllByRecursion (IsBlockOf the_limits) ps → AllByRecursion (IsBlockOf the_limits) qs → blocks_lines ps ≡ blocks_lines qs → ps ≡ qs
 same_blocks [] [] v w h = refl
@@ -40,10 +58,8 @@ same_blocks (p ∷ ps) [] v w h = absurd (empty_is (sym h))
 same_blocks (p ∷ ps) (q ∷ qs) v w h =
     let e = line_same (Block p.name) (Block q.name) v.0.name w.0.name (heads h) in
     let f : p.name ≡ q.name = cc in
-    let a = v.0.few in
-    let b = w.0.few in
-    let i = same_statements 1 p.statements q.statements ps qs (omega arith) (omega arith) (omega arith) v.0.each w.0.each (tails h) in
-    ap (λ name. block name p.statements ∷ ps) f ∙ ap (λ ss. block q.name ss ∷ ps) i.0 ∙ ap (λ ps. q ∷ ps) (same_blocks ps qs v.1 w.1 i.1)
+    let i = same_inner p q ps qs v.0 w.0 (tails h) in
+    ap (λ name. block name p.loops p.statements ∷ ps) f ∙ ap (λ ls. block q.name ls p.statements ∷ ps) i.0 ∙ ap (λ ss. block q.name q.loops ss ∷ ps) i.1 ∙ ap (λ ps. q ∷ ps) (same_blocks ps qs v.1 w.1 i.2)
 
 pub same_program : (p q : List BlockParts) → IsProgram the_limits p → IsProgram the_limits q → program_text p ≡ program_text q → p ≡ q
 same_program p q v w h =

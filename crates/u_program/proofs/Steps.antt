@@ -6,16 +6,16 @@ use Rattle.std.specs.List.{AllByRecursion}
 use Rattle.u_name.specs.Block.{IsBlock}
 use Rattle.u_text.specs.Pieces.{words}
 use Rattle.u_program.specs.declared.program.Kind.TheVariants.{Begin}
-use Rattle.u_program.specs.declared.reading.Line.TheVariants.{Block, Statement}
+use Rattle.u_program.specs.declared.reading.Line.TheVariants.{Block, Loop, Statement}
 use Rattle.u_program.specs.Parts.{StatementParts, BlockParts, statement, block}
-use Rattle.u_program.specs.Limits.{Limits, AtMost, IsStatement, IsBlockOf, the_limits, no_limits}
-use Rattle.u_program.specs.Text.{block_line, statement_line, statement_lines, block_lines, blocks_lines, header}
+use Rattle.u_program.specs.Limits.{Limits, AtMost, AreLoops, IsStatement, IsBlockOf, the_limits, no_limits}
+use Rattle.u_program.specs.Text.{block_line, loop_line, loop_lines, statement_line, statement_lines, block_lines, blocks_lines, header}
 use Rattle.u_program.specs.Laws.{Begins}
 use Rattle.u_program.specs.Reading.{line_at}
 use Rattle.u_program.specs.Begun.{IsLine, part_lines, IsPart}
 use Rattle.u_program.proofs.Lists.{tails}
 use Rattle.u_program.proofs.LineLaws.{line_none, line_same}
-use Rattle.u_program.proofs.Next.{IsShort, NextLine, new_block, new_statement, next, lines_differ}
+use Rattle.u_program.proofs.Next.{IsShort, NextLine, new_block, new_loop, new_statement, next, lines_differ, loop_not_block, loop_not_statement}
 
 pub blocks_lines-append : (done : List BlockParts) (b : BlockParts) → blocks_lines (done ++ (b ∷ [])) ≡ part_lines done b
 blocks_lines-append [] b = append-nil (block_lines b)
@@ -25,16 +25,29 @@ pub statement_lines-append : (n : ℕ) (ss : List StatementParts) (s : Statement
 statement_lines-append n [] s = let e : n ≡ n + 0 = omega arith in ap (λ m. statement_line m s ∷ []) e
 statement_lines-append n (t ∷ ts) s = let e : suc n + length ts ≡ n + suc (length ts) = omega arith in ap (λ u. statement_line n t ∷ u) (statement_lines-append (suc n) ts s ∙ ap (λ m. statement_lines (suc n) ts ++ (statement_line m s ∷ [])) e)
 
+pub loop_lines-append : (n : ℕ) (hs : List ℕ) (h : ℕ) → loop_lines n (hs ++ (h ∷ [])) ≡ loop_lines n hs ++ (loop_line (n + length hs) h ∷ [])
+loop_lines-append n [] h = let e : n ≡ n + 0 = omega arith in ap (λ m. loop_line m h ∷ []) e
+loop_lines-append n (k ∷ ks) h = let e : suc n + length ks ≡ n + suc (length ks) = omega arith in ap (λ u. loop_line n k ∷ u) (loop_lines-append (suc n) ks h ∙ ap (λ m. loop_lines (suc n) ks ++ (loop_line m h ∷ [])) e)
+
+are_loops_append : (n : ℕ) (hs : List ℕ) (h : ℕ) → AreLoops n hs → h < n + length hs → h ≤ 99 → AreLoops n (hs ++ (h ∷ []))
+are_loops_append n [] h v low high = (omega arith, high, tt)
+are_loops_append n (k ∷ ks) h v low high = (v.0, v.1, are_loops_append (suc n) ks h v.2 (omega arith) high)
+
 pub all_append : {A : Type 0} (P : A → Type 0) (xs : List A) (x : A) → AllByRecursion P xs → P x → AllByRecursion P (xs ++ (x ∷ []))
 all_append P [] x v w = (w, tt)
 all_append P (y ∷ ys) x v w = (v.0, all_append P ys x v.1 w)
 
-pub first_statement : (limits : Limits) → IsStatement limits (statement 0 Begin [])
-first_statement limits = record { region = omega arith; kind = tt; to = tt; listed = tt; few = least limits.destinations }
-  where
-    least : (m : Option ℕ) → AtMost m 0
-    least None = tt
-    least (Some m) = omega arith
+pub none_few : (m : Option ℕ) → AtMost m 0
+none_few None = tt
+none_few (Some m) = omega arith
+
+-- the least statement
+pub least_statement : StatementParts
+least_statement = statement 0 Begin [] []
+
+pub first_statement : (limits : Limits) → IsStatement limits least_statement
+unfolding least_statement
+first_statement limits = record { region = omega arith; kind = tt; to = tt; listed = tt; few = none_few limits.destinations; otherwise = tt; listed_otherwise = refl; few_otherwise = none_few limits.destinations }
 
 -- a part can go on to a program
 pub completes : (limits : Limits) (done : List BlockParts) (last : BlockParts) → IsPart limits done last → Begins limits (header ∷ part_lines done last)
@@ -49,8 +62,12 @@ completes limits done last v = at last.statements refl
     }
 
     at : (ss : List StatementParts) → last.statements ≡ ss → Begins limits (header ∷ part_lines done last)
-    at [] e = whole (block last.name (statement 0 Begin [] ∷ [])) (statement_line 1 (statement 0 Begin []) ∷ []) (record { name = v.name; each = (first_statement limits, tt); few = v.one; some = omega arith }) (ap (λ ss. block_line last.name ∷ (statement_lines 1 ss ++ (statement_line 1 (statement 0 Begin []) ∷ []))) (sym e))
-    at (s ∷ ss) e = whole last [] (record { name = v.name; each = v.statements; few = v.few; some = let f = ap length e in omega arith }) (sym (append-nil (block_lines last)))
+    at [] e =
+        let ls = loop_lines 1 last.loops in
+        let x = statement_line 1 least_statement in
+        whole (block last.name last.loops (least_statement ∷ [])) (x ∷ []) (record { name = v.name; loops = v.loops; few_loops = v.few_loops; each = (first_statement limits, tt); few = v.one; some = omega arith })
+        (ap (λ t. block_line last.name ∷ t) (sym (append_assoc ls [] (x ∷ [])) ∙ ap (λ ss. (ls ++ statement_lines 1 ss) ++ (x ∷ [])) (sym e)))
+    at (s ∷ ss) e = whole last [] (record { name = v.name; loops = v.loops; few_loops = v.few_loops; each = v.statements; few = v.few; some = let f = ap length e in omega arith }) (sym (append-nil (block_lines last)))
 
 short : (done : List BlockParts) → AllByRecursion (IsBlockOf the_limits) done → AllByRecursion IsShort done
 short [] v = tt
@@ -62,8 +79,8 @@ next_of limits done last line v b =
     next limits 0 done last line b.more b.program (short done v.each) v.few b.valid.each (subst (AtMost limits.blocks) (let e : length b.program ≡ 0 + length b.program = omega arith in e) b.valid.few)
     (tails b.there ∙ append_assoc (part_lines done last) (line ∷ []) b.more)
 
-lifted : (limits : Limits) (s : StatementParts) → IsStatement limits s → IsStatement no_limits s
-lifted limits s v = record { region = v.region; kind = v.kind; to = v.to; listed = v.listed; few = tt }
+pub lifted : (limits : Limits) (s : StatementParts) → IsStatement limits s → IsStatement no_limits s
+lifted limits s v = record { region = v.region; kind = v.kind; to = v.to; listed = v.listed; few = tt; otherwise = v.otherwise; listed_otherwise = v.listed_otherwise; few_otherwise = tt }
 
 each_lifted : (limits : Limits) (ss : List StatementParts) → AllByRecursion (IsStatement limits) ss → AllByRecursion (IsStatement no_limits) ss
 each_lifted limits [] v = tt
@@ -71,13 +88,14 @@ each_lifted limits (s ∷ ss) v = (lifted limits s v.0, each_lifted limits ss v.
 
 pub blocks_lifted : (limits : Limits) (bs : List BlockParts) → AllByRecursion (IsBlockOf limits) bs → AllByRecursion (IsBlockOf no_limits) bs
 blocks_lifted limits [] v = tt
-blocks_lifted limits (b ∷ bs) v = (record { name = v.0.name; each = each_lifted limits b.statements v.0.each; few = tt; some = v.0.some }, blocks_lifted limits bs v.1)
+blocks_lifted limits (b ∷ bs) v = (record { name = v.0.name; loops = v.0.loops; few_loops = tt; each = each_lifted limits b.statements v.0.each; few = tt; some = v.0.some }, blocks_lifted limits bs v.1)
 
 -- no line at all
 pub no_line : (done : List BlockParts) (last : BlockParts) (text : List ℕ) → IsPart the_limits done last → line_at (words text) ≡ None → Begins no_limits ((header ∷ part_lines done last) ++ (text ∷ [])) → ⊥
 no_line done last text v h b =
     elim (next_of no_limits done last text v b) [
       | new_block name w e f g ↦ line_none text h (Block name) w e
+      | new_loop k u w n e f ↦ line_none text h (Loop (suc (length last.loops)) k) ((omega arith, (let n = v.few_loops in omega arith)), w) e
       | new_statement s w e f ↦ line_none text h (Statement (suc (length last.statements)) s) ((omega arith, (let n = v.few in omega arith)), w) e
     ]
 
@@ -88,26 +106,28 @@ pub block_closed : (done : List BlockParts) (last : BlockParts) (name : List ℕ
 block_closed done last name v h b =
     elim (next_of no_limits done last (block_line name) v b) [
       | new_block other w e f g ↦ omega arith
+      | new_loop k u w n e f ↦ loop_not_block (suc (length last.loops)) k name (sym e)
       | new_statement s w e f ↦ block_not_statement name last s v.few e
     ]
 
-part_lines-block : (done : List BlockParts) (last : BlockParts) (name : List ℕ) → part_lines (done ++ (last ∷ [])) (block name []) ≡ part_lines done last ++ (block_line name ∷ [])
+part_lines-block : (done : List BlockParts) (last : BlockParts) (name : List ℕ) → part_lines (done ++ (last ∷ [])) (block name [] []) ≡ part_lines done last ++ (block_line name ∷ [])
 part_lines-block done last name = ap (λ t. t ++ (block_line name ∷ [])) (blocks_lines-append done last)
 
-closed : (limits : Limits) (done : List BlockParts) (last : BlockParts) (name : List ℕ) → IsBlock name → AllByRecursion (IsBlockOf limits) done → IsBlockOf limits last → AtMost limits.statements 0 → AtMost limits.statements 1 → AtMost limits.blocks (length done + 2) → IsPart limits (done ++ (last ∷ [])) (block name [])
-closed limits done last name n v w z o f = record { each = all_append (IsBlockOf limits) done last v w; name = n; statements = tt; few = z; one = o; blocks = subst (AtMost limits.blocks) (let e : length done + 2 ≡ length (done ++ (last ∷ [])) + 1 = omega (arith, length-append done (last ∷ [])) in e) f }
+closed : (limits : Limits) (done : List BlockParts) (last : BlockParts) (name : List ℕ) → IsBlock name → AllByRecursion (IsBlockOf limits) done → IsBlockOf limits last → AtMost limits.statements 1 → AtMost limits.blocks (length done + 2) → IsPart limits (done ++ (last ∷ [])) (block name [] [])
+closed limits done last name n v w o f = record { each = all_append (IsBlockOf limits) done last v w; name = n; loops = tt; few_loops = none_few limits.loops; statements = tt; few = none_few limits.statements; one = o; blocks = subst (AtMost limits.blocks) (let e : length done + 2 ≡ length (done ++ (last ∷ [])) + 1 = omega (arith, length-append done (last ∷ [])) in e) f }
 
 pub block_over : (done : List BlockParts) (last : BlockParts) (name : List ℕ) → IsPart the_limits done last → IsBlock name → 1 ≤ length last.statements → length done ≡ 63 → Begins no_limits ((header ∷ part_lines done last) ++ (block_line name ∷ [])) × (Begins the_limits ((header ∷ part_lines done last) ++ (block_line name ∷ [])) → ⊥)
 block_over done last name v n some h = (
-  subst (λ ls. Begins no_limits (header ∷ ls)) (part_lines-block done last name) (completes no_limits (done ++ (last ∷ [])) (block name []) (closed no_limits done last name n (blocks_lifted the_limits done v.each) (record { name = v.name; each = each_lifted the_limits last.statements v.statements; few = tt; some = some }) tt tt tt)),
+  subst (λ ls. Begins no_limits (header ∷ ls)) (part_lines-block done last name) (completes no_limits (done ++ (last ∷ [])) (block name [] []) (closed no_limits done last name n (blocks_lifted the_limits done v.each) (record { name = v.name; loops = v.loops; few_loops = tt; each = each_lifted the_limits last.statements v.statements; few = tt; some = some }) tt tt)),
   λ b. elim (next_of the_limits done last (block_line name) v b) [
     | new_block other w e f g ↦ omega arith
+    | new_loop k u w n e f ↦ loop_not_block (suc (length last.loops)) k name (sym e)
     | new_statement s w e f ↦ block_not_statement name last s v.few e
   ],
 )
 
-pub block_taken : (done : List BlockParts) (last : BlockParts) (name : List ℕ) → IsPart the_limits done last → IsBlock name → 1 ≤ length last.statements → length done < 63 → IsPart the_limits (done ++ (last ∷ [])) (block name []) × (part_lines (done ++ (last ∷ [])) (block name []) ≡ part_lines done last ++ (block_line name ∷ []))
-block_taken done last name v n some h = (closed the_limits done last name n v.each (record { name = v.name; each = v.statements; few = v.few; some = some }) (omega arith) (omega arith) (omega arith), part_lines-block done last name)
+pub block_taken : (done : List BlockParts) (last : BlockParts) (name : List ℕ) → IsPart the_limits done last → IsBlock name → 1 ≤ length last.statements → length done < 63 → IsPart the_limits (done ++ (last ∷ [])) (block name [] []) × (part_lines (done ++ (last ∷ [])) (block name [] []) ≡ part_lines done last ++ (block_line name ∷ []))
+block_taken done last name v n some h = (closed the_limits done last name n v.each (record { name = v.name; loops = v.loops; few_loops = v.few_loops; each = v.statements; few = v.few; some = some }) (omega arith) (omega arith), part_lines-block done last name)
 
 statements_same : (n m : ℕ) (s t : StatementParts) → IsLine (Statement n s) → IsLine (Statement m t) → statement_line n s ≡ statement_line m t → (n ≡ m) × (s ≡ t)
 statements_same n m s t v w e = let f = line_same (Statement n s) (Statement m t) v w e in (cc, cc)
@@ -116,30 +136,95 @@ pub number_wrong : (done : List BlockParts) (last : BlockParts) (n : ℕ) (s : S
 number_wrong done last n s v l h b =
     elim (next_of no_limits done last (statement_line n s) v b) [
       | new_block name w e f g ↦ lines_differ name n s l.0.0 l.0.1 (sym e)
+      | new_loop k u w z e f ↦ loop_not_statement (suc (length last.loops)) k n s l.0.0 l.0.1 (sym e)
       | new_statement t w e f ↦
           let c = v.few in
           let g = statements_same n (suc (length last.statements)) s t l ((omega arith, omega arith), w) e in
           h (omega (arith, g.0))
     ]
 
-part_lines-statement : (done : List BlockParts) (last : BlockParts) (n : ℕ) (s : StatementParts) → n ≡ length last.statements + 1 → part_lines done (block last.name (last.statements ++ (s ∷ []))) ≡ part_lines done last ++ (statement_line n s ∷ [])
+part_lines-statement : (done : List BlockParts) (last : BlockParts) (n : ℕ) (s : StatementParts) → n ≡ length last.statements + 1 → part_lines done (block last.name last.loops (last.statements ++ (s ∷ []))) ≡ part_lines done last ++ (statement_line n s ∷ [])
 part_lines-statement done last n s h =
     let e : 1 + length last.statements ≡ n = omega arith in
-    ap (λ t. blocks_lines done ++ (block_line last.name ∷ t)) (statement_lines-append 1 last.statements s ∙ ap (λ m. statement_lines 1 last.statements ++ (statement_line m s ∷ [])) e)
-    ∙ sym (append_assoc (blocks_lines done) (block_lines last) (statement_line n s ∷ []))
+    let ls = loop_lines 1 last.loops in
+    let x = statement_line n s ∷ [] in
+    ap (λ t. blocks_lines done ++ (block_line last.name ∷ (ls ++ t))) (statement_lines-append 1 last.statements s ∙ ap (λ m. statement_lines 1 last.statements ++ (statement_line m s ∷ [])) e)
+    ∙ ap (λ t. blocks_lines done ++ (block_line last.name ∷ t)) (sym (append_assoc ls (statement_lines 1 last.statements) x))
+    ∙ sym (append_assoc (blocks_lines done) (block_lines last) x)
 
-pub statement_over : (done : List BlockParts) (last : BlockParts) (n : ℕ) (s : StatementParts) → IsPart the_limits done last → IsLine (Statement n s) → n ≡ length last.statements + 1 → (999 < n) ⊎ (16 < length s.to) → Begins no_limits ((header ∷ part_lines done last) ++ (statement_line n s ∷ [])) × (Begins the_limits ((header ∷ part_lines done last) ++ (statement_line n s ∷ [])) → ⊥)
+pub statement_over : (done : List BlockParts) (last : BlockParts) (n : ℕ) (s : StatementParts) → IsPart the_limits done last → IsLine (Statement n s) → n ≡ length last.statements + 1 → (999 < n) ⊎ ((16 < length s.to) ⊎ (16 < length s.otherwise)) → Begins no_limits ((header ∷ part_lines done last) ++ (statement_line n s ∷ [])) × (Begins the_limits ((header ∷ part_lines done last) ++ (statement_line n s ∷ [])) → ⊥)
 statement_over done last n s v l h over = (
-  subst (λ ls. Begins no_limits (header ∷ ls)) (part_lines-statement done last n s h) (completes no_limits done (block last.name (last.statements ++ (s ∷ []))) (record { each = blocks_lifted the_limits done v.each; name = v.name; statements = all_append (IsStatement no_limits) last.statements s (each_lifted the_limits last.statements v.statements) l.1; few = tt; one = tt; blocks = tt })),
+  subst (λ ls. Begins no_limits (header ∷ ls)) (part_lines-statement done last n s h) (completes no_limits done (block last.name last.loops (last.statements ++ (s ∷ []))) (record { each = blocks_lifted the_limits done v.each; name = v.name; loops = v.loops; few_loops = tt; statements = all_append (IsStatement no_limits) last.statements s (each_lifted the_limits last.statements v.statements) l.1; few = tt; one = tt; blocks = tt })),
   λ b. elim (next_of the_limits done last (statement_line n s) v b) [
     | new_block name w e f g ↦ lines_differ name n s l.0.0 l.0.1 (sym e)
+    | new_loop k u w z e f ↦ loop_not_statement (suc (length last.loops)) k n s l.0.0 l.0.1 (sym e)
     | new_statement t w e f ↦
         let c = v.few in
         let g = statements_same n (suc (length last.statements)) s t l ((omega arith, omega arith), lifted the_limits t w) e in
-        elim over [ inl o ↦ omega arith | inr o ↦ let k : length t.to ≤ 16 = w.few in let i = ap (λ (s : StatementParts). length s.to) g.1 in omega arith ]
+        elim over [
+          | inl o ↦ omega arith
+          | inr (inl o) ↦ let k : length t.to ≤ 16 = w.few in let i = ap (λ (s : StatementParts). length s.to) g.1 in omega arith
+          | inr (inr o) ↦ let k : length t.otherwise ≤ 16 = w.few_otherwise in let i = ap (λ (s : StatementParts). length s.otherwise) g.1 in omega arith
+        ]
   ],
 )
 
-pub statement_taken : (done : List BlockParts) (last : BlockParts) (n : ℕ) (s : StatementParts) → IsPart the_limits done last → IsLine (Statement n s) → n ≡ length last.statements + 1 → n ≤ 999 → length s.to ≤ 16 → IsPart the_limits done (block last.name (last.statements ++ (s ∷ []))) × (part_lines done (block last.name (last.statements ++ (s ∷ []))) ≡ part_lines done last ++ (statement_line n s ∷ []))
-statement_taken done last n s v l h low few =
-    (record { each = v.each; name = v.name; statements = all_append (IsStatement the_limits) last.statements s v.statements (record { region = l.1.region; kind = l.1.kind; to = l.1.to; listed = l.1.listed; few = few }); few = omega (arith, length-append last.statements (s ∷ [])); one = v.one; blocks = v.blocks }, part_lines-statement done last n s h)
+pub statement_taken : (done : List BlockParts) (last : BlockParts) (n : ℕ) (s : StatementParts) → IsPart the_limits done last → IsLine (Statement n s) → n ≡ length last.statements + 1 → n ≤ 999 → length s.to ≤ 16 → length s.otherwise ≤ 16 → IsPart the_limits done (block last.name last.loops (last.statements ++ (s ∷ []))) × (part_lines done (block last.name last.loops (last.statements ++ (s ∷ []))) ≡ part_lines done last ++ (statement_line n s ∷ []))
+statement_taken done last n s v l h low few few_otherwise = (
+  record {
+    each = v.each;
+    name = v.name;
+    loops = v.loops;
+    few_loops = v.few_loops;
+    statements = all_append (IsStatement the_limits) last.statements s v.statements (record { region = l.1.region; kind = l.1.kind; to = l.1.to; listed = l.1.listed; few = few; otherwise = l.1.otherwise; listed_otherwise = l.1.listed_otherwise; few_otherwise = few_otherwise });
+    few = omega (arith, length-append last.statements (s ∷ []));
+    one = v.one;
+    blocks = v.blocks;
+  },
+  part_lines-statement done last n s h,
+)
+
+-- loops
+
+loops_same : (n m h k : ℕ) → IsLine (Loop n h) → IsLine (Loop m k) → loop_line n h ≡ loop_line m k → (n ≡ m) × (h ≡ k)
+loops_same n m h k v w e = let f = line_same (Loop n h) (Loop m k) v w e in (cc, cc)
+
+inner_lines-loop : (hs : List ℕ) (ss : List StatementParts) (n h : ℕ) → length ss ≡ 0 → n ≡ length hs + 1 → loop_lines 1 (hs ++ (h ∷ [])) ++ statement_lines 1 ss ≡ (loop_lines 1 hs ++ statement_lines 1 ss) ++ (loop_line n h ∷ [])
+inner_lines-loop hs [] n h z e =
+    let f : 1 + length hs ≡ n = omega arith in
+    append-nil (loop_lines 1 (hs ++ (h ∷ [])))
+    ∙ loop_lines-append 1 hs h
+    ∙ ap (λ m. loop_lines 1 hs ++ (loop_line m h ∷ [])) f
+    ∙ ap (λ t. t ++ (loop_line n h ∷ [])) (sym (append-nil (loop_lines 1 hs)))
+inner_lines-loop hs (s ∷ ss) n h z e = absurd (omega arith)
+
+part_lines-loop : (done : List BlockParts) (last : BlockParts) (n h : ℕ) → length last.statements ≡ 0 → n ≡ length last.loops + 1 → part_lines done (block last.name (last.loops ++ (h ∷ [])) last.statements) ≡ part_lines done last ++ (loop_line n h ∷ [])
+part_lines-loop done last n h z e =
+    ap (λ t. blocks_lines done ++ (block_line last.name ∷ t)) (inner_lines-loop last.loops last.statements n h z e)
+    ∙ sym (append_assoc (blocks_lines done) (block_lines last) (loop_line n h ∷ []))
+
+-- a loop's line that goes on stands before the statements, has the next number, and names region 0 or an earlier loop
+pub loop_wrong : (done : List BlockParts) (last : BlockParts) (n h : ℕ) → IsPart the_limits done last → IsLine (Loop n h) → (length last.statements ≡ 0 → n ≡ length last.loops + 1 → h < n → ⊥) → Begins no_limits ((header ∷ part_lines done last) ++ (loop_line n h ∷ [])) → ⊥
+loop_wrong done last n h v l wrong b =
+    elim (next_of no_limits done last (loop_line n h) v b) [
+      | new_block name w e f g ↦ loop_not_block n h name e
+      | new_loop k u w z e f ↦
+          let c = v.few_loops in
+          let g = loops_same n (suc (length last.loops)) h k l ((omega arith, omega arith), w) e in
+          wrong z (omega (arith, g.0)) (omega (arith, g.0, g.1))
+      | new_statement t w e f ↦ let c = v.few in loop_not_statement n h (suc (length last.statements)) t (omega arith) (omega arith) e
+    ]
+
+pub loop_over : (done : List BlockParts) (last : BlockParts) (n h : ℕ) → IsPart the_limits done last → IsLine (Loop n h) → length last.statements ≡ 0 → n ≡ length last.loops + 1 → h < n → 99 < n → Begins no_limits ((header ∷ part_lines done last) ++ (loop_line n h ∷ [])) × (Begins the_limits ((header ∷ part_lines done last) ++ (loop_line n h ∷ [])) → ⊥)
+loop_over done last n h v l z e low over = (
+  subst (λ ls. Begins no_limits (header ∷ ls)) (part_lines-loop done last n h z e) (completes no_limits done (block last.name (last.loops ++ (h ∷ [])) last.statements) (record { each = blocks_lifted the_limits done v.each; name = v.name; loops = are_loops_append 1 last.loops h v.loops (omega arith) l.1; few_loops = tt; statements = each_lifted the_limits last.statements v.statements; few = tt; one = tt; blocks = tt })),
+  λ b. elim (next_of the_limits done last (loop_line n h) v b) [
+    | new_block name w f g i ↦ loop_not_block n h name f
+    | new_loop k u w y f g ↦ omega arith
+    | new_statement t w f g ↦ let c = v.few in loop_not_statement n h (suc (length last.statements)) t (omega arith) (omega arith) f
+  ],
+)
+
+pub loop_taken : (done : List BlockParts) (last : BlockParts) (n h : ℕ) → IsPart the_limits done last → IsLine (Loop n h) → length last.statements ≡ 0 → n ≡ length last.loops + 1 → h < n → n ≤ 99 → IsPart the_limits done (block last.name (last.loops ++ (h ∷ [])) last.statements) × (part_lines done (block last.name (last.loops ++ (h ∷ [])) last.statements) ≡ part_lines done last ++ (loop_line n h ∷ []))
+loop_taken done last n h v l z e low few =
+    (record { each = v.each; name = v.name; loops = are_loops_append 1 last.loops h v.loops (omega arith) l.1; few_loops = omega (arith, length-append last.loops (h ∷ [])); statements = v.statements; few = v.few; one = v.one; blocks = v.blocks }, part_lines-loop done last n h z e)

@@ -6,27 +6,36 @@ use Rattle.std.specs.List.{AllByRecursion}
 use Rattle.u_name.specs.Block.{IsBlock}
 use Rattle.u_text.specs.Pieces.{pieces, Free, glued, glued-pieces, words}
 use Rattle.u_text.specs.Spaced.{ended, AllFree, all_free_append, pieces-ended, glued-ended}
-use Rattle.u_program.specs.declared.program.Kind.TheVariants.{Begin}
-use Rattle.u_program.specs.declared.reading.Line.TheVariants.{Block, Statement}
-use Rattle.u_program.specs.Parts.{StatementParts, BlockParts, statement, block}
-use Rattle.u_program.specs.Limits.{Limits, AtMost, IsStatement, IsBlockOf, IsProgram, the_limits, no_limits}
-use Rattle.u_program.specs.Text.{block_line, statement_lines, block_lines, blocks_lines, program_lines, program_text, header}
+use Rattle.u_program.specs.declared.reading.Line.TheVariants.{Block, Loop, Statement}
+use Rattle.u_program.specs.Parts.{StatementParts, BlockParts, block}
+use Rattle.u_program.specs.Limits.{Limits, AtMost, AreLoops, IsStatement, IsBlockOf, IsProgram, the_limits, no_limits}
+use Rattle.u_program.specs.Text.{block_line, loop_lines, statement_lines, block_lines, blocks_lines, program_lines, program_text, header}
 use Rattle.u_program.specs.Laws.{Begins, IsFirstBad, IsBadLine, IsTooMany, IsTruncated}
 use Rattle.u_program.specs.Reading.{line_at}
 use Rattle.u_program.specs.Begun.{part_lines, IsPart, IsRead}
 use Rattle.u_program.proofs.Lists.{heads, tails}
-use Rattle.u_program.proofs.LineLaws.{block_line_free, statement_line_free, line_none, line_sound}
-use Rattle.u_program.proofs.Next.{first, lines_differ}
-use Rattle.u_program.proofs.Steps.{completes, block_closed, blocks_lifted, first_statement, blocks_lines-append, all_append}
+use Rattle.u_program.proofs.LineLaws.{block_line_free, loop_line_free, statement_line_free, line_none, line_sound}
+use Rattle.u_program.proofs.Next.{first, lines_differ, loop_not_block}
+use Rattle.u_program.proofs.Steps.{completes, block_closed, blocks_lifted, none_few, least_statement, first_statement, blocks_lines-append, all_append}
 
 -- the numbers of statements of a program are small
 statements_free : (n : ℕ) (ss : List StatementParts) → n + length ss ≤ 1000 → AllByRecursion (IsStatement the_limits) ss → AllFree 10 (statement_lines n ss)
 statements_free n [] low v = tt
 statements_free n (s ∷ ss) low v = (statement_line_free 10 the_limits n s (omega arith) (λ e. omega arith) refl (omega arith) v.0, statements_free (suc n) ss (omega arith) v.1)
 
+loops_free : (n : ℕ) (hs : List ℕ) → n + length hs ≤ 100 → AreLoops n hs → AllFree 10 (loop_lines n hs)
+loops_free n [] low v = tt
+loops_free n (h ∷ hs) low v = (loop_line_free 10 n h (omega arith) (λ e. omega arith) (omega arith) (omega (arith, v.1)), loops_free (suc n) hs (omega arith) v.2)
+
+inner_free : (b : BlockParts) → IsBlockOf the_limits b → AllFree 10 (loop_lines 1 b.loops ++ statement_lines 1 b.statements)
+inner_free b v =
+    let f = v.few in
+    let g = v.few_loops in
+    all_free_append 10 (loop_lines 1 b.loops) (statement_lines 1 b.statements) (loops_free 1 b.loops (omega arith) v.loops) (statements_free 1 b.statements (omega arith) v.each)
+
 blocks_free : (bs : List BlockParts) → AllByRecursion (IsBlockOf the_limits) bs → AllFree 10 (blocks_lines bs)
 blocks_free [] v = tt
-blocks_free (b ∷ bs) v = (block_line_free 10 b.name (omega arith) (λ e. omega arith) refl v.0.name, all_free_append 10 (statement_lines 1 b.statements) (blocks_lines bs) (let f = v.0.few in statements_free 1 b.statements (omega arith) v.0.each) (blocks_free bs v.1))
+blocks_free (b ∷ bs) v = (block_line_free 10 b.name (omega arith) (λ e. omega arith) refl v.0.name, all_free_append 10 (loop_lines 1 b.loops ++ statement_lines 1 b.statements) (blocks_lines bs) (inner_free b v.0) (blocks_free bs v.1))
 
 header_free : Free 10 header
 header_free = (λ e. omega arith, (λ e. omega arith, (λ e. omega arith, (λ e. omega arith, (λ e. omega arith, (λ e. omega arith, (λ e. omega arith, (λ e. omega arith, (λ e. omega arith, (λ e. omega arith, (λ e. omega arith, tt)))))))))))
@@ -56,14 +65,14 @@ too_many bytes rest text others ls r h a b c = first_bad bytes rest text others 
 
 -- some block
 least : BlockParts
-least = block (97 ∷ []) (statement 0 Begin [] ∷ [])
+least = block (97 ∷ []) [] (least_statement ∷ [])
 
 is_least_name : IsBlock (97 ∷ [])
 is_least_name = record { short = omega arith; first = refl; each = (refl, tt) }
 
 is_least : (limits : Limits) → AtMost limits.statements 1 → IsBlockOf limits least
 unfolding least
-is_least limits f = record { name = is_least_name; each = (first_statement limits, tt); few = f; some = omega arith }
+is_least limits f = record { name = is_least_name; loops = tt; few_loops = none_few limits.loops; each = (first_statement limits, tt); few = f; some = omega arith }
 
 -- the header alone, and nothing, can go on
 pub begins_header : Begins the_limits (header ∷ [])
@@ -95,6 +104,7 @@ truncated_rest bytes rest done last r h v n = is_truncated bytes rest _ (ends by
 
 -- a program that ends with a block without statements is none
 half : (done : List BlockParts) (last : BlockParts) (p : List BlockParts) → IsPart the_limits done last → length last.statements ≡ 0 → IsProgram the_limits p → program_lines p ≡ header ∷ part_lines done last → ⊥
+unfolding least
 half done last p v h w e = block_closed done last least.name v h (record {
   program = p ++ (least ∷ []);
   more = statement_lines 1 least.statements;
@@ -119,7 +129,7 @@ pub whole_program : (bytes rest : List ℕ) (done : List BlockParts) (last : Blo
 unfolding program_text
 whole_program bytes rest done last r h n v some =
     let e : pieces 10 bytes ≡ (header ∷ part_lines done last, []) = ends bytes rest _ r h ∙ ap (λ t. (header ∷ part_lines done last, t)) n in (
-      record { each = all_append (IsBlockOf the_limits) done last v.each (record { name = v.name; each = v.statements; few = v.few; some = some }); few = omega (arith, v.blocks, length-append done (last ∷ [])); some = omega (arith, length-append done (last ∷ [])) },
+      record { each = all_append (IsBlockOf the_limits) done last v.each (record { name = v.name; loops = v.loops; few_loops = v.few_loops; each = v.statements; few = v.few; some = some }); few = omega (arith, v.blocks, length-append done (last ∷ [])); some = omega (arith, length-append done (last ∷ [])) },
       sym (glued-pieces 10 bytes) ∙ ap (λ (p : List (List ℕ) × List ℕ). glued 10 p.0 p.1) e ∙ glued-ended (header ∷ part_lines done last) ∙ ap (λ t. ended (header ∷ t)) (sym (blocks_lines-append done last)),
     )
 
@@ -130,11 +140,14 @@ first_lines limits text b = first limits text b.more b.program b.valid.each (tai
 pub not_first : (text : List ℕ) → ((name : List ℕ) → IsBlock name → text ≡ block_line name → ⊥) → Begins no_limits ((header ∷ []) ++ (text ∷ [])) → ⊥
 not_first text n b = let f = first_lines no_limits text b in n f.0 f.1 f.2
 
-pub first_part : (name : List ℕ) → IsBlock name → IsPart the_limits [] (block name [])
-first_part name n = record { each = tt; name = n; statements = tt; few = omega arith; one = omega arith; blocks = omega arith }
+pub first_part : (name : List ℕ) → IsBlock name → IsPart the_limits [] (block name [] [])
+first_part name n = record { each = tt; name = n; loops = tt; few_loops = omega arith; statements = tt; few = omega arith; one = omega arith; blocks = omega arith }
 
 pub no_first_line : (text : List ℕ) → line_at (words text) ≡ None → Begins no_limits ((header ∷ []) ++ (text ∷ [])) → ⊥
 no_first_line text h = not_first text (λ name n e. line_none text h (Block name) n e)
 
 pub statement_first : (text : List ℕ) (n : ℕ) (s : StatementParts) → line_at (words text) ≡ Some (Statement n s) → Begins no_limits ((header ∷ []) ++ (text ∷ [])) → ⊥
 statement_first text n s h = not_first text (λ name m e. let l = line_sound text (Statement n s) h in lines_differ name n s l.0.0.0 l.0.0.1 (sym e ∙ l.1))
+
+pub loop_first : (text : List ℕ) (n k : ℕ) → line_at (words text) ≡ Some (Loop n k) → Begins no_limits ((header ∷ []) ++ (text ∷ [])) → ⊥
+loop_first text n k h = not_first text (λ name m e. let l = line_sound text (Loop n k) h in loop_not_block n k name (sym l.1 ∙ e))

@@ -145,7 +145,8 @@ impl Part {
         };
         let name = match line {
             Line::Block(name) => name,
-            Line::Loop(_, _) | Line::Statement(_, _) => return Err(LineFault::Bad),
+            Line::Loop(_, _) => return Err(LineFault::Bad),
+            Line::Statement(_, _) => return Err(LineFault::Bad),
         };
         Ok(Part {
             done: Vec::new(alloc),

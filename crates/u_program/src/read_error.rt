@@ -10,7 +10,7 @@ pub enum ReadError {
     /// The first line that is not allowed where it stands.
     #[error("program line {0} not allowed")]
     BadLine(usize),
-    /// The first line that is not allowed, and is so only for the number of blocks,
+    /// The first line that is not allowed, and is so only for the number of blocks, loops,
     /// statements or destinations.
     #[error("program line {0} has too many")]
     TooMany(usize),

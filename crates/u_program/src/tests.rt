@@ -22,6 +22,20 @@ fn with_line(alloc: Global, line: &[u8]) -> Result<Vec<u8>, AllocError> {
     Ok(text)
 }
 
+/// The text of a block with as many loops, and this line behind them.
+fn loops(alloc: Global, count: u32, line: &[u8]) -> Result<Vec<u8>, AllocError> {
+    let mut text = Vec::new(alloc);
+    text.extend_from_slice(b"u-program 1\nblock main\n")?;
+    for i in 0..count {
+        text.extend_from_slice(b"loop ")?;
+        u_text::push_number(&mut text, i + 1)?;
+        text.extend_from_slice(b" 0\n")?;
+    }
+    text.extend_from_slice(line)?;
+    text.push(b'\n')?;
+    Ok(text)
+}
+
 /// The text of as many equal blocks.
 fn blocks(alloc: Global, count: usize) -> Result<Vec<u8>, AllocError> {
     let mut text = Vec::new(alloc);
@@ -63,12 +77,18 @@ fn writes_what_it_read(rt: HostRuntime) -> Result<(), Fail> {
         b"1 0 const false ->".as_slice(),
         b"1 0 const @fact ->".as_slice(),
         b"1 0 add -> 1.1 2.1 3.1 4.1 5.1 6.1 7.1 8.1 9.1 10.1 11.1 12.1 13.1 14.1 15.1 16.1".as_slice(),
+        b"loop 1 0\nloop 2 1\nloop 3 1\nloop 4 0\n1 4 switch -> /".as_slice(),
+        b"1 0 switch -> 2.1 2.3 / 2.1 3.1".as_slice(),
+        b"1 0 switch -> / 2.2".as_slice(),
+        b"1 0 enter 99 -> 2.1".as_slice(),
+        b"1 0 apply 999 ->".as_slice(),
     ];
     for line in lines {
         let text = with_line(alloc, line)?;
         assert!(rt; is_written_as_read(alloc, &text)?);
     }
     assert!(rt; is_written_as_read(alloc, &blocks(alloc, 64)?)?);
+    assert!(rt; is_written_as_read(alloc, &loops(alloc, 99, b"1 0 begin ->")?)?);
     assert!(rt; is_written_as_read(alloc, &statements(alloc, 999)?)?);
     let text = with_line(alloc, b"1 0 const -7 ->")?;
     assert!(rt; first_kind(&read(alloc, &text)?) == Some(Kind::Const(Constant::Int(-7))));
@@ -94,6 +114,12 @@ fn reads_each_kind(rt: HostRuntime) -> Result<(), Fail> {
         (b"not".as_slice(), Kind::Unary(UnaryOperator::Not)),
         (b"length".as_slice(), Kind::Unary(UnaryOperator::Length)),
         (b"select".as_slice(), Kind::Select),
+        (b"enter 7".as_slice(), Kind::Enter(7)),
+        (b"next".as_slice(), Kind::Next),
+        (b"last".as_slice(), Kind::Last),
+        (b"leave".as_slice(), Kind::Leave),
+        (b"apply 12".as_slice(), Kind::Apply(12)),
+        (b"back".as_slice(), Kind::Back),
         (b"end".as_slice(), Kind::End),
     ];
     for (word, kind) in kinds {
@@ -131,6 +157,64 @@ fn writes_a_program_with_every_kind(rt: HostRuntime) -> Result<(), Fail> {
     Ok(())
 }
 
+/// The sum of the numbers from 1 on, by a loop.
+const SUM: &[u8] =
+    b"u-program 1\nblock main\nloop 1 0\n1 0 begin -> 2.1 3.1\n2 0 enter 1 -> 5.1 6.2 7.1 8.1 9.2\n3 0 const 0 -> 4.1\n4 0 enter 1 -> 9.1 12.1\n5 1 const 0 -> 6.1\n6 1 lt -> 10.2 11.2 12.2\n7 1 const 1 -> 8.2\n8 1 sub -> 10.1\n9 1 add -> 11.1\n10 1 switch -> 13.1 /\n11 1 switch -> 14.1 /\n12 1 switch -> / 15.1\n13 1 next -> 5.1 6.2 7.1 8.1 9.2\n14 1 next -> 9.1 12.1\n15 1 last -> 16.1\n16 1 leave -> 17.1\n17 0 end ->\n";
+
+/// The factorial, by calls.
+const FACTORIAL: &[u8] =
+    b"u-program 1\nblock main\n1 0 begin -> 2.1 3.2\n2 0 const @fact -> 3.1\n3 0 apply 4 ->\n4 0 back -> 5.1\n5 0 end ->\nblock fact\n1 0 begin -> 2.1 3.1 4.1 5.1 7.2\n2 0 const 0 -> 5.2\n3 0 const @one -> 6.2\n4 0 const @rec -> 6.3\n5 0 le -> 6.1\n6 0 select -> 7.1\n7 0 apply 8 ->\n8 0 back -> 9.1\n9 0 end ->\nblock rec\n1 0 begin -> 2.1 3.1 4.1 7.1\n2 0 const 1 -> 3.2\n3 0 sub -> 5.2\n4 0 const @fact -> 5.1\n5 0 apply 6 ->\n6 0 back -> 7.2\n7 0 mul -> 8.1\n8 0 end ->\nblock one\n1 0 begin -> 2.1\n2 0 const 1 -> 3.1\n3 0 end ->\n";
+
+/// Whether the first statement of the block is a `switch` of region 1 with these lists' lengths.
+fn lists_of_switch(
+    alloc: Global,
+    text: &[u8],
+    on_true: usize,
+    on_false: usize,
+) -> Result<bool, Fail> {
+    let program = read(alloc, text)?;
+    let Some(block) = program.blocks().first() else {
+        return Ok(false);
+    };
+    let Some(statement) = block.statements().first() else {
+        return Ok(false);
+    };
+    Ok(
+        *statement.kind() == Kind::Switch
+            && statement.region() == 1
+            && statement.destinations().len() == on_true
+            && statement.otherwise().len() == on_false,
+    )
+}
+
+#[test]
+fn writes_loops_and_calls_as_read(rt: HostRuntime) -> Result<(), Fail> {
+    let alloc = rt.alloc();
+    assert!(rt; is_written_as_read(alloc, SUM)?);
+    assert!(rt; is_written_as_read(alloc, FACTORIAL)?);
+    let text = with_line(alloc, b"loop 1 0\n1 1 switch -> 2.1 3.1 / 4.1")?;
+    assert!(rt; lists_of_switch(alloc, &text, 2, 1)?);
+    Ok(())
+}
+
+#[test]
+fn refuses_structures(rt: HostRuntime) -> Result<(), Fail> {
+    let alloc = rt.alloc();
+    let two_writers =
+        b"u-program 1\nblock main\n1 0 begin -> 2.1 3.1 4.1 5.1\n2 0 const 1 -> 6.1\n3 0 const 0 -> 7.2 8.2 9.2\n4 0 const 10 -> 7.3\n5 0 const 20 -> 8.3\n6 0 alloc -> 7.1 8.1 9.1\n7 0 store ->\n8 0 store ->\n9 0 fetch -> 10.1\n10 0 end ->\n";
+    let no_writer =
+        b"u-program 1\nblock main\n1 0 begin -> 2.1 3.1\n2 0 const 1 -> 4.1\n3 0 const 0 -> 5.2\n4 0 alloc -> 5.1\n5 0 fetch -> 6.1\n6 0 end ->\n";
+    assert_eq!(rt;
+        read(alloc, two_writers.as_slice()).err(),
+        Some(ReadError::BadLine(8))
+    );
+    assert_eq!(rt;
+        read(alloc, no_writer.as_slice()).err(),
+        Some(ReadError::BadLine(6))
+    );
+    Ok(())
+}
+
 #[test]
 fn names_the_first_bad_line(rt: HostRuntime) -> Result<(), Fail> {
     let alloc = rt.alloc();
@@ -161,7 +245,32 @@ fn names_the_first_bad_line(rt: HostRuntime) -> Result<(), Fail> {
         b"1 0 l ->".as_slice(),
         b"1 0 end -> ".as_slice(),
         b"1 0 begin -> 1.1 2.1 3.1 4.1 5.1 6.1 7.1 8.1 9.1 10.1 11.1 12.1 13.1 14.1 15.1 16.1 17.4".as_slice(),
-        b"loop 1 0".as_slice(),
+        b"1 0 begin -> 2.1 / 2.2".as_slice(),
+        b"1 0 pass -> /".as_slice(),
+        b"1 0 switch -> 2.1".as_slice(),
+        b"1 0 switch ->".as_slice(),
+        b"1 0 switch -> 2.1 / 2.2 /".as_slice(),
+        b"1 0 switch -> 2.1 / 3.1 2.1".as_slice(),
+        b"1 0 switch -> 2.1  / 3.1".as_slice(),
+        b"1 0 switch -> / ".as_slice(),
+        b"1 0 enter -> 2.1".as_slice(),
+        b"1 0 enter 0 ->".as_slice(),
+        b"1 0 enter 100 ->".as_slice(),
+        b"1 0 enter 01 ->".as_slice(),
+        b"1 0 apply 0 ->".as_slice(),
+        b"1 0 apply 1000 ->".as_slice(),
+        b"1 0 apply 2 -> 2.1".as_slice(),
+        b"1 0 apply 2 -> /".as_slice(),
+        b"1 0 next 1 ->".as_slice(),
+        b"1 0 alloc ->".as_slice(),
+        b"1 0 switch -> 17.4 / 1.1 2.1 3.1 4.1 5.1 6.1 7.1 8.1 9.1 10.1 11.1 12.1 13.1 14.1 15.1 16.1 17.1".as_slice(),
+        b"loop 0 0".as_slice(),
+        b"loop 1 1".as_slice(),
+        b"loop 2 0".as_slice(),
+        b"loop 1".as_slice(),
+        b"loop 1 00".as_slice(),
+        b"loop 1 0 ".as_slice(),
+        b"loop 100 0".as_slice(),
         b"block next".as_slice(),
         b"".as_slice(),
     ];
@@ -177,6 +286,30 @@ fn names_the_first_bad_line(rt: HostRuntime) -> Result<(), Fail> {
         read(alloc, b"u-program 1\nblock Main\n").err(),
         Some(ReadError::BadLine(2))
     );
+    assert_eq!(rt;
+        read(alloc, b"u-program 1\nloop 1 0\n").err(),
+        Some(ReadError::BadLine(2))
+    );
+    Ok(())
+}
+
+#[test]
+fn names_a_bad_line_behind_others(rt: HostRuntime) -> Result<(), Fail> {
+    let alloc = rt.alloc();
+    let lines = [
+        b"1 0 begin ->\nloop 1 0".as_slice(),
+        b"loop 1 0\nloop 1 0".as_slice(),
+        b"loop 1 0\nloop 3 0".as_slice(),
+        b"loop 1 0\nloop 2 2".as_slice(),
+        b"loop 1 0\nloop 2 3".as_slice(),
+        b"loop 1 0\nblock next".as_slice(),
+        b"1 0 begin ->\n1 0 end ->".as_slice(),
+        b"1 0 begin ->\n3 0 end ->".as_slice(),
+    ];
+    for line in lines {
+        let text = with_line(alloc, line)?;
+        assert_eq!(rt; read(alloc, &text).err(), Some(ReadError::BadLine(4)));
+    }
     Ok(())
 }
 
@@ -188,10 +321,37 @@ fn names_the_line_that_has_too_many(rt: HostRuntime) -> Result<(), Fail> {
         b"1 0 begin -> 1.1 2.1 3.1 4.1 5.1 6.1 7.1 8.1 9.1 10.1 11.1 12.1 13.1 14.1 15.1 16.1 17.1",
     )?;
     assert_eq!(rt; read(alloc, &text).err(), Some(ReadError::TooMany(3)));
+    let text = with_line(
+        alloc,
+        b"1 0 switch -> 1.1 2.1 3.1 4.1 5.1 6.1 7.1 8.1 9.1 10.1 11.1 12.1 13.1 14.1 15.1 16.1 17.1 /",
+    )?;
+    assert_eq!(rt; read(alloc, &text).err(), Some(ReadError::TooMany(3)));
+    let text = with_line(
+        alloc,
+        b"1 0 switch -> / 1.1 2.1 3.1 4.1 5.1 6.1 7.1 8.1 9.1 10.1 11.1 12.1 13.1 14.1 15.1 16.1 17.1",
+    )?;
+    assert_eq!(rt; read(alloc, &text).err(), Some(ReadError::TooMany(3)));
     let text = blocks(alloc, 65)?;
     assert_eq!(rt; read(alloc, &text).err(), Some(ReadError::TooMany(130)));
     let text = statements(alloc, 1000)?;
     assert_eq!(rt; read(alloc, &text).err(), Some(ReadError::TooMany(1002)));
+    Ok(())
+}
+
+#[test]
+fn tells_a_loop_too_many_from_a_bad_one(rt: HostRuntime) -> Result<(), Fail> {
+    let alloc = rt.alloc();
+    let lines = [
+        (b"loop 100 0".as_slice(), ReadError::TooMany(102)),
+        (b"loop 100 99".as_slice(), ReadError::TooMany(102)),
+        (b"loop 100 100".as_slice(), ReadError::BadLine(102)),
+        (b"loop 101 0".as_slice(), ReadError::BadLine(102)),
+        (b"loop 99 0".as_slice(), ReadError::BadLine(102)),
+    ];
+    for (line, fault) in lines {
+        let text = loops(alloc, 99, line)?;
+        assert_eq!(rt; read(alloc, &text).err(), Some(fault));
+    }
     Ok(())
 }
 
@@ -203,6 +363,7 @@ fn tells_a_text_cut_short(rt: HostRuntime) -> Result<(), Fail> {
         b"u-program".as_slice(),
         b"u-program 1\n".as_slice(),
         b"u-program 1\nblock main\n".as_slice(),
+        b"u-program 1\nblock main\nloop 1 0\n".as_slice(),
         b"u-program 1\nblock main\n1 0 begin ->\nblock next\n".as_slice(),
         b"u-program 1\nblock main\n1 0 begin ->\nno line of a program".as_slice(),
         b"u-program 1\nblock main\n1 0 begin -> 2.1 2.2\n2 0 add -> 3.1\n3 0 end ->".as_slice(),

@@ -15,9 +15,18 @@ use u_text::cut;
 ///
 /// A line ends with a newline. Lines are judged from the first one, and the first that no program
 /// could have there is named: by `BadLine`, or by `TooMany` where the line is right but for the number
-/// of blocks (64), of statements of a block (999) or of destinations of a statement (16). Where
-/// no such line is found, and the bytes are no program's text, the answer is `Truncated`, whatever
-/// stands behind the last newline. The text of a program is refused for want of memory alone.
+/// of blocks (64), of loops of a block (99), of statements of a block (999) or of destinations of a
+/// list (16). Where no such line is found, and the bytes are no program's text, the answer is
+/// `Truncated`, whatever stands behind the last newline. The text of a program is refused for want of
+/// memory alone.
+///
+/// `block NAME` begins a block. Behind it stand the lines of its loops, `loop NUMBER HELD_BY`, where
+/// `HELD_BY` is 0 or the number of an earlier loop, and behind them its statements, `NUMBER REGION KIND
+/// [ARGUMENT] -> DESTINATION..`, of a `switch` `-> DESTINATION.. / DESTINATION..` (for true, and for
+/// false). Loops and statements are numbered 1, 2, and so on. An argument is the constant of a `const`,
+/// the loop of an `enter` (1 to 99) or the statement of an `apply` (1 to 999), and other kinds have
+/// none. `apply` and `end` list no destinations. Source of the language: Arvind and Gostelow 1982;
+/// the text is this project's profile.
 #[tactic(auto, using(crate::proofs::Same::read_back))]
 pub fn read(alloc: Global, bytes: &[u8]) -> Result<Program, ReadError>
     ensures answer { MatchResult result (λ program. IsTextOf bytes.now program) (λ fault. IsReadError bytes.now fault) }

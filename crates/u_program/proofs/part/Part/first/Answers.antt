@@ -2,14 +2,19 @@ use Rattle.std.proofs.Common.{rules, ◌≡◌, Some, None, refl}
 use Rattle.u_text.specs.Pieces.{words}
 use Rattle.u_program.specs.Reading.{line_at}
 use Rattle.u_program.proofs.LineLaws.{line_sound}
-use Rattle.u_program.specs.declared.reading.Line.TheVariants.{Block, Statement}
-use Rattle.u_program.proofs.Whole.{no_first_line, statement_first, first_part}
+use Rattle.u_program.specs.declared.reading.Line.TheVariants.{Block, Loop, Statement}
+use Rattle.u_program.proofs.Whole.{no_first_line, loop_first, statement_first, first_part}
 use Rattle.u_program.proofs.part.Part.first.Goals as goal
 
 pub returns-in-Err-Bad : goal.returns-in-Err-Bad
 returns-in-Err-Bad c =
     let h : line_at (words c.args.text.now) ≡ None = search rules in
     no_first_line c.args.text.now h
+
+pub returns-in-Loop : goal.returns-in-Loop
+returns-in-Loop c =
+    let h : line_at (words c.args.text.now) ≡ Some (Loop c.in-Loop.field-0 c.in-Loop.field-1) = search rules in
+    loop_first c.args.text.now _ _ h
 
 pub returns-in-Statement : goal.returns-in-Statement
 returns-in-Statement c =

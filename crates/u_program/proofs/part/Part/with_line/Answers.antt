@@ -2,7 +2,7 @@ use Rattle.std.proofs.Common.{rules, ◌≡◌, Some, None}
 use Rattle.u_text.specs.Pieces.{words}
 use Rattle.u_program.specs.Reading.{line_at}
 use Rattle.u_program.proofs.LineLaws.{line_sound}
-use Rattle.u_program.specs.declared.reading.Line.TheVariants.{Block, Statement}
+use Rattle.u_program.specs.declared.reading.Line.TheVariants.{Block, Loop, Statement}
 use Rattle.u_program.proofs.Steps.{no_line}
 use Rattle.u_program.proofs.part.Part.with_line.Goals as goal
 
@@ -10,6 +10,11 @@ pub returns-in-Err-Bad : goal.returns-in-Err-Bad
 returns-in-Err-Bad c =
     let h : line_at (words c.args.text.now) ≡ None = search rules in
     no_line c.args.self.done.items c.args.self.last c.args.text.now c.requires.part h
+
+pub with_loop-requires-clause-line : goal.with_loop-requires-clause-line
+with_loop-requires-clause-line c =
+    let h : line_at (words c.args.text.now) ≡ Some (Loop c.in-Loop.number c.in-Loop.held_by) = search rules in
+    (line_sound c.args.text.now _ h).0
 
 pub with_statement-requires-clause-line : goal.with_statement-requires-clause-line
 with_statement-requires-clause-line c =
@@ -20,6 +25,11 @@ pub returns-in-Block : goal.returns-in-Block
 returns-in-Block c =
     let h : line_at (words c.args.text.now) ≡ Some (Block c.in-Block.name) = search rules in
     rw (line_sound c.args.text.now _ h).1 c.with_block.ensures
+
+pub returns-in-Loop : goal.returns-in-Loop
+returns-in-Loop c =
+    let h : line_at (words c.args.text.now) ≡ Some (Loop c.in-Loop.number c.in-Loop.held_by) = search rules in
+    rw (line_sound c.args.text.now _ h).1 c.with_loop.ensures
 
 pub returns-in-Statement : goal.returns-in-Statement
 returns-in-Statement c =

@@ -1,7 +1,7 @@
 use Rattle.std.proofs.Common.{rules, ◌≡◌, ◌+◌, length, inl, inr}
 use Rattle.u_program.proofs.Steps.{number_wrong, statement_over, statement_taken}
 use Rattle.u_program.proofs.part.Part.with_statement.Goals as goal
-use Rattle.u_program.proofs.part.Part.with_statement.Goals.{then-number-gt999-via-then-number-gt999, then-number-gt999-via-else-number-gt999+then-destinations-gt16}
+use Rattle.u_program.proofs.part.Part.with_statement.Goals.{then-destinations-gt16-via-then-destinations-gt16, then-destinations-gt16-via-else-destinations-gt16+then-otherwise-gt16}
 
 pub returns-then-number-statements : goal.returns-then-number-statements
 returns-then-number-statements c = number_wrong c.args.self.done.items c.args.self.last c.args.number c.args.statement c.requires.part c.requires.line (search rules)
@@ -9,10 +9,15 @@ returns-then-number-statements c = number_wrong c.args.self.done.items c.args.se
 pub returns-then-number-gt999 : goal.returns-then-number-gt999
 returns-then-number-gt999 c =
     let n : c.args.number ≡ length c.args.self.last.statements + 1 = search rules in
+    statement_over c.args.self.done.items c.args.self.last c.args.number c.args.statement c.requires.part c.requires.line n (inl (search rules))
+
+pub returns-then-destinations-gt16 : goal.returns-then-destinations-gt16
+returns-then-destinations-gt16 c =
+    let n : c.args.number ≡ length c.args.self.last.statements + 1 = search rules in
     statement_over c.args.self.done.items c.args.self.last c.args.number c.args.statement c.requires.part c.requires.line n
-    (elim c.then-number-gt999.branch [ then-number-gt999-via-then-number-gt999 w ↦ inl (search rules) | then-number-gt999-via-else-number-gt999+then-destinations-gt16 w ↦ inr (search rules) ])
+    (elim c.then-destinations-gt16.branch [ then-destinations-gt16-via-then-destinations-gt16 w ↦ inr (inl (search rules)) | then-destinations-gt16-via-else-destinations-gt16+then-otherwise-gt16 w ↦ inr (inr (search rules)) ])
 
 pub returns : goal.returns
 returns c =
     let n : c.args.number ≡ length c.args.self.last.statements + 1 = search rules in
-    rw c.in_ok-last.ensures (statement_taken c.args.self.done.items c.args.self.last c.args.number c.args.statement c.requires.part c.requires.line n (search rules) (search rules))
+    rw c.in_ok-last.ensures (statement_taken c.args.self.done.items c.args.self.last c.args.number c.args.statement c.requires.part c.requires.line n (search rules) (search rules) (search rules))
