@@ -6,7 +6,8 @@ ghost use Rattle.u_check.specs.Rules.{main_name, names_block, gives_block, sends
 
 use crate::kinds::{crosses, is_back, is_end, is_entry, is_last, is_leave, is_of_loop, ports_of};
 use crate::places::{
-    begins_well, enters_inward, has_region, held_by, is_applied, is_outer, leaves_after_last, lies_in, lies_in_entered, lies_in_some, names_back, reaches, takes_tokens,
+    begins_well, enters_inward, has_region, held_by, is_applied, is_outer, leaves_after_last,
+    lies_in, lies_in_entered, lies_in_some, names_back, reaches, takes_tokens,
 };
 use crate::rule::Rule;
 use u_name::BlockName;
@@ -153,7 +154,8 @@ fn destination_keeps(
 fn all_keep(rule: Rule, block: &Block, statement: &Statement, sent: &[Destination]) -> bool
     ensures { result ≡ list_all (λ d. destination_keeps rule block.now statement.now d) sent.now }
 {
-    sent.iter().all(|d| destination_keeps(rule, block, statement, d))
+    sent.iter()
+        .all(|d| destination_keeps(rule, block, statement, d))
 }
 
 /// Whether the statement of that number of the block keeps the rule.

@@ -136,11 +136,7 @@ pub fn lies_in(region: u8, statements: &[Statement], destination: &Destination) 
 }
 
 /// Whether there is such a region, and the destination lies in it.
-pub fn lies_in_some(
-    region: Option<u8>,
-    statements: &[Statement],
-    destination: &Destination,
-) -> bool
+pub fn lies_in_some(region: Option<u8>, statements: &[Statement], destination: &Destination) -> bool
     ensures { result ≡ lies_in_some region (statement_at statements.now destination.now.statement) }
 {
     match region {
