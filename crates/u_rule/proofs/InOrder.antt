@@ -1,5 +1,5 @@
 -- What a firing needs and what it gives stands in order, each entry once.
-use Rattle.std.proofs.Common.{◌≡◌, ◌⊎◌, inl, inr, ◌∙◌, sym, refl, arith, subst, Bool, true, false, ℕ, ◌+◌, ◌*◌, ◌<◌, ◌≤◌, List, [], ◌∷◌, map, Contains, Ordering, Result, Ok, Err, cond}
+use Rattle.std.proofs.Common.{◌≡◌, ◌⊎◌, inl, inr, ◌∙◌, sym, refl, arith, subst, Bool, true, false, ℕ, ◌+◌, ◌*◌, ◌<◌, ◌≤◌, List, [], ◌∷◌, map, Contains, Ordering, Option, Some, None, Result, Ok, Err, ◌==◌, cond}
 use Rattle.std.specs.Ordering.{ordering_then, nat_cmp}
 use Rattle.std.specs.Cmp.{tied_itself, nat_cmp_is}
 use Rattle.std.specs.declared.cmp.Ordering.TheVariants.{Less, Equal, Greater}
@@ -7,21 +7,26 @@ use Rattle.std.specs.Cmp.Lexicographic.{slice_cmp}
 use Rattle.std.proofs.lemmas.Cmp.{nat_list_cmp_total}
 use Rattle.u_name.specs.ContextOrder.{context_cmp}
 use Rattle.u_name.specs.ContextLaws.{context_cmp_total}
-use Rattle.u_name.specs.Name.{Activity, activity}
+use Rattle.u_name.specs.Context.{Tree, Top, InLoop, InCall, depth}
+use Rattle.u_name.specs.Name.{Activity, activity, call_context, returned}
 use Rattle.u_name.specs.NameOrder.{name_cmp, name_cmp_total}
 use Rattle.u_value.specs.declared.value.Value.{Value}
+use Rattle.u_value.specs.declared.value.Value.TheVariants as values
 use Rattle.u_value.specs.declared.fault_kind.FaultKind.{FaultKind}
+use Rattle.u_value.specs.declared.fault_kind.FaultKind.TheVariants as faults
 use Rattle.u_program.specs.Limits.{Ascending, IsDestination, IsStatement, rank, the_limits}
 use Rattle.u_program.specs.Parts.{StatementParts, BlockParts}
 use Rattle.u_program.specs.declared.program.Kind.{Kind}
-use Rattle.u_program.specs.declared.program.Kind.TheVariants.{Switch}
 use Rattle.u_program.specs.declared.program.Destination.{Destination}
-use Rattle.u_check.specs.Rules.{is_end}
+use Rattle.u_check.specs.Rules.{is_apply, is_end, names_block}
 use Rattle.u_system.specs.Rising.{Rises}
 use Rattle.u_system.proofs.Member.{Contains-nil, Contains-head, Contains-tail, Contains-cons_cases}
 use Rattle.u_rule.specs.Parts.{token, ValueList}
-use Rattle.u_rule.specs.Rule.{sent, beside, tokens_from, fault_of}
-use Rattle.u_rule.proofs.Linkage.{mapped}
+use Rattle.u_rule.specs.Fits.{statement_of}
+use Rattle.u_rule.specs.Rule.{sent, beside, reached, refusal_of, list_of, result_of, first_of, delivered, handed_on, called, back_of, brought_back, finished, ended, given, tokens_from, fault_of}
+use Rattle.u_rule.specs.Made.{IsReachable}
+use Rattle.u_rule.proofs.Linkage.{mapped, reached_beside}
+use Rattle.u_rule.proofs.Destinations.{list_ascends}
 use Rattle.u_rule.specs.EntryOrder.{entry_cmp}
 use Rattle.u_rule.specs.declared.entry.Entry.{Entry}
 use Rattle.u_rule.specs.declared.entry.Entry.TheVariants as entries
@@ -94,3 +99,49 @@ tokens_rise a port (v ∷ vs) = ((λ x m. above port (port + 1) v vs (omega arit
     above p q v (w ∷ ws) l x m =
         elim (Contains-cons_cases (entries.Token (token a q w)) x (tokens_from a (q + 1) ws) m)
         [ inl e ↦ subst (λ (y : Entry). entry_cmp (entries.Token (token a p v)) y ≡ Less) e (by_port a p q v w l) | inr k ↦ above p (q + 1) v ws (omega arith) x k ]
+
+-- one by one, what a statement reaches is in the order of statements
+reached_rises : (k : Kind) (a : Activity) → IsReachable k a → IsBeside (reached k a)
+reached_rises k a i s t l = rw (reached_beside k a s i, reached_beside k a t i) (beside_less (reached k a a.statement) s t l)
+
+handed_rise : (k : Kind) (s : StatementParts) (a : Activity) (vs : ValueList) (r : Result Value FaultKind) → IsStatement the_limits s → IsReachable k a → Rises entry_cmp (handed_on k a (list_of k s vs) r)
+handed_rise k s a vs (Err kind) i w = alone (fault_of a kind)
+handed_rise k s a vs (Ok v) i w = at (refusal_of k a)
+  where
+    at : (o : Option FaultKind) → Rises entry_cmp (delivered o k a (list_of k s vs) v)
+    at None = sent_rise (reached k a) v 0 (list_of k s vs) (reached_rises k a w) (list_ascends k s vs i)
+    at (Some why) = alone (fault_of a why)
+
+called_rise : (p : List BlockParts) (a : Activity) (vs : ValueList) → Rises entry_cmp (called p a vs)
+called_rise p a (values.Proc name ∷ v ∷ vs) = at (names_block p name) (depth a.context == 64)
+  where
+    at : (x y : Bool) → Rises entry_cmp (cond x (cond y (fault_of a faults.Deep ∷ []) (entries.Token (token (activity (call_context a) name 1 1) 1 v) ∷ [])) (fault_of a faults.Kind ∷ []))
+    at true true = alone (fault_of a faults.Deep)
+    at true false = alone (entries.Token (token (activity (call_context a) name 1 1) 1 v))
+    at false y = alone (fault_of a faults.Kind)
+called_rise p a vs = alone (fault_of a faults.Kind)
+
+ended_rise : (p : List BlockParts) (a : Activity) (r : Result Value FaultKind) → Rises entry_cmp (ended p a r)
+ended_rise p a (Err kind) = alone (fault_of a kind)
+ended_rise p a (Ok v) = by_context a.context
+  where
+    brought : (o : Option ℕ) → Rises entry_cmp (brought_back a v o)
+    brought None = tt
+    brought (Some n) = alone (entries.Token (token (returned a n) 1 v))
+
+    by_context : (u : Tree) → Rises entry_cmp (finished p a u v)
+    by_context Top = alone (entries.Answer v)
+    by_context (InLoop outer from number turn) = tt
+    by_context (InCall outer from caller turn) = brought (back_of (statement_of p from caller))
+
+given_rise : (p : List BlockParts) (s : StatementParts) (a : Activity) (vs : ValueList) → IsStatement the_limits s → IsReachable s.kind a → Rises entry_cmp (given p s a vs)
+given_rise p s a vs i w = at (is_apply s.kind) (is_end s.kind)
+  where
+    at : (x y : Bool) → Rises entry_cmp (cond x (called p a vs) (cond y (ended p a (first_of vs)) (handed_on s.kind a (list_of s.kind s vs) (result_of s.kind vs))))
+    at true y = called_rise p a vs
+    at false true = ended_rise p a (first_of vs)
+    at false false = handed_rise s.kind s a vs (result_of s.kind vs) i w
+
+-- what a statement of a program gives stands in order
+pub all_given_rise : (es : List Entry) (p : List BlockParts) (s : StatementParts) (a : Activity) (vs : ValueList) → es ≡ given p s a vs → IsStatement the_limits s → IsReachable s.kind a → Rises entry_cmp es
+all_given_rise es p s a vs e i w = subst (λ (ys : List Entry). Rises entry_cmp ys) (sym e) (given_rise p s a vs i w)

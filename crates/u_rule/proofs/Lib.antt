@@ -1,4 +1,6 @@
 pub mod Destinations
 pub mod Orders
 pub mod Linkage
+pub mod Places
+pub mod Follow
 pub mod InOrder

@@ -93,6 +93,8 @@ pub fn start(job: &Job) -> Entry
     ensures start { result ≡ start_of job.now }
     ensures fitting { IsFitting job.now.program result }
 {
+    let program = job.program();
+    let _ = program.blocks();
     let main = BlockName::new(b"main");
     let activity = Name::new(Context::root(), main, 1, 1);
     Entry::Token(Token::new(activity, 1, Value::Int(job.argument())))
@@ -104,7 +106,7 @@ pub fn start(job: &Job) -> Entry
 ///
 /// # Errors
 /// `NotAFiring` exactly where it is no firing of the job. `NoMemory` where there is no memory.
-#[tactic(auto, unfolding(crate::specs::Rule::gives_of, crate::specs::Rule::is_firing_of))]
+#[tactic(auto, unfolding(crate::specs::Rule::gives_of, crate::specs::Rule::is_firing_of), using(crate::proofs::Follow::leaves_loop, crate::proofs::Follow::ends_call))]
 pub fn gives(alloc: Global, job: &Job, firing: &Firing) -> Result<Vec<Entry>, RuleError>
     ensures ok { IfOk result (λ v. IsTrue (is_firing_of job.now firing.now) × (v.items ≡ gives_of job.now firing.now)) }
     ensures order { IfOk result (λ v. Rises entry_cmp v.items) }
@@ -118,6 +120,7 @@ pub fn gives(alloc: Global, job: &Job, firing: &Firing) -> Result<Vec<Entry>, Ru
     let Some(statement) = executed(program, &firing.activity) else {
         return Err(RuleError::NotAFiring);
     };
+    let _ = program.blocks();
     let values = firing.values.as_slice();
     let entries = given(alloc, program, statement, &firing.activity, values)?;
     Ok(entries)
