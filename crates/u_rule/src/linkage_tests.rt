@@ -255,10 +255,7 @@ fn a_switch_sends_to_one_list(rt: HostRuntime) -> Result<(), Fail> {
     let needed = "(-.main.L1.1).main.12.2 1 6\n(-.main.L1.1).main.12.2 2 ";
     let rows = [
         ("true", "true\ngives\n"),
-        (
-            "false",
-            "false\ngives\n(-.main.L1.1).main.15.2 1 6\n",
-        ),
+        ("false", "false\ngives\n(-.main.L1.1).main.15.2 1 6\n"),
         ("7", "7\ngives\nkind\n"),
     ];
     for (control, behind) in rows {
