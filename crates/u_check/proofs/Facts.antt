@@ -10,7 +10,7 @@ use Rattle.std.proofs.lemmas.Option.{slice_get-get_or, slice_get_within}
 use Rattle.std.proofs.lemmas.List.FromFn.{get_or-range_with_len, length-range_with_len}
 use Rattle.u_program.specs.declared.program.Constant.TheVariants as constants
 use Rattle.u_program.specs.declared.program.Kind.{Kind}
-use Rattle.u_program.specs.declared.program.Kind.TheVariants.{Const, Enter, Last, Leave, Apply, Back, End}
+use Rattle.u_program.specs.declared.program.Kind.TheVariants.{Const, Enter, Apply, Back}
 use Rattle.u_program.specs.declared.program.Destination.{Destination}
 use Rattle.u_program.specs.Limits.{AreLoops}
 use Rattle.u_program.specs.Parts.{StatementParts, BlockParts}

@@ -1,9 +1,9 @@
 -- What the tests on a statement's kind say.
-use Rattle.std.proofs.Common.{◌≡◌, ℕ, inl, inr, ◌⊎◌, refl, sym, Bool, true, false}
+use Rattle.std.proofs.Common.{◌≡◌, refl, sym, true, false}
 use Rattle.std.proofs.lemmas.Bool.{false≢true}
 use Rattle.u_program.specs.declared.program.Kind.{Kind}
-use Rattle.u_program.specs.declared.program.Kind.TheVariants.{Begin, Last, Leave, Enter, Next, Apply, Back, End}
-use Rattle.u_check.specs.Rules.{is_begin, is_back, is_last, is_leave, is_apply, is_end, is_entry, is_of_loop, crosses, applies_to}
+use Rattle.u_program.specs.declared.program.Kind.TheVariants.{Begin, Last, Leave, Back, End}
+use Rattle.u_check.specs.Rules.{is_begin, is_back, is_last, is_leave, is_end, is_entry}
 
 pub begin_kind : (k : Kind) → is_begin k ≡ true → k ≡ Begin
 begin_kind Begin e = refl

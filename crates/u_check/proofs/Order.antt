@@ -1,5 +1,5 @@
 -- The order of the rules.
-use Rattle.std.proofs.Common.{◌≡◌, ℕ, zero, suc, ◌+◌, ◌-◌, ◌<◌, ◌≤◌, refl, sym, ap, ◌∙◌, arith, lit<, lit≤, below_more, subst, List, [], ◌∷◌, get_or}
+use Rattle.std.proofs.Common.{◌≡◌, ℕ, zero, suc, ◌+◌, ◌-◌, ◌<◌, ◌≤◌, refl, sym, ap, ◌∙◌, arith, lit≤, below_more, subst, List, [], ◌∷◌, get_or}
 use Rattle.u_check.specs.declared.rule.Rule.{Rule}
 use Rattle.u_check.specs.declared.rule.Rule.TheVariants.{BlockNamesDiffer, MainExists, BeginComesFirst, RegionExists, DestinationExists, EntriesTakeNothing, EnterReachesItsLoop, ApplyNamesBack, BackIsNamed, ConstantNamesBlock, LoopStatementsInLoops, LastSendsToLeave, LeaveSendsOut, EndInOuterRegion, OwnRegion, PortsAreFed}
 use Rattle.u_check.specs.Rules.{number_of}

@@ -12,6 +12,6 @@ mod tests;
 
 pub use checker::{Refused, check};
 pub use job::{Checked, Job};
-pub use kinds::{is_back, is_begin, is_end, is_entry, is_last, is_leave, ports_of};
+pub use kinds::{is_end, ports_of};
 pub use places::held_by;
 pub use rule::{Breach, Rule};
