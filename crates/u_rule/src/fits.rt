@@ -8,6 +8,7 @@ ghost use Rattle.u_program.specs.Limits.{IsBlockOf, IsStatement, the_limits};
 ghost use Rattle.u_check.specs.Rules.{block_named, names_block, is_apply};
 ghost use Rattle.u_rule.specs.Fits.{statement_of, holder_of, calling_region, fits};
 
+use u_check::held_by;
 use u_name::{BlockName, Context, Node};
 use u_program::{Block, Kind, Program, Statement};
 
@@ -45,15 +46,11 @@ pub(crate) fn statement_of<'a>(
 }
 
 /// The region that holds that loop of the block, where the program has it.
-#[tactic(auto, unfolding(u_check::specs::Rules::held_by))]
 fn holder_of(program: &Program, block: &BlockName, number: u8) -> Option<u8>
     ensures { result ≡ holder_of program.now block.now number }
 {
     let block = block_of(program, block)?;
-    if number == 0 {
-        return None;
-    }
-    block.loops().get(usize::from(number) - 1).copied()
+    held_by(block.loops(), number)
 }
 
 /// Whether it is `apply`.

@@ -240,7 +240,9 @@ fn finished(
         Node::Root => alone(alloc, Entry::Answer(value)),
         Node::Loop { .. } => unreachable!(),
         Node::Call {
-            block, statement, ..
+            block,
+            statement,
+            ..
         } => match back_of(program, block, *statement) {
             None => unreachable!(),
             Some(back) => {

@@ -11,6 +11,8 @@ mod entry;
 mod firing;
 mod fits;
 mod giving;
+#[cfg(test)]
+mod linkage_tests;
 mod parts;
 mod rule;
 #[cfg(test)]
