@@ -1,7 +1,7 @@
 //! Sets of entries.
 ghost use Rattle.std.specs.Prelude.{◌≡◌, ◌↔◌, [], OnOk, OnErr, IfOk, IfErr, Contains, ◌⊎◌, IsTrue, length, map};
 ghost use Rattle.std.specs.Map.Iter.{ShowsInOrder, deref};
-ghost use Rattle.u_system.specs.Rising.{Rises, IsWith};
+ghost use Rattle.u_system.specs.Rising.{Rises, IsWith, IsUnion};
 ghost use Rattle.u_rule.specs.EntryOrder.{entry_cmp};
 ghost use Rattle.u_rule.specs.declared.entry.Entry.{Entry};
 ghost use Rattle.u_history.specs.Says.{IsOutcome};
@@ -112,5 +112,41 @@ impl History {
     {
         let entries = self.references()?;
         Outcome::of(self.alloc, &entries)
+    }
+
+    /// Puts copies of the other set's entries in.
+    fn take_in(&mut self, other: &History) -> Result<(), AllocError>
+        ensures { OnOk result (IsUnion self.old other.now self.new) }
+    {
+        for entry in other.entries.iter() {
+            let _ = self.insert(entry.copy()?)?;
+        }
+        Ok(())
+    }
+
+    /// An equal set.
+    ///
+    /// # Errors
+    /// `AllocError` where there is no memory.
+    pub fn copy(&self) -> Result<History, AllocError>
+        ensures { IfOk result (λ h. h ≡ self.now) }
+    {
+        let mut copied = History::new(self.alloc);
+        copied.take_in(self)?;
+        Ok(copied)
+    }
+
+    /// Puts the other set's entries in: the least set that has both.
+    ///
+    /// # Errors
+    /// `AllocError` where memory runs out, and the set stays as it was.
+    pub fn merge(&mut self, other: &History) -> Result<(), AllocError>
+        ensures ok { OnOk result (IsUnion self.old other.now self.new) }
+        ensures err { OnErr result (self.new ≡ self.old) }
+    {
+        let mut union = self.copy()?;
+        union.take_in(other)?;
+        *self = union;
+        Ok(())
     }
 }
