@@ -1,5 +1,4 @@
-use Rattle.std.proofs.Common.{◌≡◌, ◌∙◌, sym, subst, List, map}
-use Rattle.std.specs.Map.Iter.{deref}
+use Rattle.std.proofs.Common.{◌∙◌, sym, subst, List}
 use Rattle.u_system.specs.Rising.{IsUnion}
 use Rattle.u_rule.specs.declared.entry.Entry.{Entry}
 use Rattle.u_history.proofs.Sets.{shown_all}
