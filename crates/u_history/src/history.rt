@@ -1,17 +1,25 @@
 //! Sets of entries.
 ghost use Rattle.std.specs.Prelude.{◌≡◌, ◌↔◌, [], OnOk, OnErr, IfOk, IfErr, Contains, ◌⊎◌, IsTrue, length, map};
 ghost use Rattle.std.specs.Map.Iter.{ShowsInOrder, deref};
-ghost use Rattle.u_system.specs.Rising.{Rises, IsWith, IsUnion};
+ghost use Rattle.u_system.specs.Rising.{Rises, IsWith, IsUnion, IsListOf};
 ghost use Rattle.u_rule.specs.EntryOrder.{entry_cmp};
 ghost use Rattle.u_rule.specs.declared.entry.Entry.{Entry};
+ghost use Rattle.u_rule.specs.Parts.{token};
+ghost use Rattle.u_rule.specs.EntryOrder.{write_of};
+ghost use Rattle.u_rule.specs.declared.firing.Written.{Written};
+ghost use Rattle.u_rule.specs.declared.entry.Entry.TheVariants as kinds;
+ghost use Rattle.u_history.specs.Orders.{value_order, written_order};
 ghost use Rattle.u_history.specs.Says.{IsOutcome};
 
+use crate::lookup::{pairs_in, values_at};
 use crate::outcome::Outcome;
 use std::alloc::{AllocError, AllocFailed, Global};
 use std::collections::BTreeSet;
 use std::collections::btree_set::Iter;
 use std::marker::Model;
-use u_rule::Entry;
+use u_name::{Cell, Name};
+use u_rule::{Entry, Written};
+use u_value::Value;
 
 /// A set of entries. Contracts see it as the list of its entries, in order.
 #[derive(Drop)]
@@ -104,6 +112,28 @@ impl History {
             all.push(entry.copy()?)?;
         }
         Ok(all)
+    }
+
+    /// The values of the tokens at that port of the activity, in order.
+    ///
+    /// # Errors
+    /// `AllocError` where there is no memory.
+    pub fn values(&self, activity: &Name, port: u8) -> Result<Vec<Value>, AllocError>
+        ensures { IfOk result (λ v. IsListOf value_order (λ x. Contains self.now (kinds.Token (token activity.now port x))) v.items) }
+    {
+        let entries = self.references()?;
+        values_at(self.alloc, &entries, activity, port)
+    }
+
+    /// The writers and values of the writes of the cell, in order.
+    ///
+    /// # Errors
+    /// `AllocError` where there is no memory.
+    pub fn writes(&self, cell: &Cell) -> Result<Vec<Written>, AllocError>
+        ensures { IfOk result (λ v. IsListOf written_order (λ (x : Written). Contains self.now (kinds.Write (write_of cell.now x.writer x.value))) v.items) }
+    {
+        let entries = self.references()?;
+        pairs_in(self.alloc, &entries, cell)
     }
 
     /// What the entries say.
