@@ -4,3 +4,4 @@ pub mod Neighbours
 pub mod Reports
 pub mod Sets
 pub mod Texts
+pub mod Unions

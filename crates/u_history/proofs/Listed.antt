@@ -1,5 +1,6 @@
 -- Lists that are gathered from entries.
 use Rattle.std.proofs.Common.{◌≡◌, ◌↔◌, ◌⊎◌, inl, inr, ℕ, ◌+◌, ◌<◌, ◌≤◌, List, [], ◌∷◌, Ordering, Contains, IsTrue, Bool, length, refl, sym, subst, ◌∙◌, ap, arith}
+use Rattle.std.specs.Prelude.{Result, IfOk}
 use Rattle.std.specs.Borrow.{Bor}
 use Rattle.u_system.specs.Firing.{SomeOf}
 use Rattle.u_system.specs.Rising.{Rises, IsWith, IsListOf}
@@ -21,6 +22,10 @@ pub lent_after : (es : List (Bor Entry)) (i : ℕ) (b : Bool) (P : Type 0) → (
 lent_after es i b P h =
     let n = length_lent es in
     ((λ t. let k = h.0 t in (let l = k.0 in omega arith, k.1)), λ k. h.1 (let l = k.0 in omega arith, k.1))
+
+-- what is said of one list is said of an equal one
+pub along : {T E : Type 0} (r : Result T E) (P : List Entry → T → Type 0) (es fs : List Entry) → es ≡ fs → IfOk r (P es) → IfOk r (P fs)
+along r P es fs e h = subst (λ (gs : List Entry). IfOk r (P gs)) e h
 
 module _ {X : Type 0} (K : X → Entry) where
   -- an item that was added is all that is new

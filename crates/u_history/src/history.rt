@@ -1,17 +1,25 @@
 //! Sets of entries.
 ghost use Rattle.std.specs.Prelude.{◌≡◌, ◌↔◌, [], OnOk, OnErr, IfOk, IfErr, Contains, ◌⊎◌, IsTrue, length, map};
 ghost use Rattle.std.specs.Map.Iter.{ShowsInOrder, deref};
-ghost use Rattle.u_system.specs.Rising.{Rises, IsWith};
+ghost use Rattle.u_system.specs.Rising.{Rises, IsWith, IsUnion, IsListOf};
 ghost use Rattle.u_rule.specs.EntryOrder.{entry_cmp};
 ghost use Rattle.u_rule.specs.declared.entry.Entry.{Entry};
+ghost use Rattle.u_rule.specs.Parts.{token};
+ghost use Rattle.u_rule.specs.EntryOrder.{write_of};
+ghost use Rattle.u_rule.specs.declared.firing.Written.{Written};
+ghost use Rattle.u_rule.specs.declared.entry.Entry.TheVariants as kinds;
+ghost use Rattle.u_history.specs.Orders.{value_order, written_order};
 ghost use Rattle.u_history.specs.Says.{IsOutcome};
 
+use crate::lookup::{pairs_in, values_at};
 use crate::outcome::Outcome;
 use std::alloc::{AllocError, AllocFailed, Global};
 use std::collections::BTreeSet;
 use std::collections::btree_set::Iter;
 use std::marker::Model;
-use u_rule::Entry;
+use u_name::{Cell, Name};
+use u_rule::{Entry, Written};
+use u_value::Value;
 
 /// A set of entries. Contracts see it as the list of its entries, in order.
 #[derive(Drop)]
@@ -106,11 +114,69 @@ impl History {
         Ok(all)
     }
 
+    /// The values of the tokens at that port of the activity, in order.
+    ///
+    /// # Errors
+    /// `AllocError` where there is no memory.
+    pub fn values(&self, activity: &Name, port: u8) -> Result<Vec<Value>, AllocError>
+        ensures { IfOk result (λ v. IsListOf value_order (λ x. Contains self.now (kinds.Token (token activity.now port x))) v.items) }
+    {
+        let entries = self.references()?;
+        values_at(self.alloc, &entries, activity, port)
+    }
+
+    /// The writers and values of the writes of the cell, in order.
+    ///
+    /// # Errors
+    /// `AllocError` where there is no memory.
+    pub fn writes(&self, cell: &Cell) -> Result<Vec<Written>, AllocError>
+        ensures { IfOk result (λ v. IsListOf written_order (λ (x : Written). Contains self.now (kinds.Write (write_of cell.now x.writer x.value))) v.items) }
+    {
+        let entries = self.references()?;
+        pairs_in(self.alloc, &entries, cell)
+    }
+
     /// What the entries say.
     pub fn outcome(&self) -> Result<Outcome, AllocError>
         ensures { IfOk result (λ o. IsOutcome (Contains self.now) o.answers.items o.cell_clashes.items o.port_clashes.items o.faults.items) }
     {
         let entries = self.references()?;
         Outcome::of(self.alloc, &entries)
+    }
+
+    /// Puts copies of the other set's entries in.
+    fn take_in(&mut self, other: &History) -> Result<(), AllocError>
+        ensures { OnOk result (IsUnion self.old other.now self.new) }
+    {
+        for entry in other.entries.iter() {
+            let _ = self.insert(entry.copy()?)?;
+        }
+        Ok(())
+    }
+
+    /// An equal set.
+    ///
+    /// # Errors
+    /// `AllocError` where there is no memory.
+    pub fn copy(&self) -> Result<History, AllocError>
+        ensures { IfOk result (λ h. h ≡ self.now) }
+    {
+        let mut copied = History::new(self.alloc);
+        copied.take_in(self)?;
+        Ok(copied)
+    }
+
+    /// Puts the other set's entries in: the least set that has both.
+    ///
+    /// # Errors
+    /// `AllocError` where memory runs out, and the set stays as it was.
+    pub fn merge(&mut self, other: &History) -> Result<(), AllocError>
+        ensures ok { OnOk result (IsUnion self.old other.now self.new) }
+        ensures err { OnErr result (self.new ≡ self.old) }
+    {
+        let mut union = self.copy()?;
+        union.take_in(other)?;
+        *self = union;
+        Ok(())
     }
 }

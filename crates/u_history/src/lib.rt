@@ -2,6 +2,7 @@
 #![tactic(auto)]
 
 mod history;
+mod lookup;
 mod outcome;
 mod report;
 mod verdict;

@@ -60,7 +60,7 @@ fn at_one_place(left: &Entry, right: &Entry) -> bool
 }
 
 /// The entry at that index.
-fn entry_at<'a>(entries: &[&'a Entry], index: usize) -> &'a Entry
+pub(crate) fn entry_at<'a>(entries: &[&'a Entry], index: usize) -> &'a Entry
     requires { index < length entries.now }
     ensures { (d : Entry) → get_or (lent entries.now) index d ≡ result.now }
 {

@@ -94,7 +94,8 @@ entry_cmp_ties (entries.Fault a) (entries.Fault b) h = ap (λ t. entries.Fault t
 entry_cmp_ties (entries.Answer a) (entries.Answer b) h = ap (λ t. entries.Answer t) (value_ties a b h)
 entry_cmp_ties a b h = cc
 
-written_ties : (a b : Written) → (written_ord.ghosts).cmp a b ≡ Equal → a ≡ b
+-- pairs of a writer and a value that tie are the same
+pub written_ties : (a b : Written) → (written_ord.ghosts).cmp a b ≡ Equal → a ≡ b
 written_ties a b h =
     let u = both _ _ h in
     ap (λ n. written n a.value) (name_cmp_ties a.writer b.writer u.0) ∙ ap (λ v. written b.writer v) (value_ties a.value b.value u.1)

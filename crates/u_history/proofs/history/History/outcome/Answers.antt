@@ -1,17 +1,14 @@
-use Rattle.std.proofs.Common.{◌≡◌, List, Contains, subst, sym, ap, ◌∙◌}
-use Rattle.std.specs.Prelude.{Result, IfOk}
+use Rattle.std.proofs.Common.{List, Contains, subst, sym, ap, ◌∙◌}
 use Rattle.u_rule.specs.EntryOrder.{entry_cmp}
 use Rattle.u_rule.specs.declared.entry.Entry.{Entry}
 use Rattle.u_system.specs.Rising.{Rises}
 use Rattle.u_history.specs.Says.{lent, IsOutcome}
+use Rattle.u_history.proofs.Listed.{along}
 use Rattle.u_history.specs.declared.outcome.Outcome.{Outcome}
 use Rattle.u_history.proofs.history.History.outcome.Goals as goal
 
 pub of-requires : goal.of-requires
 of-requires c = subst (Rises entry_cmp) (sym (ap lent c.deref.ensures.value ∙ c.in_ok-entries.ensures.all)) c.in_ok-entries.ensures.rises
-
-along : {T E : Type 0} (r : Result T E) (P : List Entry → T → Type 0) (es fs : List Entry) → es ≡ fs → IfOk r (P es) → IfOk r (P fs)
-along r P es fs e h = subst (λ (gs : List Entry). IfOk r (P gs)) e h
 
 pub returns : goal.returns
 returns c =

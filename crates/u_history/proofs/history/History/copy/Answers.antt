@@ -1,0 +1,11 @@
+use Rattle.std.proofs.Common.{subst, List}
+use Rattle.u_rule.specs.EntryOrder.{entry_cmp}
+use Rattle.u_rule.specs.declared.entry.Entry.{Entry}
+use Rattle.u_system.specs.Rising.{Rises, IsUnion}
+use Rattle.u_history.proofs.Unions.{copied}
+use Rattle.u_history.proofs.history.History.copy.Goals as goal
+
+pub returns : goal.returns
+returns c =
+    copied c.args.self.now c.take_in.new.self (subst (Rises entry_cmp) c.self.view_is c.self.invariant) (subst (Rises entry_cmp) c.copied.view_is c.copied.invariant)
+    (subst (λ (left : List Entry). IsUnion left c.args.self.now c.take_in.new.self) c.new-copied.ensures c.in_ok-take_in.ensures)

@@ -1,0 +1,15 @@
+use Rattle.std.proofs.Common.{◌∙◌, ap, List, Contains}
+use Rattle.u_system.specs.Rising.{IsListOf}
+use Rattle.u_rule.specs.EntryOrder.{write_of}
+use Rattle.u_rule.specs.declared.firing.Written.{Written}
+use Rattle.u_rule.specs.declared.entry.Entry.{Entry}
+use Rattle.u_rule.specs.declared.entry.Entry.TheVariants as kinds
+use Rattle.u_history.specs.Orders.{written_order}
+use Rattle.u_history.specs.Says.{lent}
+use Rattle.u_history.proofs.Listed.{along}
+use Rattle.u_history.proofs.history.History.writes.Goals as goal
+
+pub returns : goal.returns
+returns c =
+    along c.pairs_in.result (λ (es : List Entry) v. IsListOf written_order (λ (x : Written). Contains es (kinds.Write (write_of c.args.cell.now x.writer x.value))) v.items) (lent c.deref.result.now) c.args.self.now
+    (ap lent c.deref.ensures.value ∙ c.in_ok-entries.ensures.all) c.pairs_in.ensures
