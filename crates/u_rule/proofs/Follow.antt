@@ -1,5 +1,5 @@
 -- What a firing of a checked job gives lies where the job has a port for it.
-use Rattle.std.proofs.Common.{◌≡◌, ℕ, zero, suc, ◌≤◌, ◌<◌, ◌-◌, ◌+◌, ◌==◌, ◌&&◌, is_none, refl, ap, sym, ◌∙◌, arith, subst, Bool, true, false, List, [], ◌∷◌, map, length, get_or, Option, Some, None, Result, Ok, Err, cond, inl, inr}
+use Rattle.std.proofs.Common.{◌≡◌, ℕ, ◌≤◌, ◌-◌, ◌+◌, ◌==◌, ◌&&◌, is_none, refl, ap, sym, ◌∙◌, arith, subst, Bool, true, false, List, [], ◌∷◌, length, Option, Some, None, Result, Ok, Err, cond, inl, inr}
 use Rattle.std.specs.Prelude.{slice_get, Contains, IsTrue, is_some}
 use Rattle.std.proofs.lemmas.Bool.{false≢true, and_parts}
 use Rattle.std.proofs.lemmas.List.Elements.{All-from_recursion, All-contains}
@@ -13,14 +13,14 @@ use Rattle.u_program.specs.Limits.{IsBlockOf, IsProgram, the_limits}
 use Rattle.u_program.specs.Parts.{StatementParts, BlockParts}
 use Rattle.u_program.specs.declared.program.Destination.{Destination}
 use Rattle.u_program.specs.declared.program.Kind.{Kind}
-use Rattle.u_program.specs.declared.program.Kind.TheVariants.{Begin, Const, Pass, Unary, Binary, Select, Switch, Enter, Next, Last, Leave, Apply, Back, End}
+use Rattle.u_program.specs.declared.program.Kind.TheVariants.{Binary, Select, Switch, Enter, Next, Last, Leave, Apply}
 use Rattle.u_check.specs.Rules.{ports_of, is_apply, is_end, is_of_loop, crosses, sends, main_name, names_block, block_named, statement_at, held_by, IsChecked}
 use Rattle.u_check.proofs.Blocks.{named_member, named_some}
 use Rattle.u_check.proofs.Facts.{Target, Returned, main_block, in_to, in_otherwise, held_is_loop, begin_first, enter_held, apply_returned, lies_in_loop, end_outside, target_exists, target_of_enter, target_of_leave, target_region}
 use Rattle.u_system.proofs.Member.{Contains-nil, Contains-cons_cases}
 use Rattle.u_rule.specs.Parts.{TokenParts, token, ValueList}
 use Rattle.u_rule.specs.Fits.{statement_in, statement_of, holder_in, holder_of, fits, fits_at, IsPlaced, IsFitting, AllFit}
-use Rattle.u_rule.specs.Rule.{is_firing_of, beside, reached, refusal_of, sent, list_of, result_of, first_of, delivered, handed_on, begun, called, back_named, back_of, brought_back, finished, ended, given, fault_of}
+use Rattle.u_rule.specs.Rule.{is_firing_of, beside, reached, refusal_of, list_of, result_of, first_of, delivered, handed_on, begun, called, back_named, back_of, brought_back, finished, ended, given, fault_of}
 use Rattle.u_check.specs.Jobs.{JobParts}
 use Rattle.u_rule.specs.declared.firing.Firing.{Firing}
 use Rattle.u_rule.specs.Made.{IsReachable, IsEndable}

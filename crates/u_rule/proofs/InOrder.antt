@@ -20,7 +20,7 @@ use Rattle.u_program.specs.declared.program.Kind.{Kind}
 use Rattle.u_program.specs.declared.program.Destination.{Destination}
 use Rattle.u_check.specs.Rules.{is_apply, is_end, names_block}
 use Rattle.u_system.specs.Rising.{Rises}
-use Rattle.u_system.proofs.Member.{Contains-nil, Contains-head, Contains-tail, Contains-cons_cases}
+use Rattle.u_system.proofs.Member.{Contains-nil, Contains-cons_cases}
 use Rattle.u_rule.specs.Parts.{token, ValueList}
 use Rattle.u_rule.specs.Fits.{statement_of}
 use Rattle.u_rule.specs.Rule.{sent, beside, reached, refusal_of, list_of, result_of, first_of, delivered, handed_on, called, back_of, brought_back, finished, ended, given, tokens_from, fault_of}

@@ -1,7 +1,7 @@
 -- Where the destinations of a statement lie: beside one activity.
-use Rattle.std.proofs.Common.{◌≡◌, refl, ap, sym, ◌∙◌, ℕ, List, [], ◌∷◌, ◌++◌, map, Contains, inl, inr, Option, Some, None, Ok}
+use Rattle.std.proofs.Common.{◌≡◌, refl, ap, sym, ◌∙◌, ℕ, List, [], ◌∷◌, ◌++◌, map, Contains, inl, inr, Some, None, Ok}
 use Rattle.u_name.specs.Context.{Tree, Top, InLoop, InCall}
-use Rattle.u_name.specs.Name.{Activity, activity, left, IsInLoop}
+use Rattle.u_name.specs.Name.{Activity, left, IsInLoop}
 use Rattle.u_value.specs.declared.value.Value.{Value}
 use Rattle.u_value.specs.declared.fault_kind.FaultKind.{FaultKind}
 use Rattle.u_program.specs.declared.program.Kind.{Kind}

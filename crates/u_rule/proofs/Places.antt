@@ -1,11 +1,11 @@
 -- Which places fit, where one fits: inside and outside of a loop, and of a call.
-use Rattle.std.proofs.Common.{◌≡◌, ℕ, zero, suc, ◌≤◌, ◌<◌, ◌-◌, refl, ap, sym, ◌∙◌, arith, eq-eqb, le-leb, Bool, true, false, ◌&&◌, ◌==◌, List, [], ◌∷◌, length, get_or, Option, Some, None, inl, inr}
+use Rattle.std.proofs.Common.{◌≡◌, ℕ, ◌≤◌, ◌-◌, refl, ap, ◌∙◌, arith, eq-eqb, le-leb, Bool, true, false, ◌&&◌, ◌==◌, List, Option, Some, None}
 use Rattle.std.specs.Prelude.{slice_get, Contains, nat_le, if◌then◌else◌}
 use Rattle.std.specs.Cmp.Lexicographic.{bytes_decides}
-use Rattle.std.proofs.lemmas.Bool.{false≢true, and_parts, eqb-true, leb-true, cases_Bool}
+use Rattle.std.proofs.lemmas.Bool.{false≢true, and_parts, eqb-true}
 use Rattle.u_name.specs.Context.{Tree, Top, InLoop, InCall}
 use Rattle.u_program.specs.Parts.{StatementParts, BlockParts}
-use Rattle.u_check.specs.Rules.{is_apply, main_name, same_name, names_block, block_named, statement_at, held_by}
+use Rattle.u_check.specs.Rules.{is_apply, main_name, same_name, names_block, block_named, held_by}
 use Rattle.u_check.proofs.Blocks.{named_member}
 use Rattle.u_rule.specs.Fits.{statement_in, statement_of, holder_in, holder_of, calling_region, has_passing, fits}
 

@@ -1,5 +1,5 @@
 -- The firing rule: which firings a job has, what each needs and what each gives.
-use Rattle.std.specs.Prelude.{ℕ, ◌+◌, Bool, true, false, ◌&&◌, ◌==◌, if◌then◌else◌, List, [], ◌∷◌, length, map, Option, Some, None, Result, Ok, Err, is_none}
+use Rattle.std.specs.Prelude.{ℕ, ◌+◌, Bool, false, ◌&&◌, ◌==◌, if◌then◌else◌, List, [], ◌∷◌, length, map, Option, Some, None, Result, Ok, Err, is_none}
 use Rattle.u_name.specs.Context.{Tree, Top, InLoop, InCall, depth}
 use Rattle.u_name.specs.Name.{Activity, activity, loop_context, call_context, left, returned}
 use Rattle.u_value.specs.declared.value.Value.{Value}
@@ -137,12 +137,12 @@ abbrev pub back_of : Option StatementParts → Option ℕ
 back_of None = None
 back_of (Some s) = back_named s.kind
 
--- the result of a call goes to the `back`, in the context of the caller
+-- the result of a call goes to the `back`, in the context of the caller; in a checked program there is one
 abbrev pub brought_back : Activity → Value → Option ℕ → List Entry
 brought_back a v None = []
 brought_back a v (Some b) = entries.Token (token (returned a b) 1 v) ∷ []
 
--- what `end` gives: in the root the answer, in a call its result
+-- what `end` gives: in the root the answer, in a call its result; in a checked program none fits in a loop
 abbrev pub finished : List BlockParts → Activity → Tree → Value → List Entry
 finished p a Top v = entries.Answer v ∷ []
 finished p a (InLoop outer block number initiation) v = []

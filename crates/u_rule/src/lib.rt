@@ -1,10 +1,11 @@
 //! Entries, firings and the firing rule.
 //!
 //! The rule is that of Arvind and Gostelow (1982): an activity, one execution of one statement, is
-//! enabled once each of its ports has a token, and firing it gives tokens for its successors. That
-//! a firing may also give a fault or an answer, that an activity fires once for each choice of
-//! values where a port has several, and all orders are this project's profile. So a job is a firing
-//! system: a start token, and for each firing what it needs and what it gives.
+//! enabled once each of its ports has a token, and firing it gives tokens for its successors, by
+//! linkage also into a loop, from turn to turn, out of it, into a call and back. That a firing may
+//! also give a fault or an answer, that an activity fires once for each choice of values where a
+//! port has several, where the places of activities fit, and all orders are this project's profile.
+//! So a job is a firing system: a start token, and for each firing what it needs and what it gives.
 #![tactic(auto)]
 
 mod entry;
