@@ -11,7 +11,7 @@ use Rattle.u_machine.proofs.machine.Machine.new.Goals.{After-new-2}
 held : (c : After-new-2) → c.insert.new.self ≡ start_of c.args.job.now ∷ []
 held c =
     only_one c.insert.new.self (start_of c.args.job.now) c.len-count.ensures.rises
-    (subst (λ (xs : EntryList). IsWith xs (start_of c.args.job.now) c.insert.new.self) c.new-history.ensures (subst (λ (e : Entry). IsWith c.new-history.result e c.insert.new.self) c.start.ensures c.in_ok-insert.ensures.ok))
+    (subst (λ (xs : EntryList). IsWith xs (start_of c.args.job.now) c.insert.new.self) c.new-history.ensures (subst (λ (e : Entry). IsWith c.new-history.result e c.insert.new.self) c.start.ensures.start c.in_ok-insert.ensures.ok))
 
 pub invariant_of-result : goal.invariant_of-result
 invariant_of-result c = fresh_is c.args.job.now c.args.limit c.new.result.items c.new-2.result c.insert.new.self c.new.ensures.items c.new-2.ensures (held c)
