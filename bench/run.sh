@@ -1,8 +1,9 @@
 #!/usr/bin/env bash
-# Times the built program on generated chains of sums: statement k adds the value of the statement
-# before it to itself. The argument is 0, so nothing overflows. For each chain it prints the
-# statements, the firings, the seconds and the growth: how often the time of the chain before, of
-# half as many statements. Where `rt` is on PATH, it then builds `u_bench` and times copies of names.
+# Times the built program on generated chains of sums, where statement k adds the value of the
+# statement before it to itself, and on the loop of programs/sum.u. The argument of a chain is 0, so
+# nothing overflows. For each run it prints the size, the firings, the seconds and the growth: how
+# often the time of the run before, of half the size. Where `rt` is on PATH, it then builds `u_bench`
+# and times copies of names.
 set -u
 export LC_ALL=C
 
@@ -30,25 +31,38 @@ now() {
     printf '%s' "${EPOCHREALTIME/[.,]/}"
 }
 
-printf '%10s %10s %10s %8s\n' statements firings seconds growth
-before=0
-failed=0
-for size in 75 150 300; do
-    chain "$size" >"$temp/chain.u"
+# Times a run of a program on an argument, and prints its row. The program has to end quietly after
+# so many firings, and with one answer.
+timed() {
+    local program=$1 argument=$2 size=$3 wanted=$4 start status spent firings growth=-
     start=$(now)
-    "$binary" run "$temp/chain.u" 0 --firings 1000000 >"$temp/report"
+    "$binary" run "$program" "$argument" --firings 1000000 >"$temp/report"
     status=$?
     spent=$(($(now) - start))
     firings=$(sed -n 's/^firings //p' "$temp/report")
-    if [ "$status" -ne 0 ] || [ "$firings" != "$size" ]; then
-        echo "a chain of $size statements ended with status $status and '$firings' firings" >&2
+    if [ "$status" -ne 0 ] || [ "$firings" != "$wanted" ]; then
+        echo "$program $argument ended with status $status and '$firings' firings" >&2
         failed=1
     fi
-    growth=-
     [ "$before" -gt 0 ] && growth=$(printf '%d.%02d' $((spent / before)) $((spent * 100 / before % 100)))
     printf '%10d %10s %6d.%03d %8s\n' "$size" "${firings:--}" $((spent / 1000000)) \
         $((spent / 1000 % 1000)) "$growth"
     before=$spent
+}
+
+failed=0
+before=0
+printf '%10s %10s %10s %8s\n' statements firings seconds growth
+for size in 75 150 300; do
+    chain "$size" >"$temp/chain.u"
+    timed "$temp/chain.u" 0 "$size" "$size"
+done
+
+# A turn of the loop fires 10 times, and 15 firings are there without it.
+before=0
+printf '%10s %10s %10s %8s\n' 'sum of' firings seconds growth
+for size in 25 50 100; do
+    timed "$top/programs/sum.u" "$size" "$size" $((10 * size + 15))
 done
 
 if command -v rt >/dev/null; then
