@@ -5,6 +5,8 @@ mod history;
 mod lookup;
 mod outcome;
 mod report;
+#[cfg(test)]
+mod set_tests;
 mod verdict;
 
 pub use history::History;
