@@ -8,7 +8,7 @@ use Rattle.u_name.specs.Block.{IsBlock, is_block_byte}
 use Rattle.u_text.specs.Number.{IsUpTo, AllDigit, decimal_digits}
 use Rattle.u_text.specs.Pieces.{Free, words}
 use Rattle.u_text.specs.Spaced.{spaced, AllFree, free_append, all_free_append, free_spaced, free_above, free_decimal, free_signed, words_spaced, words_are}
-use Rattle.u_text.specs.WholeWords.{◌then◌, is, number_word, number_word_sound, number_word_complete, number0_word, number0_word_sound, number0_word_complete, told, then_some, some_same, none_some, is_itself}
+use Rattle.u_text.specs.WholeWords.{◌then◌, is, number_word, number_word_sound, number_word_complete, number0_word, number0_word_sound, number0_word_complete, told, then_some, some_same, none_some}
 use Rattle.u_program.specs.declared.reading.Line.{Line}
 use Rattle.u_program.specs.declared.reading.Line.TheVariants.{Block, Loop, Statement}
 use Rattle.u_program.specs.declared.program.Constant.{Constant}

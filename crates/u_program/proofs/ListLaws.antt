@@ -3,13 +3,13 @@ use Rattle.std.specs.Prelude.{◌≡◌, ℕ, ◌≤◌, ◌<◌, Bool, true, fa
 use Rattle.std.proofs.Common.{sym, ◌∙◌, ap, subst, arith, inl, inr, append_assoc}
 use Rattle.std.proofs.lemmas.List.{append-nil}
 use Rattle.std.specs.Fmt.{decimal}
-use Rattle.u_text.specs.WholeWords.{◌then◌, is, told, some_same, none_some, then_some, le_cases, number0_word, number0_word_sound, number0_word_complete}
+use Rattle.u_text.specs.WholeWords.{◌then◌, told, some_same, none_some, then_some, le_cases, number0_word, number0_word_sound, number0_word_complete}
 use Rattle.u_program.specs.declared.program.Kind.{Kind}
-use Rattle.u_program.specs.declared.program.Kind.TheVariants.{Begin, Const, Pass, Unary, Binary, Select, Switch, Enter, Next, Last, Leave, Apply, Back, End}
+use Rattle.u_program.specs.declared.program.Kind.TheVariants.{Switch, Apply, End}
 use Rattle.u_program.specs.declared.program.Destination.{Destination}
 use Rattle.u_program.specs.Parts.{StatementParts, statement}
-use Rattle.u_program.specs.Limits.{has_list, has_otherwise, IsListed, IsDestination, Ascending, rank, IsStatement, no_limits}
-use Rattle.u_program.specs.Text.{arrow, slash, kind_word, argument_words, destination_word, otherwise_words, lists_words, statement_words}
+use Rattle.u_program.specs.Limits.{IsKind, has_list, has_otherwise, IsListed, Ascending, rank, IsStatement, no_limits}
+use Rattle.u_program.specs.Text.{arrow, slash, kind_word, argument_words, destination_word, lists_words, statement_words}
 use Rattle.u_program.specs.Reading.{Words, destination_at, is_slash, destinations_at, none_at, list_at, otherwise_at, kind_at, arrow_at, statement_at}
 use Rattle.u_program.proofs.WordLaws.{destination_sound, destination_complete, kind_sound, kind_complete, arrow_sound}
 
@@ -188,8 +188,21 @@ tail_of region k = arrow_at k.1 then λ b. lists_of region k.0 b.1
 abbrev rest_of : Words → ℕ → Option StatementParts
 rest_of ws region = kind_at ws then tail_of region
 
+-- what stands behind the arrow, of a statement with this region and kind
+lists_of_sound : (region : ℕ) (k : Kind) (ws : Words) (s : StatementParts) → region ≤ 99 → IsKind k → lists_of region k ws ≡ Some s → IsStatement no_limits s × (decimal region ∷ kind_word k ∷ (argument_words k ++ (arrow ∷ ws)) ≡ statement_words s)
+unfolding SaysLists
+lists_of_sound region k ws s low valid h =
+    let g = then_some (list_at k ws) (λ to. otherwise_at k to.1 then said region k to.0) s h in
+    let o = then_some (otherwise_at k g.0.1) (said region k g.0.0) s g.2 in
+    let i = lists_sound k ws g.0.0 g.0.1 o.0.0 o.0.1 g.1 o.1 in
+    let j = some_same (statement region k g.0.0 o.0.0) s o.2 in
+    subst (λ s. IsStatement no_limits s × (decimal region ∷ kind_word k ∷ (argument_words k ++ (arrow ∷ ws)) ≡ statement_words s)) j (
+      record { region = low; kind = valid; to = i.0; listed = i.1; few = tt; otherwise = i.2; listed_otherwise = i.3; few_otherwise = tt },
+      ap (λ t. decimal region ∷ kind_word k ∷ (argument_words k ++ (arrow ∷ t))) i.4,
+    )
+
 pub statement_sound : (ws : Words) (s : StatementParts) → statement_at ws ≡ Some s → IsStatement no_limits s × (ws ≡ statement_words s)
-unfolding statement_at SaysLists
+unfolding statement_at
 statement_sound [] s h = absurd (none_some s h)
 statement_sound (w ∷ ws) s h =
     let a = then_some (number0_word 99 w) (rest_of ws) s h in
@@ -198,14 +211,8 @@ statement_sound (w ∷ ws) s h =
     let d = kind_sound ws c.0.0 c.0.1 c.1 in
     let e = then_some (arrow_at c.0.1) (λ b. lists_of a.0 c.0.0 b.1) s c.2 in
     let f = arrow_sound c.0.1 e.0.0 e.0.1 e.1 in
-    let g = then_some (list_at c.0.0 e.0.1) (λ to. otherwise_at c.0.0 to.1 then said a.0 c.0.0 to.0) s e.2 in
-    let o = then_some (otherwise_at c.0.0 g.0.1) (said a.0 c.0.0 g.0.0) s g.2 in
-    let i = lists_sound c.0.0 e.0.1 g.0.0 g.0.1 o.0.0 o.0.1 g.1 o.1 in
-    let j = some_same (statement a.0 c.0.0 g.0.0 o.0.0) s o.2 in
-    subst (λ s. IsStatement no_limits s × (w ∷ ws ≡ statement_words s)) j (
-      record { region = b.0; kind = d.0; to = i.0; listed = i.1; few = tt; otherwise = i.2; listed_otherwise = i.3; few_otherwise = tt },
-      ap (λ w. w ∷ ws) b.1 ∙ ap (λ ws. decimal a.0 ∷ ws) (d.1 ∙ ap (λ t. kind_word c.0.0 ∷ (argument_words c.0.0 ++ t)) (f ∙ ap (λ t. arrow ∷ t) i.4)),
-    )
+    let g = lists_of_sound a.0 c.0.0 e.0.1 s b.0 d.0 e.2 in
+    (g.0, ap (λ w. w ∷ ws) b.1 ∙ ap (λ ws. decimal a.0 ∷ ws) (d.1 ∙ ap (λ t. kind_word c.0.0 ∷ (argument_words c.0.0 ++ t)) f) ∙ g.1)
 
 pub statement_complete : (s : StatementParts) → IsStatement no_limits s → statement_at (statement_words s) ≡ Some s
 unfolding statement_at arrow_at

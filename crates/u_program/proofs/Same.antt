@@ -5,8 +5,8 @@ use Rattle.std.specs.List.{AllByRecursion}
 use Rattle.u_text.specs.Pieces.{pieces}
 use Rattle.u_program.specs.declared.reading.Line.TheVariants.{Block, Loop, Statement}
 use Rattle.u_program.specs.Parts.{StatementParts, BlockParts, block}
-use Rattle.u_program.specs.Limits.{AreLoops, IsStatement, IsBlockOf, IsProgram, the_limits, no_limits}
-use Rattle.u_program.specs.Text.{statement_line, loop_line, loop_lines, statement_lines, inner_lines, blocks_lines, program_lines, program_text}
+use Rattle.u_program.specs.Limits.{AreLoops, IsStatement, IsBlockOf, IsProgram, the_limits}
+use Rattle.u_program.specs.Text.{loop_lines, statement_lines, inner_lines, blocks_lines, program_lines, program_text}
 use Rattle.u_program.specs.Laws.{IsFirstBad}
 use Rattle.u_program.specs.declared.read_error.ReadError.{ReadError}
 use Rattle.u_program.specs.declared.read_error.ReadError.TheVariants as errors

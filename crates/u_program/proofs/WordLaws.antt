@@ -1,8 +1,7 @@
 -- The readers of words read exactly the words of what they read.
-use Rattle.std.specs.Prelude.{◌≡◌, ℕ, suc, ◌^◌, ◌≤◌, ◌<◌, Bool, true, false, cond, nat_le, List, [], ◌∷◌, ◌++◌, map, codes, Option, Some, None, refl}
+use Rattle.std.specs.Prelude.{◌≡◌, ℕ, suc, ◌^◌, ◌≤◌, ◌<◌, Bool, true, false, cond, List, [], ◌∷◌, ◌++◌, codes, Option, Some, None, refl}
 use Rattle.std.specs.List.{AllByRecursion}
-use Rattle.std.proofs.Common.{sym, ◌∙◌, ap, subst, arith, inl, inr, append_assoc}
-use Rattle.std.proofs.lemmas.List.{append-nil}
+use Rattle.std.proofs.Common.{sym, ◌∙◌, ap, subst, arith, inl, inr}
 use Rattle.std.specs.Fmt.{decimal}
 use lib.IntN.{ℤ, pos, negsuc}
 use Rattle.u_name.specs.Block.{IsBlock}
@@ -19,9 +18,8 @@ use Rattle.u_program.specs.declared.program.Kind.TheVariants.{Begin, Const, Pass
 use Rattle.u_value.specs.declared.operators.UnaryOperator.TheVariants.{Not, Length}
 use Rattle.u_value.specs.declared.operators.BinaryOperator.TheVariants.{And, Or, Add, Sub, Mul, Div, Rem, Lt, Le, Eq}
 use Rattle.u_program.specs.declared.program.Destination.{Destination}
-use Rattle.u_program.specs.Parts.{StatementParts, statement}
-use Rattle.u_program.specs.Limits.{IsConstant, IsKind, has_list, IsListed, IsDestination, Ascending, rank, IsStatement, no_limits}
-use Rattle.u_program.specs.Text.{arrow, kind_word, constant_word, argument_words, destination_word, statement_words}
+use Rattle.u_program.specs.Limits.{IsConstant, IsKind, IsDestination}
+use Rattle.u_program.specs.Text.{arrow, kind_word, constant_word, argument_words, destination_word}
 use Rattle.u_program.specs.Reading.{Words, word_at, name_word, dot_at, ported, destination_at, other_constant, constant_at, plain_kinds, kind_among, const_at, enter_at, apply_at, plain_at, kind_of, kind_at, arrow_at}
 
 pub name_word_sound : (w name : List ℕ) → name_word w ≡ Some name → IsBlock name × (w ≡ name)

@@ -8,7 +8,7 @@ use Rattle.u_program.specs.declared.program.Kind.{Kind}
 use Rattle.u_program.specs.declared.program.Destination.{Destination}
 use Rattle.u_program.specs.Parts.{StatementParts, BlockParts}
 use Rattle.u_program.specs.Limits.{has_otherwise}
-use Rattle.u_program.specs.Text.{arrow, kind_word, argument_words, destination_word, otherwise_words, lists_words, tail_words, statement_words, block_line, loop_line, loop_lines, statement_line, statement_lines, block_lines, blocks_lines, program_text}
+use Rattle.u_program.specs.Text.{arrow, kind_word, argument_words, destination_word, otherwise_words, tail_words, statement_words, block_line, loop_line, loop_lines, statement_line, statement_lines, block_lines, blocks_lines, program_text}
 use Rattle.u_program.proofs.Steps.{loop_lines-append, statement_lines-append, blocks_lines-append}
 
 -- one more destination
