@@ -4,3 +4,5 @@ pub mod Linkage
 pub mod Places
 pub mod Follow
 pub mod InOrder
+pub mod Texts
+pub mod Lists
