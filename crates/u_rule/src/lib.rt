@@ -27,4 +27,5 @@ pub use entry::Entry;
 pub use firing::{Firing, Written};
 pub use parts::{Fault, Token, Write};
 pub use rule::{RuleError, gives, is_firing, needs, start};
+pub use structures::names_cell;
 pub use values::Values;

@@ -3,7 +3,7 @@
 //! They are the I-structures of Arvind and Nikhil (1990): a structure is made without values, each of
 //! its cells is written by a `store`, and a `fetch` fires once its cell has a write. That a cell with
 //! several writes is read once for each of them, and the greatest length, is this project's profile.
-ghost use Rattle.std.specs.Prelude.{◌≡◌, ◌≤◌, ◌++◌, IfOk, OnOk, MatchResult, Ok, Err};
+ghost use Rattle.std.specs.Prelude.{◌≡◌, ◌↔◌, ◌≤◌, [], ◌∷◌, ◌++◌, IsTrue, IfOk, OnOk, MatchResult, Ok, Err};
 ghost use Rattle.u_name.specs.Cell.{cell_of};
 ghost use Rattle.u_rule.specs.Structures.{is_index, cell_named, reads_cell, has_its_write, wrote, write_read, is_store};
 
@@ -101,4 +101,24 @@ pub(crate) fn add_write(entries: &mut Vec<Entry>, firing: &Firing) -> Result<(),
     };
     entries.push(wrote(structure, index, &write.writer, &write.value)?)?;
     Ok(())
+}
+
+/// Whether it is the structure's cell at that index.
+#[tactic(auto, using(crate::proofs::Lists::same_cell))]
+fn is_cell(structure: &Reference, index: u32, cell: &Cell) -> bool
+    ensures { IsTrue result ↔ (cell_of structure.now.name index ≡ cell.now) }
+{
+    structure.name() == cell.name() && index == cell.index()
+}
+
+/// Whether the values are a structure and an index in it, and name that cell.
+pub fn names_cell(structure: &Value, index: &Value, cell: &Cell) -> bool
+    ensures { IsTrue result ↔ (cell_named (structure.now ∷ index.now ∷ []) ≡ Ok cell.now) }
+{
+    match (structure, index) {
+        (Value::Ref(structure), Value::Int(index)) => {
+            is_index(*index, structure.length()) && is_cell(structure, *index as u32, cell)
+        }
+        _ => false,
+    }
 }
