@@ -17,10 +17,14 @@ mod giving;
 mod linkage_tests;
 mod parts;
 mod rule;
+#[cfg(test)]
+mod structure_tests;
 mod structures;
 #[cfg(test)]
 mod tests;
 mod values;
+#[cfg(test)]
+mod worked;
 mod writing;
 
 pub use entry::Entry;
