@@ -6,3 +6,4 @@ pub mod Follow
 pub mod InOrder
 pub mod Texts
 pub mod Lists
+pub mod Cells

@@ -103,15 +103,24 @@ pub(crate) fn add_write(entries: &mut Vec<Entry>, firing: &Firing) -> Result<(),
     Ok(())
 }
 
+/// Whether it is a cell of the structure.
+#[tactic(auto, using(crate::proofs::Cells::same_name))]
+fn is_of(structure: &Reference, cell: &Cell) -> bool
+    ensures { IsTrue result ↔ (structure.now.name ≡ cell.now.name) }
+{
+    structure.name() == cell.name()
+}
+
 /// Whether it is the structure's cell at that index.
-#[tactic(auto, using(crate::proofs::Lists::same_cell))]
+#[tactic(auto, using(crate::proofs::Cells::one_cell))]
 fn is_cell(structure: &Reference, index: u32, cell: &Cell) -> bool
     ensures { IsTrue result ↔ (cell_of structure.now.name index ≡ cell.now) }
 {
-    structure.name() == cell.name() && index == cell.index()
+    is_of(structure, cell) && index == cell.index()
 }
 
 /// Whether the values are a structure and an index in it, and name that cell.
+#[tactic(auto, using(crate::proofs::Cells::named_or))]
 pub fn names_cell(structure: &Value, index: &Value, cell: &Cell) -> bool
     ensures { IsTrue result ↔ (cell_named (structure.now ∷ index.now ∷ []) ≡ Ok cell.now) }
 {
