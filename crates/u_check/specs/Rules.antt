@@ -4,7 +4,7 @@ use Rattle.std.specs.List.{list_any, list_all, range_with_len}
 use lib.Pointwise.{pointwise}
 use Rattle.u_program.specs.declared.program.Constant.TheVariants as constants
 use Rattle.u_program.specs.declared.program.Kind.{Kind}
-use Rattle.u_program.specs.declared.program.Kind.TheVariants.{Begin, Const, Pass, Unary, Binary, Select, Switch, Enter, Next, Last, Leave, Apply, Back, End}
+use Rattle.u_program.specs.declared.program.Kind.TheVariants.{Begin, Const, Pass, Unary, Binary, Select, Switch, Enter, Next, Last, Leave, Apply, Back, Alloc, Store, Fetch, End}
 use Rattle.u_program.specs.declared.program.Destination.{Destination}
 use Rattle.u_program.specs.Parts.{StatementParts, BlockParts}
 use Rattle.u_check.specs.declared.rule.Rule.{Rule}
@@ -25,6 +25,9 @@ ports_of Last = 1
 ports_of Leave = 1
 ports_of (Apply n) = 2
 ports_of Back = 1
+ports_of Alloc = 1
+ports_of Store = 3
+ports_of Fetch = 2
 ports_of End = 1
 
 abbrev pub is_begin : Kind → Bool

@@ -9,8 +9,8 @@ pub fn ports_of(kind: &Kind) -> usize
     ensures { result ≡ ports_of kind.now }
 {
     match kind {
-        Kind::Select => 3,
-        Kind::Binary(_) | Kind::Switch | Kind::Apply(_) => 2,
+        Kind::Select | Kind::Store => 3,
+        Kind::Binary(_) | Kind::Switch | Kind::Apply(_) | Kind::Fetch => 2,
         _ => 1,
     }
 }

@@ -189,3 +189,63 @@ fn the_first_breach_of_a_call_is_named(rt: HostRuntime) -> Result<(), Fail> {
     }
     Ok(())
 }
+
+/// A cell that two stores write and a fetch reads.
+const TWO_WRITERS: &str = "\
+u-program 1\n\
+block main\n\
+1 0 begin -> 2.1 3.1 4.1 5.1\n\
+2 0 const 1 -> 6.1\n\
+3 0 const 0 -> 7.2 8.2 9.2\n\
+4 0 const 10 -> 7.3\n\
+5 0 const 20 -> 8.3\n\
+6 0 alloc -> 7.1 8.1 9.1\n\
+7 0 store ->\n\
+8 0 store ->\n\
+9 0 fetch -> 10.1\n\
+10 0 end ->\n\
+";
+
+/// A cell that a fetch reads and nothing writes.
+const NO_WRITER: &str = "\
+u-program 1\n\
+block main\n\
+1 0 begin -> 2.1 3.1\n\
+2 0 const 1 -> 4.1\n\
+3 0 const 0 -> 5.2\n\
+4 0 alloc -> 5.1\n\
+5 0 fetch -> 6.1\n\
+6 0 end ->\n\
+";
+
+#[test]
+fn the_first_breach_of_a_structure_is_named(rt: HostRuntime) -> Result<(), Fail> {
+    let rows = [
+        (TWO_WRITERS, "begin", "begin", ""),
+        (NO_WRITER, "begin", "begin", ""),
+        (
+            TWO_WRITERS,
+            "10 -> 7.3",
+            "10 ->",
+            "rule 16 block 1 statement 7",
+        ),
+        (
+            TWO_WRITERS,
+            "9.2\n",
+            "9.2 9.3\n",
+            "rule 5 block 1 statement 3",
+        ),
+        (NO_WRITER, "0 -> 5.2", "0 ->", "rule 16 block 1 statement 5"),
+        (
+            NO_WRITER,
+            "1 -> 4.1",
+            "1 -> 4.1 4.2",
+            "rule 5 block 1 statement 2",
+        ),
+    ];
+    for (base, old, new, words) in rows {
+        let printed = said(rt.alloc(), base, old, new)?;
+        assert_eq!(rt; printed.as_str(), words, "{new}");
+    }
+    Ok(())
+}

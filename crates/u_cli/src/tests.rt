@@ -17,6 +17,14 @@ const SUM: &[u8] =
 const FACTORIAL: &[u8] =
     b"u-program 1\nblock main\n1 0 begin -> 2.1 3.2\n2 0 const @fact -> 3.1\n3 0 apply 4 ->\n4 0 back -> 5.1\n5 0 end ->\nblock fact\n1 0 begin -> 2.1 3.1 4.1 5.1 7.2\n2 0 const 0 -> 5.2\n3 0 const @one -> 6.2\n4 0 const @rec -> 6.3\n5 0 le -> 6.1\n6 0 select -> 7.1\n7 0 apply 8 ->\n8 0 back -> 9.1\n9 0 end ->\nblock rec\n1 0 begin -> 2.1 3.1 4.1 7.1\n2 0 const 1 -> 3.2\n3 0 sub -> 5.2\n4 0 const @fact -> 5.1\n5 0 apply 6 ->\n6 0 back -> 7.2\n7 0 mul -> 8.1\n8 0 end ->\nblock one\n1 0 begin -> 2.1\n2 0 const 1 -> 3.1\n3 0 end ->\n";
 
+/// Two writers of one cell, and a reader.
+const TWO_WRITERS: &[u8] =
+    b"u-program 1\nblock main\n1 0 begin -> 2.1 3.1 4.1 5.1\n2 0 const 1 -> 6.1\n3 0 const 0 -> 7.2 8.2 9.2\n4 0 const 10 -> 7.3\n5 0 const 20 -> 8.3\n6 0 alloc -> 7.1 8.1 9.1\n7 0 store ->\n8 0 store ->\n9 0 fetch -> 10.1\n10 0 end ->\n";
+
+/// A reader of a cell that nobody writes.
+const NO_WRITER: &[u8] =
+    b"u-program 1\nblock main\n1 0 begin -> 2.1 3.1\n2 0 const 1 -> 4.1\n3 0 const 0 -> 5.2\n4 0 alloc -> 5.1\n5 0 fetch -> 6.1\n6 0 end ->\n";
+
 /// What the run writes, and its status.
 fn ran(
     alloc: Global,
@@ -149,6 +157,25 @@ fn multiplies_by_calls(rt: HostRuntime) -> Result<(), Fail> {
     ];
     for (argument, output, status) in rows {
         let as_said = writes(rt.alloc(), FACTORIAL, argument, output, status)?;
+        assert!(rt; as_said);
+    }
+    Ok(())
+}
+
+#[test]
+fn reads_and_writes_cells(rt: HostRuntime) -> Result<(), Fail> {
+    let rows = [
+        (
+            TWO_WRITERS,
+            b"state quiet\nfirings 12\nparked 0\nentries 20\nanswer 10\nanswer 20\ncell -.main.6.1[0] -.main.7.1 10\ncell -.main.6.1[0] -.main.8.1 20\nport -.main.10.1 1 10\nport -.main.10.1 1 20\nverdict clashed\n".as_slice(),
+        ),
+        (
+            NO_WRITER,
+            b"state quiet\nfirings 4\nparked 0\nentries 6\nverdict none\n".as_slice(),
+        ),
+    ];
+    for (program, output) in rows {
+        let as_said = writes(rt.alloc(), program, b"0", output, 3)?;
         assert!(rt; as_said);
     }
     Ok(())

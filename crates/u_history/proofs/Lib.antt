@@ -5,3 +5,4 @@ pub mod Reports
 pub mod Sets
 pub mod Texts
 pub mod Unions
+pub mod Lines

@@ -21,7 +21,7 @@ module _ {X : Type 0} where
       back (inl a) = (w x).1 (inl ((u x).1 (inl a)))
       back (inr b) = elim (Contains-push_cases right y x b) [ inl m ↦ (w x).1 (inl ((u x).1 (inr m))) | inr e ↦ (w x).1 (inr e) ]
 
-  lent_push : (es : List (Bor X)) (e : Bor X) → map (deref {X = X}) (es ++ e ∷ []) ≡ map (deref {X = X}) es ++ e.now ∷ []
+  pub lent_push : (es : List (Bor X)) (e : Bor X) → map (deref {X = X}) (es ++ e ∷ []) ≡ map (deref {X = X}) es ++ e.now ∷ []
   lent_push [] e = refl
   lent_push (d ∷ es) e = ap (λ (r : List X). d.now ∷ r) (lent_push es e)
 

@@ -1,5 +1,5 @@
 //! Sets of entries.
-ghost use Rattle.std.specs.Prelude.{◌≡◌, ◌↔◌, [], OnOk, OnErr, IfOk, IfErr, Contains, ◌⊎◌, IsTrue, length, map};
+ghost use Rattle.std.specs.Prelude.{◌≡◌, ◌↔◌, ◌++◌, [], OnOk, OnErr, IfOk, IfErr, Contains, ◌⊎◌, IsTrue, length, map};
 ghost use Rattle.std.specs.Map.Iter.{ShowsInOrder, deref};
 ghost use Rattle.u_system.specs.Rising.{Rises, IsWith, IsUnion, IsListOf};
 ghost use Rattle.u_rule.specs.EntryOrder.{entry_cmp};
@@ -9,6 +9,8 @@ ghost use Rattle.u_rule.specs.EntryOrder.{write_of};
 ghost use Rattle.u_rule.specs.declared.firing.Written.{Written};
 ghost use Rattle.u_rule.specs.declared.entry.Entry.TheVariants as kinds;
 ghost use Rattle.u_history.specs.Orders.{value_order, written_order};
+ghost use Rattle.u_text.specs.Appending.{Extends};
+ghost use Rattle.u_history.specs.Text.{history_text};
 ghost use Rattle.u_history.specs.Says.{IsOutcome};
 
 use crate::lookup::{pairs_in, values_at};
@@ -134,6 +136,23 @@ impl History {
     {
         let entries = self.references()?;
         pairs_in(self.alloc, &entries, cell)
+    }
+
+    /// Appends the text of each entry, in order, with a newline behind it. On an error `out` begins
+    /// with what it had.
+    ///
+    /// # Errors
+    /// `AllocError` where there is no memory.
+    #[tactic(auto, using(u_text::specs::Appending::extends_by, u_text::specs::Appending::extends_behind))]
+    pub fn write_text(&self, out: &mut Vec<u8>) -> Result<(), AllocError>
+        ensures ok { OnOk result (out.new.items ≡ out.old.items ++ history_text self.now) }
+        ensures err { OnErr result (Extends out.old.items out.new.items) }
+    {
+        for entry in self.entries.iter() {
+            entry.write_text(out)?;
+            out.push(b'\n')?;
+        }
+        Ok(())
     }
 
     /// What the entries say.

@@ -15,17 +15,17 @@ same_token : (t u : TokenParts) → entries.Token t ≡ entries.Token u → t �
 same_token t u e = cc
 
 -- the token that stands in an entry, by its parts
-parts : (left : Entry) (t : TokenParts) (a : Activity) (p : ℕ) (v : Value) → left ≡ entries.Token t → left ≡ entries.Token (token a p v) → t ≡ token a p v
+pub parts : (left : Entry) (t : TokenParts) (a : Activity) (p : ℕ) (v : Value) → left ≡ entries.Token t → left ≡ entries.Token (token a p v) → t ≡ token a p v
 parts left t a p v d e = same_token t (token a p v) (sym d ∙ e)
 
 -- the activity of two tokens, where it is said to be one
-one_activity : (left right : Entry) (t u : TokenParts) (a : Activity) (p q : ℕ) (v w : Value) → left ≡ entries.Token t → right ≡ entries.Token u → left ≡ entries.Token (token a p v) → right ≡ entries.Token (token a q w) → t.activity ≡ u.activity
+pub one_activity : (left right : Entry) (t u : TokenParts) (a : Activity) (p q : ℕ) (v w : Value) → left ≡ entries.Token t → right ≡ entries.Token u → left ≡ entries.Token (token a p v) → right ≡ entries.Token (token a q w) → t.activity ≡ u.activity
 one_activity left right t u a p q v w l r d e = ap (λ (x : TokenParts). x.activity) (parts left t a p v l d) ∙ sym (ap (λ (x : TokenParts). x.activity) (parts right u a q w r e))
 
-false_true : false ≡ true → ⊥
+pub false_true : false ≡ true → ⊥
 false_true e = cc
 
-some_same : (a b : Firing) → ◌≡◌ {A = Option Firing} (Some a) (Some b) → a ≡ b
+pub some_same : (a b : Firing) → ◌≡◌ {A = Option Firing} (Some a) (Some b) → a ≡ b
 some_same a b s = cc
 
 module _ (job : JobParts) (left right : Entry) (t u : TokenParts) (l : left ≡ entries.Token t) (r : right ≡ entries.Token u) where

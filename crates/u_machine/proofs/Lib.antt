@@ -2,9 +2,11 @@ pub mod Lists
 pub mod Names
 pub mod Blank
 pub mod JoinLaws
+pub mod ReadLaws
 pub mod Neighbours
 pub mod Needs
 pub mod ScanLaws
+pub mod ReadScan
 pub mod States
 pub mod Runs
 pub mod Same

@@ -1,5 +1,5 @@
 -- What the scan finds is what is enabled.
-use Rattle.std.proofs.Common.{◌≡◌, ◌↔◌, ◌⊎◌, inl, inr, sym, refl, subst, ◌∙◌, ℕ, ◌<◌, ◌+◌, List, [], ◌∷◌, drop, length, get_or, Contains, Ordering, Option, Some, None}
+use Rattle.std.proofs.Common.{◌≡◌, ◌↔◌, ◌⊎◌, inl, inr, sym, refl, subst, ◌∙◌, ℕ, ◌<◌, ◌+◌, List, [], ◌∷◌, drop, length, get_or, Contains, Ordering, Option, Some, None, Ok, ap}
 use Rattle.std.specs.Ordering.{ordering_then, nat_cmp}
 use Rattle.std.specs.Cmp.{tied_itself}
 use Rattle.std.specs.declared.cmp.Ordering.TheVariants.{Less, Equal, Greater}
@@ -9,26 +9,27 @@ use Rattle.u_value.specs.declared.value.Value.{Value}
 use Rattle.u_check.specs.Jobs.{JobParts}
 use Rattle.u_rule.specs.Parts.{token, ValueList}
 use Rattle.u_rule.specs.Rule.{system_of, needs_of}
-use Rattle.u_rule.specs.EntryOrder.{entry_cmp}
+use Rattle.u_rule.specs.EntryOrder.{entry_cmp, written}
+use Rattle.u_rule.specs.Structures.{cell_named, wrote}
 use Rattle.u_rule.specs.declared.entry.Entry.{Entry}
 use Rattle.u_rule.specs.declared.entry.Entry.TheVariants as entries
 use Rattle.u_rule.specs.declared.firing.Firing.{Firing}
 use Rattle.u_system.specs.Firing.{Enabled, SomeOf}
 use Rattle.u_system.specs.Rising.{Rises}
-use Rattle.u_machine.proofs.Needs.{OneValue, TwoValues, ThreeValues, Shape, shape_of, rebuilt, needs_one, needs_two, needs_three}
+use Rattle.u_machine.proofs.Needs.{OneValue, TwoValues, ThreeValues, Plain, Reading, Shape, shape_of, rebuilt, needs_one, needs_two, needs_three, needs_read}
 use Rattle.u_machine.proofs.Lists.{Contains-dropped}
 use Rattle.u_machine.proofs.Neighbours.{stands_behind}
-use Rattle.u_machine.specs.Joins.{OfOne, OfTwo, OfThree, Joins, JoinsThree, SameActivity, IsAtPort}
+use Rattle.u_machine.specs.Joins.{OfOne, OfTwo, OfThree, OfRead, Joins, JoinsThree, JoinsRead, SameActivity, IsAtPort}
 
 -- the tokens of an enabled firing are there, and join to it
 module _ (job : JobParts) (h : List Entry) (f : Firing) (en : Enabled (system_of job) (Contains h) f) (write : f.write ≡ None) where
   there : (vs : ValueList) (e : Entry) → f.values ≡ vs → Contains (needs_of (record { activity = f.activity; values = vs; write = None })) e → Contains h e
-  there vs e p m = en.1 e (subst (λ (x : Firing). Contains (needs_of x) e) (sym (rebuilt f vs write p)) m)
+  there vs e p m = en.1 e (subst (λ (x : Firing). Contains (needs_of x) e) (sym (rebuilt f vs None write p)) m)
 
   joined_one : OneValue f.values → SomeOf h (Joins job h) f
   joined_one (v, e) =
       let a : Entry = entries.Token (token f.activity 1 v) in
-      (a, there (v ∷ []) a e ((needs_one f.activity v a).1 refl), inl (record { activity = f.activity; value = v; is = en.0; whole = rebuilt f (v ∷ []) write e; first = refl }))
+      (a, there (v ∷ []) a e ((needs_one f.activity v a).1 refl), inl (record { activity = f.activity; value = v; is = en.0; whole = rebuilt f (v ∷ []) None write e; first = refl }))
 
   joined_two : TwoValues f.values → SomeOf h (Joins job h) f
   joined_two (v, w, e) =
@@ -36,7 +37,7 @@ module _ (job : JobParts) (h : List Entry) (f : Firing) (en : Enabled (system_of
       let b : Entry = entries.Token (token f.activity 2 w) in (
         a,
         there (v ∷ w ∷ []) a e ((needs_two f.activity v w a).1 (inl refl)),
-        inr (inl (b, there (v ∷ w ∷ []) b e ((needs_two f.activity v w b).1 (inr refl)), record { activity = f.activity; value = v; other = w; is = en.0; whole = rebuilt f (v ∷ w ∷ []) write e; first = refl; second = refl })),
+        inr (inl (b, there (v ∷ w ∷ []) b e ((needs_two f.activity v w b).1 (inr refl)), record { activity = f.activity; value = v; other = w; is = en.0; whole = rebuilt f (v ∷ w ∷ []) None write e; first = refl; second = refl })),
       )
 
   joined_three : ThreeValues f.values → SomeOf h (Joins job h) f
@@ -45,10 +46,27 @@ module _ (job : JobParts) (h : List Entry) (f : Firing) (en : Enabled (system_of
       let a : Entry = entries.Token (token f.activity 1 v) in
       let b : Entry = entries.Token (token f.activity 2 w) in
       let c : Entry = entries.Token (token f.activity 3 u) in
-      let j : OfThree job a b c f = record { activity = f.activity; value = v; other = w; last = u; is = en.0; whole = rebuilt f vs write e; first = refl; second = refl; third = refl } in (
+      let j : OfThree job a b c f = record { activity = f.activity; value = v; other = w; last = u; is = en.0; whole = rebuilt f vs None write e; first = refl; second = refl; third = refl } in (
         a,
         there vs a e ((needs_three f.activity v w u a).1 (inl refl)),
         inr (inr (b, there vs b e ((needs_three f.activity v w u b).1 (inr (inl refl))), (c, there vs c e ((needs_three f.activity v w u c).1 (inr (inr refl))), j))),
+      )
+
+-- the tokens and the write of an enabled firing that reads a cell are there, and join to it
+module _ (job : JobParts) (h : List Entry) (f : Firing) (en : Enabled (system_of job) (Contains h) f) (r : Reading f) where
+  read_there : (v w : Value) → f.values ≡ v ∷ w ∷ [] → (e : Entry) → Contains (needs_of (record { activity = f.activity; values = v ∷ w ∷ []; write = Some r.by })) e → Contains h e
+  read_there v w p e m = en.1 e (subst (λ (x : Firing). Contains (needs_of x) e) (sym (rebuilt f (v ∷ w ∷ []) (Some r.by) r.write p)) m)
+
+  joined_read : TwoValues f.values → SomeOf h (JoinsRead job h h) f
+  joined_read (v, w, p) =
+      let n : cell_named (v ∷ w ∷ []) ≡ Ok r.cell = ap cell_named (sym p) ∙ r.names in
+      let a : Entry = entries.Token (token f.activity 1 v) in
+      let b : Entry = entries.Token (token f.activity 2 w) in
+      let c : Entry = wrote r.cell r.by.writer r.by.value in
+      let j : OfRead job a b c f = record { activity = f.activity; value = v; other = w; cell = r.cell; writer = r.by.writer; last = r.by.value; is = en.0; whole = rebuilt f (v ∷ w ∷ []) (Some r.by) r.write p; names = n; first = refl; second = refl; third = refl } in (
+        a,
+        read_there v w p a ((needs_read f.activity v w r.by r.cell n a).1 (inl refl)),
+        (b, read_there v w p b ((needs_read f.activity v w r.by r.cell n b).1 (inr (inl refl))), (c, read_there v w p c ((needs_read f.activity v w r.by r.cell n c).1 (inr (inr refl))), j)),
       )
 
 -- the firing that tokens join to is enabled where they are there
@@ -72,26 +90,40 @@ module _ (job : JobParts) (h : List Entry) (f : Firing) where
       among e (inr (inl p)) = subst (λ (x : Entry). Contains h x) (j.second ∙ p) n
       among e (inr (inr p)) = subst (λ (x : Entry). Contains h x) (j.third ∙ p) o
 
--- a firing is enabled exactly where its tokens are there
-pub enabled_is_joined : (job : JobParts) (h : List Entry) (f : Firing) → Enabled (system_of job) (Contains h) f ↔ SomeOf h (Joins job h) f
+module _ (job : JobParts) (h : List Entry) (f : Firing) where
+  enabled_read : (left right read : Entry) → Contains h left → Contains h right → Contains h read → OfRead job left right read f → Enabled (system_of job) (Contains h) f
+  enabled_read left right read m n o j = (j.is, λ e k. among e ((needs_read j.activity j.value j.other (written j.writer j.last) j.cell j.names e).0 (subst (λ (x : Firing). Contains (needs_of x) e) j.whole k)))
+    where
+      among : (e : Entry) → (entries.Token (token j.activity 1 j.value) ≡ e) ⊎ ((entries.Token (token j.activity 2 j.other) ≡ e) ⊎ (wrote j.cell j.writer j.last ≡ e)) → Contains h e
+      among e (inl p) = subst (λ (x : Entry). Contains h x) (j.first ∙ p) m
+      among e (inr (inl p)) = subst (λ (x : Entry). Contains h x) (j.second ∙ p) n
+      among e (inr (inr p)) = subst (λ (x : Entry). Contains h x) (j.third ∙ p) o
+
+-- a firing is enabled exactly where its tokens are there, and the write that it reads
+pub enabled_is_joined : (job : JobParts) (h : List Entry) (f : Firing) → Enabled (system_of job) (Contains h) f ↔ (SomeOf h (Joins job h) f ⊎ SomeOf h (JoinsRead job h h) f)
 enabled_is_joined job h f = ((λ en. to en (shape_of job f en.0)), back)
   where
-    to : Enabled (system_of job) (Contains h) f → Shape f → SomeOf h (Joins job h) f
-    to en s =
+    plain : Enabled (system_of job) (Contains h) f → Plain f → SomeOf h (Joins job h) f
+    plain en s =
         elim s.values
         [ inl p ↦ joined_one job h f en s.write p | inr q ↦ elim q [ inl p ↦ joined_two job h f en s.write p | inr p ↦ joined_three job h f en s.write p ] ]
 
-    back : SomeOf h (Joins job h) f → Enabled (system_of job) (Contains h) f
-    back (left, m, inl j) = enabled_one job h f left m j
-    back (left, m, inr (inl (right, n, j))) = enabled_two job h f left right m n j
-    back (left, m, inr (inr (middle, n, (right, o, j)))) = enabled_three job h f left middle right m n o j
+    to : Enabled (system_of job) (Contains h) f → Shape f → SomeOf h (Joins job h) f ⊎ SomeOf h (JoinsRead job h h) f
+    to en (inl s) = inl (plain en s)
+    to en (inr r) = inr (joined_read job h f en r r.values)
+
+    back : SomeOf h (Joins job h) f ⊎ SomeOf h (JoinsRead job h h) f → Enabled (system_of job) (Contains h) f
+    back (inl (left, m, inl j)) = enabled_one job h f left m j
+    back (inl (left, m, inr (inl (right, n, j)))) = enabled_two job h f left right m n j
+    back (inl (left, m, inr (inr (middle, n, (right, o, j))))) = enabled_three job h f left middle right m n o j
+    back (inr (left, m, (right, n, (read, o, j)))) = enabled_read job h f left right read m n o j
 
 -- two tokens of one activity, at ports that rise
 module _ (left right : Entry) (a : Activity) (p q : ℕ) (v w : Value) (first : left ≡ entries.Token (token a p v)) (second : right ≡ entries.Token (token a q w)) where
-  alike : SameActivity left right
+  pub alike : SameActivity left right
   alike = subst (λ (x : Entry). SameActivity x right) (sym first) (subst (λ (x : Entry). SameActivity (entries.Token (token a p v)) x) (sym second) refl)
 
-  ahead : nat_cmp p q ≡ Less → entry_cmp left right ≡ Less
+  pub ahead : nat_cmp p q ≡ Less → entry_cmp left right ≡ Less
   ahead h = subst (λ (x : Entry). entry_cmp x right ≡ Less) (sym first) (subst (λ (x : Entry). entry_cmp (entries.Token (token a p v)) x ≡ Less) (sym second) below)
     where
       after_tie : (r o : Ordering) → r ≡ Equal → ordering_then r o ≡ o

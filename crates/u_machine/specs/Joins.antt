@@ -1,11 +1,13 @@
--- The tokens of a firing.
-use Rattle.std.specs.Prelude.{◌≡◌, ℕ, IsTrue, List, [], ◌∷◌, ◌⊎◌, None}
+-- The tokens of a firing, and the write that it reads.
+use Rattle.std.specs.Prelude.{◌≡◌, ℕ, IsTrue, List, [], ◌∷◌, ◌⊎◌, Some, None, Ok}
+use Rattle.u_name.specs.Cell.{CellOf}
 use Rattle.u_name.specs.Name.{Activity}
 use Rattle.u_value.specs.declared.value.Value.{Value}
 use Rattle.u_check.specs.Jobs.{JobParts}
 use Rattle.u_rule.specs.Parts.{token}
 use Rattle.u_rule.specs.Rule.{is_firing_of}
-use Rattle.u_rule.specs.EntryOrder.{firing}
+use Rattle.u_rule.specs.Structures.{cell_named}
+use Rattle.u_rule.specs.EntryOrder.{firing, written, write_of}
 use Rattle.u_rule.specs.declared.entry.Entry.{Entry}
 use Rattle.u_rule.specs.declared.entry.Entry.TheVariants as entries
 use Rattle.u_rule.specs.declared.firing.Firing.{Firing}
@@ -40,6 +42,31 @@ pub record OfThree (job : JobParts) (left middle right : Entry) (f : Firing) : T
   pub first : left ≡ entries.Token (token activity 1 value)
   pub second : middle ≡ entries.Token (token activity 2 other)
   pub third : right ≡ entries.Token (token activity 3 last)
+
+-- f is a firing that reads a cell, these are its two tokens, and this is the write that it reads
+pub record OfRead (job : JobParts) (left right read : Entry) (f : Firing) : Type 0 where
+  pub activity : Activity
+  pub value : Value
+  pub other : Value
+  pub cell : CellOf
+  pub writer : Activity
+  pub last : Value
+  pub is : IsTrue (is_firing_of job f)
+  pub whole : f ≡ firing activity (value ∷ other ∷ []) (Some (written writer last))
+  pub names : cell_named (value ∷ other ∷ []) ≡ Ok cell
+  pub first : left ≡ entries.Token (token activity 1 value)
+  pub second : right ≡ entries.Token (token activity 2 other)
+  pub third : read ≡ entries.Write (write_of cell writer last)
+
+-- f is a firing that reads a cell and whose first token this is; its second one is in one list, and
+-- the write that it reads in the other
+abbrev pub JoinsRead : JobParts → List Entry → List Entry → Entry → Firing → Type 0
+JoinsRead job seconds writes left f = SomeOf seconds (λ right. SomeOf writes (OfRead job left right)) f
+
+-- a write
+abbrev pub IsWrite : Entry → Type 0
+IsWrite (entries.Write w) = Unit {0}
+IsWrite e = ⊥
 
 -- f is a firing whose first token this is; its second one is in one list, and its third one in the other
 abbrev pub JoinsThree : JobParts → List Entry → List Entry → Entry → Firing → Type 0

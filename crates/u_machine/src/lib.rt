@@ -10,6 +10,7 @@
 mod answer;
 mod entering;
 mod machine;
+mod reads;
 mod scan;
 #[cfg(test)]
 mod tests;

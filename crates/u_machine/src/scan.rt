@@ -3,7 +3,8 @@
 //! The tokens of one activity stand side by side in a history, ordered by port and value. So each
 //! firing is found at its first token: a firing of one value by that token alone, a firing of two
 //! values by that token and each of the activity's tokens that stand behind it, a firing of three
-//! values by two such tokens and each of those from the first one at port 3 on.
+//! values by two such tokens and each of those from the first one at port 3 on. A second pass finds
+//! the firings that read a cell.
 ghost use Rattle.std.specs.Prelude.{◌≡◌, ◌↔◌, ◌<◌, ◌≤◌, ◌+◌, [], ◌∷◌, IfOk, OnOk, Contains, ◌⊎◌, Some, None, IsTrue, length, take, drop};
 ghost use Rattle.std.proofs.Common.{get_or};
 ghost use Rattle.u_rule.specs.Rule.{system_of};
@@ -17,6 +18,7 @@ ghost use Rattle.u_machine.specs.Joins.{Joins, JoinsThree, OfOne, OfTwo, OfThree
 ghost use Rattle.u_system.specs.Firing.{Enabled, SomeOf};
 ghost use Rattle.u_system.specs.Rising.{Rises};
 
+use crate::reads::add_reads;
 use std::alloc::{AllocError, Global};
 use u_check::Job;
 use u_history::History;
@@ -24,7 +26,7 @@ use u_rule::{Entry, Firing, Token, Values, is_firing};
 use u_system::{OrderedSet, place_in};
 
 /// The token, if the entry is one at that port.
-fn token_at(entry: &Entry, port: u8) -> Option<&Token>
+pub(crate) fn token_at(entry: &Entry, port: u8) -> Option<&Token>
     ensures { MatchOption result ((t : TokenParts) → entry.now ≡ entries.Token t → t.port ≡ port → ⊥) (λ t. (entry.now ≡ entries.Token t.now) × (t.now.port ≡ port)) }
 {
     match entry {
@@ -54,7 +56,7 @@ fn single(alloc: Global, job: &Job, left: &Entry) -> Result<Option<Firing>, Allo
 
 /// Whether the two tokens are of one activity.
 #[tactic(auto, using(crate::proofs::Names::name_eq_exact))]
-fn is_of_one_activity(left: &Token, right: &Token) -> bool
+pub(crate) fn is_of_one_activity(left: &Token, right: &Token) -> bool
     ensures { IsTrue result ↔ (left.now.activity ≡ right.now.activity) }
 {
     left.activity() == right.activity()
@@ -179,7 +181,7 @@ fn before_port(others: &[Entry], port: u8) -> usize
 
 /// How many of the entries that stand behind a token are, from the first on, tokens of its activity.
 #[tactic(auto, using(crate::proofs::Neighbours::together))]
-fn followers(left: &Entry, rest: &[Entry]) -> usize
+pub(crate) fn followers(left: &Entry, rest: &[Entry]) -> usize
     requires { Rises entry_cmp (left.now ∷ rest.now) }
     ensures within { result ≤ length rest.now }
     ensures all { (x : Entry) → Contains rest.now x → SameActivity left.now x → Contains (take result rest.now) x }
@@ -193,7 +195,7 @@ fn followers(left: &Entry, rest: &[Entry]) -> usize
 }
 
 /// Adds the firing, if there is one.
-fn add(found: &mut Vec<Firing>, firing: Option<Firing>) -> Result<(), AllocError>
+pub(crate) fn add(found: &mut Vec<Firing>, firing: Option<Firing>) -> Result<(), AllocError>
     ensures { OnOk result ((f : Firing) → Contains found.new.items f ↔ (Contains found.old.items f ⊎ (firing ≡ Some f))) }
 {
     if let Some(firing) = firing {
@@ -277,7 +279,7 @@ fn join(
 }
 
 /// The first entries, so many.
-fn front(entries: &[Entry], count: usize) -> &[Entry]
+pub(crate) fn front(entries: &[Entry], count: usize) -> &[Entry]
     requires { count ≤ length entries.now }
     ensures { result.now ≡ take count entries.now }
 {
@@ -285,7 +287,7 @@ fn front(entries: &[Entry], count: usize) -> &[Entry]
 }
 
 /// The entries from that place on.
-fn behind(entries: &[Entry], place: usize) -> &[Entry]
+pub(crate) fn behind(entries: &[Entry], place: usize) -> &[Entry]
     requires { place ≤ length entries.now }
     ensures { result.now ≡ drop place entries.now }
 {
@@ -310,6 +312,7 @@ pub fn enabled_firings(
         let rest = behind(entries, i + 1);
         join(alloc, job, left, rest, &mut found)?;
     }
+    add_reads(alloc, job, entries, &mut found)?;
     Ok(found)
 }
 

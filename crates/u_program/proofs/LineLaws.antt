@@ -14,7 +14,7 @@ use Rattle.u_program.specs.declared.reading.Line.TheVariants.{Block, Loop, State
 use Rattle.u_program.specs.declared.program.Constant.{Constant}
 use Rattle.u_program.specs.declared.program.Constant.TheVariants as constants
 use Rattle.u_program.specs.declared.program.Kind.{Kind}
-use Rattle.u_program.specs.declared.program.Kind.TheVariants.{Begin, Const, Pass, Unary, Binary, Select, Switch, Enter, Next, Last, Leave, Apply, Back, End}
+use Rattle.u_program.specs.declared.program.Kind.TheVariants.{Begin, Const, Pass, Unary, Binary, Select, Switch, Enter, Next, Last, Leave, Apply, Back, Alloc, Store, Fetch, End}
 use Rattle.u_value.specs.declared.operators.UnaryOperator.{UnaryOperator}
 use Rattle.u_value.specs.declared.operators.UnaryOperator.TheVariants.{Not, Length}
 use Rattle.u_value.specs.declared.operators.BinaryOperator.{BinaryOperator}
@@ -83,6 +83,9 @@ module _ (c : ℕ) where
   kind_free Leave low = written_free (codes "leave") low refl
   kind_free (Apply b) low = written_free (codes "apply") low refl
   kind_free Back low = written_free (codes "back") low refl
+  kind_free Alloc low = written_free (codes "alloc") low refl
+  kind_free Store low = written_free (codes "store") low refl
+  kind_free Fetch low = written_free (codes "fetch") low refl
   kind_free End low = written_free (codes "end") low refl
 
   constant_free : (k : Constant) → c < 45 → is_block_byte c ≡ false → IsConstant k → Free c (constant_word k)

@@ -5,7 +5,7 @@ use Rattle.std.proofs.lemmas.List.{append-nil}
 use Rattle.std.specs.Fmt.{decimal}
 use Rattle.u_text.specs.WholeWords.{◌then◌, told, some_same, none_some, then_some, le_cases, number0_word, number0_word_sound, number0_word_complete}
 use Rattle.u_program.specs.declared.program.Kind.{Kind}
-use Rattle.u_program.specs.declared.program.Kind.TheVariants.{Switch, Apply, End}
+use Rattle.u_program.specs.declared.program.Kind.TheVariants.{Switch, Apply, Store, End}
 use Rattle.u_program.specs.declared.program.Destination.{Destination}
 use Rattle.u_program.specs.Parts.{StatementParts, statement}
 use Rattle.u_program.specs.Limits.{IsKind, has_list, has_otherwise, IsListed, Ascending, rank, IsStatement, no_limits}
@@ -148,6 +148,7 @@ lists_sound : (k : Kind) (ws : Words) (to : List Destination) (rest : Words) (ot
 unfolding SaysLists list_at otherwise_at
 lists_sound Switch ws to rest otherwise last h i = switched_sound ws to rest otherwise last h i
 lists_sound (Apply b) ws to rest otherwise last h i = unlisted_sound ws to rest otherwise last h i
+lists_sound Store ws to rest otherwise last h i = unlisted_sound ws to rest otherwise last h i
 lists_sound End ws to rest otherwise last h i = unlisted_sound ws to rest otherwise last h i
 lists_sound k ws to rest otherwise last h i = listed_sound ws to rest otherwise last h i
 
@@ -166,6 +167,7 @@ list_complete : (k : Kind) (to otherwise : List Destination) → Ascending 0 to 
 unfolding list_at
 list_complete Switch to otherwise v l = destinations_complete true 0 to (map destination_word otherwise) v tt
 list_complete (Apply b) to otherwise v l = unlisted_complete to l
+list_complete Store to otherwise v l = unlisted_complete to l
 list_complete End to otherwise v l = unlisted_complete to l
 list_complete k to otherwise v l = listed_complete to v
 

@@ -6,7 +6,7 @@ use Rattle.u_name.specs.Context.{IsBetween}
 use Rattle.u_program.specs.declared.program.Constant.{Constant}
 use Rattle.u_program.specs.declared.program.Constant.TheVariants as constants
 use Rattle.u_program.specs.declared.program.Kind.{Kind}
-use Rattle.u_program.specs.declared.program.Kind.TheVariants.{Const, Switch, Enter, Apply, End}
+use Rattle.u_program.specs.declared.program.Kind.TheVariants.{Const, Switch, Enter, Apply, Store, End}
 use Rattle.u_program.specs.declared.program.Destination.{Destination}
 use Rattle.u_program.specs.Parts.{StatementParts, BlockParts}
 use Rattle.std.specs.Prelude.{FitsSigned}
@@ -44,6 +44,7 @@ IsKind k = Unit {0}
 -- whether a statement of the kind lists destinations
 abbrev pub has_list : Kind → Bool
 has_list (Apply b) = false
+has_list Store = false
 has_list End = false
 has_list k = true
 

@@ -9,7 +9,7 @@ use Rattle.u_text.specs.WholeWords.{◌then◌, whole, is, number_word, number0_
 use Rattle.u_program.specs.declared.program.Constant.{Constant}
 use Rattle.u_program.specs.declared.program.Constant.TheVariants as constants
 use Rattle.u_program.specs.declared.program.Kind.{Kind}
-use Rattle.u_program.specs.declared.program.Kind.TheVariants.{Begin, Const, Pass, Unary, Binary, Select, Switch, Enter, Next, Last, Leave, Apply, Back, End}
+use Rattle.u_program.specs.declared.program.Kind.TheVariants.{Begin, Const, Pass, Unary, Binary, Select, Switch, Enter, Next, Last, Leave, Apply, Back, Alloc, Store, Fetch, End}
 use Rattle.u_value.specs.declared.operators.UnaryOperator.TheVariants.{Not, Length}
 use Rattle.u_value.specs.declared.operators.BinaryOperator.TheVariants.{And, Or, Add, Sub, Mul, Div, Rem, Lt, Le, Eq}
 use Rattle.u_program.specs.declared.program.Destination.{Destination}
@@ -74,7 +74,8 @@ plain_kinds =
     ∷ Binary And ∷ Binary Or
     ∷ Binary Add ∷ Binary Sub ∷ Binary Mul ∷ Binary Div ∷ Binary Rem
     ∷ Binary Lt ∷ Binary Le ∷ Binary Eq
-    ∷ Select ∷ Switch ∷ Next ∷ Last ∷ Leave ∷ Back ∷ End ∷ []
+    ∷ Select ∷ Switch ∷ Next ∷ Last ∷ Leave ∷ Back
+    ∷ Alloc ∷ Store ∷ Fetch ∷ End ∷ []
 
 -- the first of these kinds that has this word
 unfoldable pub kind_among : List Kind → List ℕ → Option Kind

@@ -4,7 +4,7 @@ use Rattle.std.specs.Fmt.{decimal, signed_decimal}
 use Rattle.u_program.specs.declared.program.Constant.{Constant}
 use Rattle.u_program.specs.declared.program.Constant.TheVariants as constants
 use Rattle.u_program.specs.declared.program.Kind.{Kind}
-use Rattle.u_program.specs.declared.program.Kind.TheVariants.{Begin, Const, Pass, Unary, Binary, Select, Switch, Enter, Next, Last, Leave, Apply, Back, End}
+use Rattle.u_program.specs.declared.program.Kind.TheVariants.{Begin, Const, Pass, Unary, Binary, Select, Switch, Enter, Next, Last, Leave, Apply, Back, Alloc, Store, Fetch, End}
 use Rattle.u_value.specs.declared.operators.UnaryOperator.{UnaryOperator}
 use Rattle.u_value.specs.declared.operators.UnaryOperator.TheVariants.{Not, Length}
 use Rattle.u_value.specs.declared.operators.BinaryOperator.{BinaryOperator}
@@ -54,6 +54,9 @@ kind_word Last = codes "last"
 kind_word Leave = codes "leave"
 kind_word (Apply b) = codes "apply"
 kind_word Back = codes "back"
+kind_word Alloc = codes "alloc"
+kind_word Store = codes "store"
+kind_word Fetch = codes "fetch"
 kind_word End = codes "end"
 
 -- `true`, `-7`, `@fact`

@@ -52,6 +52,9 @@ pub fn kind_word(kind: &Kind) -> &'static [u8]
         Kind::Leave => b"leave".as_slice(),
         Kind::Apply(_) => b"apply".as_slice(),
         Kind::Back => b"back".as_slice(),
+        Kind::Alloc => b"alloc".as_slice(),
+        Kind::Store => b"store".as_slice(),
+        Kind::Fetch => b"fetch".as_slice(),
         Kind::End => b"end".as_slice(),
     }
 }
@@ -60,7 +63,7 @@ pub fn kind_word(kind: &Kind) -> &'static [u8]
 pub fn has_list(kind: &Kind) -> bool
     ensures { result ≡ has_list kind.now }
 {
-    !matches!(kind, Kind::Apply(_) | Kind::End)
+    !matches!(kind, Kind::Apply(_) | Kind::Store | Kind::End)
 }
 
 /// Whether they list them twice: for true, and behind a slash for false.

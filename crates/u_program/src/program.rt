@@ -57,6 +57,12 @@ pub enum Kind {
     Apply(u16),
     /// Hands on the result of a call.
     Back,
+    /// Makes a structure of as many cells as its value says, 0 to 1000000, and gives a reference to it.
+    Alloc,
+    /// Writes its third value into the cell of the structure that its second value says, and sends nothing.
+    Store,
+    /// Gives what is written in the cell of the structure that its second value says, once it is written.
+    Fetch,
     /// Hands on the result of its block.
     End,
 }

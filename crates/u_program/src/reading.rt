@@ -91,7 +91,7 @@ fn kind_among(kinds: &[Kind], word: &[u8]) -> Result<Kind, BadWord>
 }
 
 /// The kinds without an argument.
-const PLAIN_KINDS: [Kind; 21] = [
+const PLAIN_KINDS: [Kind; 24] = [
     Kind::Begin,
     Kind::Pass,
     Kind::Unary(UnaryOperator::Not),
@@ -112,6 +112,9 @@ const PLAIN_KINDS: [Kind; 21] = [
     Kind::Last,
     Kind::Leave,
     Kind::Back,
+    Kind::Alloc,
+    Kind::Store,
+    Kind::Fetch,
     Kind::End,
 ];
 

@@ -25,8 +25,8 @@ use u_text::cut;
 /// [ARGUMENT] -> DESTINATION..`, of a `switch` `-> DESTINATION.. / DESTINATION..` (for true, and for
 /// false). Loops and statements are numbered 1, 2, and so on. An argument is the constant of a `const`,
 /// the loop of an `enter` (1 to 99) or the statement of an `apply` (1 to 999), and other kinds have
-/// none. `apply` and `end` list no destinations. Source of the language: Arvind and Gostelow 1982;
-/// the text is this project's profile.
+/// none. `apply`, `store` and `end` list no destinations. Source of the language: Arvind and Gostelow
+/// 1982, of its structures Arvind and Nikhil 1990; the text is this project's profile.
 #[tactic(auto, using(crate::proofs::Same::read_back))]
 pub fn read(alloc: Global, bytes: &[u8]) -> Result<Program, ReadError>
     ensures answer { MatchResult result (λ program. IsTextOf bytes.now program) (λ fault. IsReadError bytes.now fault) }

@@ -1,5 +1,5 @@
 -- What a firing of a checked job gives lies where the job has a port for it.
-use Rattle.std.proofs.Common.{◌≡◌, ℕ, ◌≤◌, ◌-◌, ◌+◌, ◌==◌, ◌&&◌, is_none, refl, ap, sym, ◌∙◌, arith, subst, Bool, true, false, List, [], ◌∷◌, length, Option, Some, None, Result, Ok, Err, cond, inl, inr}
+use Rattle.std.proofs.Common.{◌≡◌, ℕ, ◌≤◌, ◌-◌, ◌+◌, ◌==◌, ◌&&◌, refl, ap, sym, ◌∙◌, arith, subst, Bool, true, false, List, [], ◌∷◌, length, Option, Some, None, Result, Ok, Err, cond, inl, inr}
 use Rattle.std.specs.Prelude.{slice_get, Contains, IsTrue, is_some}
 use Rattle.std.proofs.lemmas.Bool.{false≢true, and_parts}
 use Rattle.std.proofs.lemmas.List.Elements.{All-from_recursion, All-contains}
@@ -13,7 +13,7 @@ use Rattle.u_program.specs.Limits.{IsBlockOf, IsProgram, the_limits}
 use Rattle.u_program.specs.Parts.{StatementParts, BlockParts}
 use Rattle.u_program.specs.declared.program.Destination.{Destination}
 use Rattle.u_program.specs.declared.program.Kind.{Kind}
-use Rattle.u_program.specs.declared.program.Kind.TheVariants.{Binary, Select, Switch, Enter, Next, Last, Leave, Apply}
+use Rattle.u_program.specs.declared.program.Kind.TheVariants.{Binary, Select, Switch, Enter, Next, Last, Leave, Apply, Store, Fetch}
 use Rattle.u_check.specs.Rules.{ports_of, is_apply, is_end, is_of_loop, crosses, sends, main_name, names_block, block_named, statement_at, held_by, IsChecked}
 use Rattle.u_check.proofs.Blocks.{named_member, named_some}
 use Rattle.u_check.proofs.Facts.{Target, Returned, main_block, in_to, in_otherwise, held_is_loop, begin_first, enter_held, apply_returned, lies_in_loop, end_outside, target_exists, target_of_enter, target_of_leave, target_region}
@@ -21,8 +21,11 @@ use Rattle.u_system.proofs.Member.{Contains-nil, Contains-cons_cases}
 use Rattle.u_rule.specs.Parts.{TokenParts, token, ValueList}
 use Rattle.u_rule.specs.Fits.{statement_in, statement_of, holder_in, holder_of, fits, fits_at, IsPlaced, IsFitting, AllFit}
 use Rattle.u_rule.specs.Rule.{is_firing_of, beside, reached, refusal_of, list_of, result_of, first_of, delivered, handed_on, begun, called, back_named, back_of, brought_back, finished, ended, given, fault_of}
+use Rattle.u_name.specs.Cell.{CellOf}
+use Rattle.u_rule.specs.Structures.{cell_named, has_its_write, wrote, is_store, stored, stored_in}
 use Rattle.u_check.specs.Jobs.{JobParts}
 use Rattle.u_rule.specs.declared.firing.Firing.{Firing}
+use Rattle.u_rule.specs.declared.firing.Written.{Written}
 use Rattle.u_rule.specs.Made.{IsReachable, IsEndable}
 use Rattle.u_rule.specs.declared.entry.Entry.{Entry}
 use Rattle.u_rule.specs.declared.entry.Entry.TheVariants as entries
@@ -35,6 +38,8 @@ ports_some (Binary o) = omega arith
 ports_some Select = omega arith
 ports_some Switch = omega arith
 ports_some (Apply n) = omega arith
+ports_some Store = omega arith
+ports_some Fetch = omega arith
 ports_some k = omega arith
 
 -- a token at that statement of the block
@@ -52,6 +57,17 @@ answer_fits : (p : List BlockParts) (v : Value) → AllFit p (entries.Answer v �
 unfolding IsFitting
 answer_fits p v x m =
     elim (Contains-cons_cases (entries.Answer v) x [] m) [ inl e ↦ subst (λ (y : Entry). IsFitting p y) e tt | inr k ↦ absurd (Contains-nil x k) ]
+
+write_fits : (p : List BlockParts) (cell : CellOf) (a : Activity) (v : Value) → AllFit p (wrote cell a v ∷ [])
+unfolding IsFitting
+write_fits p cell a v x m =
+    elim (Contains-cons_cases (wrote cell a v) x [] m) [ inl e ↦ subst (λ (y : Entry). IsFitting p y) e tt | inr k ↦ absurd (Contains-nil x k) ]
+
+-- a `store` gives no token
+stored_fit : (p : List BlockParts) (a : Activity) (r : Result CellOf FaultKind) (vs : ValueList) → AllFit p (stored_in a r vs)
+stored_fit p a (Ok cell) (structure ∷ index ∷ v ∷ vs) = write_fits p cell a v
+stored_fit p a (Ok cell) vs = none_fit p a faults.Kind
+stored_fit p a (Err kind) vs = none_fit p a kind
 
 one_fits : (p : List BlockParts) (t : TokenParts) → IsPlaced p t → AllFit p (entries.Token t ∷ [])
 unfolding IsFitting
@@ -230,17 +246,18 @@ module _ (p : List BlockParts) (c : IsChecked p) where
     ended_fit q (Ok v) = finished_fit q v
     ended_fit q (Err kind) = none_fit p a kind
 
-    given_fit : IsProgram the_limits p → (vs : ValueList) → AllFit p (given p s a vs)
-    given_fit lim vs = at (is_apply s.kind) (is_end s.kind) refl refl
+    given_fit : IsProgram the_limits p → (vs : ValueList) (write : Option Written) → AllFit p (given p s a vs write)
+    given_fit lim vs write = at (is_apply s.kind) (is_end s.kind) (is_store s.kind) refl refl
       where
-        at : (x y : Bool) → is_apply s.kind ≡ x → is_end s.kind ≡ y → AllFit p (cond x (called p a vs) (cond y (ended p a (first_of vs)) (handed_on s.kind a (list_of s.kind s vs) (result_of s.kind vs))))
-        at true y q h = called_fit lim q vs
-        at false true q h = ended_fit h (first_of vs)
-        at false false q h = handed_fit vs (result_of s.kind vs)
+        at : (x y z : Bool) → is_apply s.kind ≡ x → is_end s.kind ≡ y → AllFit p (cond x (called p a vs) (cond y (ended p a (first_of vs)) (cond z (stored a vs) (handed_on s.kind a (list_of s.kind s vs) (result_of s.kind a vs write)))))
+        at true y z q h = called_fit lim q vs
+        at false true z q h = ended_fit h (first_of vs)
+        at false false true q h = stored_fit p a (cell_named vs) vs
+        at false false false q h = handed_fit vs (result_of s.kind a vs write)
 
   -- what a statement gives where an activity may execute it
-  pub all_given_fit : (es : List Entry) (s : StatementParts) (a : Activity) (vs : ValueList) → es ≡ given p s a vs → IsProgram the_limits p → statement_of p a.block a.statement ≡ Some s → fits_at p s.region a ≡ true → AllFit p es
-  all_given_fit es s a vs z lim e f = rw z (given_fit s a e f lim vs)
+  pub all_given_fit : (es : List Entry) (s : StatementParts) (a : Activity) (vs : ValueList) (write : Option Written) → es ≡ given p s a vs write → IsProgram the_limits p → statement_of p a.block a.statement ≡ Some s → fits_at p s.region a ≡ true → AllFit p es
+  all_given_fit es s a vs write z lim e f = rw z (given_fit s a e f lim vs write)
 
   -- the argument lies at the first statement of `main`
   started : IsProgram the_limits p → (v : Value) → IsPlaced p (token (activity Top main_name 1 1) 1 v)
@@ -259,4 +276,4 @@ module _ (p : List BlockParts) (c : IsChecked p) where
 pub firing_fits : (job : JobParts) (f : Firing) (s : StatementParts) → is_firing_of job f ≡ true → statement_of job.program f.activity.block f.activity.statement ≡ Some s → fits_at job.program s.region f.activity ≡ true
 unfolding is_firing_of
 firing_fits job f s e q =
-    (and_parts (fits_at job.program s.region f.activity) (length f.values == ports_of s.kind && is_none f.write) (rw q at e)).0
+    (and_parts (fits_at job.program s.region f.activity) (length f.values == ports_of s.kind && has_its_write s.kind f.values f.write) (rw q at e)).0

@@ -1,5 +1,5 @@
 -- What a firing needs and what it gives stands in order, each entry once.
-use Rattle.std.proofs.Common.{◌≡◌, ◌⊎◌, inl, inr, ◌∙◌, sym, refl, arith, subst, Bool, true, false, ℕ, ◌+◌, ◌*◌, ◌<◌, ◌≤◌, List, [], ◌∷◌, map, Contains, Ordering, Option, Some, None, Result, Ok, Err, ◌==◌, cond}
+use Rattle.std.proofs.Common.{◌≡◌, ◌⊎◌, inl, inr, ◌∙◌, sym, refl, arith, subst, Bool, true, false, ℕ, ◌+◌, ◌*◌, ◌<◌, ◌≤◌, List, [], ◌∷◌, ◌++◌, append-nil, map, Contains, Ordering, Option, Some, None, Result, Ok, Err, ◌==◌, cond}
 use Rattle.std.specs.Ordering.{ordering_then, nat_cmp}
 use Rattle.std.specs.Cmp.{tied_itself, nat_cmp_is}
 use Rattle.std.specs.declared.cmp.Ordering.TheVariants.{Less, Equal, Greater}
@@ -19,15 +19,20 @@ use Rattle.u_program.specs.Parts.{StatementParts, BlockParts}
 use Rattle.u_program.specs.declared.program.Kind.{Kind}
 use Rattle.u_program.specs.declared.program.Destination.{Destination}
 use Rattle.u_check.specs.Rules.{is_apply, is_end, names_block}
+use Rattle.std.proofs.lemmas.List.Elements.{Contains-append_cases}
+use Rattle.u_name.specs.Cell.{CellOf}
 use Rattle.u_system.specs.Rising.{Rises}
 use Rattle.u_system.proofs.Member.{Contains-nil, Contains-cons_cases}
 use Rattle.u_rule.specs.Parts.{token, ValueList}
 use Rattle.u_rule.specs.Fits.{statement_of}
 use Rattle.u_rule.specs.Rule.{sent, beside, reached, refusal_of, list_of, result_of, first_of, delivered, handed_on, called, back_of, brought_back, finished, ended, given, tokens_from, fault_of}
+use Rattle.u_rule.specs.Structures.{cell_named, read_from, write_read, wrote, is_store, stored, stored_in}
 use Rattle.u_rule.specs.Made.{IsReachable}
 use Rattle.u_rule.proofs.Linkage.{mapped, reached_beside}
 use Rattle.u_rule.proofs.Destinations.{list_ascends}
-use Rattle.u_rule.specs.EntryOrder.{entry_cmp}
+use Rattle.u_rule.specs.EntryOrder.{entry_cmp, write_of}
+use Rattle.u_rule.specs.declared.parts.Write.{Write}
+use Rattle.u_rule.specs.declared.firing.Written.{Written}
 use Rattle.u_rule.specs.declared.entry.Entry.{Entry}
 use Rattle.u_rule.specs.declared.entry.Entry.TheVariants as entries
 
@@ -89,16 +94,39 @@ sent_rise to v low (d ∷ ds) b r =
 alone : (x : Entry) → Rises entry_cmp (x ∷ [])
 alone x = ((λ y m. absurd (Contains-nil y m)), tt)
 
--- what a firing needs
-pub tokens_rise : (a : Activity) (port : ℕ) (vs : ValueList) → Rises entry_cmp (tokens_from a port vs)
+above : (a : Activity) (p q : ℕ) (v : Value) (ws : ValueList) → p < q → (x : Entry) → Contains (tokens_from a q ws) x → entry_cmp (entries.Token (token a p v)) x ≡ Less
+above a p q v [] l x m = absurd (Contains-nil x m)
+above a p q v (w ∷ ws) l x m =
+    elim (Contains-cons_cases (entries.Token (token a q w)) x (tokens_from a (q + 1) ws) m)
+    [ inl e ↦ subst (λ (y : Entry). entry_cmp (entries.Token (token a p v)) y ≡ Less) e (by_port a p q v w l) | inr k ↦ above a p (q + 1) v ws (omega arith) x k ]
+
+tokens_rise : (a : Activity) (port : ℕ) (vs : ValueList) → Rises entry_cmp (tokens_from a port vs)
 tokens_rise a port [] = tt
-tokens_rise a port (v ∷ vs) = ((λ x m. above port (port + 1) v vs (omega arith) x m), tokens_rise a (port + 1) vs)
+tokens_rise a port (v ∷ vs) = (above a port (port + 1) v vs (omega arith), tokens_rise a (port + 1) vs)
+
+-- a write stands behind tokens
+tokens_then : (a : Activity) (port : ℕ) (vs : ValueList) (w : Write) → Rises entry_cmp (tokens_from a port vs ++ (entries.Write w ∷ []))
+tokens_then a port [] w = alone (entries.Write w)
+tokens_then a port (v ∷ vs) w = (each, tokens_then a (port + 1) vs w)
   where
-    above : (p q : ℕ) (v : Value) (ws : ValueList) → p < q → (x : Entry) → Contains (tokens_from a q ws) x → entry_cmp (entries.Token (token a p v)) x ≡ Less
-    above p q v [] l x m = absurd (Contains-nil x m)
-    above p q v (w ∷ ws) l x m =
-        elim (Contains-cons_cases (entries.Token (token a q w)) x (tokens_from a (q + 1) ws) m)
-        [ inl e ↦ subst (λ (y : Entry). entry_cmp (entries.Token (token a p v)) y ≡ Less) e (by_port a p q v w l) | inr k ↦ above p (q + 1) v ws (omega arith) x k ]
+    each : (x : Entry) → Contains (tokens_from a (port + 1) vs ++ (entries.Write w ∷ [])) x → entry_cmp (entries.Token (token a port v)) x ≡ Less
+    each x m =
+        elim (Contains-append_cases (tokens_from a (port + 1) vs) (entries.Write w ∷ []) x m) [
+          | inl k ↦ above a port (port + 1) v vs (omega arith) x k
+          | inr k ↦ elim (Contains-cons_cases (entries.Write w) x [] k) [
+            | inl e ↦ subst (λ (y : Entry). entry_cmp (entries.Token (token a port v)) y ≡ Less) e refl
+            | inr n ↦ absurd (Contains-nil x n)
+          ]
+        ]
+
+-- what a firing needs
+pub needs_rise : (a : Activity) (vs : ValueList) (write : Option Written) → Rises entry_cmp (tokens_from a 1 vs ++ write_read vs write)
+needs_rise a vs None = rw append-nil (tokens_rise a 1 vs)
+needs_rise a vs (Some w) = at (cell_named vs)
+  where
+    at : (r : Result CellOf FaultKind) → Rises entry_cmp (tokens_from a 1 vs ++ read_from r w)
+    at (Ok cell) = tokens_then a 1 vs (write_of cell w.writer w.value)
+    at (Err kind) = rw append-nil (tokens_rise a 1 vs)
 
 -- one by one, what a statement reaches is in the order of statements
 reached_rises : (k : Kind) (a : Activity) → IsReachable k a → IsBeside (reached k a)
@@ -134,14 +162,23 @@ ended_rise p a (Ok v) = by_context a.context
     by_context (InLoop outer from number turn) = tt
     by_context (InCall outer from caller turn) = brought (back_of (statement_of p from caller))
 
-given_rise : (p : List BlockParts) (s : StatementParts) (a : Activity) (vs : ValueList) → IsStatement the_limits s → IsReachable s.kind a → Rises entry_cmp (given p s a vs)
-given_rise p s a vs i w = at (is_apply s.kind) (is_end s.kind)
+stored_rise : (a : Activity) (vs : ValueList) → Rises entry_cmp (stored a vs)
+stored_rise a vs = at (cell_named vs) vs
   where
-    at : (x y : Bool) → Rises entry_cmp (cond x (called p a vs) (cond y (ended p a (first_of vs)) (handed_on s.kind a (list_of s.kind s vs) (result_of s.kind vs))))
-    at true y = called_rise p a vs
-    at false true = ended_rise p a (first_of vs)
-    at false false = handed_rise s.kind s a vs (result_of s.kind vs) i w
+    at : (r : Result CellOf FaultKind) (ws : ValueList) → Rises entry_cmp (stored_in a r ws)
+    at (Ok cell) (structure ∷ index ∷ v ∷ ws) = alone (wrote cell a v)
+    at (Ok cell) ws = alone (fault_of a faults.Kind)
+    at (Err kind) ws = alone (fault_of a kind)
+
+given_rise : (p : List BlockParts) (s : StatementParts) (a : Activity) (vs : ValueList) (write : Option Written) → IsStatement the_limits s → IsReachable s.kind a → Rises entry_cmp (given p s a vs write)
+given_rise p s a vs write i w = at (is_apply s.kind) (is_end s.kind) (is_store s.kind)
+  where
+    at : (x y z : Bool) → Rises entry_cmp (cond x (called p a vs) (cond y (ended p a (first_of vs)) (cond z (stored a vs) (handed_on s.kind a (list_of s.kind s vs) (result_of s.kind a vs write)))))
+    at true y z = called_rise p a vs
+    at false true z = ended_rise p a (first_of vs)
+    at false false true = stored_rise a vs
+    at false false false = handed_rise s.kind s a vs (result_of s.kind a vs write) i w
 
 -- what a statement of a program gives stands in order
-pub all_given_rise : (es : List Entry) (p : List BlockParts) (s : StatementParts) (a : Activity) (vs : ValueList) → es ≡ given p s a vs → IsStatement the_limits s → IsReachable s.kind a → Rises entry_cmp es
-all_given_rise es p s a vs e i w = subst (λ (ys : List Entry). Rises entry_cmp ys) (sym e) (given_rise p s a vs i w)
+pub all_given_rise : (es : List Entry) (p : List BlockParts) (s : StatementParts) (a : Activity) (vs : ValueList) (write : Option Written) → es ≡ given p s a vs write → IsStatement the_limits s → IsReachable s.kind a → Rises entry_cmp es
+all_given_rise es p s a vs write e i w = subst (λ (ys : List Entry). Rises entry_cmp ys) (sym e) (given_rise p s a vs write i w)

@@ -4,3 +4,6 @@ pub mod Linkage
 pub mod Places
 pub mod Follow
 pub mod InOrder
+pub mod Texts
+pub mod Lists
+pub mod Cells

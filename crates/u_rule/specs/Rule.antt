@@ -1,5 +1,5 @@
 -- The firing rule: which firings a job has, what each needs and what each gives.
-use Rattle.std.specs.Prelude.{ℕ, ◌+◌, Bool, false, ◌&&◌, ◌==◌, if◌then◌else◌, List, [], ◌∷◌, length, map, Option, Some, None, Result, Ok, Err, is_none}
+use Rattle.std.specs.Prelude.{ℕ, ◌+◌, Bool, false, ◌&&◌, ◌==◌, if◌then◌else◌, List, [], ◌∷◌, length, map, Option, Some, None, Result, Ok, Err, ◌++◌}
 use Rattle.u_name.specs.Context.{Tree, Top, InLoop, InCall, depth}
 use Rattle.u_name.specs.Name.{Activity, activity, loop_context, call_context, left, returned}
 use Rattle.u_value.specs.declared.value.Value.{Value}
@@ -12,7 +12,7 @@ use Rattle.u_value.specs.Operators.{applied1, applied2, chosen}
 use Rattle.u_program.specs.declared.program.Constant.{Constant}
 use Rattle.u_program.specs.declared.program.Constant.TheVariants as constants
 use Rattle.u_program.specs.declared.program.Kind.{Kind}
-use Rattle.u_program.specs.declared.program.Kind.TheVariants.{Const, Unary, Binary, Select, Switch, Enter, Next, Last, Leave, Apply}
+use Rattle.u_program.specs.declared.program.Kind.TheVariants.{Const, Unary, Binary, Select, Switch, Enter, Next, Last, Leave, Apply, Alloc, Fetch}
 use Rattle.u_program.specs.declared.program.Destination.{Destination}
 use Rattle.u_program.specs.Parts.{StatementParts, BlockParts}
 use Rattle.u_check.specs.Rules.{ports_of, is_end, is_apply, main_name, names_block}
@@ -20,14 +20,16 @@ use Rattle.u_check.specs.Jobs.{JobParts}
 use Rattle.u_system.specs.Firing.{System}
 use Rattle.u_rule.specs.Parts.{ValueList, token}
 use Rattle.u_rule.specs.Fits.{statement_of, fits_at}
+use Rattle.u_rule.specs.Structures.{cell_named, has_its_write, write_read, allocated, fetched, is_store, stored}
 use Rattle.u_rule.specs.declared.entry.Entry.{Entry}
 use Rattle.u_rule.specs.declared.entry.Entry.TheVariants as entries
 use Rattle.u_rule.specs.declared.firing.Firing.{Firing}
+use Rattle.u_rule.specs.declared.firing.Written.{Written}
 
--- a firing of that statement has one value for each port, and no write, since no statement reads a cell
+-- a firing of that statement has one value for each port, and a write exactly where it reads a cell
 abbrev pub is_firing_at : List BlockParts → Option StatementParts → Firing → Bool
 is_firing_at p None f = false
-is_firing_at p (Some s) f = fits_at p s.region f.activity && (length f.values == ports_of s.kind && is_none f.write)
+is_firing_at p (Some s) f = fits_at p s.region f.activity && (length f.values == ports_of s.kind && has_its_write s.kind f.values f.write)
 
 unfoldable pub is_firing_of : JobParts → Firing → Bool
 is_firing_of job f = is_firing_at job.program (statement_of job.program f.activity.block f.activity.statement) f
@@ -37,9 +39,9 @@ abbrev pub tokens_from : Activity → ℕ → ValueList → List Entry
 tokens_from a port [] = []
 tokens_from a port (v ∷ vs) = entries.Token (token a port v) ∷ tokens_from a (port + 1) vs
 
--- a firing needs its value at each of its ports
+-- a firing needs its value at each of its ports, and the write that it reads
 unfoldable pub needs_of : Firing → List Entry
-needs_of f = tokens_from f.activity 1 f.values
+needs_of f = tokens_from f.activity 1 f.values ++ write_read f.values f.write
 
 abbrev pub value_of : Constant → Value
 value_of (constants.Int n) = values.Int n
@@ -68,15 +70,17 @@ abbrev pub switched_of : ValueList → Result Value FaultKind
 switched_of (v ∷ values.Bool b ∷ vs) = Ok v
 switched_of vs = Err faults.Kind
 
--- the value that a statement of that kind makes of the values at its ports, or why it makes none;
--- a kind that makes no other hands on the first
-unfoldable pub result_of : Kind → ValueList → Result Value FaultKind
-result_of (Const c) vs = Ok (value_of c)
-result_of (Unary operator) vs = unary_of operator vs
-result_of (Binary operator) vs = binary_of operator vs
-result_of Select vs = selected_of vs
-result_of Switch vs = switched_of vs
-result_of k vs = first_of vs
+-- the value that a statement of that kind makes of the values at its ports and of the write that it
+-- reads, or why it makes none; a kind that makes no other hands on the first
+unfoldable pub result_of : Kind → Activity → ValueList → Option Written → Result Value FaultKind
+result_of (Const c) a vs write = Ok (value_of c)
+result_of (Unary operator) a vs write = unary_of operator vs
+result_of (Binary operator) a vs write = binary_of operator vs
+result_of Select a vs write = selected_of vs
+result_of Switch a vs write = switched_of vs
+result_of Alloc a vs write = allocated a vs
+result_of Fetch a vs write = fetched (cell_named vs) write
+result_of k a vs write = first_of vs
 
 -- where a statement of that kind sends its value: `switch` has a list for each truth value
 abbrev pub list_of : Kind → StatementParts → ValueList → List Destination
@@ -152,18 +156,19 @@ abbrev pub ended : List BlockParts → Activity → Result Value FaultKind → L
 ended p a (Ok v) = finished p a a.context v
 ended p a (Err kind) = fault_of a kind ∷ []
 
--- what a statement gives on these values
-abbrev pub given : List BlockParts → StatementParts → Activity → ValueList → List Entry
-given p s a vs =
+-- what a statement gives on these values and the write that it reads
+abbrev pub given : List BlockParts → StatementParts → Activity → ValueList → Option Written → List Entry
+given p s a vs write =
     if is_apply s.kind then called p a vs
     else if is_end s.kind then ended p a (first_of vs)
-    else handed_on s.kind a (list_of s.kind s vs) (result_of s.kind vs)
+    else if is_store s.kind then stored a vs
+    else handed_on s.kind a (list_of s.kind s vs) (result_of s.kind a vs write)
 
 abbrev pub given_at : List BlockParts → Option StatementParts → Firing → List Entry
 given_at p None f = []
-given_at p (Some s) f = given p s f.activity f.values
+given_at p (Some s) f = given p s f.activity f.values f.write
 
--- a firing gives its value, or the fault why there is none
+-- a firing gives its value or its write, or the fault why there is none
 unfoldable pub gives_of : JobParts → Firing → List Entry
 gives_of job f = given_at job.program (statement_of job.program f.activity.block f.activity.statement) f
 

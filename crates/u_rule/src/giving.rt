@@ -2,7 +2,8 @@
 //!
 //! The linkage statements are those of Arvind and Gostelow (1982): `enter`, `next`, `last` and
 //! `leave` for loops, `apply` and `back` for calls. That contexts are at most 64 deep and initiations
-//! at most 4294967295, and that a fault is given beyond, is this project's profile.
+//! at most 4294967295, and that a fault is given beyond, is this project's profile. Structures are
+//! those of Arvind and Nikhil (1990), which `alloc` makes, `store` writes and `fetch` reads.
 ghost use Rattle.std.specs.Prelude.{◌≡◌, ◌++◌, ◌∷◌, [], map, true, Ok, IfOk, IfSome, OnOk, MatchResult, None};
 ghost use Rattle.std.specs.List.{AllByRecursion};
 ghost use Rattle.u_name.specs.Context.{IsBetween};
@@ -10,16 +11,19 @@ ghost use Rattle.u_program.specs.Limits.{IsDestination, IsStatement, IsKind, the
 ghost use Rattle.u_check.specs.Rules.{is_end};
 ghost use Rattle.u_rule.specs.Made.{outcome_of, IsReachable, IsRefusal, IsEndable};
 ghost use Rattle.u_rule.specs.Fits.{statement_of};
+ghost use Rattle.u_rule.specs.Structures.{cell_named, allocated, fetched, stored};
 ghost use Rattle.u_rule.specs.Rule.{first_of, result_of, value_of, list_of, sent, beside, reached, refusal_of, handed_on, begun, called, back_of, finished, ended, given, fault_of};
 
 use crate::entry::Entry;
+use crate::firing::Firing;
 use crate::fits::{is_apply, names_block, statement_of};
 use crate::parts::{Fault, Token};
+use crate::structures::{cell_named, is_store, wrote};
 use std::alloc::{AllocError, Global};
 use u_check::is_end;
 use u_name::{BlockName, Name, NameError, Node};
 use u_program::{Constant, Destination, Kind, Program, Statement};
-use u_value::{FaultKind, Value, apply1, apply2, select};
+use u_value::{FaultKind, Reference, Value, apply1, apply2, select};
 
 /// The constant as a value.
 fn value_of(constant: &Constant) -> Value
@@ -49,13 +53,43 @@ fn operated(given: Result<Value, FaultKind>) -> Made
     }
 }
 
-/// What a statement of that kind makes of the values at its ports.
-#[tactic(auto, unfolding(crate::specs::Rule::result_of))]
-fn made_by(kind: &Kind, values: &[Value]) -> Result<Made, AllocError>
-    ensures { IfOk result (λ m. result_of kind.now values.now ≡ outcome_of m) }
+/// What `alloc` makes: a structure of that length, with the name of the activity.
+fn allocated(activity: &Name, values: &[Value]) -> Result<Made, AllocError>
+    ensures { IfOk result (λ m. allocated activity.now values.now ≡ outcome_of m) }
 {
-    match (kind, values) {
+    match values {
+        [Value::Int(length), ..] => {
+            if 0 <= *length && *length <= 1_000_000 {
+                let structure = Reference::new(activity.copy()?, *length as u32);
+                Ok(Made::Value(Value::Ref(structure)))
+            } else {
+                Ok(Made::Fault(FaultKind::Length))
+            }
+        }
+        _ => Ok(Made::Fault(FaultKind::Kind)),
+    }
+}
+
+/// What `fetch` makes: the value of the firing's write, where its first values name a cell.
+fn fetched(firing: &Firing) -> Result<Made, AllocError>
+    ensures { IfOk result (λ m. fetched (cell_named firing.now.values) firing.now.write ≡ outcome_of m) }
+{
+    match (cell_named(firing.values.as_slice()), &firing.write) {
+        (Err(kind), _) => Ok(Made::Fault(kind)),
+        (Ok(_), Some(write)) => Ok(Made::Value(write.value.copy()?)),
+        (Ok(_), None) => Ok(Made::Fault(FaultKind::Bounds)),
+    }
+}
+
+/// What a statement of that kind makes of the values at its ports and of the write that it reads.
+#[tactic(auto, unfolding(crate::specs::Rule::result_of))]
+fn made_by(kind: &Kind, firing: &Firing) -> Result<Made, AllocError>
+    ensures { IfOk result (λ m. result_of kind.now firing.now.activity firing.now.values firing.now.write ≡ outcome_of m) }
+{
+    match (kind, firing.values.as_slice()) {
         (Kind::Const(constant), _) => Ok(Made::Value(value_of(constant))),
+        (Kind::Alloc, values) => allocated(&firing.activity, values),
+        (Kind::Fetch, _) => fetched(firing),
         (Kind::Unary(operator), [first, ..]) => Ok(operated(apply1(*operator, first))),
         (Kind::Binary(operator), [first, second, ..]) => {
             Ok(operated(apply2(*operator, first, second)))
@@ -166,17 +200,17 @@ fn delivered(
 fn handed_on(
     alloc: Global,
     statement: &Statement,
-    activity: &Name,
-    values: &[Value],
+    firing: &Firing,
 ) -> Result<Vec<Entry>, AllocError>
-    requires reaches { IsReachable statement.now.kind activity.now }
+    requires reaches { IsReachable statement.now.kind firing.now.activity }
     requires limits { IsStatement the_limits statement.now }
-    ensures { IfOk result (λ v. v.items ≡ handed_on statement.now.kind activity.now (list_of statement.now.kind statement.now values.now) (result_of statement.now.kind values.now)) }
+    ensures { IfOk result (λ v. v.items ≡ handed_on statement.now.kind firing.now.activity (list_of statement.now.kind statement.now firing.now.values) (result_of statement.now.kind firing.now.activity firing.now.values firing.now.write)) }
 {
-    match made_by(statement.kind(), values)? {
+    let activity = &firing.activity;
+    match made_by(statement.kind(), firing)? {
         Made::Fault(kind) => fault(alloc, activity, kind),
         Made::Value(value) => {
-            let to = list_of(statement, values);
+            let to = list_of(statement, firing.values.as_slice());
             delivered(alloc, statement.kind(), activity, to, &value)
         }
     }
@@ -269,25 +303,42 @@ fn ended(
     }
 }
 
-/// What a statement gives on the values at its ports.
+/// What `store` gives: the write of its third value into the cell that the others name.
+fn stored(alloc: Global, activity: &Name, values: &[Value]) -> Result<Vec<Entry>, AllocError>
+    ensures { IfOk result (λ v. v.items ≡ stored activity.now values.now) }
+{
+    match (cell_named(values), values) {
+        (Ok((structure, index)), [_, _, value, ..]) => {
+            alone(alloc, wrote(structure, index, activity, value)?)
+        }
+        (Ok(_), _) => fault(alloc, activity, FaultKind::Kind),
+        (Err(kind), _) => fault(alloc, activity, kind),
+    }
+}
+
+/// What a statement gives on the values at its ports, and on the write that it reads.
 pub(crate) fn given(
     alloc: Global,
     program: &Program,
     statement: &Statement,
-    activity: &Name,
-    values: &[Value],
+    firing: &Firing,
 ) -> Result<Vec<Entry>, AllocError>
     requires limits { IsStatement the_limits statement.now }
-    requires reaches { IsReachable statement.now.kind activity.now }
-    requires ends { is_end statement.now.kind ≡ true → IsEndable program.now activity.now.context }
-    ensures { IfOk result (λ v. v.items ≡ given program.now statement.now activity.now values.now) }
+    requires reaches { IsReachable statement.now.kind firing.now.activity }
+    requires ends { is_end statement.now.kind ≡ true → IsEndable program.now firing.now.activity.context }
+    ensures { IfOk result (λ v. v.items ≡ given program.now statement.now firing.now.activity firing.now.values firing.now.write) }
 {
     let kind = statement.kind();
+    let activity = &firing.activity;
+    let values = firing.values.as_slice();
     if is_apply(kind) {
         return called(alloc, program, activity, values);
     }
     if is_end(kind) {
         return ended(alloc, program, activity, values);
     }
-    handed_on(alloc, statement, activity, values)
+    if is_store(kind) {
+        return stored(alloc, activity, values);
+    }
+    handed_on(alloc, statement, firing)
 }

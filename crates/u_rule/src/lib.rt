@@ -2,7 +2,8 @@
 //!
 //! The rule is that of Arvind and Gostelow (1982): an activity, one execution of one statement, is
 //! enabled once each of its ports has a token, and firing it gives tokens for its successors, by
-//! linkage also into a loop, from turn to turn, out of it, into a call and back. That a firing may
+//! linkage also into a loop, from turn to turn, out of it, into a call and back. A read of a cell needs
+//! a write of it too, as in Arvind and Nikhil (1990). That a firing may
 //! also give a fault or an answer, that an activity fires once for each choice of values where a
 //! port has several, where the places of activities fit, and all orders are this project's profile.
 //! So a job is a firing system: a start token, and for each firing what it needs and what it gives.
@@ -17,11 +18,18 @@ mod linkage_tests;
 mod parts;
 mod rule;
 #[cfg(test)]
+mod structure_tests;
+mod structures;
+#[cfg(test)]
 mod tests;
 mod values;
+#[cfg(test)]
+mod worked;
+mod writing;
 
 pub use entry::Entry;
 pub use firing::{Firing, Written};
 pub use parts::{Fault, Token, Write};
 pub use rule::{RuleError, gives, is_firing, needs, start};
+pub use structures::names_cell;
 pub use values::Values;

@@ -3,15 +3,10 @@
 ghost use Rattle.std.specs.Prelude.{◌≤◌};
 
 use crate::entry::Entry;
-use crate::firing::Firing;
-use crate::rule::{RuleError, gives, is_firing, needs};
-use crate::values::Values;
+use crate::rule::{RuleError, gives};
+use crate::worked::{fires, is_fit, job_of, plain_of};
 use std::alloc::{AllocError, Global};
 use std::test::Fail;
-use u_check::{Job, check};
-use u_name::Name;
-use u_program::read;
-use u_value::Value;
 
 const SUM: &str = "\
 u-program 1\n\
@@ -82,93 +77,8 @@ loop 1 0\n\
 6 0 enter 1 ->\n\
 ";
 
-/// The job of running the program of that text on 4.
-fn job_of(alloc: Global, text: &str) -> Result<Job, AllocError> {
-    let program = read(alloc, text.as_bytes()).map_err(|_| AllocError)?;
-    let checked = check(program).map_err(|_| AllocError)?;
-    Ok(Job::new(checked, 4))
-}
-
-fn value_of(alloc: Global, text: &str) -> Result<Value, AllocError> {
-    Value::read(alloc, text.as_bytes()).map_err(|_| AllocError)
-}
-
-/// The firing of the activity of that name, on the value or the two values.
-fn firing_of(alloc: Global, name: &[u8], first: &str, second: &str) -> Result<Firing, AllocError> {
-    let activity = Name::read(alloc, name).map_err(|_| AllocError)?;
-    let first = value_of(alloc, first)?;
-    let values = if second.is_empty() {
-        Values::one(alloc, first)?
-    } else {
-        let second = value_of(alloc, second)?;
-        Values::two(alloc, first, second)?
-    };
-    Ok(Firing {
-        activity,
-        values,
-        write: None,
-    })
-}
-
-/// Appends a line: the token with its port, the fault or the answer.
-fn put_line(out: &mut Vec<u8>, entry: &Entry) -> Result<(), AllocError> {
-    match entry {
-        Entry::Token(token) => {
-            token.activity().write_text(out)?;
-            out.extend_from_slice(b" ")?;
-            out.push(b'0' + token.port())?;
-            out.extend_from_slice(b" ")?;
-            token.value().write_text(out)?;
-        }
-        Entry::Write(_) => out.extend_from_slice(b"write")?,
-        Entry::Fault(fault) => out.extend_from_slice(fault.kind.text().as_bytes())?,
-        Entry::Answer(value) => {
-            out.extend_from_slice(b"answer ")?;
-            value.write_text(out)?;
-        }
-    }
-    out.push(b'\n')?;
-    Ok(())
-}
-
-fn put_lines(out: &mut Vec<u8>, entries: &[Entry]) -> Result<(), AllocError> {
-    for entry in entries {
-        put_line(out, entry)?;
-    }
-    Ok(())
-}
-
-/// What the firing needs, a line that says so, and what it gives.
-fn lines_of(
-    alloc: Global,
-    program: &str,
-    name: &[u8],
-    first: &str,
-    second: &str,
-) -> Result<Vec<u8>, RuleError> {
-    let job = job_of(alloc, program)?;
-    let firing = firing_of(alloc, name, first, second)?;
-    let needed = needs(alloc, &job, &firing)?;
-    let given = gives(alloc, &job, &firing)?;
-    let mut out = Vec::new(alloc);
-    put_lines(&mut out, &needed)?;
-    out.extend_from_slice(b"gives\n")?;
-    put_lines(&mut out, &given)?;
-    Ok(out)
-}
-
-/// Whether the firing of one value or two needs and gives that.
-fn fires(
-    alloc: Global,
-    program: &str,
-    name: &str,
-    first: &str,
-    second: &str,
-    wanted: &str,
-) -> Result<bool, Fail> {
-    let lines = lines_of(alloc, program, name.as_bytes(), first, second)?;
-    Ok(lines.as_slice() == wanted.as_bytes())
-}
+/// No write.
+const NONE: [&str; 2] = ["", ""];
 
 /// The name of that statement of `main`, within 64 calls of `main` by statement 3.
 fn deepest(alloc: Global, statement: u8) -> Result<Vec<u8>, AllocError>
@@ -199,19 +109,12 @@ fn fault_there(
 {
     let job = job_of(alloc, ENDLESS)?;
     let name = deepest(alloc, statement)?;
-    let firing = firing_of(alloc, &name, first, second)?;
+    let firing = plain_of(alloc, &name, [first, second, ""])?;
     let given = gives(alloc, &job, &firing)?;
     match given.as_slice() {
         [Entry::Fault(fault)] => Ok(fault.kind.text()),
         _ => Ok("none"),
     }
-}
-
-/// Whether the activity of that name, with one value for each of so many ports, fires in the program.
-fn is_fit(alloc: Global, program: &str, name: &str, second: &str) -> Result<bool, Fail> {
-    let job = job_of(alloc, program)?;
-    let firing = firing_of(alloc, name.as_bytes(), "4", second)?;
-    Ok(is_firing(&job, &firing))
 }
 
 #[test]
@@ -220,50 +123,55 @@ fn a_loop_is_entered_turned_and_left(rt: HostRuntime) -> Result<(), Fail> {
         (
             "-.main.4.1",
             "0",
-            "-.main.4.1 1 0\ngives\n(-.main.L1.1).main.9.1 1 0\n(-.main.L1.1).main.12.1 1 0\n",
+            "t -.main.4.1 1 0\ngives\nt (-.main.L1.1).main.9.1 1 0\nt (-.main.L1.1).main.12.1 1 0\n",
         ),
         (
             "(-.main.L1.1).main.14.2",
             "3",
-            "(-.main.L1.1).main.14.2 1 3\ngives\n(-.main.L1.1).main.9.3 1 3\n(-.main.L1.1).main.12.3 1 3\n",
+            "t (-.main.L1.1).main.14.2 1 3\ngives\nt (-.main.L1.1).main.9.3 1 3\nt (-.main.L1.1).main.12.3 1 3\n",
         ),
         (
             "(-.main.L1.1).main.14.4294967295",
             "3",
-            "(-.main.L1.1).main.14.4294967295 1 3\ngives\ninitiation\n",
+            "t (-.main.L1.1).main.14.4294967295 1 3\ngives\nx (-.main.L1.1).main.14.4294967295 initiation\n",
         ),
         (
             "(-.main.L1.1).main.15.5",
             "6",
-            "(-.main.L1.1).main.15.5 1 6\ngives\n(-.main.L1.1).main.16.1 1 6\n",
+            "t (-.main.L1.1).main.15.5 1 6\ngives\nt (-.main.L1.1).main.16.1 1 6\n",
         ),
         (
             "(-.main.L1.1).main.16.1",
             "6",
-            "(-.main.L1.1).main.16.1 1 6\ngives\n-.main.17.1 1 6\n",
+            "t (-.main.L1.1).main.16.1 1 6\ngives\nt -.main.17.1 1 6\n",
         ),
-        ("-.main.17.1", "6", "-.main.17.1 1 6\ngives\nanswer 6\n"),
+        ("-.main.17.1", "6", "t -.main.17.1 1 6\ngives\na 6\n"),
     ];
     for (name, first, wanted) in rows {
-        assert!(rt; fires(rt.alloc(), SUM, name, first, "", wanted)?);
+        assert!(rt; fires(rt.alloc(), SUM, name, [first, "", ""], NONE, wanted)?);
     }
     Ok(())
 }
 
 #[test]
 fn a_switch_sends_to_one_list(rt: HostRuntime) -> Result<(), Fail> {
-    let needed = "(-.main.L1.1).main.12.2 1 6\n(-.main.L1.1).main.12.2 2 ";
+    let name = "(-.main.L1.1).main.12.2";
     let rows = [
-        ("true", "true\ngives\n"),
-        ("false", "false\ngives\n(-.main.L1.1).main.15.2 1 6\n"),
-        ("7", "7\ngives\nkind\n"),
+        (
+            "true",
+            "t (-.main.L1.1).main.12.2 1 6\nt (-.main.L1.1).main.12.2 2 true\ngives\n",
+        ),
+        (
+            "false",
+            "t (-.main.L1.1).main.12.2 1 6\nt (-.main.L1.1).main.12.2 2 false\ngives\nt (-.main.L1.1).main.15.2 1 6\n",
+        ),
+        (
+            "7",
+            "t (-.main.L1.1).main.12.2 1 6\nt (-.main.L1.1).main.12.2 2 7\ngives\nx (-.main.L1.1).main.12.2 kind\n",
+        ),
     ];
-    for (control, behind) in rows {
-        let mut wanted = Vec::new(rt.alloc());
-        wanted.extend_from_slice(needed.as_bytes())?;
-        wanted.extend_from_slice(behind.as_bytes())?;
-        let lines = lines_of(rt.alloc(), SUM, b"(-.main.L1.1).main.12.2", "6", control)?;
-        assert!(rt; lines == wanted);
+    for (control, wanted) in rows {
+        assert!(rt; fires(rt.alloc(), SUM, name, ["6", control, ""], NONE, wanted)?);
     }
     Ok(())
 }
@@ -275,35 +183,44 @@ fn a_call_begins_and_comes_back(rt: HostRuntime) -> Result<(), Fail> {
             "-.main.3.1",
             "@fact",
             "4",
-            "-.main.3.1 1 @fact\n-.main.3.1 2 4\ngives\n(-.main.3.1).fact.1.1 1 4\n",
+            "t -.main.3.1 1 @fact\nt -.main.3.1 2 4\ngives\nt (-.main.3.1).fact.1.1 1 4\n",
         ),
         (
             "-.main.3.1",
             "@none",
             "4",
-            "-.main.3.1 1 @none\n-.main.3.1 2 4\ngives\nkind\n",
+            "t -.main.3.1 1 @none\nt -.main.3.1 2 4\ngives\nx -.main.3.1 kind\n",
         ),
         (
             "-.main.3.1",
             "true",
             "4",
-            "-.main.3.1 1 true\n-.main.3.1 2 4\ngives\nkind\n",
+            "t -.main.3.1 1 true\nt -.main.3.1 2 4\ngives\nx -.main.3.1 kind\n",
         ),
         (
             "((-.main.3.1).fact.7.1).rec.8.1",
             "6",
             "",
-            "((-.main.3.1).fact.7.1).rec.8.1 1 6\ngives\n(-.main.3.1).fact.8.1 1 6\n",
+            "t ((-.main.3.1).fact.7.1).rec.8.1 1 6\ngives\nt (-.main.3.1).fact.8.1 1 6\n",
         ),
         (
             "(-.main.3.1).fact.8.1",
             "24",
             "",
-            "(-.main.3.1).fact.8.1 1 24\ngives\n(-.main.3.1).fact.9.1 1 24\n",
+            "t (-.main.3.1).fact.8.1 1 24\ngives\nt (-.main.3.1).fact.9.1 1 24\n",
         ),
     ];
     for (name, first, second, wanted) in rows {
-        assert!(rt; fires(rt.alloc(), FACTORIAL, name, first, second, wanted)?);
+        assert!(rt;
+            fires(
+                rt.alloc(),
+                FACTORIAL,
+                name,
+                [first, second, ""],
+                NONE,
+                wanted
+            )?
+        );
     }
     Ok(())
 }
@@ -343,7 +260,7 @@ fn only_what_the_program_allows_fits(rt: HostRuntime) -> Result<(), Fail> {
         (FACTORIAL, "-.fact.5.1", "4", false),
     ];
     for (program, name, second, wanted) in rows {
-        assert!(rt; is_fit(rt.alloc(), program, name, second)? == wanted);
+        assert!(rt; is_fit(rt.alloc(), program, name, ["4", second, ""], NONE)? == wanted);
     }
     Ok(())
 }

@@ -1,7 +1,8 @@
 //! The firing rule: which firings a job has, what each needs and what each gives.
 //!
 //! A firing needs one token for each port of its statement, and gives one for each destination, as
-//! in Arvind and Gostelow (1982). By this project's profile an operator that has no value for its
+//! in Arvind and Gostelow (1982); a firing that reads a cell needs a write of it too, as in Arvind and
+//! Nikhil (1990). By this project's profile an operator that has no value for its
 //! operands gives a fault in its place, and `end` in the root gives the answer.
 ghost use Rattle.std.specs.Prelude.{◌≡◌, ◌≤◌, ◌<◌, ◌+◌, ◌++◌, [], ◌∷◌, false, length, Some, Ok, Err, IfOk, IfSome, OnOk, IsTrue, ◌↔◌};
 ghost use Rattle.std.specs.Option.{option_copied};
@@ -17,6 +18,7 @@ use crate::firing::Firing;
 use crate::fits::{fits, statement_of};
 use crate::giving::given;
 use crate::parts::Token;
+use crate::structures::{add_write, has_its_write};
 use std::alloc::{AllocError, AllocFailed, Global};
 use u_check::{Job, ports_of};
 use u_name::{BlockName, Context, Name};
@@ -45,7 +47,8 @@ fn fits_at(program: &Program, region: u8, activity: &Name) -> bool
     )
 }
 
-/// Whether it is a firing of the job: an activity that fits, with one value for each port of its statement.
+/// Whether it is a firing of the job: an activity that fits, with one value for each port of its
+/// statement, and a write exactly where the statement is a `fetch` and its values name a cell.
 #[tactic(auto, unfolding(crate::specs::Rule::is_firing_of))]
 pub fn is_firing(job: &Job, firing: &Firing) -> bool
     ensures { result ≡ is_firing_of job.now firing.now }
@@ -57,7 +60,7 @@ pub fn is_firing(job: &Job, firing: &Firing) -> bool
         Some(statement) => {
             fits_at(program, statement.region(), activity)
                 && (firing.values.as_slice().len() == ports_of(statement.kind())
-                    && firing.write.is_none())
+                    && has_its_write(statement.kind(), firing))
         }
     }
 }
@@ -101,8 +104,9 @@ pub fn start(job: &Job) -> Entry
 }
 
 /// The entries that a firing of the job gives: its value at each destination, in their order, what
-/// begins a call or brings back its result, the answer from `end` in the root, or the one fault. They
-/// stand in the order of entries, each once, and each token lies where the job has a port for it.
+/// begins a call or brings back its result, the write of a `store`, the answer from `end` in the root,
+/// or the one fault. They stand in the order of entries, each once, and each token lies where the job
+/// has a port for it.
 ///
 /// # Errors
 /// `NotAFiring` exactly where it is no firing of the job. `NoMemory` where there is no memory.
@@ -121,8 +125,7 @@ pub fn gives(alloc: Global, job: &Job, firing: &Firing) -> Result<Vec<Entry>, Ru
         return Err(RuleError::NotAFiring);
     };
     let _ = program.blocks();
-    let values = firing.values.as_slice();
-    let entries = given(alloc, program, statement, &firing.activity, values)?;
+    let entries = given(alloc, program, statement, firing)?;
     Ok(entries)
 }
 
@@ -140,12 +143,12 @@ fn add_tokens(tokens: &mut Vec<Entry>, activity: &Name, values: &[Value]) -> Res
     Ok(())
 }
 
-/// The entries that a firing of the job needs: the token of its value at each port, from port 1 on.
-/// They stand in the order of entries, each once.
+/// The entries that a firing of the job needs: the token of its value at each port, from port 1 on,
+/// and the write that it reads. They stand in the order of entries, each once.
 ///
 /// # Errors
 /// `NotAFiring` exactly where it is no firing of the job. `NoMemory` where there is no memory.
-#[tactic(auto, unfolding(crate::specs::Rule::needs_of), using(crate::proofs::InOrder::tokens_rise))]
+#[tactic(auto, unfolding(crate::specs::Rule::needs_of), using(crate::proofs::InOrder::needs_rise))]
 pub fn needs(alloc: Global, job: &Job, firing: &Firing) -> Result<Vec<Entry>, RuleError>
     ensures ok { IfOk result (λ v. IsTrue (is_firing_of job.now firing.now) × (v.items ≡ needs_of firing.now)) }
     ensures order { IfOk result (λ v. Rises entry_cmp v.items) }
@@ -154,7 +157,8 @@ pub fn needs(alloc: Global, job: &Job, firing: &Firing) -> Result<Vec<Entry>, Ru
     if !is_firing(job, firing) {
         return Err(RuleError::NotAFiring);
     }
-    let mut tokens = Vec::new(alloc);
-    add_tokens(&mut tokens, &firing.activity, firing.values.as_slice())?;
-    Ok(tokens)
+    let mut entries = Vec::new(alloc);
+    add_tokens(&mut entries, &firing.activity, firing.values.as_slice())?;
+    add_write(&mut entries, firing)?;
+    Ok(entries)
 }

@@ -1,9 +1,10 @@
--- The records of one, two or three values that a list of entries may make.
-use Rattle.std.specs.Prelude.{◌≡◌, List, [], ◌∷◌, ◌⊎◌, None, Contains}
+-- The records of one, two or three values, or of a read, that a list of entries may make.
+use Rattle.std.specs.Prelude.{◌≡◌, List, [], ◌∷◌, ◌⊎◌, Some, None, Contains}
 use Rattle.u_check.specs.Jobs.{JobParts}
 use Rattle.u_rule.specs.Parts.{TokenParts}
 use Rattle.u_rule.specs.Rule.{system_of}
-use Rattle.u_rule.specs.EntryOrder.{firing}
+use Rattle.u_rule.specs.EntryOrder.{firing, written}
+use Rattle.u_rule.specs.declared.parts.Write.{Write}
 use Rattle.u_rule.specs.declared.entry.Entry.{Entry}
 use Rattle.u_rule.specs.declared.entry.Entry.TheVariants as entries
 use Rattle.u_rule.specs.declared.firing.Firing.{Firing}
@@ -24,6 +25,16 @@ IsOfThree left middle right f =
     (t : TokenParts) × (u : TokenParts) × (w : TokenParts) × (left ≡ entries.Token t) × (middle ≡ entries.Token u) × (right ≡ entries.Token w)
     × (f ≡ firing t.activity (t.value ∷ u.value ∷ w.value ∷ []) None)
 
+-- the first token's activity with the values of both, and the write
+abbrev pub IsOfRead : Entry → Entry → Entry → Firing → Type 0
+IsOfRead left middle right f =
+    (t : TokenParts) × (u : TokenParts) × (w : Write) × (left ≡ entries.Token t) × (middle ≡ entries.Token u) × (right ≡ entries.Write w)
+    × (f ≡ firing t.activity (t.value ∷ u.value ∷ []) (Some (written w.writer w.value)))
+
+-- made of three entries: of three tokens, or of two tokens and a write
+abbrev pub IsOfThird : Entry → Entry → Entry → Firing → Type 0
+IsOfThird left middle right f = IsOfThree left middle right f ⊎ IsOfRead left middle right f
+
 -- what is enabled over the list
 abbrev pub EnabledOver : JobParts → List Entry → Firing → Type 0
 EnabledOver job held f = Enabled (system_of job) (Contains held) f
@@ -34,7 +45,7 @@ FitsTwo job held left right f = IsOfTwo left right f × EnabledOver job held f
 
 -- enabled, and made of these three entries
 abbrev pub FitsThree : JobParts → List Entry → Entry → Entry → Entry → Firing → Type 0
-FitsThree job held left middle right f = IsOfThree left middle right f × EnabledOver job held f
+FitsThree job held left middle right f = IsOfThird left middle right f × EnabledOver job held f
 
 -- enabled, and made of this entry and two others of the list
 abbrev pub FitsTriple : JobParts → List Entry → Entry → Firing → Type 0

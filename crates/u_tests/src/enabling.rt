@@ -4,12 +4,12 @@ ghost use Rattle.u_rule.specs.Rule.{system_of, needs_of, is_firing_of};
 ghost use Rattle.u_rule.specs.declared.entry.Entry.{Entry};
 ghost use Rattle.u_rule.specs.declared.firing.Firing.{Firing};
 ghost use Rattle.u_system.specs.Firing.{Enabled, SomeOf};
-ghost use Rattle.u_tests.specs.Tries.{IsOfOne, IsOfTwo, IsOfThree, EnabledOver, FitsTwo, FitsThree, FitsTriple, FitsFirst};
+ghost use Rattle.u_tests.specs.Tries.{IsOfOne, IsOfTwo, IsOfThree, IsOfRead, IsOfThird, EnabledOver, FitsTwo, FitsThree, FitsTriple, FitsFirst};
 
 use crate::among::add_new;
 use std::alloc::{AllocError, Global};
 use u_check::Job;
-use u_rule::{Entry, Firing, RuleError, Token, Values, needs};
+use u_rule::{Entry, Firing, RuleError, Token, Values, Written, needs};
 
 /// Whether the two entries are equal.
 #[tactic(auto, using(crate::proofs::Entries::entry_tied_exact))]
@@ -113,6 +113,46 @@ fn record_of_three(
     }))
 }
 
+/// The record of the first token's activity with the values of both and the write, if the entries are
+/// two tokens and a write.
+fn record_of_read(
+    alloc: Global,
+    left: &Entry,
+    middle: &Entry,
+    right: &Entry,
+) -> Result<Option<Firing>, AllocError>
+    ensures { IfOk result (λ o. (f : Firing) → (o ≡ Some f) ↔ IsOfRead left.now middle.now right.now f) }
+{
+    let (Entry::Token(first), Entry::Token(second), Entry::Write(write)) = (left, middle, right)
+    else {
+        return Ok(None);
+    };
+    let by = Written {
+        writer: write.writer.copy()?,
+        value: write.value.copy()?,
+    };
+    Ok(Some(Firing {
+        activity: first.activity().copy()?,
+        values: Values::two(alloc, first.value().copy()?, second.value().copy()?)?,
+        write: Some(by),
+    }))
+}
+
+/// The record that the three entries make: of three tokens, or of two tokens and a write.
+fn record_of_third(
+    alloc: Global,
+    left: &Entry,
+    middle: &Entry,
+    right: &Entry,
+) -> Result<Option<Firing>, AllocError>
+    ensures { IfOk result (λ o. (f : Firing) → (o ≡ Some f) ↔ IsOfThird left.now middle.now right.now f) }
+{
+    match right {
+        Entry::Write(_) => record_of_read(alloc, left, middle, right),
+        _ => record_of_three(alloc, left, middle, right),
+    }
+}
+
 /// Adds the record, if there is one and it is an enabled firing, unless it is there.
 fn add(
     alloc: Global,
@@ -150,7 +190,7 @@ fn add_pairs(
     Ok(())
 }
 
-/// Adds the enabled firings of three values that have these two entries first.
+/// Adds the enabled firings that have these two entries first, and a third one.
 fn add_thirds(
     alloc: Global,
     job: &Job,
@@ -162,13 +202,13 @@ fn add_thirds(
     ensures { OnOk result ((f : Firing) → Contains found.new.items f ↔ (Contains found.old.items f ⊎ SomeOf held.now (FitsThree job.now held.now left.now middle.now) f)) }
 {
     for right in held {
-        let made = record_of_three(alloc, left, middle, right)?;
+        let made = record_of_third(alloc, left, middle, right)?;
         add(alloc, job, held, made, found)?;
     }
     Ok(())
 }
 
-/// Adds the enabled firings of three values that have this entry first.
+/// Adds the enabled firings of three entries that have this one first.
 fn add_triples(
     alloc: Global,
     job: &Job,

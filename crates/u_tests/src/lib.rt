@@ -6,7 +6,11 @@
 
 mod among;
 mod enabling;
+#[cfg(test)]
+mod examples;
 mod holding;
+#[cfg(test)]
+mod merging_tests;
 #[cfg(test)]
 mod plain_texts;
 mod rounds;

@@ -23,7 +23,8 @@ loop-i-preserved c =
 
 pub returns : goal.returns
 returns c f =
-    let all = scan_all (Joins c.args.job.now c.args.entries.now) [] c.args.entries.now c.loop-i.i c.loop-i.found.items c.loop-i-test.false c.loop-i.invariant f in (
-      (λ m. elim (all.0 m) [ inl n ↦ absurd (Contains-nil f n) | inr s ↦ (enabled_is_joined c.args.job.now c.args.entries.now f).1 s ]),
-      (λ en. all.1 (inr ((enabled_is_joined c.args.job.now c.args.entries.now f).0 en))),
+    let all = scan_all (Joins c.args.job.now c.args.entries.now) [] c.args.entries.now c.loop-i.i c.loop-i.found.items c.loop-i-test.false c.loop-i.invariant f in
+    let joined = enabled_is_joined c.args.job.now c.args.entries.now f in (
+      (λ m. joined.1 (elim ((c.in_ok-add_reads.ensures f).0 m) [ inl a ↦ inl (elim (all.0 a) [ inl n ↦ absurd (Contains-nil f n) | inr s ↦ s ]) | inr r ↦ inr r ])),
+      (λ en. (c.in_ok-add_reads.ensures f).1 (elim (joined.0 en) [ inl s ↦ inl (all.1 (inr s)) | inr r ↦ inr r ])),
     )

@@ -1,0 +1,133 @@
+//! Structures of cells.
+//!
+//! They are the I-structures of Arvind and Nikhil (1990): a structure is made without values, each of
+//! its cells is written by a `store`, and a `fetch` fires once its cell has a write. That a cell with
+//! several writes is read once for each of them, and the greatest length, is this project's profile.
+ghost use Rattle.std.specs.Prelude.{◌≡◌, ◌↔◌, ◌≤◌, [], ◌∷◌, ◌++◌, IsTrue, IfOk, OnOk, MatchResult, Ok, Err};
+ghost use Rattle.u_name.specs.Cell.{cell_of};
+ghost use Rattle.u_rule.specs.Structures.{is_index, cell_named, reads_cell, has_its_write, wrote, write_read, is_store};
+
+use crate::entry::Entry;
+use crate::firing::Firing;
+use crate::parts::Write;
+use std::alloc::AllocError;
+use u_name::{Cell, Name};
+use u_program::Kind;
+use u_value::{FaultKind, Reference, Value};
+
+/// Whether it is `store`.
+pub(crate) fn is_store(kind: &Kind) -> bool
+    ensures { result ≡ is_store kind.now }
+{
+    matches!(kind, Kind::Store)
+}
+
+/// Whether the index is that of a cell of a structure of that length.
+fn is_index(index: i64, length: u32) -> bool
+    ensures { result ≡ is_index index length }
+{
+    0 <= index && index < i64::from(length)
+}
+
+/// The structure and the index that the first two values are, where they name a cell.
+///
+/// # Errors
+/// `Kind` where they are no structure and number. Else `Bounds` where the index is below 0 or not
+/// below the structure's length.
+pub(crate) fn cell_named(values: &[Value]) -> Result<(&Reference, u32), FaultKind>
+    ensures cell { MatchResult result (λ t. cell_named values.now ≡ Ok (cell_of t.0.now.name t.1)) (λ k. cell_named values.now ≡ Err k) }
+    ensures bound { IfOk result (λ t. t.1 ≤ 999999) }
+{
+    match values {
+        [Value::Ref(structure), Value::Int(index), ..] => {
+            if is_index(*index, structure.length()) {
+                Ok((structure, *index as u32))
+            } else {
+                Err(FaultKind::Bounds)
+            }
+        }
+        _ => Err(FaultKind::Kind),
+    }
+}
+
+/// Whether a statement of that kind reads a cell on these values.
+fn reads_cell(kind: &Kind, values: &[Value]) -> bool
+    ensures { result ≡ reads_cell kind.now values.now }
+{
+    matches!(kind, Kind::Fetch) && cell_named(values).is_ok()
+}
+
+/// Whether the firing has a write exactly where a statement of that kind reads a cell.
+pub(crate) fn has_its_write(kind: &Kind, firing: &Firing) -> bool
+    ensures { result ≡ has_its_write kind.now firing.now.values firing.now.write }
+{
+    if reads_cell(kind, firing.values.as_slice()) {
+        firing.write.is_some()
+    } else {
+        firing.write.is_none()
+    }
+}
+
+/// That the activity wrote the value into the structure's cell at that index.
+pub(crate) fn wrote(
+    structure: &Reference,
+    index: u32,
+    writer: &Name,
+    value: &Value,
+) -> Result<Entry, AllocError>
+    requires { index ≤ 999999 }
+    ensures { IfOk result (λ e. e ≡ wrote (cell_of structure.now.name index) writer.now value.now) }
+{
+    let cell = Cell::new(structure.name().copy()?, index);
+    let writer = writer.copy()?;
+    let value = value.copy()?;
+    Ok(Entry::Write(Write {
+        cell,
+        writer,
+        value,
+    }))
+}
+
+/// Adds the write that the firing read, where it has one.
+#[tactic(auto, using(crate::proofs::Lists::nothing_more))]
+pub(crate) fn add_write(entries: &mut Vec<Entry>, firing: &Firing) -> Result<(), AllocError>
+    ensures { OnOk result (entries.new.items ≡ entries.old.items ++ write_read firing.now.values firing.now.write) }
+{
+    let Some(write) = &firing.write else {
+        return Ok(());
+    };
+    let Ok((structure, index)) = cell_named(firing.values.as_slice()) else {
+        return Ok(());
+    };
+    entries.push(wrote(structure, index, &write.writer, &write.value)?)?;
+    Ok(())
+}
+
+/// Whether it is a cell of the structure.
+#[tactic(auto, using(crate::proofs::Cells::same_name))]
+fn is_of(structure: &Reference, cell: &Cell) -> bool
+    ensures { IsTrue result ↔ (structure.now.name ≡ cell.now.name) }
+{
+    structure.name() == cell.name()
+}
+
+/// Whether it is the structure's cell at that index.
+#[tactic(auto, using(crate::proofs::Cells::one_cell))]
+fn is_cell(structure: &Reference, index: u32, cell: &Cell) -> bool
+    ensures { IsTrue result ↔ (cell_of structure.now.name index ≡ cell.now) }
+{
+    is_of(structure, cell) && index == cell.index()
+}
+
+/// Whether the values are a structure and an index in it, and name that cell.
+#[tactic(auto, using(crate::proofs::Cells::named_or))]
+pub fn names_cell(structure: &Value, index: &Value, cell: &Cell) -> bool
+    ensures { IsTrue result ↔ (cell_named (structure.now ∷ index.now ∷ []) ≡ Ok cell.now) }
+{
+    match (structure, index) {
+        (Value::Ref(structure), Value::Int(index)) => {
+            is_index(*index, structure.length()) && is_cell(structure, *index as u32, cell)
+        }
+        _ => false,
+    }
+}

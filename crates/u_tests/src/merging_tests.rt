@@ -1,0 +1,79 @@
+//! Histories of parts of a run, merged in several orders: the bytes are those of the whole.
+use crate::examples::EXAMPLES;
+use std::alloc::{AllocError, Global};
+use std::test::Fail;
+use u_check::{Job, check};
+use u_history::History;
+use u_machine::Machine;
+use u_program::read;
+use u_rule::Entry;
+
+/// The entries of the run, until it is quiet.
+fn entries_of(alloc: Global, text: &[u8], argument: i64) -> Result<Vec<Entry>, AllocError> {
+    let program = read(alloc, text).map_err(|_| AllocError)?;
+    let checked = check(program).map_err(|_| AllocError)?;
+    let job = Job::new(checked, argument);
+    let mut machine = Machine::new(alloc, &job, 1000)?;
+    machine.run(1000).map_err(|_| AllocError)?;
+    machine.history().entries()
+}
+
+/// The set of those entries whose places, counted round and round to `parts`, are this one.
+fn part(alloc: Global, entries: &[Entry], parts: usize, which: usize) -> Result<History, AllocError> {
+    let mut history = History::new(alloc);
+    let mut place = 0;
+    for entry in entries {
+        if place == which {
+            history.insert(entry.copy()?).map_err(|_| AllocError)?;
+        }
+        place += 1;
+        if place >= parts {
+            place = 0;
+        }
+    }
+    Ok(history)
+}
+
+/// The text of the parts, merged in that order.
+fn merged(
+    alloc: Global,
+    entries: &[Entry],
+    parts: usize,
+    order: &[usize],
+) -> Result<Vec<u8>, AllocError> {
+    let mut all = History::new(alloc);
+    for which in order {
+        let one = part(alloc, entries, parts, *which)?;
+        all.merge(&one)?;
+    }
+    let mut text = Vec::new(alloc);
+    all.write_text(&mut text)?;
+    Ok(text)
+}
+
+/// Whether halves and thirds of the run's history, merged in several orders, have its text.
+fn merges_agree(alloc: Global, text: &[u8], argument: i64) -> Result<bool, AllocError> {
+    let entries = entries_of(alloc, text, argument)?;
+    let whole = merged(alloc, &entries, 1, &[0])?;
+    let orders = [
+        (2, [0, 1].as_slice()),
+        (2, [1, 0].as_slice()),
+        (3, [0, 1, 2].as_slice()),
+        (3, [2, 1, 0].as_slice()),
+        (3, [1, 0, 2, 1].as_slice()),
+    ];
+    let mut same = entries.len() > 0;
+    for (parts, order) in orders {
+        same = same && merged(alloc, &entries, parts, order)?.as_slice() == whole.as_slice();
+    }
+    Ok(same)
+}
+
+#[test]
+fn parts_of_a_run_merge_to_the_whole(rt: HostRuntime) -> Result<(), Fail> {
+    for (text, argument) in EXAMPLES {
+        let agree = merges_agree(rt.alloc(), text, argument)?;
+        assert!(rt; agree);
+    }
+    Ok(())
+}
