@@ -2,6 +2,7 @@ pub mod Clashing
 pub mod Exact
 pub mod Grouped
 pub mod Listed
+pub mod Merges
 pub mod Neighbours
 pub mod Reports
 pub mod Sets

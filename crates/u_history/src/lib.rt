@@ -2,6 +2,8 @@
 #![tactic(auto)]
 
 mod clash;
+#[cfg(test)]
+mod clash_tests;
 mod history;
 mod lookup;
 mod outcome;
