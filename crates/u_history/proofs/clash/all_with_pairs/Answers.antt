@@ -1,4 +1,4 @@
-use Rattle.std.proofs.Common.{Contains, subst, sym}
+use Rattle.std.proofs.Common.{Contains}
 use Rattle.u_history.specs.Says.{lent}
 use Rattle.u_history.specs.Clashes.{HasPairsOf}
 use Rattle.u_history.proofs.Grouped.{row_more}

@@ -1,4 +1,4 @@
-use Rattle.std.proofs.Common.{◌≡◌, [], Contains, arith}
+use Rattle.std.proofs.Common.{[], Contains, arith}
 use Rattle.u_system.proofs.Scan.{scan_more, scan_all}
 use Rattle.u_name.specs.Cell.{CellOf, cell_cmp}
 use Rattle.u_rule.specs.declared.entry.Entry.{Entry}

@@ -1,4 +1,4 @@
-use Rattle.std.proofs.Common.{◌≡◌, ◌↔◌, ◌⊎◌, take, Contains, []}
+use Rattle.std.proofs.Common.{◌↔◌, ◌⊎◌, take, Contains, []}
 use Rattle.u_system.specs.Rising.{Rises}
 use Rattle.u_system.specs.Firing.{SomeOf}
 use Rattle.u_name.specs.Cell.{CellOf, cell_cmp}

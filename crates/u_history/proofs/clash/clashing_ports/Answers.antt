@@ -1,4 +1,4 @@
-use Rattle.std.proofs.Common.{◌≡◌, [], Contains, arith}
+use Rattle.std.proofs.Common.{[], Contains, arith}
 use Rattle.u_system.proofs.Scan.{scan_more, scan_all}
 use Rattle.u_history.specs.declared.clash.Port.{Port}
 use Rattle.u_history.specs.Clashes.{port_order}

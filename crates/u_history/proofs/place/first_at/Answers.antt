@@ -1,5 +1,4 @@
-use Rattle.std.proofs.Common.{◌≡◌, ℕ, ◌<◌, ◌≤◌, ◌+◌, ◌-◌, ◌/◌, arith, subst, sym, length}
-use Rattle.u_rule.specs.declared.entry.Entry.{Entry}
+use Rattle.std.proofs.Common.{◌+◌, ◌-◌, ◌/◌, arith, subst, sym}
 use Rattle.u_history.specs.Says.{lent}
 use Rattle.u_history.specs.Places.{IsBefore}
 use Rattle.u_history.proofs.Listed.{lent_below, length_lent}

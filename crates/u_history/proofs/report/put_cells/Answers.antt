@@ -1,4 +1,3 @@
-use Rattle.std.proofs.Common.{◌≡◌, ◌∙◌, ◌++◌, ap, List, ℕ, sym}
 use Rattle.u_history.specs.declared.clash.CellClash.{CellClash}
 use Rattle.u_history.specs.Clashes.{cell_pairs}
 use Rattle.u_history.specs.Report.{cell_lines}

@@ -1,4 +1,3 @@
-use Rattle.std.proofs.Common.{◌≡◌, ◌∙◌, ◌++◌, ap, List, ℕ, sym}
 use Rattle.u_history.specs.declared.clash.PortClash.{PortClash}
 use Rattle.u_history.specs.Clashes.{port_values}
 use Rattle.u_history.specs.Report.{port_lines}
