@@ -1,7 +1,7 @@
 use Rattle.std.proofs.Common.{subst, List, ℕ}
-use Rattle.u.specs.Firings.{IsFirings, IsFiringsText}
-use Rattle.u.proofs.Spelling.{read_firings}
-use Rattle.u.proofs.number.firings_of.Goals as goal
+use Rattle.u_cli.specs.Firings.{IsFirings, IsFiringsText}
+use Rattle.u_cli.proofs.Spelling.{read_firings}
+use Rattle.u_cli.proofs.number.firings_of.Goals as goal
 
 pub returns-in-Ok-clause-some : goal.returns-in-Ok-clause-some
 returns-in-Ok-clause-some c =

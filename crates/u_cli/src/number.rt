@@ -1,6 +1,6 @@
 //! Numbers on the command line.
 ghost use Rattle.std.specs.Prelude.{◌≡◌, ℕ, IfSome, IsNone};
-ghost use Rattle.u.specs.Firings.{IsFirings, IsFiringsText};
+ghost use Rattle.u_cli.specs.Firings.{IsFirings, IsFiringsText};
 
 use u_text::number_word;
 

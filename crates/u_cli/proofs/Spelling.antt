@@ -2,7 +2,7 @@
 use Rattle.std.specs.Prelude.{◌≡◌, ℕ, List, Some}
 use Rattle.std.proofs.Common.{arith}
 use Rattle.u_text.specs.WholeWords.{number_word, number_word_sound}
-use Rattle.u.specs.Firings.{IsFirings, IsFiringsText}
+use Rattle.u_cli.specs.Firings.{IsFirings, IsFiringsText}
 
 pub read_firings : (w : List ℕ) (n : ℕ) → number_word 1000000 w ≡ Some n → IsFirings n × IsFiringsText n w
 read_firings w n h =
