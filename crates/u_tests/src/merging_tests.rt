@@ -18,20 +18,22 @@ fn entries_of(alloc: Global, text: &[u8], argument: i64) -> Result<Vec<Entry>, A
     machine.history().entries()
 }
 
-/// The set of those entries whose places, counted round and round to `parts`, are this one.
+/// The set of those entries whose places, divided by `parts`, leave this remainder.
 fn part(alloc: Global, entries: &[Entry], parts: usize, which: usize) -> Result<History, AllocError> {
     let mut history = History::new(alloc);
-    let mut place = 0;
-    for entry in entries {
-        if place == which {
+    for (place, entry) in entries.iter().enumerate() {
+        if place.checked_rem(parts) == Some(which) {
             history.insert(entry.copy()?).map_err(|_| AllocError)?;
-        }
-        place += 1;
-        if place >= parts {
-            place = 0;
         }
     }
     Ok(history)
+}
+
+/// The text of the history.
+fn text_of(alloc: Global, history: &History) -> Result<Vec<u8>, AllocError> {
+    let mut text = Vec::new(alloc);
+    history.write_text(&mut text)?;
+    Ok(text)
 }
 
 /// The text of the parts, merged in that order.
@@ -46,8 +48,7 @@ fn merged(
         let one = part(alloc, entries, parts, *which)?;
         all.merge(&one)?;
     }
-    let mut text = Vec::new(alloc);
-    all.write_text(&mut text)?;
+    let text = text_of(alloc, &all)?;
     Ok(text)
 }
 
@@ -69,11 +70,31 @@ fn merges_agree(alloc: Global, text: &[u8], argument: i64) -> Result<bool, Alloc
     Ok(same)
 }
 
+/// Whether the run's history, merged with its own copy, keeps its text.
+fn keeps_its_text(alloc: Global, text: &[u8], argument: i64) -> Result<bool, AllocError> {
+    let entries = entries_of(alloc, text, argument)?;
+    let mut history = part(alloc, &entries, 1, 0)?;
+    let before = text_of(alloc, &history)?;
+    let copied = history.copy()?;
+    history.merge(&copied)?;
+    let after = text_of(alloc, &history)?;
+    Ok(before.len() > 0 && before.as_slice() == after.as_slice())
+}
+
 #[test]
 fn parts_of_a_run_merge_to_the_whole(rt: HostRuntime) -> Result<(), Fail> {
     for (text, argument) in EXAMPLES {
         let agree = merges_agree(rt.alloc(), text, argument)?;
         assert!(rt; agree);
+    }
+    Ok(())
+}
+
+#[test]
+fn a_history_merged_with_its_copy_stays_as_it_was(rt: HostRuntime) -> Result<(), Fail> {
+    for (text, argument) in EXAMPLES {
+        let kept = keeps_its_text(rt.alloc(), text, argument)?;
+        assert!(rt; kept);
     }
     Ok(())
 }
