@@ -19,7 +19,12 @@ fn entries_of(alloc: Global, text: &[u8], argument: i64) -> Result<Vec<Entry>, A
 }
 
 /// The set of those entries whose places, divided by `parts`, leave this remainder.
-fn part(alloc: Global, entries: &[Entry], parts: usize, which: usize) -> Result<History, AllocError> {
+fn part(
+    alloc: Global,
+    entries: &[Entry],
+    parts: usize,
+    which: usize,
+) -> Result<History, AllocError> {
     let mut history = History::new(alloc);
     for (place, entry) in entries.iter().enumerate() {
         if place.checked_rem(parts) == Some(which) {
