@@ -1,4 +1,7 @@
 //! Clashes: cells with several writes, and ports with several values.
+//!
+//! By Arvind and Nikhil (1990) a cell is written once, and a second write is an error. Here both
+//! stay in the history, which says that they clash, and so with ports: this project's profile.
 ghost use Rattle.std.specs.Prelude.{◌≡◌, ◌<◌, ◌+◌, ◌-◌, ◌↔◌, ◌⊎◌, OnOk, IfOk, Contains, IsTrue, length, map};
 ghost use Rattle.std.proofs.Common.{get_or};
 ghost use Rattle.std.specs.List.{AllZip};

@@ -94,6 +94,9 @@ impl History {
     }
 
     /// References to the entries, in order.
+    ///
+    /// # Errors
+    /// `AllocError` where there is no memory.
     pub fn references(&self) -> Result<Vec<&Entry>, AllocError>
         ensures all { IfOk result (λ v. map (deref {X = Entry}) v.items ≡ self.now) }
         ensures rises { Rises entry_cmp self.now }
@@ -102,6 +105,9 @@ impl History {
     }
 
     /// Copies of the entries, in order.
+    ///
+    /// # Errors
+    /// `AllocError` where there is no memory.
     pub fn entries(&self) -> Result<Vec<Entry>, AllocError>
         ensures all { IfOk result (λ v. v.items ≡ self.now) }
         ensures rises { Rises entry_cmp self.now }
@@ -152,7 +158,10 @@ impl History {
         Ok(())
     }
 
-    /// What the entries say.
+    /// What the entries say: the answers, the clashes in cells and at ports, and the faults.
+    ///
+    /// # Errors
+    /// `AllocError` where there is no memory.
     pub fn outcome(&self) -> Result<Outcome, AllocError>
         ensures { IfOk result (λ o. IsOutcome (Contains self.now) o.answers.items (map cell_pairs o.cell_clashes.items) (map port_values o.port_clashes.items) o.faults.items) }
     {
