@@ -126,7 +126,7 @@ needs_rise a vs (Some w) = at (cell_named vs)
   where
     at : (r : Result CellOf FaultKind) → Rises entry_cmp (tokens_from a 1 vs ++ read_from r w)
     at (Ok cell) = tokens_then a 1 vs (write_of cell w.writer w.value)
-    at (Err kind) = rw append-nil (tokens_rise a 1 vs)
+    at (Err _) = rw append-nil (tokens_rise a 1 vs)
 
 -- one by one, what a statement reaches is in the order of statements
 reached_rises : (k : Kind) (a : Activity) → IsReachable k a → IsBeside (reached k a)

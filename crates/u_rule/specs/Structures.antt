@@ -39,7 +39,7 @@ wrote cell writer value = entries.Write (record { cell = cell; writer = writer; 
 -- the write that a firing read, where it has one: it lies in the cell that the first two values name
 abbrev pub read_from : Result CellOf FaultKind → Written → List Entry
 read_from (Ok cell) w = wrote cell w.writer w.value ∷ []
-read_from (Err kind) w = []
+read_from (Err _) w = []
 
 abbrev pub write_read : ValueList → Option Written → List Entry
 write_read vs None = []
