@@ -215,7 +215,8 @@ fn reads_and_writes_cells(rt: HostRuntime) -> Result<(), Fail> {
 
 #[test]
 fn equal_writes_of_two_writers_clash(rt: HostRuntime) -> Result<(), Fail> {
-    let output = b"state quiet\nfirings 11\nparked 0\nentries 18\nanswer 10\ncell -.main.6.1[0] -.main.7.1 10\ncell -.main.6.1[0] -.main.8.1 10\nverdict clashed\n";
+    let output =
+        b"state quiet\nfirings 11\nparked 0\nentries 18\nanswer 10\ncell -.main.6.1[0] -.main.7.1 10\ncell -.main.6.1[0] -.main.8.1 10\nverdict clashed\n";
     let as_said = writes(rt.alloc(), EQUAL_WRITERS, b"0", output.as_slice(), 3)?;
     assert!(rt; as_said);
     Ok(())
