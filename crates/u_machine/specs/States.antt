@@ -18,47 +18,42 @@ use Rattle.std.specs.Prelude.{refl}
 use Rattle.std.specs.Coded.{Coded, code_by, coded×, coded_ℕ}
 use Rattle.u_check.specs.contracts.job.Job as job_row
 
--- `log` has the firings in the order in which they were applied, of which the entries of the first `done` have all entered
+-- `log` has the applied firings in the order in which they were applied, `parked` those that were taken and not applied, in order
 pub record State : Type 0 where
   pub job : JobParts
   pub limit : ℕ
   pub log : List Firing
-  pub done : ℕ
   pub parked : List Firing
   pub history : List Entry
 
-abbrev pub state : JobParts → ℕ → FiringList → ℕ → FiringList → EntryList → State
-state job limit log done parked history = record { job = job; limit = limit; log = log; done = done; parked = parked; history = history }
+abbrev pub state : JobParts → ℕ → FiringList → FiringList → EntryList → State
+state job limit log parked history = record { job = job; limit = limit; log = log; parked = parked; history = history }
 
 -- a state is stored as the tuple of its parts
 abbrev pub state_code : Coded State
 state_code =
-    code_by (JobParts × (ℕ × (FiringList × (ℕ × (FiringList × EntryList)))))
-    (coded× job_row.the_row.coded (coded× coded_ℕ (coded× firing_list_code (coded× coded_ℕ (coded× firing_list_code entry_list_code)))))
-    (λ m. (m.job, (m.limit, (m.log, (m.done, (m.parked, m.history)))))) (λ p. state p.0 p.1.0 p.1.1.0 p.1.1.1.0 p.1.1.1.1.0 p.1.1.1.1.1) (λ _. refl)
+    code_by (JobParts × (ℕ × (FiringList × (FiringList × EntryList))))
+    (coded× job_row.the_row.coded (coded× coded_ℕ (coded× firing_list_code (coded× firing_list_code entry_list_code))))
+    (λ m. (m.job, (m.limit, (m.log, (m.parked, m.history))))) (λ p. state p.0 p.1.0 p.1.1.0 p.1.1.1.0 p.1.1.1.1) (λ _. refl)
 
 -- the taken set
 abbrev pub Taken : State → Firing → Type 0
 Taken m f = Contains (m.log ++ m.parked) f
 
--- what holds of each machine, settled or not
+-- What holds of each machine, settled or not: the taken firings are firings of the job, each once and
+-- no more than the limit; the applied ones are a derivation; the history has all that they hold, and
+-- lies in the closure of what was taken.
 pub record IsMachine (m : State) : Type 0 where
   pub firings : (f : Firing) → Taken m f → IsTrue ((system_of m.job).is_firing f)
   pub derivation : Derivation (system_of m.job) m.log
   pub distinct : Distinct (m.log ++ m.parked)
   pub within : length m.log + length m.parked ≤ m.limit
-  pub place : m.done ≤ length m.log
-  pub has : (e : Entry) → Held (system_of m.job) (take m.done m.log) e → Contains m.history e
-  pub lies : (e : Entry) → Contains m.history e → Held (system_of m.job) m.log e
+  pub has : (e : Entry) → Held (system_of m.job) m.log e → Contains m.history e
+  pub lies : (e : Entry) → Contains m.history e → Cl (system_of m.job) (Taken m) e
 
--- and the set of taken firings has just those of the log and the parked ones
-pub record IsKept (m : State) (taken : FiringList) : Type 0 where
-  pub is : IsMachine m
-  pub same : Same (Contains taken) (Taken m)
-
--- all entries have entered, and no parked firing is enabled
+-- the history has nothing else than what the applied firings hold, and no parked firing is enabled over it
 pub record IsSettled (m : State) : Type 0 where
-  pub entered : m.done ≡ length m.log
+  pub held : (e : Entry) → Contains m.history e → Held (system_of m.job) m.log e
   pub none : (f : Firing) → Contains m.parked f → Enabled (system_of m.job) (Contains m.history) f → ⊥
 
 -- how many are taken
@@ -107,7 +102,7 @@ FireAnswer old pick (Ok step.Quiet) new = NothingReady old × Applies old new ×
 FireAnswer old pick (Err Full) new = ((f : Firing) × IsReady old f) × (count_of old ≡ old.limit) × Applies old new × IsSettled new
 FireAnswer old pick (Ok (step.Fired place)) new =
     (f : Firing) × IsPick old pick f × (count_of old < old.limit) × Takes old f new × IsSettled new × (slice_get new.log place ≡ Some f)
-FireAnswer old pick (Err NoMemory) new = Applies old new ⊎ ((f : Firing) × IsPick old pick f × Takes old f new × Contains new.log f)
+FireAnswer old pick (Err NoMemory) new = Applies old new ⊎ ((f : Firing) × IsPick old pick f × Takes old f new)
 
 -- the history is closed, and is all that some derivation holds
 abbrev pub IsWhole : State → Type 0

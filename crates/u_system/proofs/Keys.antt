@@ -95,28 +95,26 @@ module _ {X : Type 0} (R : X → X → Ordering) (o : IsTotalOrder R) (exact : I
 
   -- the set without x
   pub removes : (xs : List X) (x : X) → Rises R xs → IsWithout xs x (remove_key (is_at (R x)) xs)
-  removes [] x r z = ((λ m. absurd (Contains-nil z m)), λ p. p.0)
-  removes (y ∷ ys) x r z = by (is_at (R x) y) refl (removes ys x r.1 z)
+  removes [] x r = record { less = λ z m. m; gone = λ m. Contains-nil x m; rest = λ z m. absurd (Contains-nil z m) }
+  removes (y ∷ ys) x r = by (is_at (R x) y) refl (removes ys x r.1)
     where
-      by : (b : Bool) → is_at (R x) y ≡ b → (Contains (remove_key (is_at (R x)) ys) z ↔ (Contains ys z × (x ≡ z → ⊥))) → Contains (cond b ys (y ∷ remove_key (is_at (R x)) ys)) z ↔ (Contains (y ∷ ys) z × (x ≡ z → ⊥))
-      by true h rest =
+      by : (b : Bool) → is_at (R x) y ≡ b → IsWithout ys x (remove_key (is_at (R x)) ys) → IsWithout (y ∷ ys) x (cond b ys (y ∷ remove_key (is_at (R x)) ys))
+      by true h w =
           let e : x ≡ y = exact x y (is_equal (R x y) h) in
-          ((λ m. (Contains-tail y z ys m, λ p. apart_from_less y z (r.0 z m) (sym e ∙ p))), λ p. elim (Contains-cons_cases y z ys p.0) [ inl q ↦ absurd (p.1 (e ∙ q)) | inr n ↦ n ])
-      by false h rest = (to, back)
+          record {
+            less = λ z m. Contains-tail y z ys m;
+            gone = λ m. apart_from_less y x (r.0 x m) (sym e);
+            rest = λ z m. elim (Contains-cons_cases y z ys m) [ inl q ↦ inl (e ∙ q) | inr n ↦ inr n ];
+          }
+      by false h w = record {
+        less = λ z m. elim (Contains-cons_cases y z (remove_key (is_at (R x)) ys) m) [ inl q ↦ subst (λ (v : X). Contains (y ∷ ys) v) q (Contains-head y ys) | inr n ↦ Contains-tail y z ys (w.less z n) ];
+        gone = λ m. elim (Contains-cons_cases y x (remove_key (is_at (R x)) ys) m) [ inl q ↦ let t = at_itself x y (sym q) in cc | inr n ↦ w.gone n ];
+        rest = λ z m. elim (Contains-cons_cases y z ys m) [ inl q ↦ inr (subst (λ (v : X). Contains (y ∷ remove_key (is_at (R x)) ys) v) q (Contains-head y (remove_key (is_at (R x)) ys))) | inr n ↦ over z (w.rest z n) ];
+      }
         where
-          to : Contains (y ∷ remove_key (is_at (R x)) ys) z → Contains (y ∷ ys) z × (x ≡ z → ⊥)
-          to m =
-              elim (Contains-cons_cases y z (remove_key (is_at (R x)) ys) m) [
-                | inl p ↦ (subst (λ (w : X). Contains (y ∷ ys) w) p (Contains-head y ys), λ q. let t = at_itself x y (q ∙ sym p) in cc)
-                | inr n ↦ (Contains-tail y z ys (rest.0 n).0, (rest.0 n).1)
-              ]
-
-          back : Contains (y ∷ ys) z × (x ≡ z → ⊥) → Contains (y ∷ remove_key (is_at (R x)) ys) z
-          back p =
-              elim (Contains-cons_cases y z ys p.0) [
-                | inl q ↦ subst (λ (w : X). Contains (y ∷ remove_key (is_at (R x)) ys) w) q (Contains-head y (remove_key (is_at (R x)) ys))
-                | inr n ↦ Contains-tail y z (remove_key (is_at (R x)) ys) (rest.1 (n, p.1))
-              ]
+          over : (z : X) → (x ≡ z) ⊎ Contains (remove_key (is_at (R x)) ys) z → (x ≡ z) ⊎ Contains (y ∷ remove_key (is_at (R x)) ys) z
+          over z (inl q) = inl q
+          over z (inr n) = inr (Contains-tail y z (remove_key (is_at (R x)) ys) n)
 
   pub rises_without : (xs : List X) (x : X) → Rises R xs → Rises R (remove_key (is_at (R x)) xs)
   rises_without [] x r = r
@@ -124,4 +122,4 @@ module _ {X : Type 0} (R : X → X → Ordering) (o : IsTotalOrder R) (exact : I
     where
       by : (b : Bool) → Rises R (remove_key (is_at (R x)) ys) → Rises R (cond b ys (y ∷ remove_key (is_at (R x)) ys))
       by true still = r.1
-      by false still = ((λ z m. r.0 z ((removes ys x r.1 z).0 m).0), still)
+      by false still = ((λ z m. r.0 z ((removes ys x r.1).less z m)), still)

@@ -17,8 +17,10 @@ abbrev pub IsWith : {X : Type 0} → List X → X → List X → Type 0
 IsWith {X} old y new = (x : X) → Contains new x ↔ (Contains old x ⊎ (y ≡ x))
 
 -- new has the members of old without y
-abbrev pub IsWithout : {X : Type 0} → List X → X → List X → Type 0
-IsWithout {X} old y new = (x : X) → Contains new x ↔ (Contains old x × (y ≡ x → ⊥))
+pub record IsWithout {X : Type 0} (old : List X) (y : X) (new : List X) : Type 0 where
+  pub less : (x : X) → Contains new x → Contains old x
+  pub gone : Contains new y → ⊥
+  pub rest : (x : X) → Contains old x → (y ≡ x) ⊎ Contains new x
 
 -- all has the members of both
 abbrev pub IsUnion : {X : Type 0} → List X → List X → List X → Type 0

@@ -63,6 +63,7 @@ impl<K: Ord + Drop> OrderedSet<K> {
         ensures still { IfOk result (λ b. (IsTrue b → ⊥) → self.new ≡ self.old) }
         ensures err { OnErr result (self.new ≡ self.old) }
         ensures back { IfErr result (λ e. e.value ≡ key) }
+        ensures rises { Rises K.cmp self.new }
         ensures count { IfOk result (λ b. IsTrue b → length self.new ≡ length self.old + 1) }
     {
         let added = self.keys.insert(key)?;
@@ -75,6 +76,7 @@ impl<K: Ord + Drop> OrderedSet<K> {
         ensures without { IsWithout self.old key.now self.new }
         ensures was { IsTrue result ↔ Contains self.old key.now }
         ensures still { IsFalse result → self.new ≡ self.old }
+        ensures rises { Rises K.cmp self.new }
         ensures count { IsTrue result → length self.old ≡ length self.new + 1 }
     {
         self.keys.remove(key)
