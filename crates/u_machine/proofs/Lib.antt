@@ -6,3 +6,8 @@ pub mod Sorting
 pub mod States
 pub mod Going
 pub mod Settled
+pub mod Needed
+pub mod Fresh
+pub mod Runs
+pub mod Counting
+pub mod Replies

@@ -1,5 +1,5 @@
 -- What a machine is: a job, its taken firings (the log and the parked ones) and its history.
-use Rattle.std.specs.Prelude.{◌≡◌, ℕ, ◌<◌, ◌≤◌, ◌+◌, List, [], ◌++◌, ◌⊎◌, ◌↔◌, length, take, IsTrue, Contains, Result, Ok, Err, slice_get, Some, ◌%◌}
+use Rattle.std.specs.Prelude.{◌≡◌, ℕ, ◌<◌, ◌≤◌, ◌+◌, List, [], ◌++◌, ◌⊎◌, ◌↔◌, length, IsTrue, false, Contains, Result, Ok, Err, slice_get, Some, ◌%◌}
 use Rattle.u_system.specs.Firing.{Distinct, Held, Enabled, Closed, Derivation, Cl, Whole, Same, EachPlace, IsNextFrom}
 use Rattle.u_system.specs.Rising.{Rises}
 use Rattle.u_rule.specs.declared.entry.Entry.{Entry}
@@ -11,6 +11,10 @@ use Rattle.u_machine.specs.declared.answer.Ran.{Ran}
 use Rattle.u_machine.specs.declared.answer.Ran.TheVariants as ran
 use Rattle.std.specs.declared.cmp.Ordering.TheVariants.{Less}
 use Rattle.u_machine.specs.declared.answer.Step.{Step}
+use Rattle.u_machine.specs.declared.answer.Took.{Took}
+use Rattle.u_machine.specs.declared.answer.Took.TheVariants as took
+use Rattle.u_machine.specs.declared.answer.TakeRefusal.{TakeRefusal}
+use Rattle.u_machine.specs.declared.answer.TakeRefusal.TheVariants as untaken
 use Rattle.u_machine.specs.declared.answer.Step.TheVariants as step
 use Rattle.u_rule.specs.Rule.{system_of}
 use Rattle.u_rule.specs.EntryOrder.{firing_cmp, EntryList, entry_list_code, FiringList, firing_list_code}
@@ -104,6 +108,20 @@ FireAnswer old pick (Ok (step.Fired place)) new =
     (f : Firing) × IsPick old pick f × (count_of old < old.limit) × Takes old f new × IsSettled new × (slice_get new.log place ≡ Some f)
 FireAnswer old pick (Err NoMemory) new = Applies old new ⊎ ((f : Firing) × IsPick old pick f × Takes old f new)
 
+-- f is a firing of the job that is not taken, and there is room for it
+pub record IsNew (m : State) (f : Firing) : Type 0 where
+  pub firing : IsTrue ((system_of m.job).is_firing f)
+  pub new : Taken m f → ⊥
+  pub room : count_of m < m.limit
+
+abbrev pub TakeAnswer : State → Firing → Result Took TakeRefusal → State → Type 0
+TakeAnswer old f (Ok took.Known) new = Taken old f × Applies old new × IsSettled new
+TakeAnswer old f (Ok took.Taken) new = IsNew old f × Takes old f new × Contains new.log f × IsSettled new
+TakeAnswer old f (Ok took.Parked) new = IsNew old f × Takes old f new × Contains new.parked f × IsSettled new
+TakeAnswer old f (Err untaken.NotAFiring) new = ((system_of old.job).is_firing f ≡ false) × Applies old new × IsSettled new
+TakeAnswer old f (Err untaken.Full) new = IsTrue ((system_of old.job).is_firing f) × (Taken old f → ⊥) × (count_of old ≡ old.limit) × Applies old new × IsSettled new
+TakeAnswer old f (Err untaken.NoMemory) new = Applies old new ⊎ Takes old f new
+
 -- the history is closed, and is all that some derivation holds
 abbrev pub IsWhole : State → Type 0
 IsWhole m = Closed (system_of m.job) (Contains m.history) × Same (Contains m.history) (Whole (system_of m.job))
@@ -113,18 +131,22 @@ abbrev pub firing_le : Firing → Firing → Type 0
 firing_le f g = (firing_cmp f g ≡ Less) ⊎ (f ≡ g)
 
 -- gs were fired one after another, each the least that was ready
-pub record Runs (old : State) (gs : List Firing) (new : State) : Type 0 where
+pub record Fires (old : State) (gs : List Firing) (new : State) : Type 0 where
   pub job : new.job ≡ old.job
   pub limit : new.limit ≡ old.limit
   pub each : EachPlace (IsNextFrom (system_of old.job) firing_le (Taken old)) gs
   pub taken : (g : Firing) → Taken new g ↔ (Taken old g ⊎ Contains gs g)
   pub count : count_of new ≡ count_of old + length gs
   pub log : (rest : List Firing) × (new.log ≡ old.log ++ rest)
-  pub alone : old.parked ≡ [] → (new.log ≡ old.log ++ gs) × (new.parked ≡ [])
   pub history : (e : Entry) → Contains old.history e → Contains new.history e
+
+-- and all of them were applied; where nothing was parked before, they are all that was applied
+pub record Runs (old : State) (gs : List Firing) (new : State) : Type 0 where
+  pub fires : Fires old gs new
+  pub alone : old.parked ≡ [] → (new.log ≡ old.log ++ gs) × (new.parked ≡ [])
 
 abbrev pub RunAnswer : State → ℕ → Result Ran Refusal → State → Type 0
 RunAnswer old budget (Ok ran.Quiet) new = (gs : List Firing) × Runs old gs new × (length gs ≤ budget) × IsSettled new × NothingReady new
 RunAnswer old budget (Ok ran.Paused) new = (gs : List Firing) × Runs old gs new × (length gs ≡ budget) × IsSettled new × ((f : Firing) × IsReady new f)
 RunAnswer old budget (Err Full) new = (gs : List Firing) × Runs old gs new × (length gs < budget) × IsSettled new × ((f : Firing) × IsReady new f) × (count_of new ≡ new.limit)
-RunAnswer old budget (Err NoMemory) new = (gs : List Firing) × Runs old gs new × (length gs ≤ budget)
+RunAnswer old budget (Err NoMemory) new = (gs : List Firing) × Fires old gs new × (length gs ≤ budget)

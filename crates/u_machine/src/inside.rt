@@ -9,7 +9,8 @@ ghost use Rattle.std.specs.Prelude.{◌≡◌, ◌↔◌, ◌<◌, ◌+◌, ◌+
 ghost use Rattle.u_rule.specs.Rule.{system_of};
 ghost use Rattle.u_rule.specs.declared.entry.Entry.{Entry};
 ghost use Rattle.u_rule.specs.declared.firing.Firing.{Firing};
-ghost use Rattle.u_machine.specs.States.{Applies, Takes, Taken, IsSettled, count_of};
+ghost use Rattle.u_machine.specs.States.{Applies, Takes, Taken, IsSettled, count_of, state};
+ghost use Rattle.u_system.specs.Firing.{Same};
 ghost use Rattle.u_machine.specs.Kept.{state_of, left_of, IsKept, IsIdle, Gives, GoesOn, Lengthens};
 
 use crate::entering::{given_by, push_into_room, put_in_both};
@@ -17,7 +18,7 @@ use std::alloc::{AllocError, Global};
 use u_check::Job;
 use u_history::History;
 use u_match::Matcher;
-use u_rule::{Entry, Firing};
+use u_rule::{Entry, Firing, start};
 use u_system::OrderedSet;
 
 /// The parts of a machine.
@@ -46,7 +47,51 @@ pub(crate) struct Inside<'a> {
     pub(crate) late: Option<Entry>,
 }
 
+/// The set of these firings.
+#[tactic(auto, using(u_rule::specs::EntryOrder::firing_cmp_ties))]
+fn set_of(alloc: Global, firings: &[Firing]) -> Result<OrderedSet<Firing>, AllocError>
+    ensures { IfOk result (λ s. Same (Contains s) (Contains firings.now)) }
+{
+    let mut set = OrderedSet::new(alloc);
+    for firing in firings {
+        set.insert(firing.copy(alloc)?)?;
+    }
+    Ok(set)
+}
+
 impl<'a> Inside<'a> {
+    /// The parts of a machine that holds the start token alone.
+    pub(crate) fn new(
+        alloc: Global,
+        job: &'a Job,
+        limit: usize,
+    ) -> Result<Inside<'a>, AllocError>
+        ensures kept { IfOk result IsKept }
+        ensures state { IfOk result (λ p. state_of p ≡ state job.now limit [] [] ((system_of job.now).start ∷ [])) }
+    {
+        let mut history = History::new(alloc);
+        history.insert(start(job))?;
+        let _count = history.len();
+        let mut matcher = Matcher::new(alloc);
+        let found = matcher.enter(job, &start(job))?;
+        let ready = set_of(alloc, &found)?;
+        Ok(Inside {
+            alloc,
+            job,
+            limit,
+            log: Vec::new(alloc),
+            done: 0,
+            taken: OrderedSet::new(alloc),
+            parked: OrderedSet::new(alloc),
+            ready,
+            found: Vec::new(alloc),
+            sorted: 0,
+            history,
+            matcher,
+            late: None,
+        })
+    }
+
     /// Lets an entry enter the history that the firing gives which is being applied.
     fn put(&mut self, entry: &Entry) -> Result<(), AllocError>
         requires kept { IsKept self.old }
@@ -268,27 +313,29 @@ impl<'a> Inside<'a> {
         Ok(())
     }
 
-    /// Takes a firing of the job that was not taken. Where it is ready, it begins to be applied.
+    /// Takes a firing of the job that was not taken. Where it is ready, it begins to be applied. Answers
+    /// whether it does.
     #[tactic(auto, using(u_rule::specs::EntryOrder::firing_cmp_ties))]
-    pub(crate) fn take_new(&mut self, firing: &Firing) -> Result<(), AllocError>
+    pub(crate) fn take_new(&mut self, firing: &Firing) -> Result<bool, AllocError>
         requires kept { IsKept self.old }
         requires settled { self.old.done ≡ length self.old.log.items }
         requires new { Taken (state_of self.old) firing.now → ⊥ }
         requires firing { IsTrue ((system_of self.old.job.now).is_firing firing.now) }
         requires room { count_of (state_of self.old) < self.old.limit }
         ensures kept { IsKept self.new }
-        ensures ok { OnOk result (Takes (state_of self.old) firing.now (state_of self.new)) }
+        ensures takes { OnOk result (Takes (state_of self.old) firing.now (state_of self.new)) }
         ensures err { OnErr result (state_of self.new ≡ state_of self.old) }
-        ensures begun { OnOk result (Contains self.old.ready firing.now → self.new.log.items ≡ self.old.log.items ++ firing.now ∷ []) }
-        ensures parked { OnOk result ((Contains self.old.ready firing.now → ⊥) → (self.new.log.items ≡ self.old.log.items) × (self.new.done ≡ self.old.done)) }
+        ensures begins { IfOk result (λ b. Contains self.old.ready firing.now → IsTrue b) }
+        ensures begun { IfOk result (λ b. IsTrue b → self.new.log.items ≡ self.old.log.items ++ firing.now ∷ []) }
+        ensures parked { IfOk result (λ b. IsFalse b → (Contains self.new.parked firing.now × (self.new.done ≡ length self.new.log.items))) }
     {
         let logged = firing.copy(self.alloc)?;
         self.log.reserve(1)?;
         put_in_both(self.alloc, &mut self.taken, &mut self.parked, firing)?;
         if !self.ready.remove(firing) {
-            return Ok(());
+            return Ok(false);
         }
         push_into_room(&mut self.log, logged);
-        Ok(())
+        Ok(true)
     }
 }

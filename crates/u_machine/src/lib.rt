@@ -1,8 +1,12 @@
-//! One machine.
+//! One machine: it takes firings, applies those that are enabled, and parks the others.
 #![tactic(auto)]
 
 mod answer;
+mod batches;
+mod calls;
 mod entering;
 mod inside;
+mod machine;
 
-pub use answer::{Ran, Refusal, Step};
+pub use answer::{ListRefusal, Ran, Refusal, Step, TakeRefusal, Took};
+pub use machine::Machine;

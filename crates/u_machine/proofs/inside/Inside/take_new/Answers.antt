@@ -52,8 +52,8 @@ returns-then-not-remove-clause-kept c =
       idle = λ e. k.idle (e ∙ ap length l);
     }
 
-pub returns-then-not-remove-clause-ok : goal.returns-then-not-remove-clause-ok
-returns-then-not-remove-clause-ok c = rw c.in_ok-reserve.ensures.items (takes (goal.at.returns-then-not-remove-clause-ok c).After-remove)
+pub returns-then-not-remove-clause-takes : goal.returns-then-not-remove-clause-takes
+returns-then-not-remove-clause-takes c = rw c.in_ok-reserve.ensures.items (takes (goal.at.returns-then-not-remove-clause-takes c).After-remove)
 
 longer : (c : After-push_into_room) → c.push_into_room.new.list.items ≡ c.args.self.now.log.items ++ c.args.firing.now ∷ []
 longer c = c.push_into_room.ensures ∙ ap (λ (l : FiringList). l ++ c.in_ok-logged.logged ∷ []) c.in_ok-reserve.ensures.items ∙ ap (λ (f : Firing). c.args.self.now.log.items ++ f ∷ []) c.in_ok-logged.ensures
@@ -74,9 +74,18 @@ returns-clause-kept c =
       idle = λ e. let x = length-append m.log.items (f ∷ []) in let y = ap length (longer c) in let z = c.requires.settled in absurd (omega (arith, e));
     }
 
-pub returns-clause-ok : goal.returns-clause-ok
-returns-clause-ok c =
-    let a = (goal.at.returns-clause-ok c).After-remove in
+pub returns-clause-takes : goal.returns-clause-takes
+returns-clause-takes c =
+    let a = (goal.at.returns-clause-takes c).After-remove in
     let m = c.args.self.now in
     let e : take m.done c.push_into_room.new.list.items ≡ take m.done m.log.items = ap (take m.done) (longer c) ∙ take-append-le m.done m.log.items (c.args.firing.now ∷ []) c.requires.kept.logged.place in
     rw e (takes a)
+
+pub returns-then-not-remove-clause-begins : goal.returns-then-not-remove-clause-begins
+returns-then-not-remove-clause-begins c h = absurd (not_both c.remove.result (c.remove.ensures.was.1 h) c.if-not-remove.true)
+
+pub returns-then-not-remove-clause-parked : goal.returns-then-not-remove-clause-parked
+returns-then-not-remove-clause-parked c _ = ((c.in_ok-put_in_both.ensures.parked c.args.firing.now).1 (inr refl), c.requires.settled ∙ ap length (sym c.in_ok-reserve.ensures.items))
+
+pub returns-clause-begun : goal.returns-clause-begun
+returns-clause-begun c _ = longer c

@@ -1,0 +1,159 @@
+//! One machine, whose log has the applied firings and whose history has their entries.
+//!
+//! A machine takes any firing of its job at any time. One whose needs are not held yet is parked, and
+//! is applied once they are. All that was applied forms a derivation: each firing needs only the start
+//! token and what earlier firings of the log give. So the history is fixed by the set of taken
+//! firings, in whatever order they came, and once nothing is ready it is all that can be derived from
+//! the job.
+ghost use Rattle.std.specs.Prelude.{◌≡◌, ◌↔◌, [], ◌∷◌, IfOk, IsOk, IsTrue, OnOk};
+ghost use Rattle.u_rule.specs.Rule.{system_of};
+ghost use Rattle.u_rule.specs.EntryOrder.{entry_cmp, firing_cmp};
+ghost use Rattle.u_machine.specs.States.{state, IsMachine, IsSettled, IsWhole, FireAnswer, RunAnswer, TakeAnswer, Applies, Taken};
+ghost use Rattle.u_system.specs.Rising.{Rises};
+
+use crate::answer::{Ran, Refusal, Step, TakeRefusal, Took};
+use crate::inside::Inside;
+use std::alloc::{AllocError, Global};
+use std::marker::Model;
+use u_check::Job;
+use u_history::History;
+use u_rule::Firing;
+use u_system::OrderedSet;
+
+/// A job with its taken firings and its history.
+///
+/// The applied firings stand in the order in which they were applied.
+#[derive(Drop)]
+pub struct Machine<'a> {
+    inside: Inside<'a>,
+}
+
+impl<'a> Model for Machine<'a> {
+    ghost use Rattle.u_machine.specs.States.{State, state_code};
+    ghost use Rattle.u_machine.specs.Kept.{state_of, IsKept};
+
+    ghost Value = { State };
+
+    ghost coded = { state_code };
+
+    ghost view = { λ m. state_of m.inside };
+
+    ghost invariant = { λ m. IsKept m.inside };
+}
+
+impl<'a> Machine<'a> {
+    /// A machine that holds the start token alone. `limit` is the greatest number of firings that it
+    /// takes; any number may stand there.
+    ///
+    /// # Errors
+    /// `AllocError` where there is no memory.
+    pub fn new(alloc: Global, job: &'a Job, limit: usize) -> Result<Machine<'a>, AllocError>
+        ensures { IfOk result (λ m. m ≡ state job.now limit [] [] ((system_of job.now).start ∷ [])) }
+    {
+        let inside = Inside::new(alloc, job, limit)?;
+        Ok(Machine { inside })
+    }
+
+    /// Goes on where an earlier call found no memory, until all that was begun is applied.
+    ///
+    /// # Errors
+    /// `AllocError` where there is no memory; the entries that have entered stay.
+    pub fn settle(&mut self) -> Result<(), AllocError>
+        ensures applies { Applies self.old self.new }
+        ensures ok { OnOk result (IsSettled self.new) }
+        ensures still { IsSettled self.old → IsOk result × (self.new ≡ self.old) }
+    {
+        self.inside.settle()?;
+        Ok(())
+    }
+
+    /// Whether each taken firing that is enabled is applied, and all that they give has entered.
+    pub fn is_settled(&self) -> bool
+        ensures { IsTrue result ↔ IsSettled self.now }
+    {
+        self.inside.is_settled()
+    }
+
+    /// Whether the firing was taken, so that it is not to be taken again.
+    pub fn knows(&self, firing: &Firing) -> bool
+        ensures { IsTrue result ↔ Taken self.now firing.now }
+    {
+        self.inside.knows(firing)
+    }
+
+    /// What holds of each machine: its applied firings are a derivation without repeats, and its history,
+    /// in order, has all that they hold and lies in the closure of what was taken. It does nothing, and
+    /// callers cite its clauses.
+    pub fn holds(&self)
+        ensures is { IsMachine self.now }
+        ensures rises { Rises entry_cmp self.now.history }
+        ensures parked { Rises firing_cmp self.now.parked }
+    {
+        let _entries = self.inside.history.len();
+        let _parked = self.inside.parked.len();
+    }
+
+    /// The history: each entry that the machine holds.
+    pub fn history(&self) -> &History
+        ensures { result.now ≡ self.now.history }
+    {
+        &self.inside.history
+    }
+
+    /// The applied firings, in the order in which they were applied.
+    pub fn applied(&self) -> &[Firing]
+        ensures { result.now ≡ self.now.log }
+    {
+        &self.inside.log[..self.inside.done]
+    }
+
+    /// The firings that were taken and not applied, in order.
+    pub fn parked(&self) -> &OrderedSet<Firing>
+        ensures { result.now ≡ self.now.parked }
+    {
+        &self.inside.parked
+    }
+
+    /// Applies one ready firing, and then each parked one that is enabled by it. The ready firings stand
+    /// in order; `pick` modulo their number is the place of the one that is applied, so any number may
+    /// stand there. Where nothing is ready, the history is all that can be derived from the job.
+    ///
+    /// # Errors
+    /// `Full` where a firing is ready and the machine has taken as many as it may, and nothing is
+    /// applied. `NoMemory` where there is no memory; then either no firing was taken, or the picked one
+    /// was and is not yet applied, which the next call sees to.
+    pub fn fire(&mut self, pick: usize) -> Result<Step, Refusal>
+        ensures answer { FireAnswer self.old pick result self.new }
+        ensures whole { IfOk result (λ r. r ≡ Step.Quiet → IsWhole self.new) }
+    {
+        let fired = self.inside.fire(pick)?;
+        Ok(fired)
+    }
+
+    /// Takes a firing, from wherever it comes. Where it is enabled it is applied, and each parked one
+    /// that is enabled by it; else it is parked until it is.
+    ///
+    /// # Errors
+    /// `NotAFiring` exactly where it is no firing of the job. `Full` where it is new and the machine has
+    /// taken as many as it may. In both cases nothing is taken. `NoMemory` where there is no memory;
+    /// then it may have been taken and is not yet applied, which the next call sees to.
+    pub fn take(&mut self, firing: &Firing) -> Result<Took, TakeRefusal>
+        ensures { TakeAnswer self.old firing.now result self.new }
+    {
+        let took = self.inside.take(firing)?;
+        Ok(took)
+    }
+
+    /// Applies the least ready firing again and again, until nothing is ready or it has done so
+    /// `budget` times.
+    ///
+    /// # Errors
+    /// `Full` where a firing is ready and the machine has taken as many as it may. `NoMemory` where there
+    /// is no memory. What was applied before a refusal stays applied.
+    pub fn run(&mut self, budget: usize) -> Result<Ran, Refusal>
+        ensures { RunAnswer self.old budget result self.new }
+    {
+        let ran = self.inside.run(budget)?;
+        Ok(ran)
+    }
+}
