@@ -1,5 +1,5 @@
 -- A list of firings that is gathered step by step.
-use Rattle.std.proofs.Common.{◌≡◌, ◌↔◌, ◌⊎◌, inl, inr, sym, subst, refl, ℕ, ◌<◌, ◌+◌, ◌++◌, List, [], ◌∷◌, Contains, take, length, get_or, Ordering, Option, Some, None, Ok}
+use Rattle.std.proofs.Common.{◌≡◌, ◌↔◌, ◌⊎◌, inl, inr, sym, subst, ap, ◌∙◌, refl, ℕ, ◌<◌, ◌+◌, ◌++◌, List, [], ◌∷◌, Contains, take, length, get_or, Ordering, Option, Some, None, Ok}
 use Rattle.std.proofs.lemmas.List.{take_more}
 use Rattle.std.proofs.lemmas.List.Elements.{Contains-push_cases}
 use Rattle.u_name.specs.Cell.{CellOf}
@@ -10,9 +10,11 @@ use Rattle.u_rule.specs.declared.firing.Firing.{Firing}
 use Rattle.u_system.specs.Firing.{SomeOf}
 use Rattle.u_system.proofs.Member.{Contains-nil}
 use Rattle.u_system.proofs.Scan.{scan_more, scan_all}
-use Rattle.u_match.specs.Joins.{IsReading, ReadsCell}
+use Rattle.u_match.specs.Joins.{IsReading, ReadsCell, JoinsOne, JoinsToken}
+use Rattle.u_rule.specs.Parts.{TokenParts}
+use Rattle.u_match.specs.declared.keys.Place.{Place}
 use Rattle.u_match.specs.declared.keys.Tables.{Tables}
-use Rattle.u_match.specs.Keys.{writes_of}
+use Rattle.u_match.specs.Keys.{writes_of, met_at, place}
 
 -- new has what old has, and those with P
 abbrev pub Gains : List Firing → (Firing → Type 0) → List Firing → Type 0
@@ -63,3 +65,16 @@ of_cell ts a v w o cell old new is named g f = (to, back)
     back : Contains old f ⊎ ReadsCell ts a v w f → Contains new f
     back (inl k) = (g f).1 (inl k)
     back (inr (c, e, s)) = (g f).1 (inr (subst (λ (x : CellOf). SomeOf (writes_of ts x) (IsReading a v w) f) (same c e) s))
+
+-- of what a token meets at three places
+pub of_places : (ts : Tables) (t : TokenParts) (a : Activity) (p q r : Place) (firsts seconds thirds : List Value) (found : List Firing) → a ≡ t.activity → p ≡ place t.activity 1 → q ≡ place t.activity 2 → r ≡ place t.activity 3 → firsts ≡ met_at ts.tokens t p.port → seconds ≡ met_at ts.tokens t q.port → thirds ≡ met_at ts.tokens t r.port
+    → ((f : Firing) → Contains found f ↔ SomeOf firsts (JoinsOne ts a seconds thirds) f)
+    → (f : Firing) → Contains found f ↔ JoinsToken ts t f
+of_places ts t a p q r firsts seconds thirds found s l m n x y z g f =
+    subst (λ (xs : List Value). Contains found f ↔ SomeOf xs (JoinsOne ts t.activity (met_at ts.tokens t 2) (met_at ts.tokens t 3)) f) (met 1 p firsts l x)
+    (subst (λ (xs : List Value). Contains found f ↔ SomeOf firsts (JoinsOne ts t.activity xs (met_at ts.tokens t 3)) f) (met 2 q seconds m y)
+    (subst (λ (xs : List Value). Contains found f ↔ SomeOf firsts (JoinsOne ts t.activity seconds xs) f) (met 3 r thirds n z)
+    (subst (λ (b : Activity). Contains found f ↔ SomeOf firsts (JoinsOne ts b seconds thirds) f) s (g f))))
+  where
+    met : (k : ℕ) (at : Place) (xs : List Value) → at ≡ place t.activity k → xs ≡ met_at ts.tokens t at.port → xs ≡ met_at ts.tokens t k
+    met k at xs e h = h ∙ ap (λ (o : Place). met_at ts.tokens t o.port) e

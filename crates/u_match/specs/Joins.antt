@@ -6,6 +6,8 @@ use Rattle.u_value.specs.declared.value.Value.{Value}
 use Rattle.u_rule.specs.Parts.{TokenParts}
 use Rattle.u_rule.specs.EntryOrder.{firing, written}
 use Rattle.u_rule.specs.Structures.{cell_named}
+use Rattle.u_rule.specs.declared.entry.Entry.{Entry}
+use Rattle.u_rule.specs.declared.entry.Entry.TheVariants as entries
 use Rattle.u_rule.specs.declared.firing.Firing.{Firing}
 use Rattle.u_rule.specs.declared.firing.Written.{Written}
 use Rattle.u_rule.specs.declared.parts.Write.{Write}
@@ -41,7 +43,7 @@ JoinsOne ts a seconds thirds v f = IsOne a v f ⊎ SomeOf seconds (JoinsTwo ts a
 
 -- f is made of what the token meets at the ports of its activity
 abbrev pub JoinsToken : Tables → TokenParts → Firing → Type 0
-JoinsToken ts t f = SomeOf (met_at ts t 1) (JoinsOne ts t.activity (met_at ts t 2) (met_at ts t 3)) f
+JoinsToken ts t f = SomeOf (met_at ts.tokens t 1) (JoinsOne ts t.activity (met_at ts.tokens t 2) (met_at ts.tokens t 3)) f
 
 -- f is a waiting read with the write
 abbrev pub IsWoken : Write → Read → Firing → Type 0
@@ -49,4 +51,10 @@ IsWoken w r f = IsReading r.activity r.structure r.index (written w.writer w.val
 
 -- f is made of a read that waits for the write's cell
 abbrev pub JoinsWrite : Tables → Write → Firing → Type 0
-JoinsWrite ts w f = SomeOf (reads_of ts w.cell) (IsWoken w) f
+JoinsWrite ts w f = SomeOf (reads_of ts.reads w.cell) (IsWoken w) f
+
+-- f is made of the entry and what it meets
+abbrev pub Meets : Tables → Entry → Firing → Type 0
+Meets ts (entries.Token t) f = JoinsToken ts t f
+Meets ts (entries.Write w) f = JoinsWrite ts w f
+Meets ts e f = ⊥

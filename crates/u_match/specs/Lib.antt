@@ -1,3 +1,4 @@
 pub mod Under
 pub mod Keys
 pub mod Joins
+pub mod Waking

@@ -4,13 +4,13 @@ ghost use Rattle.std.specs.Prelude.{◌≡◌, ◌↔◌, ◌⊎◌, [], ◌∷�
 ghost use Rattle.u_rule.specs.declared.firing.Firing.{Firing};
 ghost use Rattle.u_rule.specs.EntryOrder.{firing, written};
 ghost use Rattle.u_system.specs.Firing.{SomeOf};
-ghost use Rattle.u_match.specs.Joins.{IsThree, IsReading, ReadsCell, JoinsTwo, JoinsOne, JoinsToken, IsWoken, JoinsWrite};
+ghost use Rattle.u_match.specs.Joins.{IsThree, IsReading, ReadsCell, JoinsTwo, JoinsOne, JoinsToken, IsWoken, JoinsWrite, Meets};
 
 use crate::keys::{Read, Tables, cell_at, met_at, place_of};
 use crate::table::under;
 use std::alloc::{AllocError, Global};
 use u_name::Name;
-use u_rule::{Firing, Token, Values, Write, Written};
+use u_rule::{Entry, Firing, Token, Values, Write, Written};
 use u_value::Value;
 
 /// Adds the firing.
@@ -232,9 +232,9 @@ pub(crate) fn with_token(
     let first = place_of(token, 1)?;
     let second = place_of(token, 2)?;
     let third = place_of(token, 3)?;
-    let firsts = met_at(tables, token, &first);
-    let seconds = met_at(tables, token, &second);
-    let thirds = met_at(tables, token, &third);
+    let firsts = met_at(&tables.tokens, token, &first);
+    let seconds = met_at(&tables.tokens, token, &second);
+    let thirds = met_at(&tables.tokens, token, &third);
     let found = join_firsts(alloc, tables, token.activity(), firsts, seconds, thirds)?;
     Ok(found)
 }
@@ -269,4 +269,25 @@ pub(crate) fn with_write(
     let reads = under(&tables.reads, &write.cell);
     let found = wake_each(alloc, write, reads)?;
     Ok(found)
+}
+
+/// The firings that are made of the entry and what it meets. Faults and answers meet nothing.
+pub(crate) fn with_entry(
+    alloc: Global,
+    tables: &Tables,
+    entry: &Entry,
+) -> Result<Vec<Firing>, AllocError>
+    ensures { IfOk result (λ v. (f : Firing) → Contains v.items f ↔ Meets tables.now entry.now f) }
+{
+    match entry {
+        Entry::Token(token) => {
+            let found = with_token(alloc, tables, token)?;
+            Ok(found)
+        }
+        Entry::Write(write) => {
+            let found = with_write(alloc, tables, write)?;
+            Ok(found)
+        }
+        Entry::Fault(_) | Entry::Answer(_) => Ok(Vec::new(alloc)),
+    }
 }

@@ -2,7 +2,7 @@
 ghost use Rattle.std.specs.Prelude.{◌≡◌, ◌↔◌, ◌∷◌, [], IfOk, Some, Ok};
 ghost use Rattle.u_name.specs.Cell.{CellOf};
 ghost use Rattle.u_rule.specs.Structures.{cell_named, is_index};
-ghost use Rattle.u_match.specs.Keys.{place, met_at};
+ghost use Rattle.u_match.specs.Keys.{place, met_at, IsComplete};
 
 use crate::table::under;
 use std::alloc::{AllocError, Global};
@@ -46,7 +46,9 @@ pub(crate) struct Tables {
 
 impl Tables {
     /// Tables that have nothing. They take no memory.
-    pub(crate) fn new(alloc: Global) -> Tables {
+    pub(crate) fn new(alloc: Global) -> Tables
+        ensures { IsComplete result [] }
+    {
         Tables {
             tokens: BTreeMap::new(alloc),
             writes: BTreeMap::new(alloc),
@@ -64,14 +66,18 @@ pub(crate) fn place_of(token: &Token, port: u8) -> Result<Place, AllocError>
 }
 
 /// The values that the token meets at that port of its activity.
-pub(crate) fn met_at<'a>(tables: &'a Tables, token: &'a Token, at: &Place) -> &'a [Value]
+pub(crate) fn met_at<'a>(
+    tokens: &'a BTreeMap<Place, Vec<Value>>,
+    token: &'a Token,
+    at: &Place,
+) -> &'a [Value]
     requires { at.now ≡ place token.now.activity at.now.port }
-    ensures { result.now ≡ met_at tables.now token.now at.now.port }
+    ensures { result.now ≡ met_at tokens.now token.now at.now.port }
 {
     if token.port() == at.port {
         return slice::from_ref(token.value());
     }
-    under(&tables.tokens, at)
+    under(tokens, at)
 }
 
 /// Whether the index is that of a cell of a structure of that length.

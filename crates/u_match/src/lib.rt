@@ -12,4 +12,6 @@
 
 mod joins;
 mod keys;
+mod notes;
 mod table;
+mod woken;
