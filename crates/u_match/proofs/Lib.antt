@@ -6,3 +6,4 @@ pub mod Noted
 pub mod Needs
 pub mod Meeting
 pub mod Completing
+pub mod Waking

@@ -65,7 +65,7 @@ read_or_none false (Some x) h = cc
 
 ok_of : (r : Result CellOf FaultKind) → is_ok r ≡ true → (cell : CellOf) × (r ≡ Ok cell)
 ok_of (Ok cell) h = (cell, refl)
-ok_of (Err kind) h = cc
+ok_of (Err fault) h = cc
 
 -- a statement that reads a cell has two ports, and its values name the cell
 reads : (k : Kind) (vs : ValueList) → reads_cell k vs ≡ true → (ports_of k ≡ 2) × ((cell : CellOf) × (cell_named vs ≡ Ok cell))

@@ -9,6 +9,7 @@ use Rattle.u_rule.specs.EntryOrder.{entry_cmp, entry_cmp_total, entry_cmp_ties}
 use Rattle.u_rule.specs.declared.entry.Entry.{Entry}
 use Rattle.u_rule.specs.declared.firing.Firing.{Firing}
 use Rattle.u_system.specs.Firing.{SomeOf}
+use Rattle.u_system.specs.Rising.{IsWith}
 use Rattle.u_match.specs.Waking.{IsWokenBy}
 use Rattle.u_match.proofs.Steps.{Gains}
 
@@ -42,3 +43,7 @@ tested job entry H f ns first second h r n x y is t has held = (
   (λ p. (subst (λ (xs : List Entry). Contains xs entry) (x ∙ n) (has.0 t), (is, λ e m. held.0 p e (subst (λ (xs : List Entry). Contains xs e) (sym (y ∙ n)) m)))),
   (λ w. held.1 (λ e m. w.1.1 e (subst (λ (xs : List Entry). Contains xs e) (y ∙ n) m))),
 )
+
+-- what is woken over the old set and the entry, is woken over the new one
+pub over : (job : JobParts) (entry : Entry) (old new : List Entry) → IsWith old entry new → (f : Firing) → IsWokenBy job entry (λ x. Contains old x ⊎ (entry ≡ x)) f ↔ IsWokenBy job entry (Contains new) f
+over job entry old new w f = ((λ k. (k.0, (k.1.0, λ e m. (w e).1 (k.1.1 e m)))), λ k. (k.0, (k.1.0, λ e m. (w e).0 (k.1.1 e m))))

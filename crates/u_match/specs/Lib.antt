@@ -2,3 +2,4 @@ pub mod Under
 pub mod Keys
 pub mod Joins
 pub mod Waking
+pub mod Matchers

@@ -12,6 +12,9 @@
 
 mod joins;
 mod keys;
+mod matcher;
 mod notes;
 mod table;
 mod woken;
+
+pub use matcher::Matcher;

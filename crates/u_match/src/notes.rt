@@ -140,11 +140,13 @@ pub(crate) fn note(alloc: Global, tables: &mut Tables, entry: &Entry) -> Result<
         Entry::Token(token) => {
             note_reads_of(alloc, &tables.tokens, &mut tables.reads, token)?;
             note_value(alloc, &mut tables.tokens, token)?;
+            Ok(())
         }
         Entry::Write(write) => {
             note_write(alloc, &mut tables.writes, write)?;
+            Ok(())
         }
-        Entry::Fault(_) | Entry::Answer(_) => {}
+        Entry::Fault(_fault) => Ok(()),
+        Entry::Answer(_value) => Ok(()),
     }
-    Ok(())
 }
