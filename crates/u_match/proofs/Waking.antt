@@ -138,3 +138,12 @@ module _ (ts : Tables) (es : List Entry) (c : IsComplete ts es) (entry : Entry) 
         by_shape : Shape f → Meets ts entry f
         by_shape (inl p) = plain p.write p.values
         by_shape (inr r) = reading r r.values
+
+-- those that it wakes among those that are made of it and what it meets, are all that it wakes
+pub answered : (ts : Tables) (es : List Entry) (c : IsComplete ts es) (entry : Entry) (job : JobParts) (made seen found : List Firing) → seen ≡ made → ((f : Firing) → Contains made f ↔ Meets ts entry f)
+    → ((f : Firing) → Contains found f ↔ (Contains seen f × IsWokenBy job entry (λ x. Contains es x ⊎ (entry ≡ x)) f))
+    → (f : Firing) → Contains found f ↔ IsWokenBy job entry (λ x. Contains es x ⊎ (entry ≡ x)) f
+answered ts es c entry job made seen found e all some f = (
+  (λ m. ((some f).0 m).1),
+  (λ w. (some f).1 (subst (λ (xs : List Firing). Contains xs f) (sym e) ((all f).1 (woken_meets ts es c entry job f w)), w)),
+)

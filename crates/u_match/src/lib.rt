@@ -10,6 +10,7 @@
 //! than the set has; what it names is tested before it is answered.
 #![tactic(auto)]
 
+mod entries;
 mod joins;
 mod keys;
 mod matcher;

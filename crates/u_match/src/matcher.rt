@@ -6,10 +6,11 @@ ghost use Rattle.u_rule.specs.EntryOrder.{entry_cmp, firing_cmp};
 ghost use Rattle.u_system.specs.Rising.{Rises, IsWith};
 ghost use Rattle.u_match.specs.Waking.{IsWokenBy};
 
+use crate::entries::{has_entry, put_in};
 use crate::joins::with_entry;
 use crate::keys::Tables;
 use crate::notes::note;
-use crate::woken::{has_entry, woken_of};
+use crate::woken::woken_of;
 use std::alloc::{AllocError, Global};
 use std::collections::BTreeSet;
 use std::marker::Model;
@@ -93,7 +94,7 @@ impl Matcher {
         let found = self.woken(job, entry)?;
         let copy = entry.copy()?;
         note(self.alloc, &mut self.tables, entry)?;
-        self.entries.insert(copy)?;
+        put_in(&mut self.entries, copy)?;
         Ok(found)
     }
 }

@@ -7,6 +7,7 @@ ghost use Rattle.u_rule.specs.EntryOrder.{firing_cmp};
 ghost use Rattle.u_system.specs.Rising.{Rises};
 ghost use Rattle.u_match.specs.Waking.{IsWokenBy};
 
+use crate::entries::has_entry;
 use std::alloc::{AllocError, Global};
 use std::collections::BTreeSet;
 use u_check::Job;
@@ -19,13 +20,6 @@ fn is_same(left: &Entry, right: &Entry) -> bool
     ensures { IsTrue result ↔ (left.now ≡ right.now) }
 {
     left.cmp(right).is_eq()
-}
-
-/// Whether the entry is in the set.
-pub(crate) fn has_entry(entries: &BTreeSet<Entry>, entry: &Entry) -> bool
-    ensures { IsTrue result ↔ Contains entries.now.keys entry.now }
-{
-    entries.contains(entry)
 }
 
 /// Whether it is the entry, or in the set.

@@ -1,6 +1,6 @@
 use Rattle.u_rule.specs.EntryOrder.{entry_cmp, entry_cmp_total, entry_cmp_ties}
 use Rattle.u_system.proofs.Keys.{found, finds}
-use Rattle.u_match.proofs.woken.has_entry.Goals as goal
+use Rattle.u_match.proofs.entries.has_entry.Goals as goal
 
 pub returns : goal.returns
 returns c =
