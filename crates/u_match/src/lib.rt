@@ -16,6 +16,8 @@ mod keys;
 mod matcher;
 mod notes;
 mod table;
+#[cfg(test)]
+mod tests;
 mod woken;
 
 pub use matcher::Matcher;
