@@ -141,8 +141,8 @@ fn join_thirds(
     ensures { OnOk result ((f : Firing) → Contains found.new.items f ↔ (Contains found.old.items f ⊎ SomeOf thirds.now (IsThree activity.now first.now second.now) f)) }
 {
     for third in thirds {
-        let joined = of_three(alloc, activity, first, second, third)?;
-        add(found, joined)?;
+        let tripled = of_three(alloc, activity, first, second, third)?;
+        add(found, tripled)?;
     }
     Ok(())
 }
