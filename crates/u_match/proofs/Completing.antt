@@ -1,20 +1,17 @@
 -- Tables stay complete, and are complete with an entry that was noted.
-use Rattle.std.proofs.Common.{◌≡◌, ◌↔◌, ◌⊎◌, inl, inr, sym, subst, ap, ◌∙◌, refl, arith, ℕ, List, [], ◌∷◌, Contains}
+use Rattle.std.proofs.Common.{◌≡◌, ◌⊎◌, inl, inr, sym, subst, ap, ◌∙◌, arith, ℕ, Contains}
 use Rattle.u_name.specs.Name.{Activity}
 use Rattle.u_name.specs.Cell.{CellOf}
 use Rattle.u_value.specs.declared.value.Value.{Value}
-use Rattle.u_value.specs.declared.fault_kind.FaultKind.{FaultKind}
 use Rattle.u_rule.specs.Parts.{TokenParts, token}
 use Rattle.u_rule.specs.EntryOrder.{write_of, written}
 use Rattle.u_rule.specs.Structures.{wrote}
 use Rattle.u_rule.specs.declared.parts.Write.{Write}
-use Rattle.u_rule.specs.declared.parts.Fault.{Fault}
 use Rattle.u_rule.specs.declared.entry.Entry.{Entry}
 use Rattle.u_rule.specs.declared.entry.Entry.TheVariants as entries
-use Rattle.u_system.specs.Rising.{IsWith}
-use Rattle.u_match.specs.Under.{under, KeepsAll}
+use Rattle.u_match.specs.Under.{KeepsAll}
 use Rattle.u_match.specs.declared.keys.Tables.{Tables}
-use Rattle.u_match.specs.Keys.{place_cmp, cell_order, place, TokenTable, ReadTable, values_at, writes_of, met_at, Notes, IsComplete, StaysComplete, IsCompleteWith}
+use Rattle.u_match.specs.Keys.{place_cmp, cell_order, place, values_at, writes_of, met_at, Notes, IsComplete, StaysComplete, IsCompleteWith}
 use Rattle.u_match.proofs.Noted.{notes_still}
 use Rattle.u_match.proofs.Meeting.{met_own, met_other, same_token}
 

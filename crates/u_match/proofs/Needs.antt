@@ -12,7 +12,7 @@ use Rattle.u_check.specs.Rules.{ports_of}
 use Rattle.u_rule.specs.Parts.{token, ValueList}
 use Rattle.u_rule.specs.Rule.{is_firing_of, is_firing_at, needs_of}
 use Rattle.u_rule.specs.Fits.{statement_of, fits_at}
-use Rattle.u_rule.specs.Structures.{cell_named, reads_cell, has_its_write, write_read, read_from, wrote}
+use Rattle.u_rule.specs.Structures.{cell_named, reads_cell, has_its_write, read_from, wrote}
 use Rattle.u_name.specs.Cell.{CellOf}
 use Rattle.u_value.specs.declared.fault_kind.FaultKind.{FaultKind}
 use Rattle.u_rule.specs.EntryOrder.{firing}

@@ -1,5 +1,5 @@
 -- What the tables have once an entry was noted.
-use Rattle.std.proofs.Common.{◌≡◌, ◌↔◌, ◌⊎◌, inl, inr, sym, subst, ap, ◌∙◌, refl, ℕ, ◌<◌, ◌≤◌, ◌+◌, ◌==◌, List, [], ◌∷◌, Bool, true, false, IsTrue, Contains, Option, Some, None, Ok, Ordering, take, get_or, length}
+use Rattle.std.proofs.Common.{◌≡◌, ◌↔◌, subst, [], ◌∷◌, Contains, Option, Some, None, Ok, Ordering}
 use Rattle.std.specs.Global.{Vec}
 use Rattle.std.specs.BTreeMap.{BTreeMap}
 use Rattle.u_name.specs.Name.{Activity}
@@ -9,7 +9,6 @@ use Rattle.u_rule.specs.Structures.{cell_named}
 use Rattle.u_match.specs.Under.{KeepsAll}
 use Rattle.u_match.specs.declared.keys.Read.{Read}
 use Rattle.u_match.specs.Keys.{ReadTable, cell_order, reads_of, read, Notes}
-use Rattle.u_match.proofs.Rounds.{each_more}
 
 -- nothing is lost in one step, or in two
 pub keeps_itself : {K V : Type 0} (cmp : K → K → Ordering) (m : BTreeMap K (Vec V)) → KeepsAll cmp m m

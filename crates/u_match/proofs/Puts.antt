@@ -1,15 +1,11 @@
 -- What stands under the keys of a table once a list was put there.
-use Rattle.std.proofs.Common.{◌≡◌, ◌∙◌, sym, ap, refl, subst, Bool, true, false, cond, List, [], ◌∷◌, ◌++◌, Contains, Option, Some, None, Ordering}
-use Rattle.std.specs.Prelude.{IsSome}
+use Rattle.std.proofs.Common.{◌≡◌, ◌∙◌, sym, ap, refl, subst, Bool, true, false, cond, Contains, Option, Some, Ordering}
 use Rattle.std.specs.Cmp.{IsTotalOrder, tied_itself}
 use Rattle.std.specs.Ordering.{is_eq}
 use Rattle.std.specs.declared.cmp.Ordering.TheVariants.{Less, Equal, Greater}
 use Rattle.std.specs.Global.{Vec}
-use Rattle.std.specs.Map.{lookup}
-use Rattle.std.specs.BTreeMap.{BTreeMap, get, is_at, UpdatesBy, WritesThrough, Updates, IsUnchanged}
+use Rattle.std.specs.BTreeMap.{BTreeMap, get, is_at}
 use Rattle.std.specs.HashMap.Eq.{lookup_congr}
-use Rattle.std.proofs.lemmas.List.Elements.{Contains-append_left, Contains-push}
-use Rattle.u_system.proofs.Member.{Contains-nil}
 use Rattle.u_match.specs.Under.{items_of, under, KeepsAll}
 
 tie_of : (r : Ordering) → is_eq r ≡ true → r ≡ Equal

@@ -1,7 +1,5 @@
 -- A list of firings that is gathered step by step.
-use Rattle.std.proofs.Common.{◌≡◌, ◌↔◌, ◌⊎◌, inl, inr, sym, subst, ap, ◌∙◌, refl, ℕ, ◌<◌, ◌+◌, ◌++◌, List, [], ◌∷◌, Contains, take, length, get_or, Ordering, Option, Some, None, Ok}
-use Rattle.std.proofs.lemmas.List.{take_more}
-use Rattle.std.proofs.lemmas.List.Elements.{Contains-push_cases}
+use Rattle.std.proofs.Common.{◌≡◌, ◌↔◌, ◌⊎◌, inl, inr, subst, ap, ◌∙◌, ℕ, ◌<◌, ◌+◌, List, [], ◌∷◌, Contains, take, length, get_or, Option, Some, None, Ok}
 use Rattle.u_name.specs.Cell.{CellOf}
 use Rattle.u_name.specs.Name.{Activity}
 use Rattle.u_value.specs.declared.value.Value.{Value}
@@ -9,7 +7,7 @@ use Rattle.u_rule.specs.Structures.{cell_named}
 use Rattle.u_rule.specs.declared.firing.Firing.{Firing}
 use Rattle.u_system.specs.Firing.{SomeOf}
 use Rattle.u_system.proofs.Member.{Contains-nil}
-use Rattle.u_system.proofs.Scan.{scan_more, scan_all}
+use Rattle.u_system.proofs.Scan.{scan_more}
 use Rattle.u_match.specs.Joins.{IsReading, ReadsCell, JoinsOne, JoinsToken}
 use Rattle.u_rule.specs.Parts.{TokenParts}
 use Rattle.u_match.specs.declared.keys.Place.{Place}

@@ -1,13 +1,12 @@
 -- What an entry wakes is made of it and what it meets.
-use Rattle.std.proofs.Common.{◌≡◌, ◌↔◌, ◌⊎◌, inl, inr, sym, subst, ap, ◌∙◌, refl, arith, ℕ, ◌==◌, List, [], ◌∷◌, Bool, true, false, IsTrue, Contains, Some, None, Ok}
+use Rattle.std.proofs.Common.{◌≡◌, ◌↔◌, ◌⊎◌, inl, inr, sym, subst, ap, ◌∙◌, refl, arith, ℕ, ◌==◌, List, [], ◌∷◌, Bool, true, false, Contains, Some, None, Ok}
 use Rattle.std.proofs.lemmas.Bool.Decides.{nat_tests}
 use Rattle.u_name.specs.Name.{Activity}
 use Rattle.u_name.specs.Cell.{CellOf}
 use Rattle.u_value.specs.declared.value.Value.{Value}
 use Rattle.u_check.specs.Jobs.{JobParts}
-use Rattle.u_rule.specs.Parts.{TokenParts, token, ValueList}
-use Rattle.u_rule.specs.Rule.{is_firing_of, needs_of}
-use Rattle.u_rule.specs.EntryOrder.{firing, write_of, written}
+use Rattle.u_rule.specs.Parts.{token}
+use Rattle.u_rule.specs.EntryOrder.{firing}
 use Rattle.u_rule.specs.Structures.{cell_named, wrote}
 use Rattle.u_rule.specs.declared.entry.Entry.{Entry}
 use Rattle.u_rule.specs.declared.entry.Entry.TheVariants as entries
@@ -15,10 +14,10 @@ use Rattle.u_rule.specs.declared.firing.Firing.{Firing}
 use Rattle.u_rule.specs.declared.firing.Written.{Written}
 use Rattle.u_match.specs.declared.keys.Tables.{Tables}
 use Rattle.u_match.specs.Keys.{met_at, read, IsComplete}
-use Rattle.u_match.specs.Joins.{JoinsToken, JoinsWrite, Meets}
+use Rattle.u_match.specs.Joins.{Meets}
 use Rattle.u_match.specs.Waking.{IsWokenBy}
 use Rattle.u_match.proofs.Meeting.{met_own, met_other, same_port}
-use Rattle.u_match.proofs.Needs.{OneValue, TwoValues, ThreeValues, Plain, Reading, Shape, shape_of, rebuilt, needs_one, needs_two, needs_three, needs_read}
+use Rattle.u_match.proofs.Needs.{OneValue, TwoValues, ThreeValues, Reading, Shape, shape_of, rebuilt, needs_one, needs_two, needs_three, needs_read}
 
 module _ (ts : Tables) (es : List Entry) (c : IsComplete ts es) (entry : Entry) where
   -- there, or the one that enters

@@ -1,5 +1,5 @@
 -- Which firings an entry wakes.
-use Rattle.std.specs.Prelude.{List, Contains}
+use Rattle.std.specs.Prelude.{Contains}
 use Rattle.u_check.specs.Jobs.{JobParts}
 use Rattle.u_rule.specs.Rule.{system_of}
 use Rattle.u_rule.specs.declared.entry.Entry.{Entry}

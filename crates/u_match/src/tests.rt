@@ -111,7 +111,12 @@ fn each_value_of_a_port_makes_a_firing(rt: HostRuntime) -> Result<(), Fail> {
         ("-.main.6.1", 1, "3", ""),
         ("-.main.6.1", 2, "4", "-.main.6.1 3 4\n-.main.6.1 5 4\n"),
         ("-.main.6.1", 1, "1", "-.main.6.1 1 4\n"),
-        ("-.main.6.1", 2, "1", "-.main.6.1 1 1\n-.main.6.1 3 1\n-.main.6.1 5 1\n"),
+        (
+            "-.main.6.1",
+            2,
+            "1",
+            "-.main.6.1 1 1\n-.main.6.1 3 1\n-.main.6.1 5 1\n",
+        ),
     ];
     assert!(rt; answer_so(rt.alloc(), rows.as_slice())?);
     Ok(())

@@ -1,7 +1,4 @@
-use Rattle.std.proofs.Common.{sym, subst, List}
 use Rattle.u_rule.specs.EntryOrder.{entry_cmp, entry_cmp_total, entry_cmp_ties}
-use Rattle.u_rule.specs.declared.entry.Entry.{Entry}
-use Rattle.u_system.specs.Rising.{Rises}
 use Rattle.u_system.proofs.Keys.{inserts, rises_still}
 use Rattle.u_match.proofs.entries.put_in.Goals as goal
 

@@ -1,11 +1,9 @@
 use Rattle.std.proofs.Common.{[]}
-use Rattle.u_rule.specs.declared.firing.Firing.{Firing}
-use Rattle.u_rule.specs.EntryOrder.{firing, written}
-use Rattle.std.proofs.Common.{◌∷◌, Some, None}
-use Rattle.u_system.specs.Firing.{SomeOf}
+use Rattle.u_rule.specs.EntryOrder.{firing}
+use Rattle.std.proofs.Common.{◌∷◌, None}
 use Rattle.u_system.proofs.Scan.{scan_all}
 use Rattle.u_match.specs.Joins.{IsThree}
-use Rattle.u_match.proofs.Steps.{round, renamed, from_nothing}
+use Rattle.u_match.proofs.Steps.{round, renamed}
 use Rattle.u_match.proofs.joins.join_thirds.Goals as goal
 
 pub loop-third-preserved : goal.loop-third-preserved

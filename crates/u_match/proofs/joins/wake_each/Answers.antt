@@ -1,7 +1,6 @@
 use Rattle.std.proofs.Common.{[]}
-use Rattle.u_rule.specs.declared.firing.Firing.{Firing}
 use Rattle.u_rule.specs.EntryOrder.{firing, written}
-use Rattle.std.proofs.Common.{◌∷◌, Some, None}
+use Rattle.std.proofs.Common.{◌∷◌, Some}
 use Rattle.u_system.specs.Firing.{SomeOf}
 use Rattle.u_system.proofs.Scan.{scan_all}
 use Rattle.u_match.specs.Joins.{IsWoken}

@@ -1,9 +1,9 @@
-use Rattle.std.proofs.Common.{◌≡◌, sym, ◌∙◌, subst}
+use Rattle.std.proofs.Common.{sym, ◌∙◌, subst}
 use Rattle.u_rule.specs.declared.entry.Entry.{Entry}
 use Rattle.u_match.specs.declared.keys.Tables.{Tables}
 use Rattle.u_match.specs.Keys.{place_cmp, cell_order, IsCompleteWith}
 use Rattle.u_match.proofs.Noted.{keeps_itself}
-use Rattle.u_match.proofs.Completing.{stays, with_other, with_write, with_token}
+use Rattle.u_match.proofs.Completing.{with_other, with_write, with_token}
 use Rattle.u_match.proofs.notes.note.Goals as goal
 
 pub returns-in_ok-note_value-in-Token-clause-ok : goal.returns-in_ok-note_value-in-Token-clause-ok

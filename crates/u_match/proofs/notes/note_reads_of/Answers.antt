@@ -1,4 +1,4 @@
-use Rattle.std.proofs.Common.{◌≡◌, ◌⊎◌, inr, sym, subst, List, Contains}
+use Rattle.std.proofs.Common.{inr, sym, subst, List, Contains}
 use Rattle.u_name.specs.Name.{Activity}
 use Rattle.u_value.specs.declared.value.Value.{Value}
 use Rattle.u_match.specs.Keys.{Notes}

@@ -1,6 +1,5 @@
-use Rattle.std.proofs.Common.{◌≡◌, ◌∷◌, [], ◌∙◌, sym, subst, ap, refl, Contains, List, Option, Some, cond}
+use Rattle.std.proofs.Common.{◌≡◌, ◌∷◌, [], sym, subst, refl, Contains, List, Some, cond}
 use Rattle.std.specs.Prelude.{IsSome}
-use Rattle.std.specs.Global.{Vec}
 use Rattle.std.specs.BTreeMap.{get, is_at}
 use Rattle.std.proofs.lemmas.List.Elements.{Contains-append_left}
 use Rattle.u_system.proofs.Member.{Contains-nil}

@@ -1,4 +1,4 @@
-use Rattle.std.proofs.Common.{◌≡◌, ◌⊎◌, refl, sym, ◌∙◌, false, true, Contains}
+use Rattle.std.proofs.Common.{◌≡◌, ◌⊎◌, refl, sym, ◌∙◌, Contains}
 use Rattle.std.proofs.lemmas.Bool.{false≢true}
 use Rattle.u_rule.specs.declared.entry.Entry.{Entry}
 use Rattle.u_match.proofs.Rounds.{each_more, each_of_all, member_at}

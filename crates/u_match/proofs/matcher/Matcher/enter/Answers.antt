@@ -1,4 +1,4 @@
-use Rattle.std.proofs.Common.{subst, Contains, List}
+use Rattle.std.proofs.Common.{subst}
 use Rattle.u_rule.specs.declared.entry.Entry.{Entry}
 use Rattle.u_system.specs.Rising.{IsWith}
 use Rattle.u_match.proofs.Wakes.{over}

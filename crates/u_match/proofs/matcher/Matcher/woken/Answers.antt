@@ -1,4 +1,3 @@
-use Rattle.std.proofs.Common.{◌≡◌, ◌⊎◌, Contains}
 use Rattle.u_match.proofs.Waking.{answered}
 use Rattle.u_match.proofs.matcher.Matcher.woken.Goals as goal
 
