@@ -3,7 +3,8 @@
 # statement before it to itself, and on the loop of programs/sum.u. The argument of a chain is 0, so
 # nothing overflows. For each run it prints the size, the firings, the seconds and the growth: how
 # often the time of the run before, of half the size. Where `rt` is on PATH, it then builds `u_bench`
-# and times copies of names.
+# and times copies of names, and tokens of a long loop that are put into a history: a hundred thousand
+# have to take less than a second.
 set -u
 export LC_ALL=C
 
@@ -65,8 +66,22 @@ for size in 25 50 100; do
     timed "$top/programs/sum.u" "$size" "$size" $((10 * size + 15))
 done
 
+# Times so many tokens that are put into a history, and prints how long that took.
+timed_inserts() {
+    local row spent
+    row=$("$top/crates/u_bench/out/u_bench" tokens "$1")
+    printf '%s\n' "$row"
+    spent=$(sed -n 's/.* in \([0-9]*\) ns$/\1/p' <<<"$row")
+    if [ -z "$spent" ] || [ "$spent" -ge 1000000000 ]; then
+        echo "$1 tokens took a second or more" >&2
+        failed=1
+    fi
+}
+
 if command -v rt >/dev/null; then
-    if ! (cd "$top/crates/u_bench" && rt run -- names 1000000) </dev/null 2>"$temp/log"; then
+    if (cd "$top/crates/u_bench" && rt run -- names 1000000) </dev/null 2>"$temp/log"; then
+        for count in 1000 10000 100000; do timed_inserts "$count"; done
+    else
         tail -n 20 -- "$temp/log" >&2
         failed=1
     fi

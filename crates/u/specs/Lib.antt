@@ -1,2 +1,1 @@
-pub mod Firings
 pub mod Orders

@@ -4,7 +4,7 @@ use Rattle.clap.specs.Words.{first_value}
 use Rattle.clap.specs.declared.parser.matches.Found.{Found}
 use Rattle.u.specs.declared.words.Order.{Order}
 use Rattle.u.specs.declared.words.Order.TheVariants.{Stored, Check, Run}
-use Rattle.u.specs.Firings.{IsFirings, IsFiringsText}
+use Rattle.u_cli.specs.Firings.{IsFirings, IsFiringsText}
 
 -- a run may fire from one to a million times
 abbrev pub HasFirings : Order → Type 0

@@ -3,7 +3,6 @@
 
 ghost use Rattle.u.specs.Orders.{HasFirings};
 
-mod number;
 mod words;
 
 use std::alloc::Global;

@@ -3,10 +3,10 @@ ghost use Rattle.std.specs.Prelude.{◌≡◌, IfOk};
 ghost use Rattle.clap.specs.Words.{found_of};
 ghost use Rattle.u.specs.Orders.{HasFirings, IsCheckOf, IsRunOf, word_of};
 
-use crate::number::firings_of;
 use clap::error::ErrorKind;
 use clap::{Arg, ArgAction, ArgMatches, Command, Error, value_parser};
 use std::alloc::{AllocError, Global};
+use u_cli::firings_of;
 
 /// The word of the command that checks.
 const CHECK: &str = "check";

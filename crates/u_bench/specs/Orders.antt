@@ -2,11 +2,15 @@
 use Rattle.std.specs.Prelude.{ℕ, List, [], ◌∷◌, codes, bytes_eq, if◌then◌else◌, Option, Some, None, option_map}
 use Rattle.u_text.specs.WholeWords.{number_word}
 use Rattle.u_bench.specs.declared.order.Order.{Order}
-use Rattle.u_bench.specs.declared.order.Order.TheVariants.{Counts, Names}
+use Rattle.u_bench.specs.declared.order.Order.TheVariants.{Counts, Names, Tokens}
 
--- no word behind the program's name; or `names` and a number of copies, from one to a thousand million
+-- no word behind the program's name; or `names` and a number of copies, from one to a thousand
+-- million; or `tokens` and a number of tokens, from one to a million
 abbrev pub order_of : List (List ℕ) → Option Order
 order_of [] = Some Counts
 order_of (program ∷ []) = Some Counts
-order_of (program ∷ what ∷ copies ∷ []) = if bytes_eq what (codes "names") then option_map (λ n. Names n) (number_word 1000000000 copies) else None
+order_of (program ∷ what ∷ count ∷ []) =
+    if bytes_eq what (codes "names") then option_map (λ n. Names n) (number_word 1000000000 count)
+    else if bytes_eq what (codes "tokens") then option_map (λ n. Tokens n) (number_word 1000000 count)
+    else None
 order_of words = None

@@ -7,6 +7,9 @@ use u_text::number_word;
 /// The most copies that may be asked for.
 const MOST_COPIES: u32 = 1_000_000_000;
 
+/// The most tokens that may be asked for.
+const MOST_TOKENS: u32 = 1_000_000;
+
 /// What a command line orders.
 #[derive(Clone, Copy, Debug, PartialEq, Eq)]
 pub enum Order {
@@ -14,6 +17,8 @@ pub enum Order {
     Counts,
     /// So many copies, 1 to 1000000000, with their times.
     Names(u32),
+    /// So many tokens, 1 to 1000000, put into a history, with the time.
+    Tokens(u32),
 }
 
 /// The order in the words of a command line, the first of which is the program's name. There is
@@ -26,6 +31,10 @@ pub fn order_of(words: &[String]) -> Option<Order>
         [_, what, count] if what.as_bytes() == b"names".as_slice() => {
             let copies = number_word(count.as_bytes(), MOST_COPIES).ok()?;
             Some(Order::Names(copies))
+        }
+        [_, what, count] if what.as_bytes() == b"tokens".as_slice() => {
+            let tokens = number_word(count.as_bytes(), MOST_TOKENS).ok()?;
+            Some(Order::Tokens(tokens))
         }
         _ => None,
     }

@@ -1,3 +1,4 @@
 pub mod Counts
 pub mod Known
 pub mod Ran
+pub mod Spelling

@@ -8,9 +8,7 @@ use Rattle.u_check.specs.Rules.{IsChecked}
 use Rattle.u_check.specs.Jobs.{JobParts}
 use Rattle.u_system.specs.Firing.{Held, Whole, Same, Enabled, Plain}
 use Rattle.u_value.specs.declared.value.Value.{Value}
-use Rattle.u_rule.specs.Parts.{TokenParts}
 use Rattle.u_rule.specs.Rule.{system_of}
-use Rattle.u_rule.specs.declared.parts.Write.{Write}
 use Rattle.u_rule.specs.declared.parts.Fault.{Fault}
 use Rattle.u_rule.specs.declared.entry.Entry.{Entry}
 use Rattle.u_rule.specs.declared.firing.Firing.{Firing}
@@ -19,7 +17,7 @@ use Rattle.u_machine.specs.declared.answer.Ran.{Ran}
 use Rattle.u_machine.specs.declared.answer.Ran.TheVariants as ran
 use Rattle.u_history.specs.declared.report.State.{State}
 use Rattle.u_history.specs.declared.report.State.TheVariants as states
-use Rattle.u_history.specs.Says.{IsOutcome}
+use Rattle.u_history.specs.Says.{IsOutcome, CellPairs, PortValues}
 use Rattle.u_history.specs.Verdicts.{judged}
 use Rattle.u_history.specs.Report.{IsReportOf}
 use Rattle.u_cli.specs.Arguments.{IsArgumentOf}
@@ -39,8 +37,8 @@ pub record IsJobOf (bytes word : List ℕ) (job : JobParts) : Type 0 where
 -- The status is that of the verdict on what is held.
 pub record IsStatusOf (H : Entry → Type 0) (state : State) (status : ℕ) : Type 0 where
   pub answers : List Value
-  pub cells : List Write
-  pub ports : List TokenParts
+  pub cells : List CellPairs
+  pub ports : List PortValues
   pub faults : List Fault
   pub outcome : IsOutcome H answers cells ports faults
   pub is : status ≡ status_of state (judged answers cells ports faults)

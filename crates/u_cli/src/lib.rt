@@ -5,6 +5,7 @@ mod argument;
 mod checking;
 mod fault;
 mod input;
+mod number;
 mod output;
 mod run;
 #[cfg(test)]
@@ -14,6 +15,7 @@ pub use argument::argument_of;
 pub use checking::check_text;
 pub use fault::Fault;
 pub use input::{INPUT_LIMIT, read_input};
+pub use number::firings_of;
 pub use output::{Unwritten, write_whole};
 pub use run::{FIRING_LIMIT, run_text};
 

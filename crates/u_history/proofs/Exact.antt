@@ -1,26 +1,32 @@
--- The orders of values, writes, tokens and faults tie only what is equal.
+-- The orders of values, cells, ports, pairs and faults tie only what is equal.
 use Rattle.std.proofs.Common.{◌≡◌, ◌∙◌, ap, ℕ, refl, IsTrue, Ordering}
 use Rattle.std.specs.Ordering.{is_eq}
 use Rattle.std.specs.declared.cmp.Ordering.TheVariants.{Less, Equal, Greater}
 use Rattle.u_system.specs.Rising.{IsExact}
 use Rattle.u_rule.specs.EntryOrder.{entry_cmp_ties, written_ties, write_of, written}
+use Rattle.std.specs.FinMap.{nat_cmp-IsAntisymmetric}
+use Rattle.u_name.specs.ContextLaws.{both}
+use Rattle.u_name.specs.Cell.{CellOf, cell_cmp}
+use Rattle.u_name.proofs.ExactOrders.{name_cmp_ties, cell_cmp_ties}
 use Rattle.u_rule.specs.Parts.{token, TokenParts}
 use Rattle.u_rule.specs.declared.parts.Write.{Write}
 use Rattle.u_rule.specs.declared.firing.Written.{Written}
 use Rattle.u_name.specs.Name.{Activity}
-use Rattle.u_name.specs.Cell.{CellOf}
 use Rattle.u_value.specs.declared.value.Value.{Value}
 use Rattle.u_rule.specs.declared.entry.Entry.TheVariants as entries
-use Rattle.u_history.specs.Orders.{value_order, write_order, token_order, fault_order, written_order}
+use Rattle.u_history.specs.Orders.{value_order, fault_order, written_order}
+use Rattle.u_history.specs.Clashes.{port_order, port_of}
 
 pub answers_exact : IsExact value_order
 answers_exact a b h = let e = entry_cmp_ties (entries.Answer a) (entries.Answer b) h in cc
 
-pub writes_exact : IsExact write_order
-writes_exact a b h = let e = entry_cmp_ties (entries.Write a) (entries.Write b) h in cc
+pub cells_exact : IsExact cell_cmp
+cells_exact a b h = cell_cmp_ties a b h
 
-pub tokens_exact : IsExact token_order
-tokens_exact a b h = let e = entry_cmp_ties (entries.Token a) (entries.Token b) h in cc
+pub ports_exact : IsExact port_order
+ports_exact a b h =
+    let u = both _ _ h in
+    ap (λ (n : Activity). port_of n a.number) (name_cmp_ties a.activity b.activity u.0) ∙ ap (λ (k : ℕ). port_of b.activity k) (nat_cmp-IsAntisymmetric a.number b.number u.1)
 
 pub faults_exact : IsExact fault_order
 faults_exact a b h = let e = entry_cmp_ties (entries.Fault a) (entries.Fault b) h in cc

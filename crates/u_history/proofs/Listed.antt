@@ -6,7 +6,7 @@ use Rattle.u_system.specs.Firing.{SomeOf}
 use Rattle.u_system.specs.Rising.{Rises, IsWith, IsListOf}
 use Rattle.u_system.proofs.Member.{Contains-nil}
 use Rattle.u_rule.specs.declared.entry.Entry.{Entry}
-use Rattle.u_history.specs.Says.{lent, IsClashing}
+use Rattle.u_history.specs.Says.{lent}
 
 pub length_lent : (es : List (Bor Entry)) → length (lent es) ≡ length es
 length_lent [] = refl
@@ -45,19 +45,7 @@ module _ {X : Type 0} (K : X → Entry) where
         to : (x : X) → Contains xs x → Contains es (K x)
         to x m = elim ((all x).0 m) [ inl n ↦ absurd (Contains-nil x n) | inr s ↦ subst (Contains es) s.2 s.1 ]
 
-    pub listed_clashes : ((x : X) → Contains xs x ↔ (Contains [] x ⊎ SomeOf es (λ e y. (e ≡ K y) × IsClashing (Contains es) (K y)) x)) → IsListOf R (λ x. IsClashing (Contains es) (K x)) xs
-    listed_clashes all = record { rises = rises; exact = λ x. (to x, λ k. (all x).1 (inr (K x, k.0, (refl, k)))) }
-      where
-        to : (x : X) → Contains xs x → IsClashing (Contains es) (K x)
-        to x m = elim ((all x).0 m) [ inl n ↦ absurd (Contains-nil x n) | inr s ↦ s.2.1 ]
-
-  -- one step: the entry, where it clashes
-  pub step_clash : (es : List Entry) (e at : Entry) (old new : List X) (b : Bool) → at ≡ e → (IsTrue b ↔ IsClashing (Contains es) at) → ((x : X) → Contains new x ↔ (Contains old x ⊎ (IsTrue b × (e ≡ K x)))) → (x : X) → Contains new x ↔ (Contains old x ⊎ ((at ≡ K x) × IsClashing (Contains es) (K x)))
-  step_clash es e at old new b is test step x = (
-    (λ m. elim ((step x).0 m) [ inl a ↦ inl a | inr q ↦ inr (is ∙ q.1, subst (IsClashing (Contains es)) (is ∙ q.1) (test.0 q.0)) ]),
-    λ s. elim s [ inl a ↦ (step x).1 (inl a) | inr q ↦ (step x).1 (inr (test.1 (subst (IsClashing (Contains es)) (sym q.0) q.1), sym is ∙ q.0)) ],
-  )
-
+  -- one step
   pub step_item : (e at : Entry) (old new : List X) → at ≡ e → ((x : X) → Contains new x ↔ (Contains old x ⊎ (e ≡ K x))) → (x : X) → Contains new x ↔ (Contains old x ⊎ (at ≡ K x))
   step_item e at old new is step x =
       ((λ m. elim ((step x).0 m) [ inl a ↦ inl a | inr q ↦ inr (is ∙ q) ]), λ s. elim s [ inl a ↦ (step x).1 (inl a) | inr q ↦ (step x).1 (inr (sym is ∙ q)) ])

@@ -21,7 +21,7 @@ use Rattle.u_rule.specs.declared.entry.Entry.{Entry}
 use Rattle.u_rule.specs.declared.entry.Entry.TheVariants as entries
 use Rattle.u_history.proofs.Exact.{tie_of}
 use Rattle.u_history.specs.Orders.{write_order, token_order}
-use Rattle.u_history.specs.Says.{AtOnePlace, IsClashing}
+use Rattle.u_history.specs.Places.{AtOnePlace, IsClashing}
 
 -- `==` on names and on cells tells them apart
 pub same_name : (a b : Activity) → IsTrue (eq_by_cmp name_cmp a b) ↔ (a ≡ b)
@@ -47,10 +47,10 @@ then_less Greater q e = absurd (cc)
 
 -- what lies between two equal things is equal to them
 module _ {K : Type 0} (R : K → K → Ordering) (o : IsTotalOrder R) where
-  Le : K → K → Type 0
+  unfoldable pub Le : K → K → Type 0
   Le a b = (R a b ≡ Less) ⊎ (a ≡ b)
 
-  le_of : IsExact R → (a b : K) (q : Ordering) → ordering_then (R a b) q ≡ Less → Le a b
+  pub le_of : IsExact R → (a b : K) (q : Ordering) → ordering_then (R a b) q ≡ Less → Le a b
   unfolding Le
   le_of exact a b q h = elim (then_less (R a b) q h) [ inl l ↦ inl l | inr e ↦ inr (exact a b e.0) ]
 

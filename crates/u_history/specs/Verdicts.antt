@@ -1,9 +1,8 @@
 -- The verdict on an outcome.
 use Rattle.std.specs.Prelude.{List, [], ◌∷◌}
 use Rattle.u_value.specs.declared.value.Value.{Value}
-use Rattle.u_rule.specs.Parts.{TokenParts}
-use Rattle.u_rule.specs.declared.parts.Write.{Write}
 use Rattle.u_rule.specs.declared.parts.Fault.{Fault}
+use Rattle.u_history.specs.Says.{CellPairs, PortValues}
 use Rattle.u_history.specs.declared.verdict.Verdict.{Verdict}
 use Rattle.u_history.specs.declared.verdict.Verdict.TheVariants.{Clashed, Faulted, Answer, NoAnswer}
 
@@ -14,7 +13,7 @@ pub data Judgement : Type 0 where
   says_none : Judgement
 
 -- a clash, or more than one answer; else a fault; else the answer, if there is one
-abbrev pub judged : List Value → List Write → List TokenParts → List Fault → Judgement
+abbrev pub judged : List Value → List CellPairs → List PortValues → List Fault → Judgement
 judged answers (c ∷ cells) ports faults = says_clashed
 judged answers [] (p ∷ ports) faults = says_clashed
 judged (v ∷ w ∷ answers) [] [] faults = says_clashed

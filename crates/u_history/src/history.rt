@@ -4,14 +4,11 @@ ghost use Rattle.std.specs.Map.Iter.{ShowsInOrder, deref};
 ghost use Rattle.u_system.specs.Rising.{Rises, IsWith, IsUnion, IsListOf};
 ghost use Rattle.u_rule.specs.EntryOrder.{entry_cmp};
 ghost use Rattle.u_rule.specs.declared.entry.Entry.{Entry};
-ghost use Rattle.u_rule.specs.Parts.{token};
-ghost use Rattle.u_rule.specs.EntryOrder.{write_of};
-ghost use Rattle.u_rule.specs.declared.firing.Written.{Written};
-ghost use Rattle.u_rule.specs.declared.entry.Entry.TheVariants as kinds;
 ghost use Rattle.u_history.specs.Orders.{value_order, written_order};
 ghost use Rattle.u_text.specs.Appending.{Extends};
 ghost use Rattle.u_history.specs.Text.{history_text};
-ghost use Rattle.u_history.specs.Says.{IsOutcome};
+ghost use Rattle.u_history.specs.Says.{IsOutcome, PairIn, ValueAt};
+ghost use Rattle.u_history.specs.Clashes.{cell_pairs, port_values};
 
 use crate::lookup::{pairs_in, values_at};
 use crate::outcome::Outcome;
@@ -97,6 +94,9 @@ impl History {
     }
 
     /// References to the entries, in order.
+    ///
+    /// # Errors
+    /// `AllocError` where there is no memory.
     pub fn references(&self) -> Result<Vec<&Entry>, AllocError>
         ensures all { IfOk result (λ v. map (deref {X = Entry}) v.items ≡ self.now) }
         ensures rises { Rises entry_cmp self.now }
@@ -105,6 +105,9 @@ impl History {
     }
 
     /// Copies of the entries, in order.
+    ///
+    /// # Errors
+    /// `AllocError` where there is no memory.
     pub fn entries(&self) -> Result<Vec<Entry>, AllocError>
         ensures all { IfOk result (λ v. v.items ≡ self.now) }
         ensures rises { Rises entry_cmp self.now }
@@ -121,7 +124,7 @@ impl History {
     /// # Errors
     /// `AllocError` where there is no memory.
     pub fn values(&self, activity: &Name, port: u8) -> Result<Vec<Value>, AllocError>
-        ensures { IfOk result (λ v. IsListOf value_order (λ x. Contains self.now (kinds.Token (token activity.now port x))) v.items) }
+        ensures { IfOk result (λ v. IsListOf value_order (ValueAt (Contains self.now) activity.now port) v.items) }
     {
         let entries = self.references()?;
         values_at(self.alloc, &entries, activity, port)
@@ -132,7 +135,7 @@ impl History {
     /// # Errors
     /// `AllocError` where there is no memory.
     pub fn writes(&self, cell: &Cell) -> Result<Vec<Written>, AllocError>
-        ensures { IfOk result (λ v. IsListOf written_order (λ (x : Written). Contains self.now (kinds.Write (write_of cell.now x.writer x.value))) v.items) }
+        ensures { IfOk result (λ v. IsListOf written_order (PairIn (Contains self.now) cell.now) v.items) }
     {
         let entries = self.references()?;
         pairs_in(self.alloc, &entries, cell)
@@ -155,9 +158,12 @@ impl History {
         Ok(())
     }
 
-    /// What the entries say.
+    /// What the entries say: the answers, the clashes in cells and at ports, and the faults.
+    ///
+    /// # Errors
+    /// `AllocError` where there is no memory.
     pub fn outcome(&self) -> Result<Outcome, AllocError>
-        ensures { IfOk result (λ o. IsOutcome (Contains self.now) o.answers.items o.cell_clashes.items o.port_clashes.items o.faults.items) }
+        ensures { IfOk result (λ o. IsOutcome (Contains self.now) o.answers.items (map cell_pairs o.cell_clashes.items) (map port_values o.port_clashes.items) o.faults.items) }
     {
         let entries = self.references()?;
         Outcome::of(self.alloc, &entries)

@@ -1,14 +1,19 @@
 //! Histories: sets of entries, what they say, and the report of it.
 #![tactic(auto)]
 
+mod clash;
+#[cfg(test)]
+mod clash_tests;
 mod history;
 mod lookup;
 mod outcome;
+mod place;
 mod report;
 #[cfg(test)]
 mod set_tests;
 mod verdict;
 
+pub use clash::{CellClash, PortClash};
 pub use history::History;
 pub use outcome::Outcome;
 pub use report::{State, report_text};

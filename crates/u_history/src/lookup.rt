@@ -1,28 +1,20 @@
 //! What stands at one port, and in one cell.
-ghost use Rattle.std.specs.Prelude.{◌≡◌, ◌↔◌, ◌⊎◌, OnOk, IfOk, Contains, IsTrue};
+ghost use Rattle.std.specs.Prelude.{◌≡◌, ◌↔◌, ◌⊎◌, OnOk, IfOk, Contains};
 ghost use Rattle.u_system.specs.Rising.{Rises, IsListOf};
 ghost use Rattle.u_value.specs.declared.value.Value.{Value};
 ghost use Rattle.u_rule.specs.Parts.{token};
-ghost use Rattle.u_rule.specs.EntryOrder.{write_of};
+ghost use Rattle.u_rule.specs.EntryOrder.{entry_cmp, write_of};
 ghost use Rattle.u_rule.specs.declared.firing.Written.{Written};
 ghost use Rattle.u_rule.specs.declared.entry.Entry.TheVariants as kinds;
 ghost use Rattle.u_history.specs.Orders.{value_order, written_order};
-ghost use Rattle.u_history.specs.Says.{lent};
+ghost use Rattle.u_history.specs.Says.{lent, PairIn, ValueAt};
 
-use crate::outcome::entry_at;
+use crate::place::{Place, entry_at, first_at, is_at, is_at_port, is_in_cell};
 use std::alloc::{AllocError, Global};
 use u_name::{Cell, Name};
-use u_rule::{Entry, Token, Write, Written};
+use u_rule::{Entry, Written};
 use u_system::place_in;
 use u_value::Value;
-
-/// Whether the token is at that port.
-#[tactic(auto, using(crate::proofs::Neighbours::same_name))]
-fn is_at(item: &Token, activity: &Name, port: u8) -> bool
-    ensures { IsTrue result ↔ ((item.now.activity ≡ activity.now) × (item.now.port ≡ port)) }
-{
-    item.activity() == activity && item.port() == port
-}
 
 /// Adds the entry's value, if it is a token at that port.
 #[tactic(auto, using(crate::proofs::Exact::answers_exact))]
@@ -37,34 +29,33 @@ fn add_value(
     ensures ok { OnOk result ((x : Value) → Contains list.new.items x ↔ (Contains list.old.items x ⊎ (entry.now ≡ kinds.Token (token activity.now port x)))) }
 {
     if let Entry::Token(item) = entry {
-        if is_at(item, activity, port) {
+        if is_at_port(item, activity, port) {
             place_in(list, item.value().copy()?)?;
         }
     }
     Ok(())
 }
 
-/// The values at that port, in order.
+/// The values at that port, in order. It looks at the entries of that port alone, once they are found.
 pub fn values_at(
     alloc: Global,
     entries: &[&Entry],
     activity: &Name,
     port: u8,
 ) -> Result<Vec<Value>, AllocError>
-    ensures { IfOk result (λ v. IsListOf value_order (λ x. Contains (lent entries.now) (kinds.Token (token activity.now port x))) v.items) }
+    requires { Rises entry_cmp (lent entries.now) }
+    ensures { IfOk result (λ v. IsListOf value_order (ValueAt (Contains (lent entries.now)) activity.now port) v.items) }
 {
     let mut list = Vec::new(alloc);
-    for index in 0..entries.len() {
-        add_value(&mut list, entry_at(entries, index), activity, port)?;
+    let place = Place::Port(activity, port);
+    for index in first_at(entries, place)..entries.len() {
+        let entry = entry_at(entries, index);
+        if !is_at(entry, place) {
+            return Ok(list);
+        }
+        add_value(&mut list, entry, activity, port)?;
     }
     Ok(list)
-}
-
-/// Whether the write is of that cell.
-fn is_in(item: &Write, cell: &Cell) -> bool
-    ensures { IsTrue result ↔ (item.now.cell ≡ cell.now) }
-{
-    item.cell == *cell
 }
 
 /// Adds the entry's writer and value, if it is a write of that cell.
@@ -75,7 +66,7 @@ fn add_pair(list: &mut Vec<Written>, entry: &Entry, cell: &Cell) -> Result<(), A
     ensures ok { OnOk result ((x : Written) → Contains list.new.items x ↔ (Contains list.old.items x ⊎ (entry.now ≡ kinds.Write (write_of cell.now x.writer x.value)))) }
 {
     if let Entry::Write(item) = entry {
-        if is_in(item, cell) {
+        if is_in_cell(item, cell) {
             let pair = Written {
                 writer: item.writer.copy()?,
                 value: item.value.copy()?,
@@ -86,13 +77,20 @@ fn add_pair(list: &mut Vec<Written>, entry: &Entry, cell: &Cell) -> Result<(), A
     Ok(())
 }
 
-/// The pairs of a writer and a value in that cell, in order.
+/// The pairs of a writer and a value in that cell, in order. It looks at the writes of that cell
+/// alone, once they are found.
 pub fn pairs_in(alloc: Global, entries: &[&Entry], cell: &Cell) -> Result<Vec<Written>, AllocError>
-    ensures { IfOk result (λ v. IsListOf written_order (λ (x : Written). Contains (lent entries.now) (kinds.Write (write_of cell.now x.writer x.value))) v.items) }
+    requires { Rises entry_cmp (lent entries.now) }
+    ensures { IfOk result (λ v. IsListOf written_order (PairIn (Contains (lent entries.now)) cell.now) v.items) }
 {
     let mut list = Vec::new(alloc);
-    for index in 0..entries.len() {
-        add_pair(&mut list, entry_at(entries, index), cell)?;
+    let place = Place::Cell(cell);
+    for index in first_at(entries, place)..entries.len() {
+        let entry = entry_at(entries, index);
+        if !is_at(entry, place) {
+            return Ok(list);
+        }
+        add_pair(&mut list, entry, cell)?;
     }
     Ok(list)
 }

@@ -1,16 +1,19 @@
 //! Reports.
-ghost use Rattle.std.specs.Prelude.{◌≡◌, ◌++◌, Contains, OnOk, IfOk, codes, decimal, length};
+ghost use Rattle.std.specs.Prelude.{◌≡◌, ◌++◌, Contains, OnOk, IfOk, codes, decimal, length, map};
 ghost use Rattle.u_name.specs.Context.{IsBetween};
 ghost use Rattle.u_history.specs.Says.{IsOutcome};
+ghost use Rattle.u_history.specs.Clashes.{cell_pairs, port_values};
 ghost use Rattle.u_history.specs.Verdicts.{judgement};
-ghost use Rattle.u_history.specs.Report.{texts, count_line, state_line, answer_line, cell_line, port_line, fault_line, verdict_line, counts_text, outcome_text, report_text, IsReportOf};
+ghost use Rattle.u_history.specs.Report.{texts, count_line, state_line, answer_line, cell_line, cell_lines, port_line, port_lines, fault_line, verdict_line, counts_text, outcome_text, report_text, IsReportOf};
 
+use crate::clash::{CellClash, PortClash};
 use crate::history::History;
 use crate::outcome::Outcome;
 use crate::verdict::Verdict;
 use itoa::Buffer;
 use std::alloc::{AllocError, Global};
-use u_rule::{Fault, Token, Write};
+use u_name::{Cell, Name};
+use u_rule::{Fault, Written};
 use u_value::Value;
 
 /// Whether a run ended.
@@ -81,29 +84,52 @@ fn put_answer(out: &mut Vec<u8>, answer: &Value) -> Result<(), AllocError>
 }
 
 #[tactic(auto, unfolding(crate::specs::Report::cell_line), using(crate::proofs::Texts::join7))]
-fn put_cell(out: &mut Vec<u8>, write: &Write) -> Result<(), AllocError>
-    ensures { OnOk result (out.new.items ≡ out.old.items ++ cell_line write.now) }
+fn put_pair(out: &mut Vec<u8>, cell: &Cell, pair: &Written) -> Result<(), AllocError>
+    ensures { OnOk result (out.new.items ≡ out.old.items ++ cell_line cell.now pair.now) }
 {
     put(out, b"cell ")?;
-    write.cell.write_text(out)?;
+    cell.write_text(out)?;
     put(out, b" ")?;
-    write.writer.write_text(out)?;
+    pair.writer.write_text(out)?;
     put(out, b" ")?;
-    write.value.write_text(out)?;
+    pair.value.write_text(out)?;
     put(out, b"\n")
 }
 
+fn put_pairs(out: &mut Vec<u8>, cell: &Cell, pairs: &[Written]) -> Result<(), AllocError>
+    ensures { OnOk result (out.new.items ≡ out.old.items ++ texts (cell_line cell.now) pairs.now) }
+{
+    for pair in pairs {
+        put_pair(out, cell, pair)?;
+    }
+    Ok(())
+}
+
 #[tactic(auto, unfolding(crate::specs::Report::port_line), using(crate::proofs::Texts::join7))]
-fn put_port(out: &mut Vec<u8>, token: &Token) -> Result<(), AllocError>
-    ensures { OnOk result (out.new.items ≡ out.old.items ++ port_line token.now) }
+fn put_value(out: &mut Vec<u8>, activity: &Name, port: u8, value: &Value) -> Result<(), AllocError>
+    ensures { OnOk result (out.new.items ≡ out.old.items ++ port_line activity.now port value.now) }
 {
     put(out, b"port ")?;
-    token.activity().write_text(out)?;
+    activity.write_text(out)?;
     put(out, b" ")?;
-    put_number(out, usize::from(token.port()))?;
+    put_number(out, usize::from(port))?;
     put(out, b" ")?;
-    token.value().write_text(out)?;
+    value.write_text(out)?;
     put(out, b"\n")
+}
+
+fn put_values(
+    out: &mut Vec<u8>,
+    activity: &Name,
+    port: u8,
+    values: &[Value],
+) -> Result<(), AllocError>
+    ensures { OnOk result (out.new.items ≡ out.old.items ++ texts (port_line activity.now port) values.now) }
+{
+    for value in values {
+        put_value(out, activity, port, value)?;
+    }
+    Ok(())
 }
 
 #[tactic(auto, unfolding(crate::specs::Report::fault_line), using(crate::proofs::Texts::join5))]
@@ -126,20 +152,34 @@ fn put_answers(out: &mut Vec<u8>, answers: &[Value]) -> Result<(), AllocError>
     Ok(())
 }
 
-fn put_cells(out: &mut Vec<u8>, clashes: &[Write]) -> Result<(), AllocError>
-    ensures { OnOk result (out.new.items ≡ out.old.items ++ texts cell_line clashes.now) }
+#[tactic(auto, unfolding(crate::specs::Report::cell_lines))]
+fn put_cell(out: &mut Vec<u8>, clash: &CellClash) -> Result<(), AllocError>
+    ensures { OnOk result (out.new.items ≡ out.old.items ++ cell_lines (cell_pairs clash.now)) }
 {
-    for write in clashes {
-        put_cell(out, write)?;
+    put_pairs(out, &clash.cell, &clash.pairs)
+}
+
+fn put_cells(out: &mut Vec<u8>, clashes: &[CellClash]) -> Result<(), AllocError>
+    ensures { OnOk result (out.new.items ≡ out.old.items ++ texts cell_lines (map cell_pairs clashes.now)) }
+{
+    for clash in clashes {
+        put_cell(out, clash)?;
     }
     Ok(())
 }
 
-fn put_ports(out: &mut Vec<u8>, clashes: &[Token]) -> Result<(), AllocError>
-    ensures { OnOk result (out.new.items ≡ out.old.items ++ texts port_line clashes.now) }
+#[tactic(auto, unfolding(crate::specs::Report::port_lines))]
+fn put_port(out: &mut Vec<u8>, clash: &PortClash) -> Result<(), AllocError>
+    ensures { OnOk result (out.new.items ≡ out.old.items ++ port_lines (port_values clash.now)) }
 {
-    for token in clashes {
-        put_port(out, token)?;
+    put_values(out, &clash.activity, clash.port, &clash.values)
+}
+
+fn put_ports(out: &mut Vec<u8>, clashes: &[PortClash]) -> Result<(), AllocError>
+    ensures { OnOk result (out.new.items ≡ out.old.items ++ texts port_lines (map port_values clashes.now)) }
+{
+    for clash in clashes {
+        put_port(out, clash)?;
     }
     Ok(())
 }
@@ -175,7 +215,7 @@ fn put_verdict(out: &mut Vec<u8>, verdict: Verdict<'_>) -> Result<(), AllocError
 
 #[tactic(auto, unfolding(crate::specs::Report::outcome_text), using(crate::proofs::Texts::join5))]
 fn put_outcome(out: &mut Vec<u8>, outcome: &Outcome) -> Result<(), AllocError>
-    ensures { OnOk result (out.new.items ≡ out.old.items ++ outcome_text outcome.now.answers.items outcome.now.cell_clashes.items outcome.now.port_clashes.items outcome.now.faults.items) }
+    ensures { OnOk result (out.new.items ≡ out.old.items ++ outcome_text outcome.now.answers.items (map cell_pairs outcome.now.cell_clashes.items) (map port_values outcome.now.port_clashes.items) outcome.now.faults.items) }
 {
     put_answers(out, &outcome.answers)?;
     put_cells(out, &outcome.cell_clashes)?;

@@ -73,6 +73,29 @@ fn merges_in_both_orders(rt: HostRuntime) -> Result<(), Fail> {
     Ok(())
 }
 
+/// Whether a set stays as it is where its own copy is merged into it, and where its entries are put
+/// in again.
+fn stays(alloc: Global, numbers: &[i64]) -> Result<bool, AllocError> {
+    let mut set = answers(alloc, numbers)?;
+    let copied = set.copy()?;
+    set.merge(&copied)?;
+    for number in numbers {
+        if put_in(&mut set, Entry::Answer(Value::Int(*number)))? {
+            return Ok(false);
+        }
+    }
+    has_answers(&set, numbers)
+}
+
+#[test]
+fn what_is_there_is_not_new(rt: HostRuntime) -> Result<(), Fail> {
+    for numbers in [[1, 2, 3].as_slice(), [].as_slice()] {
+        let same = stays(rt.alloc(), numbers)?;
+        assert!(rt; same);
+    }
+    Ok(())
+}
+
 /// Two writes of one cell, and a token of each value at one port.
 fn two_writes(alloc: Global) -> Result<History, AllocError> {
     let mut history = History::new(alloc);

@@ -1,6 +1,7 @@
 //! The programs of the folder programs, each with an argument.
 
-const DOUBLE: &[u8] =
+/// The double of its argument.
+pub const DOUBLE: &[u8] =
     b"u-program 1\nblock main\n1 0 begin -> 2.1 2.2\n2 0 add -> 3.1\n3 0 end ->\n";
 
 const SUM: &[u8] =
@@ -18,7 +19,8 @@ const NESTED: &[u8] =
 const GCD: &[u8] =
     b"u-program 1\nblock main\nloop 1 0\n1 0 begin -> 2.1 3.1 4.1\n2 0 const 1000 -> 3.2 4.2\n3 0 div -> 5.1\n4 0 rem -> 6.1\n5 0 enter 1 -> 9.1\n6 0 enter 1 -> 7.1 8.1 10.1\n7 1 const 0 -> 8.2\n8 1 eq -> 9.2 10.2\n9 1 switch -> 14.1 / 11.1\n10 1 switch -> / 11.2 12.1\n11 1 rem -> 13.1\n12 1 next -> 9.1\n13 1 next -> 7.1 8.1 10.1\n14 1 last -> 15.1\n15 1 leave -> 16.1\n16 0 end ->\n";
 
-const TWO_WRITERS: &[u8] =
+/// Two writers of one cell, and a reader.
+pub const TWO_WRITERS: &[u8] =
     b"u-program 1\nblock main\n1 0 begin -> 2.1 3.1 4.1 5.1\n2 0 const 1 -> 6.1\n3 0 const 0 -> 7.2 8.2 9.2\n4 0 const 10 -> 7.3\n5 0 const 20 -> 8.3\n6 0 alloc -> 7.1 8.1 9.1\n7 0 store ->\n8 0 store ->\n9 0 fetch -> 10.1\n10 0 end ->\n";
 
 const NO_WRITER: &[u8] =

@@ -13,7 +13,7 @@ pub returns-in_ok-place_in-clause-ok : goal.returns-in_ok-place_in-clause-ok
 returns-in_ok-place_in-clause-ok c =
     added (λ (x : Written). kinds.Write (write_of c.args.cell.now x.writer x.value)) (one_pair c.args.cell.now) c.args.entry.now c.args.list.now.items c.place_in.new.list.items (written c.in_ok-copy.field-0 c.in_ok-copy-2.field-0)
     (c.in-Write.is
-    ∙ (ap (λ (l : CellOf). kinds.Write (write_of l c.in-Write.item.writer c.in-Write.item.value)) (c.is_in.ensures.0 c.if-is_in.true)
+    ∙ (ap (λ (l : CellOf). kinds.Write (write_of l c.in-Write.item.writer c.in-Write.item.value)) (c.is_in_cell.ensures.0 c.if-is_in_cell.true)
     ∙ (ap (λ (n : Activity). kinds.Write (write_of c.args.cell.now n c.in-Write.item.value)) (sym c.in_ok-copy.ensures)
     ∙ ap (λ (v : Value). kinds.Write (write_of c.args.cell.now c.in_ok-copy.field-0 v)) (sym c.in_ok-copy-2.ensures))))
     c.in_ok-place_in.ensures.ok

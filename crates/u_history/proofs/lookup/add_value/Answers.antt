@@ -9,7 +9,7 @@ use Rattle.u_history.proofs.lookup.add_value.Goals as goal
 
 pub returns-in_ok-place_in-clause-ok : goal.returns-in_ok-place_in-clause-ok
 returns-in_ok-place_in-clause-ok c =
-    let at = c.is_at.ensures.0 c.if-is_at.true in
+    let at = c.is_at_port.ensures.0 c.if-is_at_port.true in
     added (λ (x : Value). kinds.Token (token c.args.activity.now c.args.port x)) (one_value c.args.activity.now c.args.port) c.args.entry.now c.args.list.now.items c.place_in.new.list.items c.in_ok-copy.field-0
     (c.in-Token.is
     ∙ (ap (λ (n : Activity). kinds.Token (token n c.in-Token.item.port c.in-Token.item.value)) at.0

@@ -1,4 +1,4 @@
-use Rattle.std.proofs.Common.{◌≡◌, ◌↔◌, ◌⊎◌, take, Contains, []}
+use Rattle.std.proofs.Common.{◌≡◌, ◌↔◌, ◌⊎◌, ◌≤◌, take, Contains, []}
 use Rattle.u_system.specs.Rising.{Rises}
 use Rattle.u_system.specs.Firing.{SomeOf}
 use Rattle.u_rule.specs.declared.firing.Written.{Written}
@@ -11,6 +11,7 @@ use Rattle.u_history.proofs.lookup.pairs_in.Given as goal
 
 abbrev pub invariant-loop-index : goal.invariant-loop-index
 invariant-loop-index l = record {
+  from : l.initial.index ≤ l.index;
   rises : Rises written_order l.list.items;
   all : (y : Written) → Contains l.list.items y ↔ (Contains [] y ⊎ SomeOf (take l.index (lent l.entries)) (λ (e : Entry) (x : Written). e ≡ kinds.Write (write_of l.cell x.writer x.value)) y);
 }

@@ -1,4 +1,4 @@
-use Rattle.std.proofs.Common.{◌≡◌, ◌↔◌, ◌⊎◌, take, Contains, []}
+use Rattle.std.proofs.Common.{◌≡◌, ◌↔◌, ◌⊎◌, ◌≤◌, take, Contains, []}
 use Rattle.u_system.specs.Rising.{Rises}
 use Rattle.u_system.specs.Firing.{SomeOf}
 use Rattle.u_value.specs.declared.value.Value.{Value}
@@ -11,6 +11,7 @@ use Rattle.u_history.proofs.lookup.values_at.Given as goal
 
 abbrev pub invariant-loop-index : goal.invariant-loop-index
 invariant-loop-index l = record {
+  from : l.initial.index ≤ l.index;
   rises : Rises value_order l.list.items;
   all : (y : Value) → Contains l.list.items y ↔ (Contains [] y ⊎ SomeOf (take l.index (lent l.entries)) (λ (e : Entry) (x : Value). e ≡ kinds.Token (token l.activity l.port x)) y);
 }

@@ -1,4 +1,6 @@
-use Rattle.std.proofs.Common.{◌∙◌, ap, List, Contains}
+use Rattle.std.proofs.Common.{◌∙◌, ap, List, Contains, subst, sym}
+use Rattle.u_system.specs.Rising.{Rises}
+use Rattle.u_rule.specs.EntryOrder.{entry_cmp}
 use Rattle.u_system.specs.Rising.{IsListOf}
 use Rattle.u_value.specs.declared.value.Value.{Value}
 use Rattle.u_rule.specs.Parts.{token}
@@ -13,3 +15,6 @@ pub returns : goal.returns
 returns c =
     along c.values_at.result (λ (es : List Entry) v. IsListOf value_order (λ (x : Value). Contains es (kinds.Token (token c.args.activity.now c.args.port x))) v.items) (lent c.deref.result.now) c.args.self.now
     (ap lent c.deref.ensures.value ∙ c.in_ok-entries.ensures.all) c.values_at.ensures
+
+pub values_at-requires : goal.values_at-requires
+values_at-requires c = subst (Rises entry_cmp) (sym (ap lent c.deref.ensures.value ∙ c.in_ok-entries.ensures.all)) c.in_ok-entries.ensures.rises

@@ -1,5 +1,4 @@
-use Rattle.std.proofs.Common.{◌≡◌, ◌∙◌, ◌++◌, ap, sym, List, ℕ, map}
-use Rattle.std.specs.Map.Iter.{deref}
+use Rattle.std.proofs.Common.{◌∙◌, ◌++◌, ap, sym, List, map}
 use Rattle.u_text.specs.Spaced.{ended}
 use Rattle.u_rule.specs.EntryText.{entry_text}
 use Rattle.u_rule.specs.declared.entry.Entry.{Entry}

@@ -1,4 +1,6 @@
-use Rattle.std.proofs.Common.{◌∙◌, ap, List, Contains}
+use Rattle.std.proofs.Common.{◌∙◌, ap, List, Contains, subst, sym}
+use Rattle.u_system.specs.Rising.{Rises}
+use Rattle.u_rule.specs.EntryOrder.{entry_cmp}
 use Rattle.u_system.specs.Rising.{IsListOf}
 use Rattle.u_rule.specs.EntryOrder.{write_of}
 use Rattle.u_rule.specs.declared.firing.Written.{Written}
@@ -13,3 +15,6 @@ pub returns : goal.returns
 returns c =
     along c.pairs_in.result (λ (es : List Entry) v. IsListOf written_order (λ (x : Written). Contains es (kinds.Write (write_of c.args.cell.now x.writer x.value))) v.items) (lent c.deref.result.now) c.args.self.now
     (ap lent c.deref.ensures.value ∙ c.in_ok-entries.ensures.all) c.pairs_in.ensures
+
+pub pairs_in-requires : goal.pairs_in-requires
+pairs_in-requires c = subst (Rises entry_cmp) (sym (ap lent c.deref.ensures.value ∙ c.in_ok-entries.ensures.all)) c.in_ok-entries.ensures.rises

@@ -1,0 +1,21 @@
+//! Numbers on the command line.
+ghost use Rattle.std.specs.Prelude.{◌≡◌, ℕ, IfSome, IsNone};
+ghost use Rattle.u_cli.specs.Firings.{IsFirings, IsFiringsText};
+
+use u_text::number_word;
+
+/// The most firings that a run may be given.
+const MOST_FIRINGS: u32 = 1_000_000;
+
+/// The number of firings, from 1 to 1000000, that a word of the command line is. It has one
+/// spelling: no sign and no leading zero.
+#[tactic(auto, using(u_text::specs::WholeWords::number_word_complete))]
+pub fn firings_of(word: &str) -> Option<usize>
+    ensures some { IfSome result (λ n. IsFirings n × IsFiringsText n word.now) }
+    ensures none { IsNone result → (n : ℕ) → IsFirings n → IsFiringsText n word.now → ⊥ }
+{
+    match number_word(word.as_bytes(), MOST_FIRINGS) {
+        Ok(n) => Some(n as usize),
+        Err(_) => None,
+    }
+}
