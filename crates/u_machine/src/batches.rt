@@ -1,5 +1,5 @@
 //! Lists of firings that a machine takes, one after another.
-ghost use Rattle.std.specs.Prelude.{◌≡◌, ◌↔◌, ◌<◌, ◌+◌, IfOk, IfSome, IsNone, IsTrue, IsFalse, Contains, length};
+ghost use Rattle.std.specs.Prelude.{◌≡◌, ◌↔◌, ◌<◌, ◌≤◌, ◌+◌, IfOk, IfSome, IsNone, IsTrue, IsFalse, Contains, length};
 ghost use Rattle.u_rule.specs.declared.firing.Firing.{Firing};
 ghost use Rattle.u_machine.specs.States.{Taken, count_of};
 ghost use Rattle.u_machine.specs.Taking.{AreFirings, IsFirstOther, AreNew, TakeAllAnswer};
@@ -27,6 +27,7 @@ fn first_other(job: &Job, firings: &[Firing]) -> Option<usize>
 
 impl<'a> Inside<'a> {
     /// Those of the list that were not taken.
+    #[tactic(auto, using(u_rule::specs::EntryOrder::firing_cmp_ties))]
     fn new_of(&self, firings: &[Firing]) -> Result<OrderedSet<Firing>, AllocError>
         requires { IsKept self.now }
         ensures { IfOk result (λ s. AreNew (state_of self.now) firings.now s) }

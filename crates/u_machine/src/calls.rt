@@ -95,7 +95,10 @@ impl<'a> Inside<'a> {
         ensures quiet { IsTrue result → NothingReady (state_of self.now) }
         ensures ready { IsFalse result → (f : Firing) × IsReady (state_of self.now) f }
     {
-        self.ready.len() == 0
+        if self.ready.len() > 0 {
+            return false;
+        }
+        true
     }
 
     /// Fires the least ready firing again and again.
