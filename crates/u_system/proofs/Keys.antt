@@ -1,13 +1,14 @@
 -- What a set of keys in order has, and what an insert makes of it.
-use Rattle.std.proofs.Common.{◌≡◌, ◌↔◌, ◌⊎◌, inl, inr, List, [], ◌∷◌, Bool, true, false, ◌||◌, IsTrue, Contains, subst, sym, ◌∙◌, ap, refl, Ordering, not}
+use Rattle.std.proofs.Common.{◌≡◌, ◌↔◌, ◌⊎◌, inl, inr, List, [], ◌∷◌, Bool, true, false, cond, ◌||◌, IsTrue, Contains, subst, sym, ◌∙◌, ap, refl, Ordering, not}
 use Rattle.std.specs.Cmp.{IsTotalOrder, tied_itself}
 use Rattle.std.specs.List.{list_any}
 use Rattle.std.specs.Ordering.{is_eq, match_ordering, ordering_reverse}
 use Rattle.std.specs.BTreeMap.{is_at}
 use Rattle.std.specs.BTreeSet.{insert_key}
+use Rattle.std.specs.Set.{remove_key}
 use Rattle.std.specs.declared.cmp.Ordering.TheVariants.{Less, Equal, Greater}
 use Rattle.u_system.proofs.Member.{Contains-nil, Contains-head, Contains-tail, Contains-cons_cases}
-use Rattle.u_system.specs.Rising.{Rises, IsExact, IsWith}
+use Rattle.u_system.specs.Rising.{Rises, IsExact, IsWith, IsWithout}
 
 module _ {X : Type 0} (R : X → X → Ordering) (o : IsTotalOrder R) (exact : IsExact R) where
   is_equal : (r : Ordering) → is_eq r ≡ true → r ≡ Equal
@@ -85,3 +86,40 @@ module _ {X : Type 0} (R : X → X → Ordering) (o : IsTotalOrder R) (exact : I
       at : (t : Bool) → list_any (is_at (R x)) xs ≡ t → IsTrue b ↔ (Contains xs x → ⊥)
       at true e = let f : b ≡ false = h ∙ ap not e in ((λ g. cc), λ n. absurd (n (found xs x e)))
       at false e = let f : b ≡ true = h ∙ ap not e in ((λ g m. let k = finds xs x m in cc), λ n. f)
+
+  at_itself : (x y : X) → x ≡ y → is_at (R x) y ≡ true
+  at_itself x y e = subst (λ (z : X). is_at (R x) z ≡ true) e (ap is_eq (tied_itself o x))
+
+  apart_from_less : (y z : X) → R y z ≡ Less → y ≡ z → ⊥
+  apart_from_less y z l e = let t = tied_itself o y in let u = subst (λ (w : X). R y w ≡ Less) (sym e) l in cc
+
+  -- the set without x
+  pub removes : (xs : List X) (x : X) → Rises R xs → IsWithout xs x (remove_key (is_at (R x)) xs)
+  removes [] x r = record { less = λ z m. m; gone = λ m. Contains-nil x m; rest = λ z m. absurd (Contains-nil z m) }
+  removes (y ∷ ys) x r = by (is_at (R x) y) refl (removes ys x r.1)
+    where
+      by : (b : Bool) → is_at (R x) y ≡ b → IsWithout ys x (remove_key (is_at (R x)) ys) → IsWithout (y ∷ ys) x (cond b ys (y ∷ remove_key (is_at (R x)) ys))
+      by true h w =
+          let e : x ≡ y = exact x y (is_equal (R x y) h) in
+          record {
+            less = λ z m. Contains-tail y z ys m;
+            gone = λ m. apart_from_less y x (r.0 x m) (sym e);
+            rest = λ z m. elim (Contains-cons_cases y z ys m) [ inl q ↦ inl (e ∙ q) | inr n ↦ inr n ];
+          }
+      by false h w = record {
+        less = λ z m. elim (Contains-cons_cases y z (remove_key (is_at (R x)) ys) m) [ inl q ↦ subst (λ (v : X). Contains (y ∷ ys) v) q (Contains-head y ys) | inr n ↦ Contains-tail y z ys (w.less z n) ];
+        gone = λ m. elim (Contains-cons_cases y x (remove_key (is_at (R x)) ys) m) [ inl q ↦ let t = at_itself x y (sym q) in cc | inr n ↦ w.gone n ];
+        rest = λ z m. elim (Contains-cons_cases y z ys m) [ inl q ↦ inr (subst (λ (v : X). Contains (y ∷ remove_key (is_at (R x)) ys) v) q (Contains-head y (remove_key (is_at (R x)) ys))) | inr n ↦ over z (w.rest z n) ];
+      }
+        where
+          over : (z : X) → (x ≡ z) ⊎ Contains (remove_key (is_at (R x)) ys) z → (x ≡ z) ⊎ Contains (y ∷ remove_key (is_at (R x)) ys) z
+          over z (inl q) = inl q
+          over z (inr n) = inr (Contains-tail y z (remove_key (is_at (R x)) ys) n)
+
+  pub rises_without : (xs : List X) (x : X) → Rises R xs → Rises R (remove_key (is_at (R x)) xs)
+  rises_without [] x r = r
+  rises_without (y ∷ ys) x r = by (is_at (R x) y) (rises_without ys x r.1)
+    where
+      by : (b : Bool) → Rises R (remove_key (is_at (R x)) ys) → Rises R (cond b ys (y ∷ remove_key (is_at (R x)) ys))
+      by true still = r.1
+      by false still = ((λ z m. r.0 z ((removes ys x r.1).less z m)), still)

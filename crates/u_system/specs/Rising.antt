@@ -16,6 +16,12 @@ IsExact {X} R = (a b : X) → R a b ≡ Equal → a ≡ b
 abbrev pub IsWith : {X : Type 0} → List X → X → List X → Type 0
 IsWith {X} old y new = (x : X) → Contains new x ↔ (Contains old x ⊎ (y ≡ x))
 
+-- new has the members of old without y
+pub record IsWithout {X : Type 0} (old : List X) (y : X) (new : List X) : Type 0 where
+  pub less : (x : X) → Contains new x → Contains old x
+  pub gone : Contains new y → ⊥
+  pub rest : (x : X) → Contains old x → (y ≡ x) ⊎ Contains new x
+
 -- all has the members of both
 abbrev pub IsUnion : {X : Type 0} → List X → List X → List X → Type 0
 IsUnion {X} left right all = (x : X) → Contains all x ↔ (Contains left x ⊎ Contains right x)

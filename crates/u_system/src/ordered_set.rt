@@ -1,9 +1,12 @@
 //! Sets that are kept in order.
-ghost use Rattle.std.specs.Prelude.{◌≡◌, ◌↔◌, [], OnOk, OnErr, IfOk, IfErr, Contains, IsTrue, length};
-ghost use Rattle.u_system.specs.Rising.{Rises, IsExact, IsWith};
+ghost use Rattle.std.specs.Prelude.{◌≡◌, ◌↔◌, ◌+◌, [], OnOk, OnErr, IfOk, IfErr, Contains, IsTrue, IsFalse, length, slice_get};
+ghost use Rattle.std.specs.Option.{option_copied};
+ghost use Rattle.std.specs.Map.Iter.{ShowsInOrder, deref};
+ghost use Rattle.u_system.specs.Rising.{Rises, IsExact, IsWith, IsWithout};
 
 use std::alloc::{AllocFailed, Global};
 use std::collections::BTreeSet;
+use std::collections::btree_set::Iter;
 use std::marker::Model;
 
 /// A set of keys in ascending order. Contracts see the ascending list of its keys.
@@ -35,7 +38,8 @@ impl<K: Ord + Drop> OrderedSet<K> {
 
     /// How many keys there are.
     pub fn len(&self) -> usize
-        ensures { result ≡ length self.now }
+        ensures len { result ≡ length self.now }
+        ensures rises { Rises K.cmp self.now }
     {
         self.keys.len()
     }
@@ -59,8 +63,37 @@ impl<K: Ord + Drop> OrderedSet<K> {
         ensures still { IfOk result (λ b. (IsTrue b → ⊥) → self.new ≡ self.old) }
         ensures err { OnErr result (self.new ≡ self.old) }
         ensures back { IfErr result (λ e. e.value ≡ key) }
+        ensures rises { Rises K.cmp self.new }
+        ensures count { IfOk result (λ b. IsTrue b → length self.new ≡ length self.old + 1) }
     {
         let added = self.keys.insert(key)?;
         Ok(added)
+    }
+
+    /// Takes the key out. Answers whether it was there.
+    pub fn remove(&mut self, key: &K) -> bool
+        requires { IsExact K.cmp }
+        ensures without { IsWithout self.old key.now self.new }
+        ensures was { IsTrue result ↔ Contains self.old key.now }
+        ensures still { IsFalse result → self.new ≡ self.old }
+        ensures rises { Rises K.cmp self.new }
+        ensures count { IsTrue result → length self.old ≡ length self.new + 1 }
+    {
+        self.keys.remove(key)
+    }
+
+    /// The keys, in order.
+    pub fn iter(&self) -> Iter<'_, K>
+        ensures rest { result ≡ self.now }
+        ensures runs { ShowsInOrder (deref {X = K}) }
+    {
+        self.keys.iter()
+    }
+
+    /// The key at that place, counted from 0 in ascending order. It goes over those before it.
+    pub fn nth(&self, place: usize) -> Option<&K>
+        ensures { option_copied result ≡ slice_get self.now place }
+    {
+        self.keys.iter().nth(place)
     }
 }

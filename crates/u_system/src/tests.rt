@@ -12,6 +12,11 @@ fn a_set_has_what_was_put_in(rt: HostRuntime) -> Result<(), Fail> {
     assert!(rt; set.contains(&5));
     assert!(rt; !set.contains(&6));
     assert_eq!(rt; set.len(), 2);
+    assert_eq!(rt; set.nth(0), Some(&5));
+    assert_eq!(rt; set.nth(2), None);
+    assert!(rt; set.remove(&5));
+    assert!(rt; !set.remove(&5));
+    assert_eq!(rt; set.nth(0), Some(&7));
     Ok(())
 }
 

@@ -9,3 +9,6 @@ returns-clause-ok g c = rw (c.in_ok-added.ensures.keys, ← c.self.view_is) (ins
 
 pub returns-clause-new : goal.returns-clause-new
 returns-clause-new g c = rw (← c.self.view_is) (was_new g.K.Ord.cmp g.met.K.Ord.total c.requires c.self.inside.keys.keys c.args.key c.in_ok-added.added c.in_ok-added.ensures.added)
+
+pub returns-clause-rises : goal.returns-clause-rises
+returns-clause-rises g c = rw c.in_ok-added.ensures.keys (rises_still g.K.Ord.cmp g.met.K.Ord.total c.requires c.self.inside.keys.keys c.args.key c.self.invariant)

@@ -1,0 +1,49 @@
+-- What the tests of a firing say.
+use Rattle.std.proofs.Common.{◌≡◌, ◌↔◌, ◌⊎◌, inl, inr, sym, subst, ap, ◌∙◌, refl, List, Bool, true, IsTrue, Contains, Ordering}
+use Rattle.std.specs.Ordering.{is_eq}
+use Rattle.std.specs.Cmp.{tied_itself}
+use Rattle.std.specs.declared.cmp.Ordering.TheVariants.{Less, Equal, Greater}
+use Rattle.u_check.specs.Jobs.{JobParts}
+use Rattle.u_rule.specs.Rule.{is_firing_of, needs_of}
+use Rattle.u_rule.specs.EntryOrder.{entry_cmp, entry_cmp_total, entry_cmp_ties}
+use Rattle.u_rule.specs.declared.entry.Entry.{Entry}
+use Rattle.u_rule.specs.declared.firing.Firing.{Firing}
+use Rattle.u_system.specs.Firing.{SomeOf}
+use Rattle.u_system.specs.Rising.{IsWith}
+use Rattle.u_match.specs.Waking.{IsWokenBy}
+use Rattle.u_match.proofs.Steps.{Gains}
+
+tie_of : (r : Ordering) → is_eq r ≡ true → r ≡ Equal
+tie_of Less h = cc
+tie_of Equal h = refl
+tie_of Greater h = cc
+
+pub same_entry : (a b : Entry) → IsTrue (is_eq (entry_cmp a b)) ↔ (a ≡ b)
+same_entry a b =
+    ((λ h. entry_cmp_ties a b (tie_of (entry_cmp a b) h)), λ e. ap is_eq (subst (λ (x : Entry). entry_cmp a x ≡ Equal) e (tied_itself entry_cmp_total a)))
+
+-- the firing is added where it passes
+pub added : (W : Firing → Type 0) (g : Firing) (old new : List Firing) → W g → Gains old (λ f. g ≡ f) new → Gains old (λ f. (g ≡ f) × W f) new
+added W g old new w s f = (
+  (λ m. elim ((s f).0 m) [ inl k ↦ inl k | inr e ↦ inr (e, subst W e w) ]),
+  (λ t. elim t [ inl k ↦ (s f).1 (inl k) | inr p ↦ (s f).1 (inr p.0) ]),
+)
+
+-- and not where it fails
+pub left_out : (W : Firing → Type 0) (g : Firing) → (W g → ⊥) → (f : Firing) → (g ≡ f) × W f → ⊥
+left_out W g n f p = n (subst W (sym p.0) p.1)
+
+-- some of the list is f, and f passes
+pub among : (W : Firing → Type 0) (gs : List Firing) (f : Firing) → SomeOf gs (λ g f. (g ≡ f) × W f) f ↔ (Contains gs f × W f)
+among W gs f = ((λ (g, m, (e, w)). (subst (λ (x : Firing). Contains gs x) e m, w)), λ p. (f, p.0, (refl, p.1)))
+
+-- a firing that needs the entry, and whose needs are all held
+pub tested : (job : JobParts) (entry : Entry) (H : Entry → Type 0) (f : Firing) (ns first second : List Entry) (h r : Bool) → ns ≡ needs_of f → first ≡ ns → second ≡ ns → IsTrue (is_firing_of job f) → h ≡ true → IsTrue h ↔ Contains first entry → IsTrue r ↔ ((x : Entry) → Contains second x → H x) → IsTrue r ↔ IsWokenBy job entry H f
+tested job entry H f ns first second h r n x y is t has held = (
+  (λ p. (subst (λ (xs : List Entry). Contains xs entry) (x ∙ n) (has.0 t), (is, λ e m. held.0 p e (subst (λ (xs : List Entry). Contains xs e) (sym (y ∙ n)) m)))),
+  (λ w. held.1 (λ e m. w.1.1 e (subst (λ (xs : List Entry). Contains xs e) (y ∙ n) m))),
+)
+
+-- what is woken over the old set and the entry, is woken over the new one
+pub over : (job : JobParts) (entry : Entry) (old new : List Entry) → IsWith old entry new → (f : Firing) → IsWokenBy job entry (λ x. Contains old x ⊎ (entry ≡ x)) f ↔ IsWokenBy job entry (Contains new) f
+over job entry old new w f = ((λ k. (k.0, (k.1.0, λ e m. (w e).1 (k.1.1 e m)))), λ k. (k.0, (k.1.0, λ e m. (w e).0 (k.1.1 e m))))

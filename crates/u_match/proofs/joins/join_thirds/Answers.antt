@@ -1,0 +1,15 @@
+use Rattle.std.proofs.Common.{[]}
+use Rattle.u_rule.specs.EntryOrder.{firing}
+use Rattle.std.proofs.Common.{◌∷◌, None}
+use Rattle.u_system.proofs.Scan.{scan_all}
+use Rattle.u_match.specs.Joins.{IsThree}
+use Rattle.u_match.proofs.Steps.{round, renamed}
+use Rattle.u_match.proofs.joins.join_thirds.Goals as goal
+
+pub loop-third-preserved : goal.loop-third-preserved
+loop-third-preserved c =
+    round (IsThree c.args.activity.now c.args.first.now c.args.second.now) c.args.found.now.items c.loop-third.found.items c.add.new.found.items c.args.thirds.now c.loop-third.third-index c.third-item.result c.loop-third-test.true c.third-item.is c.loop-third.invariant
+    (renamed c.in_ok-tripled.tripled (firing c.args.activity.now (c.args.first.now ∷ c.args.second.now ∷ c.third-item.result ∷ []) None) c.loop-third.found.items c.add.new.found.items c.in_ok-tripled.ensures c.in_ok-add.ensures)
+
+pub returns : goal.returns
+returns c = scan_all (IsThree c.args.activity.now c.args.first.now c.args.second.now) c.args.found.now.items c.args.thirds.now c.loop-third.third-index c.loop-third.found.items c.loop-third-test.false c.loop-third.invariant

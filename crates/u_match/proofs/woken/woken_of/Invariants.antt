@@ -1,0 +1,15 @@
+use Rattle.std.proofs.Common.{◌≡◌, ◌↔◌, take, ◌⊎◌, []}
+use Rattle.std.specs.Prelude.{Contains}
+use Rattle.u_rule.specs.declared.entry.Entry.{Entry}
+use Rattle.u_rule.specs.declared.firing.Firing.{Firing}
+use Rattle.u_rule.specs.EntryOrder.{firing_cmp}
+use Rattle.u_system.specs.Firing.{SomeOf}
+use Rattle.u_system.specs.Rising.{Rises}
+use Rattle.u_match.specs.Waking.{IsWokenBy}
+use Rattle.u_match.proofs.woken.woken_of.Given as goal
+
+abbrev pub invariant-loop-firing : goal.invariant-loop-firing
+invariant-loop-firing l = record {
+  rises : Rises firing_cmp l.found.items;
+  all : (f : Firing) → Contains l.found.items f ↔ (Contains [] f ⊎ SomeOf (take l.firing-index l.firings) (λ (g : Firing) (h : Firing). (g ≡ h) × IsWokenBy l.job l.entry (λ (x : Entry). Contains l.entries.keys x ⊎ (l.entry ≡ x)) h) f);
+}

@@ -1,0 +1,5 @@
+pub mod Under
+pub mod Keys
+pub mod Joins
+pub mod Waking
+pub mod Matchers

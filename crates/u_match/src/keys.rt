@@ -1,0 +1,105 @@
+//! Where entries meet: tokens at the ports of an activity, and reads with writes at a cell.
+ghost use Rattle.std.specs.Prelude.{◌≡◌, ◌↔◌, ◌∷◌, [], IfOk, Some, Ok};
+ghost use Rattle.u_name.specs.Cell.{CellOf};
+ghost use Rattle.u_rule.specs.Structures.{cell_named, is_index};
+ghost use Rattle.u_match.specs.Keys.{place, met_at, IsComplete};
+
+use crate::table::under;
+use std::alloc::{AllocError, Global};
+use std::collections::BTreeMap;
+use std::slice;
+use u_name::{Cell, Name};
+use u_rule::{Token, Written};
+use u_value::Value;
+
+/// A port of an activity.
+#[derive(PartialEq, Eq, PartialOrd, Ord, Drop)]
+pub(crate) struct Place {
+    /// The activity.
+    pub activity: Name,
+    /// The port, 1 to 3.
+    pub port: u8,
+}
+
+/// A read of a cell, which waits for the cell's writes: an activity, with the structure and the index
+/// that stand at its first two ports.
+#[derive(Drop)]
+pub(crate) struct Read {
+    /// The activity that reads.
+    pub activity: Name,
+    /// The structure.
+    pub structure: Value,
+    /// The index.
+    pub index: Value,
+}
+
+/// What a set of entries has, by where it meets.
+#[derive(Drop)]
+pub(crate) struct Tables {
+    /// The values at each port.
+    pub tokens: BTreeMap<Place, Vec<Value>>,
+    /// The writes of each cell.
+    pub writes: BTreeMap<Cell, Vec<Written>>,
+    /// The reads that wait for each cell.
+    pub reads: BTreeMap<Cell, Vec<Read>>,
+}
+
+impl Tables {
+    /// Tables that have nothing. They take no memory.
+    pub(crate) fn new(alloc: Global) -> Tables
+        ensures { IsComplete result [] }
+    {
+        Tables {
+            tokens: BTreeMap::new(alloc),
+            writes: BTreeMap::new(alloc),
+            reads: BTreeMap::new(alloc),
+        }
+    }
+}
+
+/// That port of the token's activity.
+pub(crate) fn place_of(token: &Token, port: u8) -> Result<Place, AllocError>
+    ensures { IfOk result (λ p. p ≡ place token.now.activity port) }
+{
+    let activity = token.activity().copy()?;
+    Ok(Place { activity, port })
+}
+
+/// The values that the token meets at that port of its activity.
+pub(crate) fn met_at<'a>(
+    tokens: &'a BTreeMap<Place, Vec<Value>>,
+    token: &'a Token,
+    at: &Place,
+) -> &'a [Value]
+    requires { at.now ≡ place token.now.activity at.now.port }
+    ensures { result.now ≡ met_at tokens.now token.now at.now.port }
+{
+    if token.port() == at.port {
+        return slice::from_ref(token.value());
+    }
+    under(tokens, at)
+}
+
+/// Whether the index is that of a cell of a structure of that length.
+fn is_index(index: i64, length: u32) -> bool
+    ensures { result ≡ is_index index length }
+{
+    0 <= index && index < i64::from(length)
+}
+
+/// The cell that a structure and an index name, where they name one.
+pub(crate) fn cell_at(structure: &Value, index: &Value) -> Result<Option<Cell>, AllocError>
+    ensures { IfOk result (λ o. (c : CellOf) → (o ≡ Some c) ↔ (cell_named (structure.now ∷ index.now ∷ []) ≡ Ok c)) }
+{
+    let Value::Ref(structure) = structure else {
+        return Ok(None);
+    };
+    let Value::Int(index) = index else {
+        return Ok(None);
+    };
+    if !is_index(*index, structure.length()) {
+        return Ok(None);
+    }
+    let name = structure.name().copy()?;
+    Ok(Some(Cell::new(name, *index as u32)))
+}

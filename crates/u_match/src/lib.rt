@@ -1,0 +1,23 @@
+//! Incremental matching: which firings an entry enables as it enters a set of entries.
+//!
+//! It is the waiting-matching store of a tagged-token machine (Arvind and Gostelow, 1982): a token
+//! waits at its port until the other ports of its activity have one. A read of a cell waits besides
+//! until the cell has a write, which is the deferred read of an I-structure (Arvind and Nikhil, 1990).
+//! That entries stay once they met, so that a port with several values makes a firing for each choice
+//! and each write of a cell one for each read, is this project's profile.
+//!
+//! `Matcher` has a set of entries, and tables of what each of them may meet. A table may name more
+//! than the set has; what it names is tested before it is answered.
+#![tactic(auto)]
+
+mod entries;
+mod joins;
+mod keys;
+mod matcher;
+mod notes;
+mod table;
+#[cfg(test)]
+mod tests;
+mod woken;
+
+pub use matcher::Matcher;

@@ -1,0 +1,100 @@
+//! Sets of entries that say what each new entry enables.
+ghost use Rattle.std.specs.Prelude.{◌≡◌, ◌↔◌, [], IfOk, OnOk, OnErr, IsTrue, Contains, ◌⊎◌, length};
+ghost use Rattle.u_rule.specs.declared.entry.Entry.{Entry};
+ghost use Rattle.u_rule.specs.declared.firing.Firing.{Firing};
+ghost use Rattle.u_rule.specs.EntryOrder.{entry_cmp, firing_cmp};
+ghost use Rattle.u_system.specs.Rising.{Rises, IsWith};
+ghost use Rattle.u_match.specs.Waking.{IsWokenBy};
+
+use crate::entries::{has_entry, put_in};
+use crate::joins::with_entry;
+use crate::keys::Tables;
+use crate::notes::note;
+use crate::woken::woken_of;
+use std::alloc::{AllocError, Global};
+use std::collections::BTreeSet;
+use std::marker::Model;
+use u_check::Job;
+use u_rule::{Entry, Firing};
+
+/// A set of entries, with what each of them may meet. Contracts see the list of its entries, in order.
+#[derive(Drop)]
+pub struct Matcher {
+    alloc: Global,
+    entries: BTreeSet<Entry>,
+    tables: Tables,
+}
+
+impl Model for Matcher {
+    ghost use Rattle.u_rule.specs.EntryOrder.{EntryList, entry_list_code};
+    ghost use Rattle.u_match.specs.Matchers.{IsMatcher};
+
+    ghost Value = { EntryList };
+
+    ghost coded = { entry_list_code };
+
+    ghost view = { λ m. m.entries.keys };
+
+    ghost invariant = { λ m. IsMatcher m.entries.keys m.tables };
+}
+
+impl Matcher {
+    /// The empty set. It takes no memory.
+    pub fn new(alloc: Global) -> Matcher
+        ensures { result ≡ [] }
+    {
+        Matcher {
+            alloc,
+            entries: BTreeSet::new(alloc),
+            tables: Tables::new(alloc),
+        }
+    }
+
+    /// How many entries there are.
+    pub fn len(&self) -> usize
+        ensures len { result ≡ length self.now }
+        ensures rises { Rises entry_cmp self.now }
+    {
+        self.entries.len()
+    }
+
+    /// Whether the entry is there.
+    pub fn contains(&self, entry: &Entry) -> bool
+        ensures { IsTrue result ↔ Contains self.now entry.now }
+    {
+        has_entry(&self.entries, entry)
+    }
+
+    /// The firings that the entry wakes where it enters.
+    fn woken(&self, job: &Job, entry: &Entry) -> Result<Vec<Firing>, AllocError>
+        ensures exact { IfOk result (λ v. (f : Firing) → Contains v.items f ↔ IsWokenBy job.now entry.now (λ x. Contains self.now x ⊎ (entry.now ≡ x)) f) }
+        ensures rises { IfOk result (λ v. Rises firing_cmp v.items) }
+    {
+        let met = with_entry(self.alloc, &self.tables, entry)?;
+        let found = woken_of(self.alloc, job, &self.entries, entry, &met)?;
+        Ok(found)
+    }
+
+    /// Lets the entry enter the set, and answers the firings of the job that it wakes: those that need
+    /// it, and whose needs are all in the set then. They stand in order, each once. For an entry
+    /// that was there already it answers the same firings again. An activity fires once its ports
+    /// have tokens (Arvind and Gostelow, 1982), and a read of a cell once the cell has a write (Arvind
+    /// and Nikhil, 1990); that each choice of values and of a write is a firing of its own is this
+    /// project's profile.
+    ///
+    /// # Errors
+    /// `AllocError` where there is no memory; the set stays as it was.
+    pub fn enter(&mut self, job: &Job, entry: &Entry) -> Result<Vec<Firing>, AllocError>
+        ensures exact { IfOk result (λ v. (f : Firing) → Contains v.items f ↔ IsWokenBy job.now entry.now (Contains self.new) f) }
+        ensures order { IfOk result (λ v. Rises firing_cmp v.items) }
+        ensures ok { OnOk result (IsWith self.old entry.now self.new) }
+        ensures err { OnErr result (self.new ≡ self.old) }
+        ensures rises { Rises entry_cmp self.new }
+    {
+        let found = self.woken(job, entry)?;
+        let copy = entry.copy()?;
+        note(self.alloc, &mut self.tables, entry)?;
+        put_in(&mut self.entries, copy)?;
+        Ok(found)
+    }
+}

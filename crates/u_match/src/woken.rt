@@ -1,0 +1,112 @@
+//! Which of the firings that an entry may make it wakes: those of the job that need it, and whose other
+//! needs are there.
+ghost use Rattle.std.specs.Prelude.{◌≡◌, ◌↔◌, ◌⊎◌, IfOk, OnOk, IsTrue, Contains};
+ghost use Rattle.u_rule.specs.declared.entry.Entry.{Entry};
+ghost use Rattle.u_rule.specs.declared.firing.Firing.{Firing};
+ghost use Rattle.u_rule.specs.EntryOrder.{firing_cmp};
+ghost use Rattle.u_system.specs.Rising.{Rises};
+ghost use Rattle.u_match.specs.Waking.{IsWokenBy};
+
+use crate::entries::has_entry;
+use std::alloc::{AllocError, Global};
+use std::collections::BTreeSet;
+use u_check::Job;
+use u_rule::{Entry, Firing, RuleError, needs};
+use u_system::{has, place_in};
+
+/// Whether the two are one entry.
+#[tactic(auto, using(crate::proofs::Wakes::same_entry))]
+fn is_same(left: &Entry, right: &Entry) -> bool
+    ensures { IsTrue result ↔ (left.now ≡ right.now) }
+{
+    left.cmp(right).is_eq()
+}
+
+/// Whether it is the entry, or in the set.
+fn is_held(entries: &BTreeSet<Entry>, entry: &Entry, need: &Entry) -> bool
+    ensures { IsTrue result ↔ (Contains entries.now.keys need.now ⊎ (entry.now ≡ need.now)) }
+{
+    if has_entry(entries, need) {
+        return true;
+    }
+    is_same(entry, need)
+}
+
+/// Whether each of the needs is the entry, or in the set.
+fn are_held(entries: &BTreeSet<Entry>, entry: &Entry, needs: &[Entry]) -> bool
+    ensures { IsTrue result ↔ ((x : Entry) → Contains needs.now x → Contains entries.now.keys x ⊎ (entry.now ≡ x)) }
+{
+    for need in needs {
+        if !is_held(entries, entry, need) {
+            return false;
+        }
+    }
+    true
+}
+
+/// Whether it is a firing of the job that needs the entry, and the set has all else that it needs.
+#[tactic(auto, using(u_rule::specs::EntryOrder::entry_cmp_ties))]
+fn is_woken(
+    alloc: Global,
+    job: &Job,
+    entries: &BTreeSet<Entry>,
+    entry: &Entry,
+    firing: &Firing,
+) -> Result<bool, AllocError>
+    ensures { IfOk result (λ b. IsTrue b ↔ IsWokenBy job.now entry.now (λ x. Contains entries.now.keys x ⊎ (entry.now ≡ x)) firing.now) }
+{
+    let needs = match needs(alloc, job, firing) {
+        Ok(needs) => needs,
+        Err(RuleError::NotAFiring) => return Ok(false),
+        Err(RuleError::NoMemory) => return Err(AllocError),
+    };
+    if !has(&needs, entry) {
+        return Ok(false);
+    }
+    let held = are_held(entries, entry, &needs);
+    Ok(held)
+}
+
+/// Puts a copy of the firing in its place, if the entry wakes it.
+#[tactic(auto, using(u_rule::specs::EntryOrder::firing_cmp_ties))]
+fn add_woken(
+    alloc: Global,
+    job: &Job,
+    entries: &BTreeSet<Entry>,
+    entry: &Entry,
+    firing: &Firing,
+    found: &mut Vec<Firing>,
+) -> Result<(), AllocError>
+    requires { Rises firing_cmp found.old.items }
+    ensures rises { Rises firing_cmp found.new.items }
+    ensures ok { OnOk result ((f : Firing) → Contains found.new.items f ↔ (Contains found.old.items f ⊎ ((firing.now ≡ f) × IsWokenBy job.now entry.now (λ x. Contains entries.now.keys x ⊎ (entry.now ≡ x)) f))) }
+{
+    let woken = is_woken(alloc, job, entries, entry, firing)?;
+    if !woken {
+        return Ok(());
+    }
+    let copy = firing.copy(alloc)?;
+    place_in(found, copy)?;
+    Ok(())
+}
+
+/// Those of the firings that the entry wakes, in order and each once.
+///
+/// # Errors
+/// `AllocError` where there is no memory.
+pub(crate) fn woken_of(
+    alloc: Global,
+    job: &Job,
+    entries: &BTreeSet<Entry>,
+    entry: &Entry,
+    firings: &[Firing],
+) -> Result<Vec<Firing>, AllocError>
+    ensures exact { IfOk result (λ v. (f : Firing) → Contains v.items f ↔ (Contains firings.now f × IsWokenBy job.now entry.now (λ x. Contains entries.now.keys x ⊎ (entry.now ≡ x)) f)) }
+    ensures rises { IfOk result (λ v. Rises firing_cmp v.items) }
+{
+    let mut found = Vec::new(alloc);
+    for firing in firings {
+        add_woken(alloc, job, entries, entry, firing, &mut found)?;
+    }
+    Ok(found)
+}
