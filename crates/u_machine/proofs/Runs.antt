@@ -21,7 +21,7 @@ use Rattle.u_rule.specs.Rule.{system_of}
 use Rattle.u_rule.specs.EntryOrder.{firing_cmp}
 use Rattle.u_machine.proofs.Lists.{slice_get_Contains, nil_of_length}
 use Rattle.u_machine.proofs.States.{settled_is_Cl, quiet_whole, ready_after, nothing_after}
-use Rattle.u_machine.specs.States.{State, Taken, Applies, Takes, IsReady, AreReady, IsPick, IsSettled, IsMachine, NothingReady, FireAnswer, Runs, RunAnswer, firing_le}
+use Rattle.u_machine.specs.States.{State, Taken, Applies, Takes, IsReady, AreReady, IsPick, IsSettled, IsMachine, NothingReady, FireAnswer, Fires, Runs, RunAnswer, firing_le}
 
 -- the first of a list that rises is its least
 pub first_least : (xs : List Firing) (f g : Firing) → Rises firing_cmp xs → slice_get xs 0 ≡ Some f → Contains xs g → firing_le f g
@@ -37,7 +37,7 @@ picked_first m f (ready, are, at) = (are.0 f (slice_get_Contains ready 0 f zerot
     zeroth : slice_get ready 0 ≡ Some f
     zeroth = rw (zero-mod (length ready)) at at
 
-module _ (old m : State) (gs : List Firing) (r : Runs old gs m) where
+module _ (old m : State) (gs : List Firing) (r : Fires old gs m) where
   there : (g : Firing) → Taken m g → Taken old g ⊎ Contains gs g
   there g = (r.taken g).0
 
@@ -98,39 +98,42 @@ takes_alone a b f t new in_log e = (grown, nil_of_length b.parked last)
     grown : b.log ≡ a.log ++ f ∷ []
     grown = t.log.1 ∙ ap (λ (xs : List Firing). a.log ++ xs) one
 
-pub Runs-nil : (old m : State) → Applies old m → Runs old [] m
-Runs-nil old m p = record {
+pub Fires-nil : (old m : State) → Applies old m → Fires old [] m
+Fires-nil old m p = record {
   job = p.job;
   limit = p.limit;
   each = EachPlace-nil (IsNextFrom (system_of old.job) firing_le (Taken old));
   taken = λ g. ((λ t. inl ((p.taken g).1 t)), λ s. elim s [ inl t ↦ (p.taken g).0 t | inr n ↦ absurd (Contains-nil g n) ]);
   count = let x = p.count in omega arith;
   log = p.log;
-  alone = λ e. let q = applies_alone old m p e in (q.0 ∙ sym (append-nil old.log), q.1);
   history = p.history;
 }
 
-pub Runs-applies : (old m n : State) (gs : List Firing) → Runs old gs m → Applies m n → Runs old gs n
-Runs-applies old m n gs r p = record {
+pub Runs-nil : (old m : State) → Applies old m → Runs old [] m
+Runs-nil old m p = record { fires = Fires-nil old m p; alone = λ e. let q = applies_alone old m p e in (q.0 ∙ sym (append-nil old.log), q.1) }
+
+pub Fires-applies : (old m n : State) (gs : List Firing) → Fires old gs m → Applies m n → Fires old gs n
+Fires-applies old m n gs r p = record {
   job = p.job ∙ r.job;
   limit = p.limit ∙ r.limit;
   each = r.each;
   taken = λ g. ((λ t. (r.taken g).0 ((p.taken g).1 t)), λ s. (p.taken g).0 ((r.taken g).1 s));
   count = p.count ∙ r.count;
   log = (r.log.0 ++ p.log.0, rw (p.log.1, r.log.1) (append_assoc old.log r.log.0 p.log.0));
-  alone = λ e. let q = r.alone e in let w = applies_alone m n p q.1 in (w.0 ∙ q.0, w.1);
   history = λ e k. p.history e (r.history e k);
 }
 
-pub Runs-push : (old m n : State) (gs : List Firing) (f : Firing) → Runs old gs m → IsPick m 0 f → Takes m f n → Contains n.log f → Runs old (gs ++ f ∷ []) n
-Runs-push old m n gs f r p t in_log = record {
+pub Runs-applies : (old m n : State) (gs : List Firing) → Runs old gs m → Applies m n → Runs old gs n
+Runs-applies old m n gs r p = record { fires = Fires-applies old m n gs r.fires p; alone = λ e. let q = r.alone e in let w = applies_alone m n p q.1 in (w.0 ∙ q.0, w.1) }
+
+pub Fires-push : (old m n : State) (gs : List Firing) (f : Firing) → Fires old gs m → IsPick m 0 f → Takes m f n → Fires old (gs ++ f ∷ []) n
+Fires-push old m n gs f r p t = record {
   job = t.job ∙ r.job;
   limit = t.limit ∙ r.limit;
   each = EachPlace-push (IsNextFrom (system_of old.job) firing_le (Taken old)) gs f r.each (next_after old m gs r f p);
   taken = λ g. ((λ k. to g ((t.taken g).0 k)), λ k. (t.taken g).1 (from g k));
   count = let x = t.count in let y = r.count in let z = length-append gs (f ∷ []) in omega arith;
   log = (r.log.0 ++ t.log.0, rw (t.log.1, r.log.1) (append_assoc old.log r.log.0 t.log.0));
-  alone = λ e. let q = r.alone e in let w = takes_alone m n f t (picked_first m f p).0.1 in_log q.1 in (w.0 ∙ ap (λ (xs : List Firing). xs ++ f ∷ []) q.0 ∙ append_assoc old.log gs (f ∷ []), w.1);
   history = λ e k. t.history e (r.history e k);
 }
   where
@@ -142,13 +145,19 @@ Runs-push old m n gs f r p t in_log = record {
     from g (inl a) = inl ((r.taken g).1 (inl a))
     from g (inr b) = elim (Contains-push_cases gs f g b) [ inl k ↦ inl ((r.taken g).1 (inr k)) | inr e ↦ inr e ]
 
+pub Runs-push : (old m n : State) (gs : List Firing) (f : Firing) → Runs old gs m → IsPick m 0 f → Takes m f n → Contains n.log f → Runs old (gs ++ f ∷ []) n
+Runs-push old m n gs f r p t in_log = record {
+  fires = Fires-push old m n gs f r.fires p t;
+  alone = λ e. let q = r.alone e in let w = takes_alone m n f t (picked_first m f p).0.1 in_log q.1 in (w.0 ∙ ap (λ (xs : List Firing). xs ++ f ∷ []) q.0 ∙ append_assoc old.log gs (f ∷ []), w.1);
+}
+
 -- where a call of `fire` fails the run ends there
 pub run_fails : (old m n : State) (budget : ℕ) (gs : List Firing) (e : Refusal) → Runs old gs m → length gs < budget → FireAnswer m 0 (Err e) n → RunAnswer old budget (Err e) n
 run_fails old m n budget gs Full r l a =
     (gs, Runs-applies old m n gs r a.2, l, a.3, (a.0.0, ready_after m n a.2 a.0.0 a.0.1), let x = a.2.count in let y = a.2.limit in omega (arith, a.1))
-run_fails old m n budget gs NoMemory r l (inl p) = (gs, Runs-applies old m n gs r p, omega arith)
-run_fails old m n budget gs NoMemory r l (inr (f, p, t, c)) =
-    (gs ++ f ∷ [], Runs-push old m n gs f r p t c, let z = length-append gs (f ∷ []) in omega arith)
+run_fails old m n budget gs NoMemory r l (inl p) = (gs, Fires-applies old m n gs r.fires p, omega arith)
+run_fails old m n budget gs NoMemory r l (inr (f, p, t)) =
+    (gs ++ f ∷ [], Fires-push old m n gs f r.fires p t, let z = length-append gs (f ∷ []) in omega arith)
 
 pub run_quiet : (old m n : State) (gs : List Firing) (budget : ℕ) → Runs old gs m → length gs < budget → FireAnswer m 0 (Ok step.Quiet) n → (xs : List Firing) × Runs old xs n × (length xs ≤ budget) × IsSettled n × NothingReady n
 run_quiet old m n gs budget r l a = (gs, Runs-applies old m n gs r a.1, omega arith, a.2, nothing_after m n a.1 a.0)
@@ -166,7 +175,7 @@ pub run_plain : (old new : State) (budget : ℕ) (gs : List Firing) → Runs old
 run_plain old new budget gs r log parked few full =
     let q = r.alone parked in
     let e : new.log ≡ gs = q.0 ∙ ap (λ (xs : List Firing). xs ++ gs) log in
-    (e, q.1, rw e (Plain-from_nothing (system_of old.job) firing_le (Taken old) none budget gs r.each few (ended full)))
+    (e, q.1, rw e (Plain-from_nothing (system_of old.job) firing_le (Taken old) none budget gs r.fires.each few (ended full)))
   where
     none : (f : Firing) → Taken old f → ⊥
     none f t = Contains-nil f (rw (log, parked) at t)
@@ -174,7 +183,7 @@ run_plain old new budget gs r log parked few full =
     ended : (length gs ≡ budget) ⊎ NothingReady new → (length gs ≡ budget) ⊎ IsExhausted (system_of old.job) (λ g. Taken old g ⊎ Contains gs g)
     ended (inl e) = inl e
     ended (inr n) =
-        inr (λ f en. (r.taken f).0 (n f (rw (← r.job) at (Enabled-mono (system_of old.job) (Cl (system_of old.job) (λ g. Taken old g ⊎ Contains gs g)) (Cl (system_of old.job) (Taken new)) (Cl-mono (system_of old.job) (λ g. Taken old g ⊎ Contains gs g) (Taken new) (λ g. (r.taken g).1)) f en))))
+        inr (λ f en. (r.fires.taken f).0 (n f (rw (← r.fires.job) at (Enabled-mono (system_of old.job) (Cl (system_of old.job) (λ g. Taken old g ⊎ Contains gs g)) (Cl (system_of old.job) (Taken new)) (Cl-mono (system_of old.job) (λ g. Taken old g ⊎ Contains gs g) (Taken new) (λ g. (r.fires.taken g).1)) f en))))
 
 pub fails_with : (old new : State) (budget : ℕ) (x : Refusal) (r : Result Ran Refusal) → IsErrAnd r (λ e. e ≡ x) → RunAnswer old budget (Err x) new → RunAnswer old budget r new
 fails_with old new budget x (Ok t) h a = absurd h
@@ -183,8 +192,8 @@ fails_with old new budget x (Err e) h a = subst (λ (y : Refusal). RunAnswer old
 -- never full where the budget is at most the limit
 pub run_not_full : (old new : State) (budget : ℕ) → RunAnswer old budget (Err Full) new → old.log ≡ [] → old.parked ≡ [] → budget ≤ old.limit → ⊥
 run_not_full old new budget (gs, r, below, st, ready, full) log parked l =
-    let x = r.count in
-    let y = r.limit in
+    let x = r.fires.count in
+    let y = r.fires.limit in
     let z = ap length log in
     let w = ap length parked in
     omega (arith, full)
@@ -200,11 +209,11 @@ pub run_done : (old new : State) (budget : ℕ) (end : Ran) → RunAnswer old bu
 run_done old new budget ran.Quiet (gs, r, few, st, none) log parked is =
     let q = run_plain old new budget gs r log parked few (inr none) in
     let h = settled_is_Cl new is st in
-    (record { job = r.job; parked = q.1; plain = q.2; held = rw (← r.job) h.1 }, λ _ e. ((λ k. (whole e).0 ((h.1 e).1 (rw r.job k))), λ w. rw r.job at ((h.1 e).0 ((whole e).1 w))))
+    (record { job = r.fires.job; parked = q.1; plain = q.2; held = rw (← r.fires.job) h.1 }, λ _ e. ((λ k. (whole e).0 ((h.1 e).1 (rw r.fires.job k))), λ w. rw r.fires.job at ((h.1 e).0 ((whole e).1 w))))
   where
     whole : Same (Contains new.history) (Whole (system_of old.job))
-    whole = rw (← r.job) (quiet_whole new is st none).1
+    whole = rw (← r.fires.job) (quiet_whole new is st none).1
 run_done old new budget ran.Paused (gs, r, few, st, ready) log parked is =
     let q = run_plain old new budget gs r log parked (omega (arith, few)) (inl few) in
     let h = settled_is_Cl new is st in
-    (record { job = r.job; parked = q.1; plain = q.2; held = rw (← r.job) h.1 }, λ e. absurd (cc))
+    (record { job = r.fires.job; parked = q.1; plain = q.2; held = rw (← r.fires.job) h.1 }, λ e. absurd (cc))

@@ -19,46 +19,11 @@ use Rattle.u_machine.specs.declared.answer.Step.{Step}
 use Rattle.u_rule.specs.Rule.{system_of}
 use Rattle.u_system.specs.Rising.{Rises}
 use Rattle.u_rule.specs.EntryOrder.{firing_cmp}
-use Rattle.u_machine.specs.States.{NothingReady, IsReady, AreReady, IsPick, FireAnswer, IsWhole, Takes, count_of, State, Taken, IsMachine, IsSettled, Applies}
+use Rattle.u_machine.specs.States.{NothingReady, IsReady, AreReady, IsPick, FireAnswer, IsWhole, Takes, count_of, State, state, Taken, IsMachine, IsSettled, Applies}
 
-abbrev pub with_history : State → ℕ → List Entry → State
-with_history m n h = record { job = m.job; limit = m.limit; log = m.log; done = n; parked = m.parked; history = h }
-
-module _ (m : State) (h : List Entry) (d : Firing) (is : IsMachine m) (below : m.done < length m.log) (within : (x : Entry) → Contains h x → Contains m.history x ⊎ Contains ((system_of m.job).gives (get_or m.log m.done d)) x) (kept : (x : Entry) → Contains m.history x → Contains h x) where
-  given : (x : Entry) → Contains m.history x ⊎ Contains ((system_of m.job).gives (get_or m.log m.done d)) x → Held (system_of m.job) m.log x
-  given x (inl a) = is.lies x a
-  given x (inr b) = inr (get_or m.log m.done d, Contains-get_or m.log m.done d below, b)
-
-  -- some of what the next firing gives has entered
-  pub partly : IsMachine (with_history m m.done h)
-  partly = record {
-    firings = is.firings;
-    derivation = is.derivation;
-    distinct = is.distinct;
-    within = is.within;
-    place = is.place;
-    has = λ e k. kept e (is.has e k);
-    lies = λ e k. given e (within e k);
-  }
-
-  entered_has : ((x : Entry) → Contains ((system_of m.job).gives (get_or m.log m.done d)) x → Contains h x) → (e : Entry) → Held (system_of m.job) (take m.done m.log) e ⊎ Contains ((system_of m.job).gives (get_or m.log m.done d)) e → Contains h e
-  entered_has all e (inl a) = kept e (is.has e a)
-  entered_has all e (inr b) = all e b
-
-  -- all of it has
-  pub entered : ((x : Entry) → Contains ((system_of m.job).gives (get_or m.log m.done d)) x → Contains h x) → IsMachine (with_history m (m.done + 1) h)
-  entered all = record {
-    firings = is.firings;
-    derivation = is.derivation;
-    distinct = is.distinct;
-    within = is.within;
-    place = omega (arith, below);
-    has = λ e k. entered_has all e ((Held-push (system_of m.job) (take m.done m.log) (get_or m.log m.done d) e).0 (rw (take_more m.log m.done d below) at k));
-    lies = λ e k. given e (within e k);
-  }
-
-pub Applies-history : (m : State) (n : ℕ) (h : List Entry) → ((x : Entry) → Contains m.history x → Contains h x) → Applies m (with_history m n h)
-Applies-history m n h kept = record {
+-- the history gains entries, and nothing else changes
+pub Applies-history : (m : State) (h : List Entry) → ((x : Entry) → Contains m.history x → Contains h x) → Applies m (state m.job m.limit m.log m.parked h)
+Applies-history m h kept = record {
   job = refl;
   limit = refl;
   taken = λ f. ((λ t. t), (λ t. t));
@@ -82,13 +47,10 @@ applies_trans a b c p q = record {
 
 -- a settled machine holds the closure of its taken set
 pub settled_is_Cl : (m : State) → IsMachine m → IsSettled m → Same (Contains m.history) (Cl (system_of m.job) (Taken m)) × Same (Contains m.history) (Held (system_of m.job) m.log)
-settled_is_Cl m is st = ((λ e. ((λ k. (held e).0 (is.lies e k)), (λ k. has e ((held e).1 k)))), (λ e. (is.lies e, has e)))
+settled_is_Cl m is st = ((λ e. ((λ k. (held e).0 (st.held e k)), (λ k. is.has e ((held e).1 k)))), (λ e. (st.held e, is.has e)))
   where
-    has : (e : Entry) → Held (system_of m.job) m.log e → Contains m.history e
-    has e k = is.has e (rw (st.entered, take_all (length m.log) m.log (omega arith)) k)
-
     all : (f : Firing) → Taken m f → Enabled (system_of m.job) (Held (system_of m.job) m.log) f → Contains m.log f
-    all f t en = elim (Contains-append_cases m.log m.parked f t) [ inl a ↦ a | inr b ↦ absurd (st.none f b (Enabled-mono (system_of m.job) (Held (system_of m.job) m.log) (Contains m.history) has f en)) ]
+    all f t en = elim (Contains-append_cases m.log m.parked f t) [ inl a ↦ a | inr b ↦ absurd (st.none f b (Enabled-mono (system_of m.job) (Held (system_of m.job) m.log) (Contains m.history) is.has f en)) ]
 
     held : Same (Held (system_of m.job) m.log) (Cl (system_of m.job) (Taken m))
     held = Settled-is_Cl (system_of m.job) (Taken m) m.log is.derivation (λ f a. Contains-append_left m.log m.parked f a) all
@@ -164,41 +126,6 @@ module _ (m : State) (is : IsMachine m) (st : IsSettled m) where
   pub ready_enabled : (f : Firing) → IsReady m f → Enabled (system_of m.job) (Contains m.history) f
   ready_enabled f r = over_history f r.0
 
--- a firing that is enabled over the history goes to the end of the log
-abbrev pub with_logged : State → Firing → State
-with_logged m f = record { job = m.job; limit = m.limit; log = m.log ++ f ∷ []; done = m.done; parked = m.parked; history = m.history }
-
-module _ (m : State) (f : Firing) where
-  pub logged_push : (g : Firing) → Taken (with_logged m f) g ↔ (Taken m g ⊎ (f ≡ g))
-  logged_push g = (to g, back g)
-    where
-      to : (g : Firing) → Taken (with_logged m f) g → Taken m g ⊎ (f ≡ g)
-      to g t =
-          elim (Contains-append_cases (m.log ++ f ∷ []) m.parked g t) [
-            | inl a ↦ elim (Contains-push_cases m.log f g a) [ inl x ↦ inl (Contains-append_left m.log m.parked g x) | inr e ↦ inr e ]
-            | inr b ↦ inl (Contains-append_right m.log m.parked g b)
-          ]
-
-      back : (g : Firing) → Taken m g ⊎ (f ≡ g) → Taken (with_logged m f) g
-      back g (inl t) =
-          elim (Contains-append_cases m.log m.parked g t)
-          [ inl a ↦ Contains-append_left (m.log ++ f ∷ []) m.parked g (Contains-append_left m.log (f ∷ []) g a) | inr b ↦ Contains-append_right (m.log ++ f ∷ []) m.parked g b ]
-      back g (inr e) = Contains-append_left (m.log ++ f ∷ []) m.parked g (subst (λ (x : Firing). Contains (m.log ++ f ∷ []) x) e (Contains-push m.log f))
-
-  pub logged_takes : Takes m f (with_logged m f)
-  logged_takes = record { job = refl; limit = refl; taken = logged_push; count = let a = length-append m.log (f ∷ []) in omega arith; log = (f ∷ [], refl); history = λ e k. k }
-
-  pub logged_is : IsMachine m → (Taken m f → ⊥) → count_of m < m.limit → m.done ≡ length m.log → Enabled (system_of m.job) (Contains m.history) f → IsMachine (with_logged m f)
-  logged_is is new room entered en = record {
-    firings = λ g t. elim ((logged_push g).0 t) [ inl a ↦ is.firings g a | inr e ↦ subst (λ (x : Firing). IsTrue ((system_of m.job).is_firing x)) e en.0 ];
-    derivation = Derivation-push (system_of m.job) m.log f is.derivation (Enabled-mono (system_of m.job) (Contains m.history) (Held (system_of m.job) m.log) is.lies f en);
-    distinct = rw append_assoc (Distinct-put_in m.log m.parked f new is.distinct);
-    within = let a = length-append m.log (f ∷ []) in omega arith;
-    place = let a = length-append m.log (f ∷ []) in let w = is.place in omega arith;
-    has = λ e k. is.has e (let w = is.place in rw (take-append-le m.done m.log (f ∷ []) w) at k);
-    lies = λ e k. Held-append_left (system_of m.job) m.log (f ∷ []) e (is.lies e k);
-  }
-
 module _ (a b : State) (p : Applies a b) where
   enabled_before : (f : Firing) → Enabled (system_of b.job) (Cl (system_of b.job) (Taken b)) f → Enabled (system_of a.job) (Cl (system_of a.job) (Taken a)) f
   enabled_before f en =
@@ -227,6 +154,6 @@ module _ (a b : State) (p : Applies a b) where
 pub nothing_ready : (m : State) (fs : List Firing) → AreReady m fs → length fs ≡ 0 → NothingReady m
 nothing_ready m fs r e f en = elim (r.1 f en) [ inl k ↦ absurd (let l = k.1 in omega arith) | inr t ↦ t ]
 
-pub fire_no_memory : (old new : State) (pick : ℕ) (r : Result Step Refusal) → IsErrAnd r (λ e. e ≡ NoMemory) → Applies old new ⊎ ((f : Firing) × IsPick old pick f × Takes old f new × Contains new.log f) → FireAnswer old pick r new
+pub fire_no_memory : (old new : State) (pick : ℕ) (r : Result Step Refusal) → IsErrAnd r (λ e. e ≡ NoMemory) → Applies old new ⊎ ((f : Firing) × IsPick old pick f × Takes old f new) → FireAnswer old pick r new
 fire_no_memory old new pick (Ok t) h w = absurd h
 fire_no_memory old new pick (Err e) h w = subst (λ (x : Refusal). FireAnswer old pick (Err x) new) (sym h) w

@@ -1,2 +1,3 @@
 pub mod States
-pub mod Joins
+pub mod Kept
+pub mod Taking

@@ -1,6 +1,8 @@
 //! What the calls of a machine answer. Each answer is this project's choice.
 ghost use Rattle.std.specs.Prelude.{◌≡◌};
 ghost use Rattle.u_machine.specs.declared.answer.Refusal.TheVariants.{NoMemory};
+ghost use Rattle.u_machine.specs.declared.answer.TakeRefusal.TheVariants as takes;
+ghost use Rattle.u_machine.specs.declared.answer.ListRefusal.TheVariants as lists;
 
 use std::alloc::AllocError;
 
@@ -36,5 +38,54 @@ impl From<AllocError> for Refusal {
 
     fn from(_: AllocError) -> Refusal {
         Refusal::NoMemory
+    }
+}
+
+/// What `take` did.
+#[derive(Clone, Copy, PartialEq, Eq, Debug)]
+pub enum Took {
+    /// The firing was taken before.
+    Known,
+    /// It is taken, and it was applied.
+    Taken,
+    /// It is taken, and waits until what it needs is held.
+    Parked,
+}
+
+/// Why a firing was not taken.
+#[derive(Clone, Copy, PartialEq, Eq, Debug)]
+pub enum TakeRefusal {
+    /// It is no firing of the job.
+    NotAFiring,
+    /// The machine has as many firings as it may.
+    Full,
+    /// There is no memory.
+    NoMemory,
+}
+
+impl From<AllocError> for TakeRefusal {
+    ghost from_gives = { λ _ e. e ≡ takes.NoMemory };
+
+    fn from(_: AllocError) -> TakeRefusal {
+        TakeRefusal::NoMemory
+    }
+}
+
+/// Why a list of firings was not taken.
+#[derive(Clone, Copy, PartialEq, Eq, Debug)]
+pub enum ListRefusal {
+    /// The one at this place, counted from 0, is the first that is no firing of the job.
+    NotAFiring(usize),
+    /// The machine may not have as many firings besides as the list has new ones.
+    Full,
+    /// There is no memory.
+    NoMemory,
+}
+
+impl From<AllocError> for ListRefusal {
+    ghost from_gives = { λ _ e. e ≡ lists.NoMemory };
+
+    fn from(_: AllocError) -> ListRefusal {
+        ListRefusal::NoMemory
     }
 }

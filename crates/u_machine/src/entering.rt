@@ -1,34 +1,14 @@
-//! How the entries that a firing gives enter a history.
-ghost use Rattle.std.specs.Prelude.{◌≡◌, ◌↔◌, Contains, ◌⊎◌, ◌<◌, ◌++◌, [], ◌∷◌, OnOk, OnErr, IfOk, vec_len, vec_capacity};
+//! What a firing gives, and where taken firings are put.
+ghost use Rattle.std.specs.Prelude.{◌≡◌, ◌<◌, ◌+◌, ◌++◌, [], ◌∷◌, OnOk, OnErr, IfOk, Contains, length, vec_len, vec_capacity};
 ghost use Rattle.u_rule.specs.Rule.{system_of};
-ghost use Rattle.u_rule.specs.declared.entry.Entry.{Entry};
+ghost use Rattle.u_rule.specs.EntryOrder.{firing_cmp};
+ghost use Rattle.u_system.specs.Firing.{Same};
+ghost use Rattle.u_system.specs.Rising.{Rises, IsWith};
 
 use std::alloc::{AllocError, Global};
 use u_check::Job;
-use u_history::History;
 use u_rule::{Entry, Firing, gives};
-
-/// Puts a copy of the entry in, unless it is there.
-fn insert(history: &mut History, entry: &Entry) -> Result<(), AllocError>
-    ensures ok { OnOk result ((x : Entry) → Contains history.new x ↔ (Contains history.old x ⊎ (entry.now ≡ x))) }
-    ensures err { OnErr result (history.new ≡ history.old) }
-{
-    let copy = entry.copy()?;
-    history.insert(copy)?;
-    Ok(())
-}
-
-/// Puts each of the entries in that is not there yet. Those before a refusal stay.
-pub fn insert_all(history: &mut History, entries: &[Entry]) -> Result<(), AllocError>
-    ensures within { (x : Entry) → Contains history.new x → Contains history.old x ⊎ Contains entries.now x }
-    ensures kept { (x : Entry) → Contains history.old x → Contains history.new x }
-    ensures ok { OnOk result ((x : Entry) → Contains entries.now x → Contains history.new x) }
-{
-    for entry in entries {
-        insert(history, entry)?;
-    }
-    Ok(())
-}
+use u_system::OrderedSet;
 
 /// The entries that a firing of the job gives. The caller's firing is one of the job, so want of
 /// memory is the one refusal that comes.
@@ -47,4 +27,31 @@ pub fn push_into_room(list: &mut Vec<Firing>, firing: Firing)
     ensures { list.new.items ≡ list.old.items ++ firing ∷ [] }
 {
     list.push(firing).unwrap();
+}
+
+/// Puts copies of the firing into both sets, or into neither.
+#[tactic(auto, using(u_rule::specs::EntryOrder::firing_cmp_ties))]
+pub fn put_in_both(
+    alloc: Global,
+    taken: &mut OrderedSet<Firing>,
+    parked: &mut OrderedSet<Firing>,
+    firing: &Firing,
+) -> Result<(), AllocError>
+    requires taken { Contains taken.old firing.now → ⊥ }
+    requires parked { Contains parked.old firing.now → ⊥ }
+    ensures taken { OnOk result (IsWith taken.old firing.now taken.new) }
+    ensures parked { OnOk result (IsWith parked.old firing.now parked.new) }
+    ensures rises { OnOk result (Rises firing_cmp parked.new) }
+    ensures count { OnOk result (length parked.new ≡ length parked.old + 1) }
+    ensures still { OnErr result (Same (Contains taken.new) (Contains taken.old)) }
+    ensures err { OnErr result (parked.new ≡ parked.old) }
+{
+    let first = firing.copy(alloc)?;
+    let second = firing.copy(alloc)?;
+    taken.insert(first)?;
+    let Err(_) = parked.insert(second) else {
+        return Ok(());
+    };
+    taken.remove(firing);
+    Err(AllocError)
 }

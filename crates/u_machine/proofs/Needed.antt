@@ -1,0 +1,49 @@
+-- Each firing of a job needs a token.
+use Rattle.std.proofs.Common.{◌≡◌, ◌<◌, ◌≤◌, ◌⊎◌, ◌∙◌, inl, inr, refl, arith, Bool, true, false, ◌&&◌, IsTrue, ℕ, List, [], ◌∷◌, ◌++◌, length, Option, Some, None}
+use Rattle.std.specs.Prelude.{Contains, ◌==◌}
+use Rattle.std.proofs.lemmas.Bool.Decides.{nat_tests}
+use Rattle.u_name.specs.Name.{Activity}
+use Rattle.u_program.specs.declared.program.Kind.{Kind}
+use Rattle.u_program.specs.declared.program.Kind.TheVariants.{Begin}
+use Rattle.u_program.specs.Parts.{StatementParts, BlockParts}
+use Rattle.u_check.specs.Jobs.{JobParts}
+use Rattle.u_check.specs.Rules.{ports_of}
+use Rattle.u_rule.specs.Parts.{token, ValueList}
+use Rattle.u_rule.specs.Rule.{is_firing_of, is_firing_at, needs_of, tokens_from, system_of}
+use Rattle.u_rule.specs.Fits.{statement_of, fits_at}
+use Rattle.u_rule.specs.Structures.{has_its_write, write_read}
+use Rattle.u_rule.specs.declared.entry.Entry.{Entry}
+use Rattle.u_rule.specs.declared.entry.Entry.TheVariants as entries
+use Rattle.u_rule.specs.declared.firing.Firing.{Firing}
+use Rattle.u_system.proofs.Member.{Contains-head}
+
+and_left : (a b : Bool) → (a && b) ≡ true → a ≡ true
+and_left true b h = refl
+and_left false b h = cc
+
+and_right : (a b : Bool) → (a && b) ≡ true → b ≡ true
+and_right true b h = h
+and_right false b h = cc
+
+same_number : (a b : ℕ) → (a == b) ≡ true → a ≡ b
+same_number a b h = grind (arith, nat_tests)
+
+some_port : (k : Kind) → 1 ≤ ports_of k
+some_port Begin = omega arith
+some_port k = omega arith
+
+some_value : (p : List BlockParts) (s : Option StatementParts) (f : Firing) → is_firing_at p s f ≡ true → 1 ≤ length f.values
+some_value p None f h = cc
+some_value p (Some s) f h =
+    let r = and_right (fits_at p s.region f.activity) _ h in
+    let n = same_number (length f.values) (ports_of s.kind) (and_left (length f.values == ports_of s.kind) (has_its_write s.kind f.values f.write) r) in
+    let l = some_port s.kind in
+    omega (arith, n)
+
+first_token : (a : Activity) (vs : ValueList) (more : List Entry) → 1 ≤ length vs → (e : Entry) × Contains (tokens_from a 1 vs ++ more) e
+first_token a [] more l = absurd (omega arith)
+first_token a (v ∷ vs) more l = (entries.Token (token a 1 v), Contains-head _ _)
+
+pub needs_some : (job : JobParts) (f : Firing) → IsTrue ((system_of job).is_firing f) → (e : Entry) × Contains ((system_of job).needs f) e
+unfolding is_firing_of needs_of
+needs_some job f h = first_token f.activity f.values (write_read f.values f.write) (some_value job.program (statement_of job.program f.activity.block f.activity.statement) f h)

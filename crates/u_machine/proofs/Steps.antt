@@ -1,0 +1,220 @@
+-- The steps by which a machine goes on, on its log.
+use Rattle.std.proofs.Common.{◌≡◌, ℕ, ◌+◌, ◌<◌, ◌≤◌, List, [], ◌∷◌, ◌++◌, ◌⊎◌, inl, inr, subst, sym, refl, length, take, drop, get_or, arith, append-nil, append_assoc, ap, ◌∙◌, length-append}
+use Rattle.std.specs.Prelude.{Contains, ◌↔◌, IsTrue}
+use Rattle.std.proofs.lemmas.List.{take_more, take_all, drop_more, take-append-le, take-append-drop, drop-append-le}
+use Rattle.std.proofs.lemmas.List.Elements.{Contains-get_or, Contains-append_left, Contains-append_right, Contains-append_cases, Contains-push, Contains-push_cases}
+use Rattle.u_system.proofs.Apart.{Distinct-push, Distinct-left, Distinct-apart}
+use Rattle.u_system.proofs.Member.{Contains-nil, Contains-head, Contains-cons_cases, Contains-tail}
+use Rattle.u_system.specs.Firing.{Held, Enabled, Cl, Derivation, Distinct, Same}
+use Rattle.u_system.specs.Rising.{IsWith, IsWithout, Rises}
+use Rattle.u_system.proofs.Held.{Held-push, Held-append_left, Enabled-mono}
+use Rattle.u_system.proofs.Closure.{Cl-held, Cl-mono, Derivation-push}
+use Rattle.u_check.specs.Jobs.{JobParts}
+use Rattle.u_rule.specs.declared.entry.Entry.{Entry}
+use Rattle.u_rule.specs.declared.firing.Firing.{Firing}
+use Rattle.u_rule.specs.Rule.{system_of}
+use Rattle.u_rule.specs.EntryOrder.{FiringList, EntryList, firing_cmp, firing_cmp_total}
+use Rattle.u_machine.specs.States.{state, IsMachine, Applies, Takes}
+use Rattle.u_machine.specs.Kept.{IsLogged}
+use Rattle.u_machine.proofs.Lists.{Contains-taken, Contains-dropped, slice_get_at}
+use Rattle.u_machine.proofs.Once.{Distinct-join, Distinct-right, Distinct-from_Rises}
+
+module _ (job : JobParts) (limit : ℕ) (log : FiringList) (done : ℕ) (taken parked : FiringList) (history : EntryList) (l : IsLogged job limit log done taken parked history) where
+  -- the firings of the log were taken
+  pub log_taken : (f : Firing) → Contains log f → Contains (take done log ++ parked) f
+  log_taken f m =
+      elim (Contains-append_cases (take done log) (drop done log) f (rw take-append-drop m))
+      [ inl a ↦ Contains-append_left (take done log) parked f a | inr b ↦ Contains-append_right (take done log) parked f (l.begun f b) ]
+
+  pub held_in : (e : Entry) → Held (system_of job) log e → Cl (system_of job) (Contains (take done log ++ parked)) e
+  held_in e h = Cl-held (system_of job) (Contains (take done log ++ parked)) log l.derivation log_taken e h
+
+  -- an entry enters that a firing of the log gives
+  pub entered : (f : Firing) (e : Entry) (new : EntryList) → Contains log f → Contains ((system_of job).gives f) e → IsWith history e new → IsLogged job limit log done taken parked new
+  entered f e new m g w = record {
+    is = record {
+      firings = l.is.firings;
+      derivation = l.is.derivation;
+      distinct = l.is.distinct;
+      within = l.is.within;
+      has = λ x h. (w x).1 (inl (l.is.has x h));
+      lies = λ x k. held_in x (lies x ((w x).0 k));
+    };
+    place = l.place;
+    derivation = l.derivation;
+    apart = l.apart;
+    begun = l.begun;
+    same = l.same;
+    lies = λ x k. lies x ((w x).0 k);
+  }
+    where
+      lies : (x : Entry) → Contains history x ⊎ (e ≡ x) → Held (system_of job) log x
+      lies x (inl k) = l.lies x k
+      lies x (inr p) = subst (Held (system_of job) log) p (inr (f, m, g))
+
+  -- a parked firing that is enabled goes to the end of the log
+  pub begins : (f : Firing) → Contains parked f → (Contains log f → ⊥) → Enabled (system_of job) (Contains history) f → IsLogged job limit (log ++ f ∷ []) done taken parked history
+  begins f k new en = record {
+    is = rw shorter l.is;
+    place = let a = length-append log (f ∷ []) in let b = l.place in omega arith;
+    derivation = Derivation-push (system_of job) log f l.derivation (Enabled-mono (system_of job) (Contains history) (Held (system_of job) log) l.lies f en);
+    apart = Distinct-push log f new l.apart;
+    begun = λ g m. elim (Contains-push_cases (drop done log) f g (rw (drop-append-le done log (f ∷ []) l.place) at m)) [ inl a ↦ l.begun g a | inr p ↦ subst (λ (h : Firing). Contains parked h) p k ];
+    same = rw shorter l.same;
+    lies = λ e h. Held-append_left (system_of job) log (f ∷ []) e (l.lies e h);
+  }
+    where
+      shorter : take done (log ++ f ∷ []) ≡ take done log
+      shorter = take-append-le done log (f ∷ []) l.place
+
+  -- a firing is taken and parked
+  pub parks : (f : Firing) (taken_new parked_new : FiringList) → (Contains (take done log ++ parked) f → ⊥) → IsTrue ((system_of job).is_firing f) → length (take done log) + length parked < limit → IsWith taken f taken_new → IsWith parked f parked_new → Rises firing_cmp parked_new → length parked_new ≡ length parked + 1 → IsLogged job limit log done taken_new parked_new history
+  parks f taken_new parked_new new is room t p r count = record {
+    is = record {
+      firings = λ g m. firing g (one_of g m);
+      derivation = l.is.derivation;
+      distinct = Distinct-join (take done log) parked_new (Distinct-left (take done log) parked l.is.distinct) (Distinct-from_Rises firing_cmp firing_cmp_total parked_new r) apart;
+      within = omega (arith, room, count);
+      has = l.is.has;
+      lies = λ e k. Cl-mono (system_of job) (Contains (take done log ++ parked)) (Contains (take done log ++ parked_new)) (λ g m. there g (inl m)) e (l.is.lies e k);
+    };
+    place = l.place;
+    derivation = l.derivation;
+    apart = l.apart;
+    begun = λ g m. (p g).1 (inl (l.begun g m));
+    same = λ g. ((λ m. there g (over g ((t g).0 m))), λ m. (t g).1 (back g (one_of g m)));
+    lies = l.lies;
+  }
+    where
+      one_of : (g : Firing) → Contains (take done log ++ parked_new) g → Contains (take done log ++ parked) g ⊎ (f ≡ g)
+      one_of g m =
+          elim (Contains-append_cases (take done log) parked_new g m) [
+            | inl a ↦ inl (Contains-append_left (take done log) parked g a)
+            | inr b ↦ elim ((p g).0 b) [ inl k ↦ inl (Contains-append_right (take done log) parked g k) | inr e ↦ inr e ]
+          ]
+
+      there : (g : Firing) → Contains (take done log ++ parked) g ⊎ (f ≡ g) → Contains (take done log ++ parked_new) g
+      there g (inl m) =
+          elim (Contains-append_cases (take done log) parked g m)
+          [ inl a ↦ Contains-append_left (take done log) parked_new g a | inr b ↦ Contains-append_right (take done log) parked_new g ((p g).1 (inl b)) ]
+      there g (inr e) = Contains-append_right (take done log) parked_new g ((p g).1 (inr e))
+
+      over : (g : Firing) → Contains taken g ⊎ (f ≡ g) → Contains (take done log ++ parked) g ⊎ (f ≡ g)
+      over g (inl m) = inl ((l.same g).0 m)
+      over g (inr e) = inr e
+
+      back : (g : Firing) → Contains (take done log ++ parked) g ⊎ (f ≡ g) → Contains taken g ⊎ (f ≡ g)
+      back g (inl m) = inl ((l.same g).1 m)
+      back g (inr e) = inr e
+
+      firing : (g : Firing) → Contains (take done log ++ parked) g ⊎ (f ≡ g) → IsTrue ((system_of job).is_firing g)
+      firing g (inl m) = l.is.firings g m
+      firing g (inr e) = subst (λ (h : Firing). IsTrue ((system_of job).is_firing h)) e is
+
+      apart : (g : Firing) → Contains (take done log) g → Contains parked_new g → ⊥
+      apart g a b =
+          elim ((p g).0 b)
+          [ inl k ↦ Distinct-apart (take done log) parked g l.is.distinct a k | inr e ↦ new (subst (λ (h : Firing). Contains (take done log ++ parked) h) (sym e) (Contains-append_left (take done log) parked g a)) ]
+
+  pub parks_takes : (f : Firing) (parked_new : FiringList) → IsWith parked f parked_new → length parked_new ≡ length parked + 1 → Takes (state job limit (take done log) parked history) f (state job limit (take done log) parked_new history)
+  parks_takes f parked_new p count = record {
+    job = refl;
+    limit = refl;
+    taken = λ g. (to g, back g);
+    count = omega (arith, count);
+    log = ([], sym (append-nil (take done log)));
+    history = λ e k. k;
+  }
+    where
+      to : (g : Firing) → Contains (take done log ++ parked_new) g → Contains (take done log ++ parked) g ⊎ (f ≡ g)
+      to g m =
+          elim (Contains-append_cases (take done log) parked_new g m) [
+            | inl a ↦ inl (Contains-append_left (take done log) parked g a)
+            | inr b ↦ elim ((p g).0 b) [ inl k ↦ inl (Contains-append_right (take done log) parked g k) | inr e ↦ inr e ]
+          ]
+
+      back : (g : Firing) → Contains (take done log ++ parked) g ⊎ (f ≡ g) → Contains (take done log ++ parked_new) g
+      back g (inl m) =
+          elim (Contains-append_cases (take done log) parked g m)
+          [ inl a ↦ Contains-append_left (take done log) parked_new g a | inr b ↦ Contains-append_right (take done log) parked_new g ((p g).1 (inl b)) ]
+      back g (inr e) = Contains-append_right (take done log) parked_new g ((p g).1 (inr e))
+
+  -- the firing that was being applied is applied
+  module _ (f : Firing) (less : FiringList) (below : done < length log) (at : f ≡ get_or log done f) (w : IsWithout parked f less) where
+    longer : take (done + 1) log ≡ take done log ++ f ∷ []
+    longer = take_more log done f below ∙ ap (λ (g : Firing). take done log ++ g ∷ []) (sym at)
+
+    rest : drop done log ≡ f ∷ drop (done + 1) log
+    rest = drop_more log done f below ∙ ap (λ (g : Firing). g ∷ drop (done + 1) log) (sym at)
+
+    pub was_parked : Contains parked f
+    was_parked = l.begun f (rw rest (Contains-head f (drop (done + 1) log)))
+
+    pub taken_still : (g : Firing) → Contains (take done log ++ parked) g ↔ Contains (take (done + 1) log ++ less) g
+    taken_still g = (to, back)
+      where
+        first : Contains (take done log) g → Contains (take (done + 1) log ++ less) g
+        first a = rw longer (Contains-append_left (take done log ++ f ∷ []) less g (Contains-append_left (take done log) (f ∷ []) g a))
+
+        to : Contains (take done log ++ parked) g → Contains (take (done + 1) log ++ less) g
+        to m =
+            elim (Contains-append_cases (take done log) parked g m) [
+              | inl a ↦ first a
+              | inr b ↦ elim (w.rest g b) [
+                  | inl e ↦ rw longer (Contains-append_left (take done log ++ f ∷ []) less g (subst (λ (h : Firing). Contains (take done log ++ f ∷ []) h) e (Contains-push (take done log) f)))
+                  | inr k ↦ Contains-append_right (take (done + 1) log) less g k
+                ]
+            ]
+
+        back : Contains (take (done + 1) log ++ less) g → Contains (take done log ++ parked) g
+        back m =
+            elim (Contains-append_cases (take (done + 1) log) less g m) [
+              | inl a ↦ elim (Contains-push_cases (take done log) f g (rw longer at a)) [
+                  | inl k ↦ Contains-append_left (take done log) parked g k
+                  | inr e ↦ Contains-append_right (take done log) parked g (subst (λ (h : Firing). Contains parked h) e was_parked)
+                ]
+              | inr b ↦ Contains-append_right (take done log) parked g (w.less g b)
+            ]
+
+    pub applied_more : length parked ≡ length less + 1 → Applies (state job limit (take done log) parked history) (state job limit (take (done + 1) log) less history)
+    applied_more count = record {
+      job = refl;
+      limit = refl;
+      taken = taken_still;
+      count = let a = length-append (take done log) (f ∷ []) in let b = ap length longer in omega (arith, count);
+      log = (f ∷ [], longer);
+      history = λ e k. k;
+    }
+
+    pub applied : Rises firing_cmp less → length parked ≡ length less + 1 → ((e : Entry) → Contains ((system_of job).gives f) e → Contains history e) → IsLogged job limit log (done + 1) taken less history
+    applied r count all = record {
+      is = record {
+        firings = λ g m. l.is.firings g ((taken_still g).1 m);
+        derivation = rw longer (Derivation-push (system_of job) (take done log) f l.is.derivation (l.derivation.each done f (slice_get_at log done f below at)));
+        distinct = Distinct-join (take (done + 1) log) less (Distinct-left (take (done + 1) log) (drop (done + 1) log) (rw take-append-drop l.apart)) (Distinct-from_Rises firing_cmp firing_cmp_total less r) apart;
+        within = let a = length-append (take done log) (f ∷ []) in let b = ap length longer in let c = l.is.within in omega (arith, count);
+        has = λ e h. has e ((Held-push (system_of job) (take done log) f e).0 (rw longer at h));
+        lies = λ e k. Cl-mono (system_of job) (Contains (take done log ++ parked)) (Contains (take (done + 1) log ++ less)) (λ g. (taken_still g).0) e (l.is.lies e k);
+      };
+      place = omega (arith, below);
+      derivation = l.derivation;
+      apart = l.apart;
+      begun = λ g m. elim (w.rest g (l.begun g (rw rest (Contains-tail f g (drop (done + 1) log) m)))) [ inl e ↦ absurd (later g e m) | inr k ↦ k ];
+      same = λ g. ((λ m. (taken_still g).0 ((l.same g).0 m)), λ m. (l.same g).1 ((taken_still g).1 m));
+      lies = l.lies;
+    }
+      where
+        has : (e : Entry) → Held (system_of job) (take done log) e ⊎ Contains ((system_of job).gives f) e → Contains history e
+        has e (inl h) = l.is.has e h
+        has e (inr g) = all e g
+
+        apart : (g : Firing) → Contains (take (done + 1) log) g → Contains less g → ⊥
+        apart g a b =
+            elim (Contains-push_cases (take done log) f g (rw longer at a))
+            [ inl k ↦ Distinct-apart (take done log) parked g l.is.distinct k (w.less g b) | inr e ↦ w.gone (subst (λ (h : Firing). Contains less h) (sym e) b) ]
+
+        behind : Distinct (f ∷ drop (done + 1) log)
+        behind = rw rest at (Distinct-right (take done log) (drop done log) (rw take-append-drop l.apart))
+
+        later : (g : Firing) → f ≡ g → Contains (drop (done + 1) log) g → ⊥
+        later g e m = behind.0 (subst (λ (h : Firing). Contains (drop (done + 1) log) h) (sym e) m)

@@ -1,0 +1,42 @@
+-- Lists of firings that a machine takes.
+use Rattle.std.specs.Prelude.{◌≡◌, ℕ, ◌<◌, ◌≤◌, ◌+◌, List, ◌++◌, ◌⊎◌, ◌↔◌, length, take, IsTrue, false, Contains, Result, Ok, Err, slice_get, Some}
+use Rattle.u_system.specs.Firing.{Distinct}
+use Rattle.u_rule.specs.declared.entry.Entry.{Entry}
+use Rattle.u_rule.specs.declared.firing.Firing.{Firing}
+use Rattle.u_check.specs.Jobs.{JobParts}
+use Rattle.u_rule.specs.Rule.{system_of}
+use Rattle.u_machine.specs.declared.answer.ListRefusal.{ListRefusal}
+use Rattle.u_machine.specs.declared.answer.ListRefusal.TheVariants.{NotAFiring, Full, NoMemory}
+use Rattle.u_machine.specs.States.{State, Taken, Applies, IsSettled, count_of}
+
+-- each of the list is a firing of the job
+abbrev pub AreFirings : JobParts → List Firing → Type 0
+AreFirings job fs = (f : Firing) → Contains fs f → IsTrue ((system_of job).is_firing f)
+
+-- the one at that place is the first that is none
+pub record IsFirstOther (job : JobParts) (fs : List Firing) (place : ℕ) : Type 0 where
+  pub other : Firing
+  pub at : slice_get fs place ≡ Some other
+  pub none : (system_of job).is_firing other ≡ false
+  pub before : AreFirings job (take place fs)
+
+-- fs are taken besides, and nothing is lost; taken firings may be applied
+pub record TakesAll (old : State) (fs : List Firing) (new : State) : Type 0 where
+  pub job : new.job ≡ old.job
+  pub limit : new.limit ≡ old.limit
+  pub taken : (g : Firing) → Taken new g ↔ (Taken old g ⊎ Contains fs g)
+  pub log : (rest : List Firing) × (new.log ≡ old.log ++ rest)
+  pub history : (e : Entry) → Contains old.history e → Contains new.history e
+
+-- those of the list that are not taken, each once
+pub record AreNew (m : State) (fs news : List Firing) : Type 0 where
+  pub once : Distinct news
+  pub exact : (g : Firing) → Contains news g ↔ (Contains fs g × (Taken m g → ⊥))
+
+abbrev pub TakeAllAnswer : State → List Firing → Result (Unit {0}) ListRefusal → State → Type 0
+TakeAllAnswer old fs (Ok u) new =
+    AreFirings old.job fs × ((news : List Firing) × AreNew old fs news × (count_of old + length news ≤ old.limit)) × TakesAll old fs new × IsSettled new
+TakeAllAnswer old fs (Err (NotAFiring place)) new = IsFirstOther old.job fs place × Applies old new × IsSettled new
+TakeAllAnswer old fs (Err Full) new =
+    AreFirings old.job fs × ((news : List Firing) × AreNew old fs news × (old.limit < count_of old + length news)) × Applies old new × IsSettled new
+TakeAllAnswer old fs (Err NoMemory) new = (k : ℕ) × (k ≤ length fs) × TakesAll old (take k fs) new
