@@ -1,8 +1,7 @@
 //! Lists of calls of one machine, and what holds after each list.
-ghost use Rattle.std.specs.Prelude.{◌≡◌, List, IfOk, OnErr, Contains, ◌×◌};
-ghost use Rattle.u_machine.specs.States.{IsMachine, IsSettled, Taken};
+ghost use Rattle.std.specs.Prelude.{◌≡◌, IfOk, OnErr};
+ghost use Rattle.u_machine.specs.States.{IsMachine, IsSettled};
 ghost use Rattle.u_machine.specs.Obeying.{Does, Obeys, AreMet, IsClosure, Extends};
-ghost use Rattle.u_system.specs.Firing.{Same};
 
 use crate::answer::{ListRefusal, Ran, Refusal, Step, TakeRefusal, Took};
 use crate::machine::Machine;
