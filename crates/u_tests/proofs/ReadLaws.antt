@@ -12,8 +12,8 @@ use Rattle.u_rule.specs.declared.parts.Write.{Write}
 use Rattle.u_rule.specs.declared.entry.Entry.{Entry}
 use Rattle.u_rule.specs.declared.entry.Entry.TheVariants as entries
 use Rattle.u_rule.specs.declared.firing.Firing.{Firing}
-use Rattle.u_machine.specs.Joins.{OfRead}
-use Rattle.u_machine.proofs.JoinLaws.{parts, one_activity, false_true, some_same}
+use Rattle.u_tests.specs.Joins.{OfRead}
+use Rattle.u_tests.proofs.JoinLaws.{parts, one_activity, false_true, some_same}
 
 same_write : (w x : Write) → entries.Write w ≡ entries.Write x → w ≡ x
 same_write w x e = cc
