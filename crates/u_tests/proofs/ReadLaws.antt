@@ -1,8 +1,5 @@
 -- Which firings two tokens and a write join to.
-use Rattle.std.proofs.Common.{◌≡◌, ◌↔◌, ◌∙◌, sym, subst, ap, true, false, ℕ, [], ◌∷◌, Option, Some, None, Ok}
-use Rattle.u_name.specs.Name.{Activity}
-use Rattle.u_name.specs.Cell.{CellOf}
-use Rattle.u_value.specs.declared.value.Value.{Value}
+use Rattle.std.proofs.Common.{◌≡◌, ◌↔◌, ◌∙◌, sym, subst, ap, true, false, [], ◌∷◌, Option, Some, None, Ok}
 use Rattle.u_check.specs.Jobs.{JobParts}
 use Rattle.u_rule.specs.Parts.{TokenParts, token}
 use Rattle.u_rule.specs.Rule.{is_firing_of}

@@ -15,7 +15,19 @@ use u_system::OrderedSet;
 const ORDERS: u64 = 20;
 
 /// How many firings each of the example programs makes.
-const FIRINGS: [usize; 11] = [3, 45, 0, 0, 0, 0, 0, 0, 0, 0, 0];
+const FIRINGS: [usize; 11] = [3, 45, 51, 50, 74, 20, 12, 4, 64, 208, 130];
+
+/// Adds a copy of the firing.
+#[tactic(auto, using(u_rule::specs::EntryOrder::firing_cmp_ties))]
+fn add_firing(
+    alloc: Global,
+    firings: &mut OrderedSet<Firing>,
+    firing: &Firing,
+) -> Result<(), AllocError> {
+    let copy = firing.copy(alloc)?;
+    firings.insert(copy).map_err(|_| AllocError)?;
+    Ok(())
+}
 
 /// The firings that were found, and the entries that they hold.
 #[derive(Drop)]
@@ -43,8 +55,7 @@ impl Found {
         self.history.insert(entry.copy()?).map_err(|_| AllocError)?;
         let newly = ready_firings(alloc, job, &self.history, &self.firings)?;
         for firing in &newly {
-            let copy = firing.copy(alloc)?;
-            self.firings.insert(copy).map_err(|_| AllocError)?;
+            add_firing(alloc, &mut self.firings, firing)?;
         }
         Ok(newly)
     }
