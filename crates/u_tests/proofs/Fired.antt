@@ -1,15 +1,15 @@
 -- Rounds: all that is enabled fires, until nothing new does.
-use Rattle.std.proofs.Common.{◌≡◌, ◌↔◌, List, [], ◌∷◌, ◌++◌, sym, Contains, IsTrue, append_assoc, append-nil, subst}
+use Rattle.std.proofs.Common.{◌≡◌, ◌↔◌, List, [], ◌∷◌, ◌++◌, sym, refl, length, Contains, IsTrue, append_assoc, append-nil, subst}
+use Rattle.std.proofs.lemmas.Option.{slice_get_read}
 use Rattle.u_system.specs.Firing.{System, Held, Enabled, Derivation, Whole, Within}
 use Rattle.u_system.proofs.Held.{Held-append_left, Enabled-mono}
 use Rattle.u_system.proofs.Member.{Contains-head, Contains-tail}
 use Rattle.u_system.proofs.Closure.{Derivation-push, Quiet-whole}
-use Rattle.u_machine.proofs.Lists.{slice_get_at}
 
 module _ {E F : Type 0} (s : System E F) where
   -- all members of a derivation are firings
   pub are_firings : (fs : List F) → Derivation s fs → Within (λ f. IsTrue (s.is_firing f)) fs
-  are_firings fs d f (k, l, e) = (d.each k f (slice_get_at fs k f l (sym e))).0
+  are_firings fs d f (k, l, e) = (d.each k f (slice_get_read fs (length fs) k f refl l (sym e))).0
 
   -- those that are enabled may fire one after another
   pub round_more : (fs more : List F) → Derivation s fs → ((f : F) → Contains more f → Enabled s (Held s fs) f) → Derivation s (fs ++ more)

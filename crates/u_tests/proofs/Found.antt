@@ -7,8 +7,8 @@ use Rattle.u_rule.specs.EntryOrder.{write_of}
 use Rattle.u_rule.specs.declared.entry.Entry.{Entry}
 use Rattle.u_rule.specs.declared.firing.Firing.{Firing}
 use Rattle.u_system.specs.Firing.{Enabled, SomeOf}
-use Rattle.u_machine.specs.Joins.{Joins, JoinsRead}
-use Rattle.u_machine.proofs.ScanLaws.{enabled_is_joined}
+use Rattle.u_tests.specs.Joins.{Joins, JoinsRead}
+use Rattle.u_tests.proofs.ScanLaws.{enabled_is_joined}
 use Rattle.u_tests.specs.Tries.{FitsFirst}
 
 pub enabled_fits : (job : JobParts) (h : List Entry) (f : Firing) → SomeOf h (FitsFirst job h) f ↔ Enabled (system_of job) (Contains h) f

@@ -9,7 +9,7 @@ use Rattle.u_rule.specs.EntryOrder.{firing}
 use Rattle.u_rule.specs.declared.entry.Entry.{Entry}
 use Rattle.u_rule.specs.declared.entry.Entry.TheVariants as entries
 use Rattle.u_rule.specs.declared.firing.Firing.{Firing}
-use Rattle.u_machine.specs.Joins.{OfTwo, OfThree}
+use Rattle.u_tests.specs.Joins.{OfTwo, OfThree}
 
 same_token : (t u : TokenParts) → entries.Token t ≡ entries.Token u → t ≡ u
 same_token t u e = cc

@@ -1,4 +1,10 @@
 pub mod Entries
+pub mod Names
+pub mod JoinLaws
+pub mod ReadLaws
+pub mod Neighbours
+pub mod ScanLaws
+pub mod ReadScan
 pub mod Found
 pub mod Lists
 pub mod Fired

@@ -12,7 +12,7 @@ use Rattle.u_rule.specs.declared.entry.Entry.{Entry}
 use Rattle.u_rule.specs.declared.entry.Entry.TheVariants as entries
 use Rattle.u_system.specs.Rising.{Rises}
 use Rattle.u_system.proofs.Member.{Contains-nil, Contains-head, Contains-tail, Contains-cons_cases}
-use Rattle.u_machine.specs.Joins.{SameActivity}
+use Rattle.u_tests.specs.Joins.{SameActivity}
 
 -- the first of two orders, one after the other, is not above where both together are below
 then_less : (a b : Ordering) → ordering_then a b ≡ Less → (a ≡ Less) ⊎ (a ≡ Equal)

@@ -1,8 +1,5 @@
 -- Which firings two tokens and a write join to.
-use Rattle.std.proofs.Common.{◌≡◌, ◌↔◌, ◌∙◌, sym, subst, ap, true, false, ℕ, [], ◌∷◌, Option, Some, None, Ok}
-use Rattle.u_name.specs.Name.{Activity}
-use Rattle.u_name.specs.Cell.{CellOf}
-use Rattle.u_value.specs.declared.value.Value.{Value}
+use Rattle.std.proofs.Common.{◌≡◌, ◌↔◌, ◌∙◌, sym, subst, ap, true, false, [], ◌∷◌, Option, Some, None, Ok}
 use Rattle.u_check.specs.Jobs.{JobParts}
 use Rattle.u_rule.specs.Parts.{TokenParts, token}
 use Rattle.u_rule.specs.Rule.{is_firing_of}
@@ -12,8 +9,8 @@ use Rattle.u_rule.specs.declared.parts.Write.{Write}
 use Rattle.u_rule.specs.declared.entry.Entry.{Entry}
 use Rattle.u_rule.specs.declared.entry.Entry.TheVariants as entries
 use Rattle.u_rule.specs.declared.firing.Firing.{Firing}
-use Rattle.u_machine.specs.Joins.{OfRead}
-use Rattle.u_machine.proofs.JoinLaws.{parts, one_activity, false_true, some_same}
+use Rattle.u_tests.specs.Joins.{OfRead}
+use Rattle.u_tests.proofs.JoinLaws.{parts, one_activity, false_true, some_same}
 
 same_write : (w x : Write) → entries.Write w ≡ entries.Write x → w ≡ x
 same_write w x e = cc

@@ -1,16 +1,15 @@
 -- What the second pass of the scan adds.
-use Rattle.std.proofs.Common.{◌≡◌, ◌↔◌, ◌⊎◌, inl, inr, sym, refl, subst, ◌∙◌, ℕ, ◌<◌, ◌+◌, List, [], ◌∷◌, drop, length, get_or, Contains}
+use Rattle.std.proofs.Common.{◌≡◌, ◌↔◌, ◌⊎◌, inl, inr, sym, refl, subst, ℕ, ◌<◌, ◌+◌, List, drop, length, get_or, Contains}
 use Rattle.std.specs.declared.cmp.Ordering.TheVariants.{Less}
 use Rattle.u_check.specs.Jobs.{JobParts}
 use Rattle.u_rule.specs.EntryOrder.{entry_cmp}
 use Rattle.u_rule.specs.declared.entry.Entry.{Entry}
 use Rattle.u_rule.specs.declared.firing.Firing.{Firing}
-use Rattle.u_system.specs.Firing.{SomeOf}
 use Rattle.u_system.specs.Rising.{Rises}
-use Rattle.u_machine.proofs.Lists.{Contains-dropped}
-use Rattle.u_machine.proofs.Neighbours.{stands_behind}
-use Rattle.u_machine.proofs.ScanLaws.{alike, ahead}
-use Rattle.u_machine.specs.Joins.{OfRead, JoinsRead, SameActivity, IsWrite}
+use Rattle.u_tests.proofs.Lists.{Contains-dropped}
+use Rattle.u_tests.proofs.Neighbours.{stands_behind}
+use Rattle.u_tests.proofs.ScanLaws.{alike, ahead}
+use Rattle.u_tests.specs.Joins.{JoinsRead, SameActivity, IsWrite}
 
 -- the second token of a read is among the tokens of its activity
 pub reads_among : (job : JobParts) (left : Entry) (rest others writes : List Entry) (old new : List Firing)

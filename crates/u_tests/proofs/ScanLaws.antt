@@ -16,10 +16,10 @@ use Rattle.u_rule.specs.declared.entry.Entry.TheVariants as entries
 use Rattle.u_rule.specs.declared.firing.Firing.{Firing}
 use Rattle.u_system.specs.Firing.{Enabled, SomeOf}
 use Rattle.u_system.specs.Rising.{Rises}
-use Rattle.u_machine.proofs.Needs.{OneValue, TwoValues, ThreeValues, Plain, Reading, Shape, shape_of, rebuilt, needs_one, needs_two, needs_three, needs_read}
-use Rattle.u_machine.proofs.Lists.{Contains-dropped}
-use Rattle.u_machine.proofs.Neighbours.{stands_behind}
-use Rattle.u_machine.specs.Joins.{OfOne, OfTwo, OfThree, OfRead, Joins, JoinsThree, JoinsRead, SameActivity, IsAtPort}
+use Rattle.u_match.proofs.Needs.{OneValue, TwoValues, ThreeValues, Plain, Reading, Shape, shape_of, rebuilt, needs_one, needs_two, needs_three, needs_read}
+use Rattle.u_tests.proofs.Lists.{Contains-dropped}
+use Rattle.u_tests.proofs.Neighbours.{stands_behind}
+use Rattle.u_tests.specs.Joins.{OfOne, OfTwo, OfThree, OfRead, Joins, JoinsThree, JoinsRead, SameActivity, IsAtPort}
 
 -- the tokens of an enabled firing are there, and join to it
 module _ (job : JobParts) (h : List Entry) (f : Firing) (en : Enabled (system_of job) (Contains h) f) (write : f.write ≡ None) where

@@ -1,5 +1,5 @@
 -- The record that three entries make, by what the third one is.
-use Rattle.std.proofs.Common.{◌≡◌, ◌↔◌, ◌⊎◌, inl, inr, Option, Some, Ok, Err}
+use Rattle.std.proofs.Common.{◌≡◌, ◌↔◌, inl, inr, Option, Some, Ok, Err}
 use Rattle.std.specs.Prelude.{Result, IfOk}
 use Rattle.u_rule.specs.Parts.{TokenParts}
 use Rattle.u_rule.specs.declared.parts.Write.{Write}

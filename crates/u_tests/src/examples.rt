@@ -1,4 +1,7 @@
 //! The programs of the folder programs, each with an argument.
+use std::alloc::{AllocError, Global};
+use u_check::{Job, check};
+use u_program::read;
 
 /// The double of its argument.
 pub const DOUBLE: &[u8] =
@@ -49,3 +52,10 @@ pub const EXAMPLES: [(&[u8], i64); 11] = [
     (WAVEFRONT, 3),
     (MATRICES, 1),
 ];
+
+/// The program of that text, on the argument.
+pub fn job(alloc: Global, text: &[u8], argument: i64) -> Result<Job, AllocError> {
+    let program = read(alloc, text).map_err(|_| AllocError)?;
+    let checked = check(program).map_err(|_| AllocError)?;
+    Ok(Job::new(checked, argument))
+}

@@ -10,10 +10,16 @@ mod enabling;
 mod examples;
 mod holding;
 #[cfg(test)]
+mod matching_tests;
+#[cfg(test)]
 mod merging_tests;
 #[cfg(test)]
 mod plain_texts;
+mod reads;
 mod rounds;
+mod scan;
+#[cfg(test)]
+mod shuffling;
 #[cfg(test)]
 mod tests;
 #[cfg(test)]
@@ -23,3 +29,4 @@ pub use among::are_among;
 pub use enabling::{are_in, enabled, is_enabled};
 pub use holding::{are_firings, held};
 pub use rounds::whole;
+pub use scan::{enabled_firings, ready_firings};

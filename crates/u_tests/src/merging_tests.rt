@@ -1,18 +1,14 @@
 //! Histories of parts of a run, merged in several orders: the bytes are those of the whole.
-use crate::examples::{DOUBLE, EXAMPLES, TWO_WRITERS};
+use crate::examples::{DOUBLE, EXAMPLES, TWO_WRITERS, job};
 use std::alloc::{AllocError, Global};
 use std::test::Fail;
-use u_check::{Job, check};
 use u_history::History;
 use u_machine::Machine;
-use u_program::read;
 use u_rule::Entry;
 
 /// The entries of the run, until it is quiet.
 fn entries_of(alloc: Global, text: &[u8], argument: i64) -> Result<Vec<Entry>, AllocError> {
-    let program = read(alloc, text).map_err(|_| AllocError)?;
-    let checked = check(program).map_err(|_| AllocError)?;
-    let job = Job::new(checked, argument);
+    let job = job(alloc, text, argument)?;
     let mut machine = Machine::new(alloc, &job, 1000)?;
     machine.run(1000).map_err(|_| AllocError)?;
     machine.history().entries()

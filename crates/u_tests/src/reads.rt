@@ -7,7 +7,7 @@ ghost use Rattle.u_rule.specs.declared.entry.Entry.{Entry};
 ghost use Rattle.u_rule.specs.declared.firing.Firing.{Firing};
 ghost use Rattle.u_rule.specs.EntryOrder.{entry_cmp, firing, written};
 ghost use Rattle.u_rule.specs.Structures.{cell_named};
-ghost use Rattle.u_machine.specs.Joins.{JoinsRead, OfRead, IsWrite};
+ghost use Rattle.u_tests.specs.Joins.{JoinsRead, OfRead, IsWrite};
 ghost use Rattle.u_system.specs.Firing.{SomeOf};
 ghost use Rattle.u_system.specs.Rising.{Rises};
 

@@ -14,7 +14,7 @@ ghost use Rattle.u_rule.specs.EntryOrder.{entry_cmp, firing_cmp, firing};
 ghost use Rattle.std.specs.Prelude.{MatchOption};
 ghost use Rattle.u_rule.specs.Parts.{TokenParts};
 ghost use Rattle.u_rule.specs.declared.entry.Entry.TheVariants as entries;
-ghost use Rattle.u_machine.specs.Joins.{Joins, JoinsThree, OfOne, OfTwo, OfThree, SameActivity, IsAtPort};
+ghost use Rattle.u_tests.specs.Joins.{Joins, JoinsThree, OfOne, OfTwo, OfThree, SameActivity, IsAtPort};
 ghost use Rattle.u_system.specs.Firing.{Enabled, SomeOf};
 ghost use Rattle.u_system.specs.Rising.{Rises};
 

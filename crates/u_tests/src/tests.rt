@@ -1,15 +1,16 @@
 //! Worked runs, where what the machine answers is compared with the plain programs.
 use crate::among::are_among;
 use crate::enabling::{are_in, enabled};
+use crate::examples::job;
 use crate::holding::{are_firings, held};
 use crate::rounds::whole;
+use crate::scan::enabled_firings;
 use std::alloc::{AllocError, Global};
 use std::test::Fail;
-use u_check::{Job, check};
+use u_check::Job;
 use u_cli::STORED_PROGRAM;
-use u_machine::{Machine, Refusal, Step, enabled_firings};
+use u_machine::{Machine, Refusal, Step};
 use u_name::Name;
-use u_program::read;
 
 /// Two constants go to the one port of `end`.
 const TWO_CONSTANTS: &[u8] =
@@ -26,12 +27,6 @@ const SUM: &[u8] =
 /// The factorial, by calls.
 const FACTORIAL: &[u8] =
     b"u-program 1\nblock main\n1 0 begin -> 2.1 3.2\n2 0 const @fact -> 3.1\n3 0 apply 4 ->\n4 0 back -> 5.1\n5 0 end ->\nblock fact\n1 0 begin -> 2.1 3.1 4.1 5.1 7.2\n2 0 const 0 -> 5.2\n3 0 const @one -> 6.2\n4 0 const @rec -> 6.3\n5 0 le -> 6.1\n6 0 select -> 7.1\n7 0 apply 8 ->\n8 0 back -> 9.1\n9 0 end ->\nblock rec\n1 0 begin -> 2.1 3.1 4.1 7.1\n2 0 const 1 -> 3.2\n3 0 sub -> 5.2\n4 0 const @fact -> 5.1\n5 0 apply 6 ->\n6 0 back -> 7.2\n7 0 mul -> 8.1\n8 0 end ->\nblock one\n1 0 begin -> 2.1\n2 0 const 1 -> 3.1\n3 0 end ->\n";
-
-fn job(alloc: Global, text: &[u8], argument: i64) -> Result<Job, AllocError> {
-    let program = read(alloc, text).map_err(|_| AllocError)?;
-    let checked = check(program).map_err(|_| AllocError)?;
-    Ok(Job::new(checked, argument))
-}
 
 /// Whether the plain program and the scan find the same firings, each of them once.
 fn scans_agree(alloc: Global, job: &Job, machine: &Machine<'_>) -> Result<bool, AllocError> {

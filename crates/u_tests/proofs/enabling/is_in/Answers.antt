@@ -1,6 +1,6 @@
 use Rattle.std.proofs.Common.{◌≡◌, refl}
 use Rattle.u_rule.specs.declared.entry.Entry.{Entry}
-use Rattle.u_machine.proofs.Lists.{each_more}
+use Rattle.u_match.proofs.Rounds.{each_more}
 use Rattle.u_tests.proofs.Lists.{each_all, false_true}
 use Rattle.u_tests.proofs.enabling.is_in.Goals as goal
 

@@ -2,13 +2,13 @@ use Rattle.std.proofs.Common.{◌⊎◌, ◌↔◌, ◌∷◌, ◌+◌, List, Co
 use Rattle.u_rule.specs.EntryOrder.{entry_cmp}
 use Rattle.u_rule.specs.declared.entry.Entry.{Entry}
 use Rattle.u_rule.specs.declared.firing.Firing.{Firing}
-use Rattle.u_machine.specs.Joins.{JoinsRead}
+use Rattle.u_tests.specs.Joins.{JoinsRead}
 use Rattle.u_system.specs.Rising.{Rises}
 use Rattle.u_system.proofs.Scan.{scan_more, scan_all}
-use Rattle.u_machine.proofs.Lists.{Contains-dropped}
-use Rattle.u_machine.proofs.Neighbours.{rises_from}
-use Rattle.u_machine.proofs.ReadScan.{reads_step}
-use Rattle.u_machine.proofs.reads.add_reads.Goals as goal
+use Rattle.u_tests.proofs.Lists.{Contains-dropped}
+use Rattle.u_tests.proofs.Neighbours.{rises_from}
+use Rattle.u_tests.proofs.ReadScan.{reads_step}
+use Rattle.u_tests.proofs.reads.add_reads.Goals as goal
 
 pub reads_behind-requires : goal.reads_behind-requires
 reads_behind-requires c =

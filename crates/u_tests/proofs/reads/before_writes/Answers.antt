@@ -1,8 +1,9 @@
 use Rattle.std.proofs.lemmas.List.{take_all}
 use Rattle.u_rule.specs.declared.entry.Entry.{Entry}
-use Rattle.u_machine.specs.Joins.{IsWrite}
-use Rattle.u_machine.proofs.Lists.{each_more, behind_those}
-use Rattle.u_machine.proofs.reads.before_writes.Goals as goal
+use Rattle.u_tests.specs.Joins.{IsWrite}
+use Rattle.u_match.proofs.Rounds.{each_more}
+use Rattle.u_tests.proofs.Lists.{behind_those}
+use Rattle.u_tests.proofs.reads.before_writes.Goals as goal
 
 pub loop-place-preserved : goal.loop-place-preserved
 loop-place-preserved c =

@@ -1,10 +1,10 @@
 use Rattle.std.proofs.Common.{◌⊎◌, ◌↔◌, Contains, subst}
 use Rattle.u_rule.specs.declared.entry.Entry.{Entry}
 use Rattle.u_rule.specs.declared.firing.Firing.{Firing}
-use Rattle.u_machine.specs.Joins.{OfRead}
+use Rattle.u_tests.specs.Joins.{OfRead}
 use Rattle.u_system.specs.Firing.{SomeOf}
 use Rattle.u_system.proofs.Scan.{scan_more, scan_all}
-use Rattle.u_machine.proofs.reads.join_reads.Goals as goal
+use Rattle.u_tests.proofs.reads.join_reads.Goals as goal
 
 pub loop-right-preserved : goal.loop-right-preserved
 loop-right-preserved c =

@@ -1,10 +1,10 @@
 use Rattle.std.proofs.Common.{◌⊎◌, ◌↔◌, inl, inr, Contains, subst}
 use Rattle.u_rule.specs.declared.entry.Entry.{Entry}
 use Rattle.u_rule.specs.declared.firing.Firing.{Firing}
-use Rattle.u_machine.specs.Joins.{OfRead}
+use Rattle.u_tests.specs.Joins.{OfRead}
 use Rattle.u_system.proofs.Scan.{scan_more, scan_all}
-use Rattle.u_machine.proofs.reads.read_each.Goals as goal
-use Rattle.u_machine.proofs.reads.read_each.Goals.{In_ok-add}
+use Rattle.u_tests.proofs.reads.read_each.Goals as goal
+use Rattle.u_tests.proofs.reads.read_each.Goals.{In_ok-add}
 
 added : (c : In_ok-add) (f : Firing) → Contains c.add.new.found.items f ↔ (Contains c.loop-from.found.items f ⊎ OfRead c.args.job.now c.args.left.now c.args.right.now c.from-item.result f)
 added c f = (

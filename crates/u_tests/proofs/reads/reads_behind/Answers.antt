@@ -1,8 +1,8 @@
 use Rattle.std.proofs.Common.{sym, subst, Contains, List}
 use Rattle.u_rule.specs.declared.entry.Entry.{Entry}
-use Rattle.u_machine.proofs.ReadScan.{reads_among}
-use Rattle.u_machine.proofs.Lists.{Contains-taken}
-use Rattle.u_machine.proofs.reads.reads_behind.Goals as goal
+use Rattle.u_tests.proofs.ReadScan.{reads_among}
+use Rattle.u_tests.proofs.Lists.{Contains-taken}
+use Rattle.u_tests.proofs.reads.reads_behind.Goals as goal
 
 pub returns : goal.returns
 returns c =

@@ -1,8 +1,8 @@
 use Rattle.std.proofs.Common.{Contains, inl, inr, subst, sym, refl}
 use Rattle.u_rule.specs.declared.firing.Firing.{Firing}
 use Rattle.u_system.specs.Rising.{IsWith}
-use Rattle.u_machine.proofs.scan.add_new.Goals as goal
-use Rattle.u_machine.proofs.scan.add_new.Goals.{In_ok-place_in}
+use Rattle.u_tests.proofs.scan.add_new.Goals as goal
+use Rattle.u_tests.proofs.scan.add_new.Goals.{In_ok-place_in}
 
 placed : (c : In_ok-place_in) → IsWith c.args.rest.now.items c.args.firing.now c.place_in.new.list.items
 placed c = subst (λ (x : Firing). IsWith c.args.rest.now.items x c.place_in.new.list.items) c.in_ok-copy.ensures c.in_ok-place_in.ensures.ok

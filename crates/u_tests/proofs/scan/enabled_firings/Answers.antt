@@ -2,13 +2,13 @@ use Rattle.std.proofs.Common.{◌⊎◌, ◌↔◌, inl, inr, [], ◌∷◌, ◌
 use Rattle.u_rule.specs.EntryOrder.{entry_cmp}
 use Rattle.u_rule.specs.declared.entry.Entry.{Entry}
 use Rattle.u_rule.specs.declared.firing.Firing.{Firing}
-use Rattle.u_machine.specs.Joins.{Joins}
+use Rattle.u_tests.specs.Joins.{Joins}
 use Rattle.u_system.specs.Rising.{Rises}
 use Rattle.u_system.proofs.Scan.{scan_more, scan_all}
 use Rattle.u_system.proofs.Member.{Contains-nil}
-use Rattle.u_machine.proofs.Neighbours.{rises_from}
-use Rattle.u_machine.proofs.ScanLaws.{step_adds, enabled_is_joined}
-use Rattle.u_machine.proofs.scan.enabled_firings.Goals as goal
+use Rattle.u_tests.proofs.Neighbours.{rises_from}
+use Rattle.u_tests.proofs.ScanLaws.{step_adds, enabled_is_joined}
+use Rattle.u_tests.proofs.scan.enabled_firings.Goals as goal
 
 pub join-requires : goal.join-requires
 join-requires c =

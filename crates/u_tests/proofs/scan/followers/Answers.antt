@@ -1,5 +1,5 @@
-use Rattle.u_machine.proofs.Neighbours.{together}
-use Rattle.u_machine.proofs.scan.followers.Goals as goal
+use Rattle.u_tests.proofs.Neighbours.{together}
+use Rattle.u_tests.proofs.scan.followers.Goals as goal
 
 pub returns-then-not-is_same_activity-clause-all : goal.returns-then-not-is_same_activity-clause-all
 returns-then-not-is_same_activity-clause-all c x m s =

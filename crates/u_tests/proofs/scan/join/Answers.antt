@@ -1,8 +1,8 @@
 use Rattle.std.proofs.Common.{sym, subst, Contains, List}
 use Rattle.u_rule.specs.declared.entry.Entry.{Entry}
-use Rattle.u_machine.proofs.ScanLaws.{join_adds}
-use Rattle.u_machine.proofs.Lists.{Contains-taken, Contains-dropped}
-use Rattle.u_machine.proofs.scan.join.Goals as goal
+use Rattle.u_tests.proofs.ScanLaws.{join_adds}
+use Rattle.u_tests.proofs.Lists.{Contains-taken, Contains-dropped}
+use Rattle.u_tests.proofs.scan.join.Goals as goal
 
 pub returns : goal.returns
 returns c =

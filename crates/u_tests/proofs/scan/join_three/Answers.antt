@@ -1,10 +1,10 @@
 use Rattle.std.proofs.Common.{◌⊎◌, ◌↔◌, Contains, subst}
 use Rattle.u_rule.specs.declared.entry.Entry.{Entry}
 use Rattle.u_rule.specs.declared.firing.Firing.{Firing}
-use Rattle.u_machine.specs.Joins.{OfThree}
+use Rattle.u_tests.specs.Joins.{OfThree}
 use Rattle.u_system.specs.Firing.{SomeOf}
 use Rattle.u_system.proofs.Scan.{scan_more, scan_all}
-use Rattle.u_machine.proofs.scan.join_three.Goals as goal
+use Rattle.u_tests.proofs.scan.join_three.Goals as goal
 
 pub loop-middle-preserved : goal.loop-middle-preserved
 loop-middle-preserved c =

@@ -1,10 +1,10 @@
 use Rattle.std.proofs.Common.{◌⊎◌, ◌↔◌, inl, inr, Contains, subst}
 use Rattle.u_rule.specs.declared.entry.Entry.{Entry}
 use Rattle.u_rule.specs.declared.firing.Firing.{Firing}
-use Rattle.u_machine.specs.Joins.{OfTwo}
+use Rattle.u_tests.specs.Joins.{OfTwo}
 use Rattle.u_system.proofs.Scan.{scan_more, scan_all}
-use Rattle.u_machine.proofs.scan.join_two.Goals as goal
-use Rattle.u_machine.proofs.scan.join_two.Goals.{In_ok-add}
+use Rattle.u_tests.proofs.scan.join_two.Goals as goal
+use Rattle.u_tests.proofs.scan.join_two.Goals.{In_ok-add}
 
 added : (c : In_ok-add) (f : Firing) → Contains c.add.new.found.items f ↔ (Contains c.loop-right.found.items f ⊎ OfTwo c.args.job.now c.args.left.now c.right-item.result f)
 added c f = (

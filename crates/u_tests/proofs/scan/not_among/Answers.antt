@@ -2,7 +2,7 @@ use Rattle.std.proofs.Common.{◌≡◌, ◌⊎◌, inl, inr, Contains, ◌++◌
 use Rattle.std.proofs.lemmas.List.{take_more, take_all}
 use Rattle.std.proofs.lemmas.List.Elements.{Contains-append_left, Contains-push, Contains-push_cases}
 use Rattle.u_rule.specs.declared.firing.Firing.{Firing}
-use Rattle.u_machine.proofs.scan.not_among.Goals as goal
+use Rattle.u_tests.proofs.scan.not_among.Goals as goal
 
 step_exact : (before old new log : List Firing) (y : Firing) → ((f : Firing) → Contains old f → Contains before f × (Contains log f → ⊥)) → ((f : Firing) → Contains new f → Contains old f ⊎ ((y ≡ f) × (Contains log f → ⊥))) → (f : Firing) → Contains new f → Contains (before ++ y ∷ []) f × (Contains log f → ⊥)
 step_exact before old new log y i s f m =

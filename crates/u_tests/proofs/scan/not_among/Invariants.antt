@@ -3,7 +3,7 @@ use Rattle.std.specs.Prelude.{Contains}
 use Rattle.u_rule.specs.declared.firing.Firing.{Firing}
 use Rattle.u_system.specs.Rising.{Rises}
 use Rattle.u_rule.specs.EntryOrder.{firing_cmp}
-use Rattle.u_machine.proofs.scan.not_among.Given as goal
+use Rattle.u_tests.proofs.scan.not_among.Given as goal
 
 abbrev pub invariant-loop-firing : goal.invariant-loop-firing
 invariant-loop-firing l = record {

@@ -3,8 +3,8 @@ use Rattle.u_rule.specs.Rule.{system_of}
 use Rattle.u_rule.specs.EntryOrder.{EntryList, FiringList}
 use Rattle.u_rule.specs.declared.firing.Firing.{Firing}
 use Rattle.u_system.specs.Firing.{Enabled}
-use Rattle.u_machine.proofs.scan.ready_firings.Goals as goal
-use Rattle.u_machine.proofs.scan.ready_firings.Goals.{In_ok-ready}
+use Rattle.u_tests.proofs.scan.ready_firings.Goals as goal
+use Rattle.u_tests.proofs.scan.ready_firings.Goals.{In_ok-ready}
 
 enabled : (c : In_ok-ready) (f : Firing) → Contains c.deref-2.result.now f ↔ Enabled (system_of c.args.job.now) (Contains c.args.history.now) f
 enabled c f =
