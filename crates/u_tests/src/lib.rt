@@ -24,6 +24,8 @@ mod shuffling;
 mod tests;
 #[cfg(test)]
 mod text_tests;
+#[cfg(test)]
+mod worked_matching;
 
 pub use among::are_among;
 pub use enabling::{are_in, enabled, is_enabled};
