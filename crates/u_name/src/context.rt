@@ -185,6 +185,8 @@ impl Context {
         Ok(Context { node })
     }
 
+    /// Kinds first, and for the same kind the outer contexts. The parts are compared only where those
+    /// are equal.
     fn compare(&self, other: &Context) -> Ordering
         ensures { result ≡ context_cmp self.now other.now }
     {
@@ -207,11 +209,13 @@ impl Context {
                     number: number_2,
                     initiation: initiation_2,
                 },
-            ) => outer.compare(outer_2).then(
-                block
-                    .cmp(block_2)
-                    .then(number.cmp(number_2).then(initiation.cmp(initiation_2))),
-            ),
+            ) => match outer.compare(outer_2) {
+                Ordering::Equal => match block.cmp(block_2) {
+                    Ordering::Equal => number.cmp(number_2).then(initiation.cmp(initiation_2)),
+                    unequal => unequal,
+                },
+                unequal => unequal,
+            },
             (
                 Node::Call {
                     outer,
@@ -225,13 +229,15 @@ impl Context {
                     statement: statement_2,
                     initiation: initiation_2,
                 },
-            ) => outer.compare(outer_2).then(
-                block.cmp(block_2).then(
-                    statement
+            ) => match outer.compare(outer_2) {
+                Ordering::Equal => match block.cmp(block_2) {
+                    Ordering::Equal => statement
                         .cmp(statement_2)
                         .then(initiation.cmp(initiation_2)),
-                ),
-            ),
+                    unequal => unequal,
+                },
+                unequal => unequal,
+            },
         }
     }
 }

@@ -135,13 +135,16 @@ impl Name {
     fn compare(&self, other: &Name) -> Ordering
         ensures { result ≡ name_cmp self.now other.now }
     {
-        self.context.cmp(&other.context).then(
-            self.block.cmp(&other.block).then(
-                self.statement
+        match self.context.cmp(&other.context) {
+            Ordering::Equal => match self.block.cmp(&other.block) {
+                Ordering::Equal => self
+                    .statement
                     .cmp(&other.statement)
                     .then(self.initiation.cmp(&other.initiation)),
-            ),
-        )
+                unequal => unequal,
+            },
+            unequal => unequal,
+        }
     }
 
     /// Another activity of the same context and block.
