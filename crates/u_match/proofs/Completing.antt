@@ -11,11 +11,11 @@ use Rattle.u_rule.specs.declared.entry.Entry.{Entry}
 use Rattle.u_rule.specs.declared.entry.Entry.TheVariants as entries
 use Rattle.u_match.specs.Under.{KeepsAll}
 use Rattle.u_match.specs.declared.keys.Tables.{Tables}
-use Rattle.u_match.specs.Keys.{place_cmp, cell_order, place, values_at, writes_of, met_at, Notes, IsComplete, StaysComplete, IsCompleteWith}
+use Rattle.u_match.specs.Keys.{place_eq, cell_eq, place, values_at, writes_of, met_at, Notes, IsComplete, StaysComplete, IsCompleteWith}
 use Rattle.u_match.proofs.Noted.{notes_still}
 use Rattle.u_match.proofs.Meeting.{met_own, met_other, same_token}
 
-module _ (old new : Tables) (tokens : KeepsAll place_cmp old.tokens new.tokens) (writes : KeepsAll cell_order old.writes new.writes) (reads : KeepsAll cell_order old.reads new.reads) where
+module _ (old new : Tables) (tokens : KeepsAll place_eq old.tokens new.tokens) (writes : KeepsAll cell_eq old.writes new.writes) (reads : KeepsAll cell_eq old.reads new.reads) where
   pub stays : StaysComplete old new
   stays es c = record {
     tokens = λ a p v m. tokens (place a p) v (c.tokens a p v m);

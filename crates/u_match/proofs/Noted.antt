@@ -1,21 +1,20 @@
 -- What the tables have once an entry was noted.
-use Rattle.std.proofs.Common.{◌≡◌, ◌↔◌, subst, [], ◌∷◌, Contains, Option, Some, None, Ok, Ordering}
-use Rattle.std.specs.Global.{Vec}
-use Rattle.std.specs.BTreeMap.{BTreeMap}
+use Rattle.std.proofs.Common.{◌≡◌, ◌↔◌, subst, [], ◌∷◌, Contains, Option, Some, None, Ok, Bool}
+use Rattle.u_match.specs.declared.table.Table.{Table}
 use Rattle.u_name.specs.Name.{Activity}
 use Rattle.u_name.specs.Cell.{CellOf}
 use Rattle.u_value.specs.declared.value.Value.{Value}
 use Rattle.u_rule.specs.Structures.{cell_named}
 use Rattle.u_match.specs.Under.{KeepsAll}
 use Rattle.u_match.specs.declared.keys.Read.{Read}
-use Rattle.u_match.specs.Keys.{ReadTable, cell_order, reads_of, read, Notes}
+use Rattle.u_match.specs.Keys.{ReadTable, cell_eq, reads_of, read, Notes}
 
 -- nothing is lost in one step, or in two
-pub keeps_itself : {K V : Type 0} (cmp : K → K → Ordering) (m : BTreeMap K (Vec V)) → KeepsAll cmp m m
-keeps_itself cmp m k v c = c
+pub keeps_itself : {K V : Type 0} (eq : K → K → Bool) (m : Table K V) → KeepsAll eq m m
+keeps_itself eq m k v c = c
 
-pub keeps_both : {K V : Type 0} (cmp : K → K → Ordering) (a b c : BTreeMap K (Vec V)) → KeepsAll cmp a b → KeepsAll cmp b c → KeepsAll cmp a c
-keeps_both cmp a b c p q k v m = q k v (p k v m)
+pub keeps_both : {K V : Type 0} (eq : K → K → Bool) (a b c : Table K V) → KeepsAll eq a b → KeepsAll eq b c → KeepsAll eq a c
+keeps_both eq a b c p q k v m = q k v (p k v m)
 
 -- where the values name no cell there is nothing to note
 pub notes_none : (a : Activity) (v w : Value) (o : Option CellOf) (reads : ReadTable) → o ≡ None → ((c : CellOf) → (o ≡ Some c) ↔ (cell_named (v ∷ w ∷ []) ≡ Ok c)) → Notes a v w reads
@@ -28,5 +27,5 @@ notes_one a v w o cell r reads is named e m c h = subst (λ (x : CellOf). Contai
     same = let g = (named c).1 h in cc
 
 -- what is noted stays so
-pub notes_still : (a : Activity) (v w : Value) (old new : ReadTable) → KeepsAll cell_order old new → Notes a v w old → Notes a v w new
+pub notes_still : (a : Activity) (v w : Value) (old new : ReadTable) → KeepsAll cell_eq old new → Notes a v w old → Notes a v w new
 notes_still a v w old new k n c e = k c (read a v w) (n c e)

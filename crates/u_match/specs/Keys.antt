@@ -1,11 +1,8 @@
 -- Where entries meet, and what the tables of a matcher have there.
-use Rattle.std.specs.Prelude.{◌≡◌, ℕ, ◌==◌, if◌then◌else◌, List, [], ◌∷◌, Contains, Ok}
-use Rattle.std.specs.Global.{Vec}
-use Rattle.std.specs.BTreeMap.{BTreeMap}
-use Rattle.std.specs.declared.cmp.Ordering.{Ordering}
+use Rattle.std.specs.Prelude.{◌≡◌, ℕ, Bool, ◌==◌, if◌then◌else◌, List, [], ◌∷◌, Contains, Ok}
 use Rattle.u_name.specs.Name.{Activity}
 use Rattle.u_name.specs.Cell.{CellOf}
-use Rattle.u_name.specs.contracts.cell.CellOrd.TheImpl as cell_ord
+use Rattle.u_name.specs.contracts.cell.CellPartialEq.TheImpl as cell_partial
 use Rattle.u_value.specs.declared.value.Value.{Value}
 use Rattle.u_rule.specs.Parts.{TokenParts, token}
 use Rattle.u_rule.specs.EntryOrder.{written}
@@ -17,7 +14,8 @@ use Rattle.u_rule.specs.declared.firing.Written.{Written}
 use Rattle.u_match.specs.declared.keys.Place.{Place}
 use Rattle.u_match.specs.declared.keys.Read.{Read}
 use Rattle.u_match.specs.declared.keys.Tables.{Tables}
-use Rattle.u_match.specs.contracts.keys.PlaceOrd.TheImpl as place_ord
+use Rattle.u_match.specs.contracts.keys.PlacePartialEq.TheImpl as place_partial
+use Rattle.u_match.specs.declared.table.Table.{Table}
 use Rattle.u_match.specs.Under.{under}
 
 abbrev pub place : Activity → ℕ → Place
@@ -26,28 +24,28 @@ place activity port = record { activity = activity; port = port }
 abbrev pub read : Activity → Value → Value → Read
 read activity structure index = record { activity = activity; structure = structure; index = index }
 
-abbrev pub place_cmp : Place → Place → Ordering
-place_cmp = (place_ord.ghosts).cmp
+abbrev pub place_eq : Place → Place → Bool
+place_eq = (place_partial.ghosts).eq
 
-abbrev pub cell_order : CellOf → CellOf → Ordering
-cell_order = (cell_ord.ghosts).cmp
+abbrev pub cell_eq : CellOf → CellOf → Bool
+cell_eq = (cell_partial.ghosts).eq
 
 -- the tables of values by port, of writes by cell, and of reads by cell
 abbrev pub TokenTable : Type 0
-TokenTable = BTreeMap Place (Vec Value)
+TokenTable = Table Place Value
 
 abbrev pub ReadTable : Type 0
-ReadTable = BTreeMap CellOf (Vec Read)
+ReadTable = Table CellOf Read
 
 -- the values at a port, the writes of a cell and the reads of it that a table has
 abbrev pub values_at : TokenTable → Activity → ℕ → List Value
-values_at tokens a p = under place_cmp tokens (place a p)
+values_at tokens a p = under place_eq tokens (place a p)
 
 abbrev pub writes_of : Tables → CellOf → List Written
-writes_of ts c = under cell_order ts.writes c
+writes_of ts c = under cell_eq ts.writes c
 
 abbrev pub reads_of : ReadTable → CellOf → List Read
-reads_of reads c = under cell_order reads c
+reads_of reads c = under cell_eq reads c
 
 -- the values that the token meets at a port of its activity: at its own port its own, and at another those there
 abbrev pub met_at : TokenTable → TokenParts → ℕ → List Value

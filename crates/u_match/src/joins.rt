@@ -7,7 +7,6 @@ ghost use Rattle.u_system.specs.Firing.{SomeOf};
 ghost use Rattle.u_match.specs.Joins.{IsThree, IsReading, ReadsCell, JoinsTwo, JoinsOne, JoinsToken, IsWoken, JoinsWrite, Meets};
 
 use crate::keys::{Read, Tables, cell_at, met_at, place_of};
-use crate::table::under;
 use std::alloc::{AllocError, Global};
 use u_name::Name;
 use u_rule::{Entry, Firing, Token, Values, Write, Written};
@@ -124,7 +123,7 @@ fn add_reads(
         None => return Ok(()),
         Some(cell) => cell,
     };
-    let writes = under(&tables.writes, &cell);
+    let writes = tables.writes.under(&cell);
     add_readings(alloc, activity, first, second, writes, found)?;
     Ok(())
 }
@@ -266,7 +265,7 @@ pub(crate) fn with_write(
 ) -> Result<Vec<Firing>, AllocError>
     ensures { IfOk result (λ v. (f : Firing) → Contains v.items f ↔ JoinsWrite tables.now write.now f) }
 {
-    let reads = under(&tables.reads, &write.cell);
+    let reads = tables.reads.under(&write.cell);
     let found = wake_each(alloc, write, reads)?;
     Ok(found)
 }

@@ -4,16 +4,15 @@ ghost use Rattle.u_name.specs.Cell.{CellOf};
 ghost use Rattle.u_rule.specs.Structures.{cell_named, is_index};
 ghost use Rattle.u_match.specs.Keys.{place, met_at, IsComplete};
 
-use crate::table::under;
+use crate::table::Table;
 use std::alloc::{AllocError, Global};
-use std::collections::BTreeMap;
 use std::slice;
 use u_name::{Cell, Name};
 use u_rule::{Token, Written};
 use u_value::Value;
 
 /// A port of an activity.
-#[derive(PartialEq, Eq, PartialOrd, Ord, Drop)]
+#[derive(PartialEq, Eq, Hash, Drop)]
 pub(crate) struct Place {
     /// The activity.
     pub activity: Name,
@@ -37,11 +36,11 @@ pub(crate) struct Read {
 #[derive(Drop)]
 pub(crate) struct Tables {
     /// The values at each port.
-    pub tokens: BTreeMap<Place, Vec<Value>>,
+    pub tokens: Table<Place, Value>,
     /// The writes of each cell.
-    pub writes: BTreeMap<Cell, Vec<Written>>,
+    pub writes: Table<Cell, Written>,
     /// The reads that wait for each cell.
-    pub reads: BTreeMap<Cell, Vec<Read>>,
+    pub reads: Table<Cell, Read>,
 }
 
 impl Tables {
@@ -50,9 +49,9 @@ impl Tables {
         ensures { IsComplete result [] }
     {
         Tables {
-            tokens: BTreeMap::new(alloc),
-            writes: BTreeMap::new(alloc),
-            reads: BTreeMap::new(alloc),
+            tokens: Table::new(alloc),
+            writes: Table::new(alloc),
+            reads: Table::new(alloc),
         }
     }
 }
@@ -67,7 +66,7 @@ pub(crate) fn place_of(token: &Token, port: u8) -> Result<Place, AllocError>
 
 /// The values that the token meets at that port of its activity.
 pub(crate) fn met_at<'a>(
-    tokens: &'a BTreeMap<Place, Vec<Value>>,
+    tokens: &'a Table<Place, Value>,
     token: &'a Token,
     at: &Place,
 ) -> &'a [Value]
@@ -77,7 +76,7 @@ pub(crate) fn met_at<'a>(
     if token.port() == at.port {
         return slice::from_ref(token.value());
     }
-    under(tokens, at)
+    tokens.under(at)
 }
 
 /// Whether the index is that of a cell of a structure of that length.

@@ -5,12 +5,11 @@ ghost use Rattle.u_name.specs.Cell.{CellOf};
 ghost use Rattle.u_value.specs.declared.value.Value.{Value};
 ghost use Rattle.u_rule.specs.EntryOrder.{written};
 ghost use Rattle.u_match.specs.Under.{under, KeepsAll};
-ghost use Rattle.u_match.specs.Keys.{cell_order, place_cmp, values_at, met_at, Notes, StaysComplete, IsCompleteWith};
+ghost use Rattle.u_match.specs.Keys.{cell_eq, place_eq, values_at, met_at, Notes, StaysComplete, IsCompleteWith};
 
 use crate::keys::{Place, Read, Tables, cell_at, met_at, place_of};
-use crate::table::put;
+use crate::table::Table;
 use std::alloc::{AllocError, Global};
-use std::collections::BTreeMap;
 use u_name::{Cell, Name};
 use u_rule::{Entry, Token, Write, Written};
 use u_value::Value;
@@ -18,12 +17,12 @@ use u_value::Value;
 /// Notes the read of the cell that the structure and the index name, where they name one.
 fn note_read(
     alloc: Global,
-    reads: &mut BTreeMap<Cell, Vec<Read>>,
+    reads: &mut Table<Cell, Read>,
     activity: &Name,
     structure: &Value,
     index: &Value,
 ) -> Result<(), AllocError>
-    ensures kept { KeepsAll cell_order reads.old reads.new }
+    ensures kept { KeepsAll cell_eq reads.old reads.new }
     ensures ok { OnOk result (Notes activity.now structure.now index.now reads.new) }
 {
     let named = cell_at(structure, index)?;
@@ -36,19 +35,19 @@ fn note_read(
         structure: structure.copy()?,
         index: index.copy()?,
     };
-    put(reads, alloc, cell, read)?;
+    reads.put(alloc, cell, read)?;
     Ok(())
 }
 
 /// Notes the reads of the cells that the structure names with one of the indices.
 fn note_indices(
     alloc: Global,
-    reads: &mut BTreeMap<Cell, Vec<Read>>,
+    reads: &mut Table<Cell, Read>,
     activity: &Name,
     structure: &Value,
     indices: &[Value],
 ) -> Result<(), AllocError>
-    ensures kept { KeepsAll cell_order reads.old reads.new }
+    ensures kept { KeepsAll cell_eq reads.old reads.new }
     ensures ok { OnOk result ((w : Value) → Contains indices.now w → Notes activity.now structure.now w reads.new) }
 {
     for index in indices {
@@ -60,12 +59,12 @@ fn note_indices(
 /// Notes the reads of the cells that one of the structures names with one of the indices.
 fn note_reads(
     alloc: Global,
-    reads: &mut BTreeMap<Cell, Vec<Read>>,
+    reads: &mut Table<Cell, Read>,
     activity: &Name,
     structures: &[Value],
     indices: &[Value],
 ) -> Result<(), AllocError>
-    ensures kept { KeepsAll cell_order reads.old reads.new }
+    ensures kept { KeepsAll cell_eq reads.old reads.new }
     ensures ok { OnOk result ((v : Value) → Contains structures.now v → (w : Value) → Contains indices.now w → Notes activity.now v w reads.new) }
 {
     for structure in structures {
@@ -77,11 +76,11 @@ fn note_reads(
 /// Notes the reads that the token makes with what it meets. A token at the third port makes none.
 fn note_reads_of(
     alloc: Global,
-    tokens: &BTreeMap<Place, Vec<Value>>,
-    reads: &mut BTreeMap<Cell, Vec<Read>>,
+    tokens: &Table<Place, Value>,
+    reads: &mut Table<Cell, Read>,
     token: &Token,
 ) -> Result<(), AllocError>
-    ensures kept { KeepsAll cell_order reads.old reads.new }
+    ensures kept { KeepsAll cell_eq reads.old reads.new }
     ensures ok { OnOk result ((v : Value) → Contains (met_at tokens.now token.now 1) v → (w : Value) → Contains (met_at tokens.now token.now 2) w → (token.now.port ≡ 3) ⊎ Notes token.now.activity v w reads.new) }
 {
     if token.port() == 3 {
@@ -98,33 +97,33 @@ fn note_reads_of(
 /// Puts the token's value at its port.
 fn note_value(
     alloc: Global,
-    tokens: &mut BTreeMap<Place, Vec<Value>>,
+    tokens: &mut Table<Place, Value>,
     token: &Token,
 ) -> Result<(), AllocError>
-    ensures kept { KeepsAll place_cmp tokens.old tokens.new }
+    ensures kept { KeepsAll place_eq tokens.old tokens.new }
     ensures ok { OnOk result (Contains (values_at tokens.new token.now.activity token.now.port) token.now.value) }
 {
     let at = place_of(token, token.port())?;
     let value = token.value().copy()?;
-    put(tokens, alloc, at, value)?;
+    tokens.put(alloc, at, value)?;
     Ok(())
 }
 
 /// Puts the write in its cell.
 fn note_write(
     alloc: Global,
-    writes: &mut BTreeMap<Cell, Vec<Written>>,
+    writes: &mut Table<Cell, Written>,
     write: &Write,
 ) -> Result<(), AllocError>
-    ensures kept { KeepsAll cell_order writes.old writes.new }
-    ensures ok { OnOk result (Contains (under cell_order writes.new write.now.cell) (written write.now.writer write.now.value)) }
+    ensures kept { KeepsAll cell_eq writes.old writes.new }
+    ensures ok { OnOk result (Contains (under cell_eq writes.new write.now.cell) (written write.now.writer write.now.value)) }
 {
     let cell = write.cell.copy()?;
     let by = Written {
         writer: write.writer.copy()?,
         value: write.value.copy()?,
     };
-    put(writes, alloc, cell, by)?;
+    writes.put(alloc, cell, by)?;
     Ok(())
 }
 

@@ -1,41 +1,55 @@
 //! Lists under keys.
-ghost use Rattle.std.specs.Prelude.{◌≡◌, OnOk, Contains};
+ghost use Rattle.std.specs.Prelude.{◌≡◌, [], OnOk, Contains};
 ghost use Rattle.u_match.specs.Under.{under, KeepsAll};
 
 use std::alloc::{AllocError, Global};
-use std::collections::BTreeMap;
+use std::collections::HashMap;
+use std::hash::Hash;
 
-/// What stands under the key.
-#[tactic(auto, unfolding(crate::specs::Under::under))]
-pub(crate) fn under<'a, K: Ord, V>(table: &'a BTreeMap<K, Vec<V>>, key: &K) -> &'a [V]
-    ensures { result.now ≡ under K.cmp table.now key.now }
-{
-    match table.get(key) {
-        Some(list) => list,
-        None => &[],
-    }
+/// Lists under keys. What was never put under a key is not there, so at first each list is empty.
+#[derive(Drop)]
+pub(crate) struct Table<K: Eq + Hash + Drop, V: Drop> {
+    lists: HashMap<K, Vec<V>>,
 }
 
-/// Puts a value under the key.
-///
-/// # Errors
-/// `AllocError` where there is no memory; what stood under each key still does.
-#[tactic(auto, unfolding(crate::specs::Under::under))]
-pub(crate) fn put<K: Ord + Drop, V: Drop>(
-    table: &mut BTreeMap<K, Vec<V>>,
-    alloc: Global,
-    key: K,
-    value: V,
-) -> Result<(), AllocError>
-    ensures kept { KeepsAll K.cmp table.old table.new }
-    ensures ok { OnOk result (Contains (under K.cmp table.new key) value) }
-{
-    if let Some(list) = table.get_mut(&key) {
-        list.push(value)?;
-        return Ok(());
+impl<K: Eq + Hash + Drop, V: Drop> Table<K, V> {
+    /// The table without anything. It takes no memory.
+    #[tactic(auto, unfolding(crate::specs::Under::under))]
+    pub(crate) fn new(alloc: Global) -> Table<K, V>
+        ensures { (k : K) → under K.eq result k ≡ [] }
+    {
+        Table {
+            lists: HashMap::new(alloc),
+        }
     }
-    let mut list = Vec::new(alloc);
-    list.push(value)?;
-    table.insert(key, list)?;
-    Ok(())
+
+    /// What stands under the key.
+    #[tactic(auto, unfolding(crate::specs::Under::under))]
+    pub(crate) fn under(&self, key: &K) -> &[V]
+        ensures { result.now ≡ under K.eq self.now key.now }
+    {
+        match self.lists.get(key) {
+            Some(list) => list,
+            None => &[],
+        }
+    }
+
+    /// Puts a value under the key.
+    ///
+    /// # Errors
+    /// `AllocError` where there is no memory; what stood under each key still does.
+    #[tactic(auto, unfolding(crate::specs::Under::under))]
+    pub(crate) fn put(&mut self, alloc: Global, key: K, value: V) -> Result<(), AllocError>
+        ensures kept { KeepsAll K.eq self.old self.new }
+        ensures ok { OnOk result (Contains (under K.eq self.new key) value) }
+    {
+        if let Some(list) = self.lists.get_mut(&key) {
+            list.push(value)?;
+            return Ok(());
+        }
+        let mut list = Vec::new(alloc);
+        list.push(value)?;
+        self.lists.insert(key, list)?;
+        Ok(())
+    }
 }
