@@ -2,4 +2,3 @@ pub mod Under
 pub mod Keys
 pub mod Joins
 pub mod Waking
-pub mod Matchers

@@ -10,7 +10,6 @@
 //! than the set has; what it names is tested before it is answered.
 #![tactic(auto)]
 
-mod entries;
 mod joins;
 mod keys;
 mod matcher;

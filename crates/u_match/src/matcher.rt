@@ -2,40 +2,40 @@
 ghost use Rattle.std.specs.Prelude.{◌≡◌, ◌↔◌, [], IfOk, OnOk, OnErr, IsTrue, Contains, ◌⊎◌, length};
 ghost use Rattle.u_rule.specs.declared.entry.Entry.{Entry};
 ghost use Rattle.u_rule.specs.declared.firing.Firing.{Firing};
-ghost use Rattle.u_rule.specs.EntryOrder.{entry_cmp, firing_cmp};
+ghost use Rattle.u_rule.specs.EntryOrder.{firing_cmp};
 ghost use Rattle.u_system.specs.Rising.{Rises, IsWith};
 ghost use Rattle.u_match.specs.Waking.{IsWokenBy};
 
-use crate::entries::{has_entry, put_in};
 use crate::joins::with_entry;
 use crate::keys::Tables;
 use crate::notes::note;
 use crate::woken::woken_of;
 use std::alloc::{AllocError, Global};
-use std::collections::BTreeSet;
 use std::marker::Model;
 use u_check::Job;
 use u_rule::{Entry, Firing};
+use u_system::HashedSet;
 
-/// A set of entries, with what each of them may meet. Contracts see the list of its entries, in order.
+/// A set of entries, with what each of them may meet. Contracts see a list
+/// of its entries.
 #[derive(Drop)]
 pub struct Matcher {
     alloc: Global,
-    entries: BTreeSet<Entry>,
+    entries: HashedSet<Entry>,
     tables: Tables,
 }
 
 impl Model for Matcher {
     ghost use Rattle.u_rule.specs.EntryOrder.{EntryList, entry_list_code};
-    ghost use Rattle.u_match.specs.Matchers.{IsMatcher};
+    ghost use Rattle.u_match.specs.Keys.{IsComplete};
 
     ghost Value = { EntryList };
 
     ghost coded = { entry_list_code };
 
-    ghost view = { λ m. m.entries.keys };
+    ghost view = { λ m. m.entries };
 
-    ghost invariant = { λ m. IsMatcher m.entries.keys m.tables };
+    ghost invariant = { λ m. IsComplete m.tables m.entries };
 }
 
 impl Matcher {
@@ -45,24 +45,24 @@ impl Matcher {
     {
         Matcher {
             alloc,
-            entries: BTreeSet::new(alloc),
+            entries: HashedSet::new(alloc),
             tables: Tables::new(alloc),
         }
     }
 
     /// How many entries there are.
     pub fn len(&self) -> usize
-        ensures len { result ≡ length self.now }
-        ensures rises { Rises entry_cmp self.now }
+        ensures { result ≡ length self.now }
     {
         self.entries.len()
     }
 
     /// Whether the entry is there.
+    #[tactic(auto, using(u_rule::specs::EntryOrder::entry_cmp_ties))]
     pub fn contains(&self, entry: &Entry) -> bool
         ensures { IsTrue result ↔ Contains self.now entry.now }
     {
-        has_entry(&self.entries, entry)
+        self.entries.contains(entry)
     }
 
     /// The firings that the entry wakes where it enters.
@@ -84,17 +84,17 @@ impl Matcher {
     ///
     /// # Errors
     /// `AllocError` where there is no memory; the set stays as it was.
+    #[tactic(auto, using(u_rule::specs::EntryOrder::entry_cmp_ties))]
     pub fn enter(&mut self, job: &Job, entry: &Entry) -> Result<Vec<Firing>, AllocError>
         ensures exact { IfOk result (λ v. (f : Firing) → Contains v.items f ↔ IsWokenBy job.now entry.now (Contains self.new) f) }
         ensures order { IfOk result (λ v. Rises firing_cmp v.items) }
         ensures ok { OnOk result (IsWith self.old entry.now self.new) }
         ensures err { OnErr result (self.new ≡ self.old) }
-        ensures rises { Rises entry_cmp self.new }
     {
         let found = self.woken(job, entry)?;
         let copy = entry.copy()?;
         note(self.alloc, &mut self.tables, entry)?;
-        put_in(&mut self.entries, copy)?;
+        self.entries.insert(copy)?;
         Ok(found)
     }
 }

@@ -7,12 +7,10 @@ ghost use Rattle.u_rule.specs.EntryOrder.{firing_cmp};
 ghost use Rattle.u_system.specs.Rising.{Rises};
 ghost use Rattle.u_match.specs.Waking.{IsWokenBy};
 
-use crate::entries::has_entry;
 use std::alloc::{AllocError, Global};
-use std::collections::BTreeSet;
 use u_check::Job;
 use u_rule::{Entry, Firing, RuleError, needs};
-use u_system::{has, place_in};
+use u_system::{HashedSet, has, place_in};
 
 /// Whether the two are one entry.
 #[tactic(auto, using(crate::proofs::Wakes::same_entry))]
@@ -23,18 +21,19 @@ fn is_same(left: &Entry, right: &Entry) -> bool
 }
 
 /// Whether it is the entry, or in the set.
-fn is_held(entries: &BTreeSet<Entry>, entry: &Entry, need: &Entry) -> bool
-    ensures { IsTrue result ↔ (Contains entries.now.keys need.now ⊎ (entry.now ≡ need.now)) }
+#[tactic(auto, using(u_rule::specs::EntryOrder::entry_cmp_ties))]
+fn is_held(entries: &HashedSet<Entry>, entry: &Entry, need: &Entry) -> bool
+    ensures { IsTrue result ↔ (Contains entries.now need.now ⊎ (entry.now ≡ need.now)) }
 {
-    if has_entry(entries, need) {
+    if is_same(entry, need) {
         return true;
     }
-    is_same(entry, need)
+    entries.contains(need)
 }
 
 /// Whether each of the needs is the entry, or in the set.
-fn are_held(entries: &BTreeSet<Entry>, entry: &Entry, needs: &[Entry]) -> bool
-    ensures { IsTrue result ↔ ((x : Entry) → Contains needs.now x → Contains entries.now.keys x ⊎ (entry.now ≡ x)) }
+fn are_held(entries: &HashedSet<Entry>, entry: &Entry, needs: &[Entry]) -> bool
+    ensures { IsTrue result ↔ ((x : Entry) → Contains needs.now x → Contains entries.now x ⊎ (entry.now ≡ x)) }
 {
     for need in needs {
         if !is_held(entries, entry, need) {
@@ -49,11 +48,11 @@ fn are_held(entries: &BTreeSet<Entry>, entry: &Entry, needs: &[Entry]) -> bool
 fn is_woken(
     alloc: Global,
     job: &Job,
-    entries: &BTreeSet<Entry>,
+    entries: &HashedSet<Entry>,
     entry: &Entry,
     firing: &Firing,
 ) -> Result<bool, AllocError>
-    ensures { IfOk result (λ b. IsTrue b ↔ IsWokenBy job.now entry.now (λ x. Contains entries.now.keys x ⊎ (entry.now ≡ x)) firing.now) }
+    ensures { IfOk result (λ b. IsTrue b ↔ IsWokenBy job.now entry.now (λ x. Contains entries.now x ⊎ (entry.now ≡ x)) firing.now) }
 {
     let needs = match needs(alloc, job, firing) {
         Ok(needs) => needs,
@@ -72,14 +71,14 @@ fn is_woken(
 fn add_woken(
     alloc: Global,
     job: &Job,
-    entries: &BTreeSet<Entry>,
+    entries: &HashedSet<Entry>,
     entry: &Entry,
     firing: &Firing,
     found: &mut Vec<Firing>,
 ) -> Result<(), AllocError>
     requires { Rises firing_cmp found.old.items }
     ensures rises { Rises firing_cmp found.new.items }
-    ensures ok { OnOk result ((f : Firing) → Contains found.new.items f ↔ (Contains found.old.items f ⊎ ((firing.now ≡ f) × IsWokenBy job.now entry.now (λ x. Contains entries.now.keys x ⊎ (entry.now ≡ x)) f))) }
+    ensures ok { OnOk result ((f : Firing) → Contains found.new.items f ↔ (Contains found.old.items f ⊎ ((firing.now ≡ f) × IsWokenBy job.now entry.now (λ x. Contains entries.now x ⊎ (entry.now ≡ x)) f))) }
 {
     let woken = is_woken(alloc, job, entries, entry, firing)?;
     if !woken {
@@ -97,11 +96,11 @@ fn add_woken(
 pub(crate) fn woken_of(
     alloc: Global,
     job: &Job,
-    entries: &BTreeSet<Entry>,
+    entries: &HashedSet<Entry>,
     entry: &Entry,
     firings: &[Firing],
 ) -> Result<Vec<Firing>, AllocError>
-    ensures exact { IfOk result (λ v. (f : Firing) → Contains v.items f ↔ (Contains firings.now f × IsWokenBy job.now entry.now (λ x. Contains entries.now.keys x ⊎ (entry.now ≡ x)) f)) }
+    ensures exact { IfOk result (λ v. (f : Firing) → Contains v.items f ↔ (Contains firings.now f × IsWokenBy job.now entry.now (λ x. Contains entries.now x ⊎ (entry.now ≡ x)) f)) }
     ensures rises { IfOk result (λ v. Rises firing_cmp v.items) }
 {
     let mut found = Vec::new(alloc);

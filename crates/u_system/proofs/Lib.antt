@@ -10,4 +10,5 @@ pub mod Sorted
 pub mod PlainFrom
 pub mod Places
 pub mod Keys
+pub mod Hashed
 pub mod Numbers

@@ -7,9 +7,11 @@
 //! the closure of a set of firings and of two sets together, when a derivation holds all that can
 //! be derived, runs that fire the least ready firing each time, and where clashes come from.
 //!
-//! The code is what sets of entries and of firings need: `OrderedSet`, and lists that rise.
+//! The code is what sets of entries and of firings need: `OrderedSet`, `HashedSet`, and lists that
+//! rise.
 #![tactic(auto)]
 
+mod hashed_set;
 mod ordered_set;
 #[cfg(test)]
 mod tests;
@@ -17,6 +19,7 @@ mod tests;
 ghost use Rattle.std.specs.Prelude.{◌≡◌, ◌↔◌, OnOk, OnErr, IfOk, IfErr, Contains, ◌⊎◌, IsTrue, IsFalse, length, ◌<◌};
 ghost use Rattle.u_system.specs.Rising.{Rises, IsExact, IsWith, IsUnion};
 
+pub use hashed_set::HashedSet;
 pub use ordered_set::OrderedSet;
 use std::alloc::{AllocError, AllocFailed, Global};
 

@@ -9,12 +9,12 @@ use Rattle.u_match.proofs.woken.add_woken.Goals as goal
 
 pub returns-then-not-woken-clause-ok : goal.returns-then-not-woken-clause-ok
 returns-then-not-woken-clause-ok c =
-    let woken : Firing → Type 0 = IsWokenBy c.args.job.now c.args.entry.now (λ (x : Entry). Contains c.args.entries.now.keys x ⊎ (c.args.entry.now ≡ x)) in
+    let woken : Firing → Type 0 = IsWokenBy c.args.job.now c.args.entry.now (λ (x : Entry). Contains c.args.entries.now x ⊎ (c.args.entry.now ≡ x)) in
     nothing (λ (f : Firing). (c.args.firing.now ≡ f) × woken f) c.args.found.now.items
     (left_out woken c.args.firing.now (λ w. false≢true (sym c.if-not-woken.true ∙ c.in_ok-woken.ensures.1 w)))
 
 pub returns-clause-ok : goal.returns-clause-ok
 returns-clause-ok c =
-    let woken : Firing → Type 0 = IsWokenBy c.args.job.now c.args.entry.now (λ (x : Entry). Contains c.args.entries.now.keys x ⊎ (c.args.entry.now ≡ x)) in
+    let woken : Firing → Type 0 = IsWokenBy c.args.job.now c.args.entry.now (λ (x : Entry). Contains c.args.entries.now x ⊎ (c.args.entry.now ≡ x)) in
     added woken c.args.firing.now c.args.found.now.items c.place_in.new.list.items (c.in_ok-woken.ensures.0 c.if-not-woken.false)
     (renamed c.in_ok-copy.copy c.args.firing.now c.args.found.now.items c.place_in.new.list.items c.in_ok-copy.ensures c.in_ok-place_in.ensures.ok)

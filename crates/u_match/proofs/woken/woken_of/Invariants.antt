@@ -11,5 +11,5 @@ use Rattle.u_match.proofs.woken.woken_of.Given as goal
 abbrev pub invariant-loop-firing : goal.invariant-loop-firing
 invariant-loop-firing l = record {
   rises : Rises firing_cmp l.found.items;
-  all : (f : Firing) → Contains l.found.items f ↔ (Contains [] f ⊎ SomeOf (take l.firing-index l.firings) (λ (g : Firing) (h : Firing). (g ≡ h) × IsWokenBy l.job l.entry (λ (x : Entry). Contains l.entries.keys x ⊎ (l.entry ≡ x)) h) f);
+  all : (f : Firing) → Contains l.found.items f ↔ (Contains [] f ⊎ SomeOf (take l.firing-index l.firings) (λ (g : Firing) (h : Firing). (g ≡ h) × IsWokenBy l.job l.entry (λ (x : Entry). Contains l.entries x ⊎ (l.entry ≡ x)) h) f);
 }
