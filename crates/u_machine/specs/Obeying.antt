@@ -1,5 +1,5 @@
 -- What a machine does on a list of calls.
-use Rattle.std.specs.Prelude.{◌≡◌, List, [], ◌∷◌, ◌++◌, Unit, Result, Ok, Err, Contains, ⊥}
+use Rattle.std.specs.Prelude.{◌≡◌, List, [], ◌∷◌, ◌++◌, Result, Ok, Err, Contains}
 use Rattle.std.specs.declared.alloc.AllocError.{AllocError}
 use Rattle.u_system.specs.Firing.{Same, Cl, Whole}
 use Rattle.u_rule.specs.declared.firing.Firing.{Firing}
