@@ -80,7 +80,8 @@ impl<'a> Inside<'a> {
             match self.take(firing) {
                 Ok(_) => {}
                 Err(TakeRefusal::NoMemory) => return Err(ListRefusal::NoMemory),
-                Err(TakeRefusal::NotAFiring | TakeRefusal::Full) => unreachable!(),
+                Err(TakeRefusal::NotAFiring) => unreachable!(),
+                Err(TakeRefusal::Full) => unreachable!(),
             }
         }
         Ok(())

@@ -72,6 +72,7 @@ impl<'a> Machine<'a> {
         replies.reserve(commands.len())?;
         for command in commands {
             let reply = self.obey(command);
+            self.holds();
             replies.push(reply).unwrap();
         }
         self.holds();

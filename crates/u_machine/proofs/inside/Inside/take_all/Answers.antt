@@ -1,4 +1,4 @@
-use Rattle.std.proofs.Common.{◌≡◌, ◌<◌, ◌≤◌, ◌+◌, length, arith, subst, sym, List, Ok, Err, take, ℕ}
+use Rattle.std.proofs.Common.{◌≡◌, ◌∙◌, ap, ◌<◌, ◌≤◌, ◌+◌, length, arith, subst, sym, List, Ok, Err, take, ℕ}
 use Rattle.std.specs.Prelude.{Contains, Result, IsTrue}
 use Rattle.std.proofs.lemmas.List as lists
 use Rattle.u_rule.specs.declared.firing.Firing.{Firing}
@@ -6,6 +6,7 @@ use Rattle.u_rule.specs.Rule.{system_of}
 use Rattle.u_check.specs.Jobs.{JobParts}
 use Rattle.u_machine.specs.declared.answer.Took.{Took}
 use Rattle.u_machine.specs.declared.answer.TakeRefusal.{TakeRefusal}
+use Rattle.u_machine.specs.declared.answer.TakeRefusal.TheVariants as untaken
 use Rattle.u_machine.specs.States.{TakeAnswer, count_of}
 use Rattle.u_machine.specs.Taking.{IsFirstOther, AreFirings, AreNew, TakesAll}
 use Rattle.u_machine.specs.Kept.{state_of}
@@ -62,6 +63,26 @@ loop-firing-init c = record {
 
 answer_is : (c : After-take) (r : Result Took TakeRefusal) → c.take.result ≡ r → TakeAnswer (state_of c.loop-firing.self) c.firing-item.result r (state_of c.take.new.self)
 answer_is c r e = subst (λ (x : Result Took TakeRefusal). TakeAnswer (state_of c.loop-firing.self) c.firing-item.result x (state_of c.take.new.self)) e c.take.ensures.answer
+
+pub returns-in-Err-NoMemory-clause-answer : goal.returns-in-Err-NoMemory-clause-answer
+returns-in-Err-NoMemory-clause-answer c =
+    let b = (goal.at.returns-in-Err-NoMemory-clause-answer c).After-take in
+    let (k, l, t) = part_taken (state_of c.settle.new.self) (state_of c.loop-firing.self) (state_of c.take.new.self) c.args.firings.now c.loop-firing.firing-index c.firing-item.result c.loop-firing-test.true c.firing-item.is c.loop-firing.invariant.takes (answer_is b (Err untaken.NoMemory) (c.in-Err-NoMemory.is ∙ ap Err c.in-Err-NoMemory.field-0-is)) in
+    (k, l, takes_after (state_of c.args.self.now) (state_of c.settle.new.self) (state_of c.take.new.self) (take k c.args.firings.now) c.settle.ensures.applies t)
+
+pub unreachable-requires : goal.unreachable-requires
+unreachable-requires c =
+    let b = (goal.at.unreachable-requires c).After-take in
+    never_other (state_of c.settle.new.self) (state_of c.loop-firing.self) (state_of c.take.new.self) c.args.firings.now c.in_ok-news.news c.loop-firing.firing-index c.firing-item.result c.loop-firing-test.true c.firing-item.is c.loop-firing.invariant.kept.logged.is c.loop-firing.invariant.takes c.in_ok-news.ensures c.in_default.ensures.none
+    (answer_is b (Err untaken.NotAFiring) (c.in-Err-NotAFiring.is ∙ ap Err c.in-Err-NotAFiring.field-0-is))
+
+pub unreachable-requires-in-Err-Full : goal.unreachable-requires-in-Err-Full
+unreachable-requires-in-Err-Full c =
+    let b = (goal.at.unreachable-requires-in-Err-Full c).After-take in
+    let n = c.has_room.ensures.room c.if-not-has_room.false in
+    let k = c.len.ensures.len in
+    never_full (state_of c.settle.new.self) (state_of c.loop-firing.self) (state_of c.take.new.self) c.args.firings.now c.in_ok-news.news c.loop-firing.firing-index c.firing-item.result c.loop-firing-test.true c.firing-item.is c.loop-firing.invariant.kept.logged.is c.loop-firing.invariant.takes c.in_ok-news.ensures (omega (arith, n, k))
+    (answer_is b (Err untaken.Full) (c.in-Err-Full.is ∙ ap Err c.in-Err-Full.field-0-is))
 
 pub loop-firing-preserved : goal.loop-firing-preserved
 loop-firing-preserved c =
