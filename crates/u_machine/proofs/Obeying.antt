@@ -1,6 +1,6 @@
 -- How a machine goes on over a list of calls.
 use Rattle.std.proofs.Common.{◌≡◌, ◌⊎◌, inl, inr, refl, sym, ◌∙◌, subst, List, [], ◌∷◌, ◌++◌, append_assoc, append-nil, Ok, Err, ap, take, length, ℕ}
-use Rattle.std.specs.Prelude.{Contains, Result}
+use Rattle.std.specs.Prelude.{Contains, Result, OnOk}
 use Rattle.std.proofs.lemmas.List.Elements.{Contains-append_left, Contains-push}
 use Rattle.std.specs.declared.alloc.AllocError.{AllocError}
 use Rattle.u_rule.specs.declared.firing.Firing.{Firing}
@@ -133,6 +133,10 @@ module _ (old new : State) where
   does_settled (calls.TakeAll fs) reply (r, e, a) m = take_all_settled fs.items r a (subst IsMet e m)
   does_settled calls.Settle reply (r, e, a) m = settle_settled r a (subst IsMet e m)
   does_settled (calls.Run budget) reply (r, e, a) m = run_settled budget r a (subst IsMet e m)
+
+pub settle_answer : (old new : State) (r : Result (Unit {0}) AllocError) → Applies old new → OnOk r (IsSettled new) → SettleAnswer old r new
+settle_answer old new (Ok u) p s = (p, s)
+settle_answer old new (Err e) p s = p
 
 -- one more call
 pub obeys_push : (old mid new : State) (cs : List Command) (rs : List Reply) (c : Command) (r : Reply) → Obeys old cs rs mid → Does mid c r new → IsMachine new → Obeys old (cs ++ c ∷ []) (rs ++ r ∷ []) new

@@ -46,8 +46,7 @@ returns-then-not-has_room-clause-answer c =
     let n = c.has_room.ensures.full c.if-not-has_room.true in
     let w = p.count in
     let v = p.limit in
-    let k = c.len.ensures.len in
-    (
+    let k = c.len.ensures.len in (
       are_firings a,
       (c.in_ok-news.news, news_before a, omega (arith, n, w, v, k)),
       p,
@@ -104,11 +103,10 @@ returns-clause-answer c =
     let w = p.count in
     let v = p.limit in
     let k = c.len.ensures.len in
-    let h : length c.args.firings.now ≤ c.loop-firing.firing-index = omega arith in
-    (
+    let h : length c.args.firings.now ≤ c.loop-firing.firing-index = omega arith in (
       are_firings a,
       (c.in_ok-news.news, news_before a, omega (arith, n, w, v, k)),
       takes_after (state_of c.args.self.now) (state_of c.settle.new.self) (state_of c.loop-firing.self) c.args.firings.now p
-      (subst (λ (fs : List Firing). TakesAll (state_of c.settle.new.self) fs (state_of c.loop-firing.self)) (lists.take_all c.loop-firing.firing-index c.args.firings.now h) i.takes),
+          (subst (λ (fs : List Firing). TakesAll (state_of c.settle.new.self) fs (state_of c.loop-firing.self)) (lists.take_all c.loop-firing.firing-index c.args.firings.now h) i.takes),
       i.settled,
     )
