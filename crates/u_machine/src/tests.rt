@@ -229,21 +229,31 @@ fn parked_firings_count(rt: HostRuntime) -> Result<(), Fail> {
     Ok(())
 }
 
-/// Whether a machine that takes what a run applied, from last to first, applies nothing before the last
-/// one came, and then has the same history.
-fn takes_backwards(alloc: Global, text: &[u8]) -> Result<bool, AllocError> {
-    let job = job(alloc, text, 3)?;
-    let mut machine = Machine::new(alloc, &job, 200)?;
+/// A machine that ran until nothing was ready.
+fn whole_run<'a>(alloc: Global, job: &'a Job) -> Result<Machine<'a>, AllocError> {
+    let mut machine = Machine::new(alloc, job, 200)?;
     machine.run(200).map_err(|_| AllocError)?;
-    let backwards = applied_backwards(alloc, &machine)?;
-    let mut other = Machine::new(alloc, &job, 200)?;
-    for firing in &backwards {
-        if other.knows(firing) || !other.applied().is_empty() {
+    Ok(machine)
+}
+
+/// Whether it takes each of them, and applies nothing before the last one came.
+fn takes_each(machine: &mut Machine<'_>, firings: &[Firing]) -> Result<bool, AllocError> {
+    for firing in firings {
+        if machine.knows(firing) || !machine.applied().is_empty() {
             return Ok(false);
         }
-        other.take(firing).map_err(|_| AllocError)?;
+        machine.take(firing).map_err(|_| AllocError)?;
     }
-    Ok(other.applied().len() == backwards.len() && is_same_history(&machine, &other)?)
+    Ok(machine.applied().len() == firings.len())
+}
+
+/// Whether a machine that takes what a run applied, from last to first, has the same history then.
+fn takes_backwards(alloc: Global, text: &[u8]) -> Result<bool, AllocError> {
+    let job = job(alloc, text, 3)?;
+    let machine = whole_run(alloc, &job)?;
+    let backwards = applied_backwards(alloc, &machine)?;
+    let mut other = Machine::new(alloc, &job, backwards.len())?;
+    Ok(takes_each(&mut other, &backwards)? && is_same_history(&machine, &other)?)
 }
 
 #[test]
@@ -254,16 +264,20 @@ fn the_history_depends_on_no_order(rt: HostRuntime) -> Result<(), Fail> {
     Ok(())
 }
 
-/// Whether a machine with room for just those takes all that a run applied, and again the same list.
+/// Whether it takes the list, and then the same list again.
+fn takes_twice(machine: &mut Machine<'_>, firings: &[Firing]) -> Result<bool, AllocError> {
+    machine.take_all(firings).map_err(|_| AllocError)?;
+    machine.take_all(firings).map_err(|_| AllocError)?;
+    Ok(machine.applied().len() == firings.len())
+}
+
+/// Whether a machine with room for just those takes all that a run applied, as one list.
 fn takes_all_backwards(alloc: Global, text: &[u8]) -> Result<bool, AllocError> {
     let job = job(alloc, text, 3)?;
-    let mut machine = Machine::new(alloc, &job, 200)?;
-    machine.run(200).map_err(|_| AllocError)?;
+    let machine = whole_run(alloc, &job)?;
     let backwards = applied_backwards(alloc, &machine)?;
     let mut other = Machine::new(alloc, &job, backwards.len())?;
-    other.take_all(&backwards).map_err(|_| AllocError)?;
-    other.take_all(&backwards).map_err(|_| AllocError)?;
-    Ok(other.applied().len() == backwards.len() && is_same_history(&machine, &other)?)
+    Ok(takes_twice(&mut other, &backwards)? && is_same_history(&machine, &other)?)
 }
 
 #[test]
@@ -273,33 +287,46 @@ fn takes_a_whole_list(rt: HostRuntime) -> Result<(), Fail> {
     Ok(())
 }
 
+/// The firings of the activities with these names, each on one number.
+fn firings_of(alloc: Global, rows: &[(&str, i64)]) -> Result<Vec<Firing>, AllocError> {
+    let mut list = Vec::new(alloc);
+    for (name, number) in rows {
+        list.push(firing_of(alloc, name, *number)?)?;
+    }
+    Ok(list)
+}
+
 #[test]
-fn takes_a_whole_list_or_nothing(rt: HostRuntime) -> Result<(), Fail> {
+fn refuses_a_list_that_does_not_fit(rt: HostRuntime) -> Result<(), Fail> {
     let job = job(rt.alloc(), DOUBLE, 4)?;
     let mut machine = Machine::new(rt.alloc(), &job, 2)?;
-    let mut list = Vec::new(rt.alloc());
-    list.push(firing_of(rt.alloc(), "-.main.3.1", 8)?)?;
-    list.push(firing_of(rt.alloc(), "-.main.3.1", 9)?)?;
-    list.push(firing_of(rt.alloc(), "-.main.1.1", 4)?)?;
+    let rows = [("-.main.3.1", 8), ("-.main.3.1", 9), ("-.main.1.1", 4)];
+    let list = firings_of(rt.alloc(), rows.as_slice())?;
     let full = machine.take_all(&list);
     assert_eq!(rt; full, Err(ListRefusal::Full));
-    list.push(firing_of(rt.alloc(), "-.main.9.1", 4)?)?;
-    list.push(firing_of(rt.alloc(), "-.main.8.1", 4)?)?;
-    let refused = machine.take_all(&list);
-    assert_eq!(rt; refused, Err(ListRefusal::NotAFiring(3)));
     assert_eq!(rt; machine.parked().len(), 0);
+    assert_eq!(rt; machine.applied().len(), 0);
+    Ok(())
+}
+
+#[test]
+fn refuses_a_list_by_the_first_that_is_no_firing(rt: HostRuntime) -> Result<(), Fail> {
+    let job = job(rt.alloc(), DOUBLE, 4)?;
+    let mut machine = Machine::new(rt.alloc(), &job, 2)?;
+    let rows = [("-.main.1.1", 4), ("-.main.9.1", 4), ("-.main.8.1", 4)];
+    let list = firings_of(rt.alloc(), rows.as_slice())?;
+    let refused = machine.take_all(&list);
+    assert_eq!(rt; refused, Err(ListRefusal::NotAFiring(1)));
     assert_eq!(rt; machine.applied().len(), 0);
     Ok(())
 }
 
 /// One call of each kind, and one that is refused.
 fn calls(alloc: Global) -> Result<Vec<Command>, AllocError> {
-    let mut list = Vec::new(alloc);
-    list.push(firing_of(alloc, "-.main.3.1", 8)?)?;
-    list.push(firing_of(alloc, "-.main.1.1", 4)?)?;
+    let rows = [("-.main.3.1", 8), ("-.main.1.1", 4)];
     let mut commands = Vec::new(alloc);
     commands.push(Command::Take(firing_of(alloc, "-.main.3.1", 9)?))?;
-    commands.push(Command::TakeAll(list))?;
+    commands.push(Command::TakeAll(firings_of(alloc, rows.as_slice())?))?;
     commands.push(Command::Settle)?;
     commands.push(Command::Fire(5))?;
     commands.push(Command::Take(firing_of(alloc, "-.main.9.1", 9)?))?;
