@@ -47,29 +47,52 @@ fn firing_of(alloc: Global, name: &str, number: i64) -> Result<Firing, AllocErro
     })
 }
 
-/// Copies of what the machine applied, from last to first.
-fn applied_backwards(alloc: Global, machine: &Machine<'_>) -> Result<Vec<Firing>, AllocError> {
-    let applied = machine.applied();
+/// The firings of the activities with these names, each on one number.
+fn firings_of(alloc: Global, rows: &[(&str, i64)]) -> Result<Vec<Firing>, AllocError> {
     let mut list = Vec::new(alloc);
-    for before in 0..applied.len() {
-        list.push(applied[applied.len() - 1 - before].copy(alloc)?)?;
+    for (name, number) in rows {
+        list.push(firing_of(alloc, name, *number)?)?;
     }
     Ok(list)
 }
 
-/// Whether both have the same entries.
-fn is_same_history(one: &Machine<'_>, other: &Machine<'_>) -> Result<bool, AllocError> {
-    let entries = one.history().entries()?;
-    let others = other.history().entries()?;
-    Ok(entries.as_slice() == others.as_slice())
+/// What the machine answers where it takes that firing.
+fn taken(
+    alloc: Global,
+    machine: &mut Machine<'_>,
+    name: &str,
+    number: i64,
+) -> Result<Took, TakeRefusal> {
+    let firing = firing_of(alloc, name, number)?;
+    machine.take(&firing)
+}
+
+/// What the machine answers where it takes these firings.
+fn all_taken(
+    alloc: Global,
+    machine: &mut Machine<'_>,
+    rows: &[(&str, i64)],
+) -> Result<(), ListRefusal> {
+    let list = firings_of(alloc, rows)?;
+    machine.take_all(&list)
+}
+
+/// Whether the machine took that firing.
+fn is_known(
+    alloc: Global,
+    machine: &Machine<'_>,
+    name: &str,
+    number: i64,
+) -> Result<bool, AllocError> {
+    let firing = firing_of(alloc, name, number)?;
+    Ok(machine.knows(&firing))
 }
 
 #[test]
 fn runs_until_it_is_quiet(rt: HostRuntime) -> Result<(), Fail> {
     let job = job(rt.alloc(), DOUBLE, 4)?;
     let mut machine = Machine::new(rt.alloc(), &job, 100)?;
-    let ran = machine.run(10)?;
-    assert_eq!(rt; ran, Ran::Quiet);
+    assert_eq!(rt; machine.run(10), Ok(Ran::Quiet));
     assert_eq!(rt; machine.applied().len(), 3);
     assert_eq!(rt; machine.history().len(), 5);
     assert_eq!(rt; machine.parked().len(), 0);
@@ -82,11 +105,9 @@ fn fires_one_at_a_time(rt: HostRuntime) -> Result<(), Fail> {
     let job = job(rt.alloc(), DOUBLE, 4)?;
     let mut machine = Machine::new(rt.alloc(), &job, 100)?;
     for place in 0..3 {
-        let step = machine.fire(0)?;
-        assert_eq!(rt; step, Step::Fired(place));
+        assert_eq!(rt; machine.fire(0), Ok(Step::Fired(place)));
     }
-    let last = machine.fire(0)?;
-    assert_eq!(rt; last, Step::Quiet);
+    assert_eq!(rt; machine.fire(0), Ok(Step::Quiet));
     Ok(())
 }
 
@@ -95,11 +116,9 @@ fn takes_no_more_than_its_limit(rt: HostRuntime) -> Result<(), Fail> {
     let job = job(rt.alloc(), DOUBLE, 4)?;
     let mut machine = Machine::new(rt.alloc(), &job, 2)?;
     for place in 0..2 {
-        let step = machine.fire(0)?;
-        assert_eq!(rt; step, Step::Fired(place));
+        assert_eq!(rt; machine.fire(0), Ok(Step::Fired(place)));
     }
-    let refused = machine.fire(0);
-    assert_eq!(rt; refused, Err(Refusal::Full));
+    assert_eq!(rt; machine.fire(0), Err(Refusal::Full));
     Ok(())
 }
 
@@ -107,10 +126,18 @@ fn takes_no_more_than_its_limit(rt: HostRuntime) -> Result<(), Fail> {
 fn both_values_of_a_port_fire(rt: HostRuntime) -> Result<(), Fail> {
     let job = job(rt.alloc(), TWO_CONSTANTS, 4)?;
     let mut machine = Machine::new(rt.alloc(), &job, 100)?;
-    let ran = machine.run(10)?;
-    assert_eq!(rt; ran, Ran::Quiet);
+    assert_eq!(rt; machine.run(10), Ok(Ran::Quiet));
     assert_eq!(rt; machine.applied().len(), 5);
     assert_eq!(rt; machine.history().len(), 7);
+    Ok(())
+}
+
+#[test]
+fn both_writes_of_a_cell_are_read(rt: HostRuntime) -> Result<(), Fail> {
+    let job = job(rt.alloc(), TWO_WRITERS, 0)?;
+    let mut machine = Machine::new(rt.alloc(), &job, 100)?;
+    assert_eq!(rt; machine.run(100), Ok(Ran::Quiet));
+    assert_eq!(rt; machine.applied().len(), 12);
     Ok(())
 }
 
@@ -118,8 +145,7 @@ fn both_values_of_a_port_fire(rt: HostRuntime) -> Result<(), Fail> {
 fn pauses_where_more_is_ready(rt: HostRuntime) -> Result<(), Fail> {
     let job = job(rt.alloc(), ENDLESS, 0)?;
     let mut machine = Machine::new(rt.alloc(), &job, 100)?;
-    let ran = machine.run(4)?;
-    assert_eq!(rt; ran, Ran::Paused);
+    assert_eq!(rt; machine.run(4), Ok(Ran::Paused));
     assert_eq!(rt; machine.applied().len(), 4);
     assert_eq!(rt; machine.history().len(), 6);
     Ok(())
@@ -129,24 +155,10 @@ fn pauses_where_more_is_ready(rt: HostRuntime) -> Result<(), Fail> {
 fn fires_the_one_that_is_picked(rt: HostRuntime) -> Result<(), Fail> {
     let job = job(rt.alloc(), TWO_CONSTANTS, 4)?;
     let mut machine = Machine::new(rt.alloc(), &job, 100)?;
-    let first = machine.fire(7)?;
-    assert_eq!(rt; first, Step::Fired(0));
-    let second = machine.fire(3)?;
-    assert_eq!(rt; second, Step::Fired(1));
-    let third = firing_of(rt.alloc(), "-.main.3.1", 4)?;
-    assert!(rt; machine.knows(&third));
-    let other = firing_of(rt.alloc(), "-.main.2.1", 4)?;
-    assert!(rt; !machine.knows(&other));
-    Ok(())
-}
-
-#[test]
-fn both_writes_of_a_cell_are_read(rt: HostRuntime) -> Result<(), Fail> {
-    let job = job(rt.alloc(), TWO_WRITERS, 0)?;
-    let mut machine = Machine::new(rt.alloc(), &job, 100)?;
-    let ran = machine.run(100)?;
-    assert_eq!(rt; ran, Ran::Quiet);
-    assert_eq!(rt; machine.applied().len(), 12);
+    assert_eq!(rt; machine.fire(7), Ok(Step::Fired(0)));
+    assert_eq!(rt; machine.fire(3), Ok(Step::Fired(1)));
+    assert_eq!(rt; is_known(rt.alloc(), &machine, "-.main.3.1", 4), Ok(true));
+    assert_eq!(rt; is_known(rt.alloc(), &machine, "-.main.2.1", 4), Ok(false));
     Ok(())
 }
 
@@ -154,21 +166,32 @@ fn both_writes_of_a_cell_are_read(rt: HostRuntime) -> Result<(), Fail> {
 fn parks_what_comes_early(rt: HostRuntime) -> Result<(), Fail> {
     let job = job(rt.alloc(), TWO_CONSTANTS, 4)?;
     let mut machine = Machine::new(rt.alloc(), &job, 100)?;
-    let end = firing_of(rt.alloc(), "-.main.4.1", 5)?;
-    let took = machine.take(&end)?;
-    assert_eq!(rt; took, Took::Parked);
-    let again = machine.take(&end)?;
-    assert_eq!(rt; again, Took::Known);
+    assert_eq!(rt;
+        taken(rt.alloc(), &mut machine, "-.main.4.1", 5),
+        Ok(Took::Parked)
+    );
+    assert_eq!(rt;
+        taken(rt.alloc(), &mut machine, "-.main.4.1", 5),
+        Ok(Took::Known)
+    );
     assert_eq!(rt; machine.parked().len(), 1);
     assert_eq!(rt; machine.history().len(), 1);
-    let step = machine.fire(0)?;
-    assert_eq!(rt; step, Step::Fired(0));
+    Ok(())
+}
+
+#[test]
+fn applies_what_is_parked_once_it_is_enabled(rt: HostRuntime) -> Result<(), Fail> {
+    let job = job(rt.alloc(), TWO_CONSTANTS, 4)?;
+    let mut machine = Machine::new(rt.alloc(), &job, 100)?;
+    assert_eq!(rt;
+        taken(rt.alloc(), &mut machine, "-.main.4.1", 5),
+        Ok(Took::Parked)
+    );
+    assert_eq!(rt; machine.fire(0), Ok(Step::Fired(0)));
     assert_eq!(rt; machine.parked().len(), 1);
-    let step = machine.fire(0)?;
-    assert_eq!(rt; step, Step::Fired(1));
+    assert_eq!(rt; machine.fire(0), Ok(Step::Fired(1)));
     assert_eq!(rt; machine.parked().len(), 0);
     assert_eq!(rt; machine.applied().len(), 3);
-    assert!(rt; machine.applied()[2] == end);
     Ok(())
 }
 
@@ -176,15 +199,14 @@ fn parks_what_comes_early(rt: HostRuntime) -> Result<(), Fail> {
 fn what_no_run_enables_stays_parked(rt: HostRuntime) -> Result<(), Fail> {
     let job = job(rt.alloc(), TWO_CONSTANTS, 4)?;
     let mut machine = Machine::new(rt.alloc(), &job, 100)?;
-    let other = firing_of(rt.alloc(), "-.main.4.1", 7)?;
-    let took = machine.take(&other)?;
-    assert_eq!(rt; took, Took::Parked);
-    let ran = machine.run(10)?;
-    assert_eq!(rt; ran, Ran::Quiet);
+    assert_eq!(rt;
+        taken(rt.alloc(), &mut machine, "-.main.4.1", 7),
+        Ok(Took::Parked)
+    );
+    assert_eq!(rt; machine.run(10), Ok(Ran::Quiet));
     assert_eq!(rt; machine.applied().len(), 5);
     assert_eq!(rt; machine.history().len(), 7);
     assert_eq!(rt; machine.parked().len(), 1);
-    assert!(rt; machine.knows(&other));
     Ok(())
 }
 
@@ -192,9 +214,10 @@ fn what_no_run_enables_stays_parked(rt: HostRuntime) -> Result<(), Fail> {
 fn applies_what_is_ready_and_taken(rt: HostRuntime) -> Result<(), Fail> {
     let job = job(rt.alloc(), DOUBLE, 4)?;
     let mut machine = Machine::new(rt.alloc(), &job, 100)?;
-    let begin = firing_of(rt.alloc(), "-.main.1.1", 4)?;
-    let took = machine.take(&begin)?;
-    assert_eq!(rt; took, Took::Taken);
+    assert_eq!(rt;
+        taken(rt.alloc(), &mut machine, "-.main.1.1", 4),
+        Ok(Took::Taken)
+    );
     assert_eq!(rt; machine.applied().len(), 1);
     assert_eq!(rt; machine.history().len(), 3);
     Ok(())
@@ -204,10 +227,9 @@ fn applies_what_is_ready_and_taken(rt: HostRuntime) -> Result<(), Fail> {
 fn refuses_what_is_no_firing(rt: HostRuntime) -> Result<(), Fail> {
     let job = job(rt.alloc(), DOUBLE, 4)?;
     let mut machine = Machine::new(rt.alloc(), &job, 0)?;
-    let missing = firing_of(rt.alloc(), "-.main.9.1", 4)?;
-    let refused = machine.take(&missing);
+    let refused = taken(rt.alloc(), &mut machine, "-.main.9.1", 4);
     assert_eq!(rt; refused, Err(TakeRefusal::NotAFiring));
-    assert!(rt; !machine.knows(&missing));
+    assert_eq!(rt; is_known(rt.alloc(), &machine, "-.main.9.1", 4), Ok(false));
     Ok(())
 }
 
@@ -215,87 +237,117 @@ fn refuses_what_is_no_firing(rt: HostRuntime) -> Result<(), Fail> {
 fn parked_firings_count(rt: HostRuntime) -> Result<(), Fail> {
     let job = job(rt.alloc(), DOUBLE, 4)?;
     let mut machine = Machine::new(rt.alloc(), &job, 1)?;
-    let end = firing_of(rt.alloc(), "-.main.3.1", 8)?;
-    let took = machine.take(&end)?;
-    assert_eq!(rt; took, Took::Parked);
-    let other = firing_of(rt.alloc(), "-.main.3.1", 9)?;
-    let refused = machine.take(&other);
+    assert_eq!(rt;
+        taken(rt.alloc(), &mut machine, "-.main.3.1", 8),
+        Ok(Took::Parked)
+    );
+    let refused = taken(rt.alloc(), &mut machine, "-.main.3.1", 9);
     assert_eq!(rt; refused, Err(TakeRefusal::Full));
-    let unfired = machine.fire(0);
-    assert_eq!(rt; unfired, Err(Refusal::Full));
-    let unrun = machine.run(1);
-    assert_eq!(rt; unrun, Err(Refusal::Full));
-    let again = machine.take(&end)?;
-    assert_eq!(rt; again, Took::Known);
+    assert_eq!(rt; machine.fire(0), Err(Refusal::Full));
+    assert_eq!(rt; machine.run(1), Err(Refusal::Full));
     Ok(())
+}
+
+/// Copies of what the machine applied, from last to first.
+fn applied_backwards(alloc: Global, machine: &Machine<'_>) -> Result<Vec<Firing>, AllocError> {
+    let mut list = Vec::new(alloc);
+    for firing in machine.applied().iter().rev() {
+        list.push(firing.copy(alloc)?)?;
+    }
+    Ok(list)
+}
+
+/// Whether both have the same entries.
+fn is_same_history(one: &Machine<'_>, other: &Machine<'_>) -> Result<bool, AllocError> {
+    let entries = one.history().entries()?;
+    let others = other.history().entries()?;
+    Ok(entries.as_slice() == others.as_slice())
+}
+
+/// Whether it takes each of them, and applies nothing before the last one came.
+fn takes_each(machine: &mut Machine<'_>, firings: &[Firing]) -> bool {
+    for firing in firings {
+        if machine.knows(firing) || !machine.applied().is_empty() {
+            return false;
+        }
+        if machine.take(firing).is_err() {
+            return false;
+        }
+    }
+    machine.applied().len() == firings.len()
+}
+
+/// Whether it takes the list, and then the same list again.
+fn takes_twice(machine: &mut Machine<'_>, firings: &[Firing]) -> bool {
+    machine.take_all(firings).is_ok()
+        && machine.take_all(firings).is_ok()
+        && machine.applied().len() == firings.len()
+}
+
+/// Whether new machines that take what the first one applied, from last to first, one by one and as
+/// one list, have its history then.
+fn agree_backwards(
+    alloc: Global,
+    machine: &mut Machine<'_>,
+    second: &mut Machine<'_>,
+    third: &mut Machine<'_>,
+) -> Result<bool, AllocError> {
+    if machine.run(200) != Ok(Ran::Quiet) {
+        return Ok(false);
+    }
+    let backwards = applied_backwards(alloc, machine)?;
+    if !takes_each(second, &backwards) || !takes_twice(third, &backwards) {
+        return Ok(false);
+    }
+    Ok(is_same_history(machine, second)? && is_same_history(machine, third)?)
+}
+
+/// Whether the history of the program on 3 depends on no order.
+fn depends_on_no_order(alloc: Global, text: &[u8]) -> Result<bool, AllocError> {
+    let job = job(alloc, text, 3)?;
+    let mut machine = Machine::new(alloc, &job, 200)?;
+    let mut second = Machine::new(alloc, &job, 200)?;
+    let mut third = Machine::new(alloc, &job, 200)?;
+    agree_backwards(alloc, &mut machine, &mut second, &mut third)
 }
 
 #[test]
 fn the_history_depends_on_no_order(rt: HostRuntime) -> Result<(), Fail> {
-    for text in [TWO_CONSTANTS, TWO_WRITERS, SUM] {
-        let job = job(rt.alloc(), text, 3)?;
-        let mut machine = Machine::new(rt.alloc(), &job, 200)?;
-        let ran = machine.run(200)?;
-        assert_eq!(rt; ran, Ran::Quiet);
-        let backwards = applied_backwards(rt.alloc(), &machine)?;
-        let mut other = Machine::new(rt.alloc(), &job, 200)?;
-        for firing in &backwards {
-            assert!(rt; !other.knows(firing));
-            assert_eq!(rt; other.applied().len(), 0);
-            other.take(firing)?;
-        }
-        assert_eq!(rt; other.applied().len(), backwards.len());
-        assert!(rt; is_same_history(&machine, &other)?);
-    }
+    assert_eq!(rt; depends_on_no_order(rt.alloc(), TWO_CONSTANTS), Ok(true));
+    assert_eq!(rt; depends_on_no_order(rt.alloc(), TWO_WRITERS), Ok(true));
+    assert_eq!(rt; depends_on_no_order(rt.alloc(), SUM), Ok(true));
     Ok(())
 }
 
 #[test]
-fn takes_a_whole_list(rt: HostRuntime) -> Result<(), Fail> {
-    let job = job(rt.alloc(), SUM, 3)?;
-    let mut machine = Machine::new(rt.alloc(), &job, 200)?;
-    let ran = machine.run(200)?;
-    assert_eq!(rt; ran, Ran::Quiet);
-    let mut backwards = applied_backwards(rt.alloc(), &machine)?;
-    let mut other = Machine::new(rt.alloc(), &job, backwards.len())?;
-    let first = backwards[0].copy(rt.alloc())?;
-    backwards.push(first)?;
-    let took = other.take_all(&backwards);
-    assert_eq!(rt; took, Ok(()));
-    assert!(rt; is_same_history(&machine, &other)?);
-    let again = other.take_all(&backwards);
-    assert_eq!(rt; again, Ok(()));
-    assert_eq!(rt; other.applied().len() + 1, backwards.len());
-    Ok(())
-}
-
-#[test]
-fn takes_a_whole_list_or_nothing(rt: HostRuntime) -> Result<(), Fail> {
+fn refuses_a_list_that_does_not_fit(rt: HostRuntime) -> Result<(), Fail> {
     let job = job(rt.alloc(), DOUBLE, 4)?;
     let mut machine = Machine::new(rt.alloc(), &job, 2)?;
-    let mut list = Vec::new(rt.alloc());
-    list.push(firing_of(rt.alloc(), "-.main.3.1", 8)?)?;
-    list.push(firing_of(rt.alloc(), "-.main.3.1", 9)?)?;
-    list.push(firing_of(rt.alloc(), "-.main.1.1", 4)?)?;
-    let full = machine.take_all(&list);
-    assert_eq!(rt; full, Err(ListRefusal::Full));
-    list.push(firing_of(rt.alloc(), "-.main.9.1", 4)?)?;
-    list.push(firing_of(rt.alloc(), "-.main.8.1", 4)?)?;
-    let refused = machine.take_all(&list);
-    assert_eq!(rt; refused, Err(ListRefusal::NotAFiring(3)));
+    let rows = [("-.main.3.1", 8), ("-.main.3.1", 9), ("-.main.1.1", 4)];
+    let refused = all_taken(rt.alloc(), &mut machine, rows.as_slice());
+    assert_eq!(rt; refused, Err(ListRefusal::Full));
     assert_eq!(rt; machine.parked().len(), 0);
+    assert_eq!(rt; machine.applied().len(), 0);
+    Ok(())
+}
+
+#[test]
+fn refuses_a_list_by_the_first_that_is_no_firing(rt: HostRuntime) -> Result<(), Fail> {
+    let job = job(rt.alloc(), DOUBLE, 4)?;
+    let mut machine = Machine::new(rt.alloc(), &job, 2)?;
+    let rows = [("-.main.1.1", 4), ("-.main.9.1", 4), ("-.main.8.1", 4)];
+    let refused = all_taken(rt.alloc(), &mut machine, rows.as_slice());
+    assert_eq!(rt; refused, Err(ListRefusal::NotAFiring(1)));
     assert_eq!(rt; machine.applied().len(), 0);
     Ok(())
 }
 
 /// One call of each kind, and one that is refused.
 fn calls(alloc: Global) -> Result<Vec<Command>, AllocError> {
-    let mut list = Vec::new(alloc);
-    list.push(firing_of(alloc, "-.main.3.1", 8)?)?;
-    list.push(firing_of(alloc, "-.main.1.1", 4)?)?;
+    let rows = [("-.main.3.1", 8), ("-.main.1.1", 4)];
     let mut commands = Vec::new(alloc);
     commands.push(Command::Take(firing_of(alloc, "-.main.3.1", 9)?))?;
-    commands.push(Command::TakeAll(list))?;
+    commands.push(Command::TakeAll(firings_of(alloc, rows.as_slice())?))?;
     commands.push(Command::Settle)?;
     commands.push(Command::Fire(5))?;
     commands.push(Command::Take(firing_of(alloc, "-.main.9.1", 9)?))?;
@@ -303,12 +355,10 @@ fn calls(alloc: Global) -> Result<Vec<Command>, AllocError> {
     Ok(commands)
 }
 
-#[test]
-fn obeys_calls_one_after_another(rt: HostRuntime) -> Result<(), Fail> {
-    let job = job(rt.alloc(), DOUBLE, 4)?;
-    let mut machine = Machine::new(rt.alloc(), &job, 4)?;
-    let commands = calls(rt.alloc())?;
-    let replies = machine.obey_all(rt.alloc(), &commands)?;
+/// Whether the machine answers each of the calls as it should.
+fn obeys(alloc: Global, machine: &mut Machine<'_>) -> Result<bool, AllocError> {
+    let commands = calls(alloc)?;
+    let replies = machine.obey_all(alloc, &commands)?;
     let wanted = [
         Reply::Take(Ok(Took::Parked)),
         Reply::TakeAll(Ok(())),
@@ -317,7 +367,14 @@ fn obeys_calls_one_after_another(rt: HostRuntime) -> Result<(), Fail> {
         Reply::Take(Err(TakeRefusal::NotAFiring)),
         Reply::Run(Ok(Ran::Quiet)),
     ];
-    assert!(rt; replies.as_slice() == wanted.as_slice());
+    Ok(replies.as_slice() == wanted.as_slice())
+}
+
+#[test]
+fn obeys_calls_one_after_another(rt: HostRuntime) -> Result<(), Fail> {
+    let job = job(rt.alloc(), DOUBLE, 4)?;
+    let mut machine = Machine::new(rt.alloc(), &job, 4)?;
+    assert_eq!(rt; obeys(rt.alloc(), &mut machine), Ok(true));
     assert_eq!(rt; machine.applied().len(), 3);
     assert_eq!(rt; machine.parked().len(), 1);
     Ok(())
