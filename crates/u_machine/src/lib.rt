@@ -7,6 +7,8 @@ mod calls;
 mod entering;
 mod inside;
 mod machine;
+#[cfg(test)]
+mod tests;
 
 pub use answer::{ListRefusal, Ran, Refusal, Step, TakeRefusal, Took};
 pub use machine::Machine;
