@@ -4,6 +4,7 @@
 mod answer;
 mod batches;
 mod calls;
+mod commands;
 mod entering;
 mod inside;
 mod machine;
@@ -11,4 +12,5 @@ mod machine;
 mod tests;
 
 pub use answer::{ListRefusal, Ran, Refusal, Step, TakeRefusal, Took};
+pub use commands::{Command, Reply};
 pub use machine::Machine;

@@ -1,5 +1,6 @@
 //! Worked runs.
 use crate::answer::{ListRefusal, Ran, Refusal, Step, TakeRefusal, Took};
+use crate::commands::{Command, Reply};
 use crate::machine::Machine;
 use std::alloc::{AllocError, Global};
 use std::test::Fail;
@@ -284,5 +285,40 @@ fn takes_a_whole_list_or_nothing(rt: HostRuntime) -> Result<(), Fail> {
     assert_eq!(rt; refused, Err(ListRefusal::NotAFiring(3)));
     assert_eq!(rt; machine.parked().len(), 0);
     assert_eq!(rt; machine.applied().len(), 0);
+    Ok(())
+}
+
+/// One call of each kind, and one that is refused.
+fn calls(alloc: Global) -> Result<Vec<Command>, AllocError> {
+    let mut list = Vec::new(alloc);
+    list.push(firing_of(alloc, "-.main.3.1", 8)?)?;
+    list.push(firing_of(alloc, "-.main.1.1", 4)?)?;
+    let mut commands = Vec::new(alloc);
+    commands.push(Command::Take(firing_of(alloc, "-.main.3.1", 9)?))?;
+    commands.push(Command::TakeAll(list))?;
+    commands.push(Command::Settle)?;
+    commands.push(Command::Fire(5))?;
+    commands.push(Command::Take(firing_of(alloc, "-.main.9.1", 9)?))?;
+    commands.push(Command::Run(1))?;
+    Ok(commands)
+}
+
+#[test]
+fn obeys_calls_one_after_another(rt: HostRuntime) -> Result<(), Fail> {
+    let job = job(rt.alloc(), DOUBLE, 4)?;
+    let mut machine = Machine::new(rt.alloc(), &job, 4)?;
+    let commands = calls(rt.alloc())?;
+    let replies = machine.obey_all(rt.alloc(), &commands)?;
+    let wanted = [
+        Reply::Take(Ok(Took::Parked)),
+        Reply::TakeAll(Ok(())),
+        Reply::Settle(Ok(())),
+        Reply::Fire(Ok(Step::Fired(1))),
+        Reply::Take(Err(TakeRefusal::NotAFiring)),
+        Reply::Run(Ok(Ran::Quiet)),
+    ];
+    assert!(rt; replies.as_slice() == wanted.as_slice());
+    assert_eq!(rt; machine.applied().len(), 3);
+    assert_eq!(rt; machine.parked().len(), 1);
     Ok(())
 }
