@@ -1,10 +1,16 @@
 #!/usr/bin/env bash
-# Times the built program on generated chains of sums, where statement k adds the value of the
-# statement before it to itself, and on the loop of programs/sum.u. The argument of a chain is 0, so
-# nothing overflows. For each run it prints the size, the firings, the seconds and the growth: how
-# often the time of the run before, of half the size. Where `rt` is on PATH, it then builds `u_bench`
-# and times copies of names, and tokens of a long loop that are put into a history: a hundred thousand
-# have to take less than a second.
+# Times the built program, and fails where it is slower than it may be.
+#
+# Chains: generated programs where statement k adds the value of the statement before it to itself; the
+# argument is 0, so nothing overflows. Loops and calls: programs/sum.u, programs/fibonacci.u and
+# programs/nested.u, each with about a thousand, ten thousand and a hundred thousand firings. For each
+# run a row says the argument, the firings, the seconds, how many times as long as the run above it took,
+# and the greatest memory in KiB (where /usr/bin/time is there). A run of ten times as many firings may
+# take 13 times as long, and the sum of 9998, with 99995 firings, may take a second; what takes less than
+# 20 milliseconds is not compared, since starting the program counts there.
+#
+# Where `rt` is on PATH, it then builds `u_bench` and times copies of names, and tokens of a long loop
+# that are put into a history: a hundred thousand have to take less than a second.
 set -u
 export LC_ALL=C
 
@@ -16,6 +22,7 @@ if [ ! -x "$binary" ]; then
 fi
 temp=$(mktemp -d) || exit 2
 trap 'rm -rf -- "$temp"' EXIT
+failed=0
 
 # A chain of so many statements: `begin`, sums, and `end`.
 chain() {
@@ -32,38 +39,85 @@ now() {
     printf '%s' "${EPOCHREALTIME/[.,]/}"
 }
 
-# Times a run of a program on an argument, and prints its row. The program has to end quietly after
-# so many firings, and with one answer.
-timed() {
-    local program=$1 argument=$2 size=$3 wanted=$4 start status spent firings growth=-
+# Runs the program on the argument, and leaves its status in `status`, the microseconds that it took in
+# `spent`, and its greatest memory in `memory`.
+run() {
+    local start
     start=$(now)
-    "$binary" run "$program" "$argument" --firings 1000000 >"$temp/report"
+    if [ -x /usr/bin/time ]; then
+        /usr/bin/time -q -f %M -o "$temp/memory" \
+            "$binary" run "$1" "$2" --firings 1000000 >"$temp/report"
+    else
+        "$binary" run "$1" "$2" --firings 1000000 >"$temp/report"
+    fi
     status=$?
     spent=$(($(now) - start))
+    memory=$(cat -- "$temp/memory" 2>/dev/null)
+}
+
+# Whether a run that took $1 microseconds for $2 firings is too slow after one that took $3 for $4: it
+# takes more than 13 times as long for each ten times as many.
+grows_too_much() {
+    [ "$3" -ge 20000 ] && awk -v t="$1" -v f="$2" -v u="$3" -v g="$4" \
+        'BEGIN { exit !(t / u > exp(log(13) * log(f / g) / log(10))) }'
+}
+
+# The heading of a table, whose first column is named.
+table() {
+    before=0
+    printf '%12s %10s %10s %8s %10s\n' "$1" firings seconds growth KiB
+}
+
+# Times a run of a program on an argument, and prints its row. The program has to end quietly after so
+# many firings, and with one answer.
+timed() {
+    local program=$1 argument=$2 wanted=$3 firings growth=-
+    run "$program" "$argument"
     firings=$(sed -n 's/^firings //p' "$temp/report")
     if [ "$status" -ne 0 ] || [ "$firings" != "$wanted" ]; then
         echo "$program $argument ended with status $status and '$firings' firings" >&2
         failed=1
     fi
-    [ "$before" -gt 0 ] && growth=$(printf '%d.%02d' $((spent / before)) $((spent * 100 / before % 100)))
-    printf '%10d %10s %6d.%03d %8s\n' "$size" "${firings:--}" $((spent / 1000000)) \
-        $((spent / 1000 % 1000)) "$growth"
-    before=$spent
+    if [ "$before" -gt 0 ]; then
+        growth=$(printf '%d.%02d' $((spent / before)) $((spent * 100 / before % 100)))
+        if grows_too_much "$spent" "$wanted" "$before" "$fired"; then
+            echo "$program $argument took $growth times as long as the run before" >&2
+            failed=1
+        fi
+    fi
+    printf '%12s %10s %6d.%03d %8s %10s\n' "$argument" "${firings:--}" $((spent / 1000000)) \
+        $((spent / 1000 % 1000)) "$growth" "${memory:--}"
+    before=$spent fired=$wanted
 }
 
-failed=0
-before=0
-printf '%10s %10s %10s %8s\n' statements firings seconds growth
-for size in 75 150 300; do
+table 'chain on'
+for size in 75 150 300 600; do
     chain "$size" >"$temp/chain.u"
-    timed "$temp/chain.u" 0 "$size" "$size"
+    timed "$temp/chain.u" 0 "$size"
 done
 
 # A turn of the loop fires 10 times, and 15 firings are there without it.
-before=0
-printf '%10s %10s %10s %8s\n' 'sum of' firings seconds growth
-for size in 25 50 100; do
-    timed "$top/programs/sum.u" "$size" "$size" $((10 * size + 15))
+table 'sum of'
+for size in 98 998 9998; do
+    timed "$top/programs/sum.u" "$size" $((10 * size + 15))
+done
+if [ "$spent" -ge 1000000 ]; then
+    echo 'the sum of 9998 took a second or more' >&2
+    failed=1
+fi
+
+# Each call fires 15 times where it makes two others, and 5 times where it makes none; 5 firings are there
+# without it.
+table 'fibonacci'
+timed "$top/programs/fibonacci.u" 9 1090
+timed "$top/programs/fibonacci.u" 14 12190
+timed "$top/programs/fibonacci.u" 19 135290
+
+# The inner loop fires 9 times for each number up to that of the outer loop's turn, which fires 18 times
+# besides; 11 firings are there without it.
+table 'nested to'
+for size in 13 45 147; do
+    timed "$top/programs/nested.u" "$size" $((11 + 18 * size + 9 * size * (size + 1) / 2))
 done
 
 # Times so many tokens that are put into a history, and prints how long that took.

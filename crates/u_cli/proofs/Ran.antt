@@ -67,7 +67,7 @@ module _ (old new : State) (budget : ℕ) (log : old.log ≡ []) (parked : old.p
       }
 
 -- the same for a machine that was new for this job
-pub ran_job : (job : JobParts) (limit : ℕ) (h : List Entry) (old new : State) (budget : ℕ) (end : Ran) (report : List ℕ) (status : ℕ) → old ≡ state job limit [] 0 [] h → IsMachine new → RunAnswer old budget (Ok end) new → IsReportOf (Contains new.history) (state_of end) (length new.log) 0 report → IsStatusOf (Contains new.history) (state_of end) status → RunsJob job budget report status
+pub ran_job : (job : JobParts) (limit : ℕ) (h : List Entry) (old new : State) (budget : ℕ) (end : Ran) (report : List ℕ) (status : ℕ) → old ≡ state job limit [] [] h → IsMachine new → RunAnswer old budget (Ok end) new → IsReportOf (Contains new.history) (state_of end) (length new.log) 0 report → IsStatusOf (Contains new.history) (state_of end) status → RunsJob job budget report status
 ran_job job limit h old new budget end report status e is a r t =
     record {
       state = state_of end;
