@@ -10,4 +10,5 @@ pub mod Needed
 pub mod Fresh
 pub mod Runs
 pub mod Counting
+pub mod Taking
 pub mod Replies

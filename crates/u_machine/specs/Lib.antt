@@ -1,3 +1,4 @@
 pub mod States
 pub mod Kept
 pub mod Taking
+pub mod Obeying

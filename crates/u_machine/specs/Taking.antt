@@ -31,7 +31,14 @@ pub record TakesAll (old : State) (fs : List Firing) (new : State) : Type 0 wher
 -- those of the list that are not taken, each once
 pub record AreNew (m : State) (fs news : List Firing) : Type 0 where
   pub once : Distinct news
-  pub exact : (g : Firing) → Contains news g ↔ (Contains fs g × (Taken m g → ⊥))
+  pub new : (g : Firing) → Contains news g → Contains fs g × (Taken m g → ⊥)
+  pub all : (g : Firing) → Contains fs g → Taken m g ⊎ Contains news g
+
+-- the firing is put to the list unless it is taken
+pub record GainsNew (m : State) (f : Firing) (old new : List Firing) : Type 0 where
+  pub kept : (g : Firing) → Contains old g → Contains new g
+  pub within : (g : Firing) → Contains new g → Contains old g ⊎ ((f ≡ g) × (Taken m f → ⊥))
+  pub there : Taken m f ⊎ Contains new f
 
 abbrev pub TakeAllAnswer : State → List Firing → Result (Unit {0}) ListRefusal → State → Type 0
 TakeAllAnswer old fs (Ok u) new =

@@ -2,7 +2,7 @@
 ghost use Rattle.std.specs.Prelude.{◌≡◌, ◌↔◌, ◌<◌, ◌≤◌, ◌+◌, IfOk, IfSome, IsNone, IsTrue, IsFalse, Contains, length};
 ghost use Rattle.u_rule.specs.declared.firing.Firing.{Firing};
 ghost use Rattle.u_machine.specs.States.{Taken, count_of};
-ghost use Rattle.u_machine.specs.Taking.{AreFirings, IsFirstOther, AreNew, TakeAllAnswer};
+ghost use Rattle.u_machine.specs.Taking.{AreFirings, IsFirstOther, AreNew, GainsNew, TakeAllAnswer};
 ghost use Rattle.u_machine.specs.Kept.{state_of, IsKept};
 
 use crate::answer::{ListRefusal, TakeRefusal};
@@ -26,17 +26,27 @@ fn first_other(job: &Job, firings: &[Firing]) -> Option<usize>
 }
 
 impl<'a> Inside<'a> {
-    /// Those of the list that were not taken.
+    /// Puts a copy of the firing into the set, unless the firing was taken.
     #[tactic(auto, using(u_rule::specs::EntryOrder::firing_cmp_ties))]
+    fn add_new(&self, news: &mut OrderedSet<Firing>, firing: &Firing) -> Result<(), AllocError>
+        requires { IsKept self.now }
+        ensures { OnOk result (GainsNew (state_of self.now) firing.now news.old news.new) }
+    {
+        if self.knows(firing) {
+            return Ok(());
+        }
+        news.insert(firing.copy(self.alloc)?)?;
+        Ok(())
+    }
+
+    /// Those of the list that were not taken.
     fn new_of(&self, firings: &[Firing]) -> Result<OrderedSet<Firing>, AllocError>
         requires { IsKept self.now }
         ensures { IfOk result (λ s. AreNew (state_of self.now) firings.now s) }
     {
         let mut news = OrderedSet::new(self.alloc);
         for firing in firings {
-            if !self.knows(firing) {
-                news.insert(firing.copy(self.alloc)?)?;
-            }
+            self.add_new(&mut news, firing)?;
         }
         let _count = news.len();
         Ok(news)
@@ -46,7 +56,8 @@ impl<'a> Inside<'a> {
     fn has_room(&self, more: usize) -> bool
         requires kept { IsKept self.now }
         requires settled { self.now.done ≡ length self.now.log.items }
-        ensures { IsTrue result ↔ (count_of (state_of self.now) + more ≤ self.now.limit) }
+        ensures room { IsTrue result → count_of (state_of self.now) + more ≤ self.now.limit }
+        ensures full { IsFalse result → self.now.limit < count_of (state_of self.now) + more }
     {
         let taken = self.log.len() + self.parked.len();
         more <= self.limit - taken

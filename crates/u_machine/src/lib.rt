@@ -4,9 +4,13 @@
 mod answer;
 mod batches;
 mod calls;
+mod commands;
 mod entering;
 mod inside;
 mod machine;
+#[cfg(test)]
+mod tests;
 
 pub use answer::{ListRefusal, Ran, Refusal, Step, TakeRefusal, Took};
+pub use commands::{Command, Reply};
 pub use machine::Machine;

@@ -9,9 +9,10 @@ ghost use Rattle.std.specs.Prelude.{◌≡◌, ◌↔◌, [], ◌∷◌, IfOk, I
 ghost use Rattle.u_rule.specs.Rule.{system_of};
 ghost use Rattle.u_rule.specs.EntryOrder.{entry_cmp, firing_cmp};
 ghost use Rattle.u_machine.specs.States.{state, IsMachine, IsSettled, IsWhole, FireAnswer, RunAnswer, TakeAnswer, Applies, Taken};
+ghost use Rattle.u_machine.specs.Taking.{TakeAllAnswer};
 ghost use Rattle.u_system.specs.Rising.{Rises};
 
-use crate::answer::{Ran, Refusal, Step, TakeRefusal, Took};
+use crate::answer::{ListRefusal, Ran, Refusal, Step, TakeRefusal, Took};
 use crate::inside::Inside;
 use std::alloc::{AllocError, Global};
 use std::marker::Model;
@@ -155,5 +156,19 @@ impl<'a> Machine<'a> {
     {
         let ran = self.inside.run(budget)?;
         Ok(ran)
+    }
+
+    /// Takes the firings of the list one after another, each as `take` does, or none of them.
+    ///
+    /// # Errors
+    /// `NotAFiring` with the place of the first that is no firing of the job. `Full` where the machine
+    /// may not take as many besides as the list has firings that it did not take yet. In both cases
+    /// nothing is taken. `NoMemory` where there is no memory; then those before some place of the list
+    /// are taken, and the next call goes on with what is not yet applied.
+    pub fn take_all(&mut self, firings: &[Firing]) -> Result<(), ListRefusal>
+        ensures { TakeAllAnswer self.old firings.now result self.new }
+    {
+        self.inside.take_all(firings)?;
+        Ok(())
     }
 }

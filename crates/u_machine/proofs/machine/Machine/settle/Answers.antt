@@ -10,4 +10,4 @@ pub returns-clause-still : goal.returns-clause-still
 returns-clause-still c s = let w = c.settle.ensures.still (settled_back c.self.inside.inside c.self.invariant (rw (← c.self.view_is) at s)) in (refl, ap state_of w.1 ∙ c.self.view_is)
 
 pub returns-in_err-settle-clause-still : goal.returns-in_err-settle-clause-still
-returns-in_err-settle-clause-still c s = let w = c.settle.ensures.still (settled_back c.self.inside.inside c.self.invariant (rw (← c.self.view_is) at s)) in absurd (let e = w.0 in ?)
+returns-in_err-settle-clause-still c s = let w = c.settle.ensures.still (settled_back c.self.inside.inside c.self.invariant (rw (← c.self.view_is) at s)) in absurd (let e = rw c.in_err-settle.was at w.0 in cc)

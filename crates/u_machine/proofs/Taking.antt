@@ -1,0 +1,118 @@
+-- Lists of firings that are taken one after another.
+use Rattle.std.proofs.Common.{◌≡◌, ◌<◌, ◌≤◌, ◌+◌, ◌⊎◌, inl, inr, refl, sym, ◌∙◌, subst, arith, ap, length, List, [], ◌∷◌, ◌++◌, append_assoc, append-nil, length-append, Ok, Err, false, ℕ, take, get_or, zero}
+use Rattle.std.specs.Prelude.{Contains, IsTrue, Result, Unit}
+use Rattle.std.specs.Result.{IsErrAnd}
+use Rattle.std.proofs.lemmas.List.{take_more}
+use Rattle.std.proofs.lemmas.List.Elements.{Contains-append_left, Contains-append_right, Contains-append_cases, Contains-push, Contains-push_cases}
+use Rattle.u_rule.specs.declared.firing.Firing.{Firing}
+use Rattle.u_rule.specs.Rule.{system_of}
+use Rattle.u_check.specs.Jobs.{JobParts}
+use Rattle.u_system.specs.Firing.{Distinct}
+use Rattle.u_system.proofs.Apart.{Distinct-push}
+use Rattle.u_system.proofs.Member.{Contains-nil}
+use Rattle.u_machine.specs.declared.answer.Took.{Took}
+use Rattle.u_machine.specs.declared.answer.Took.TheVariants as took
+use Rattle.u_machine.specs.declared.answer.TakeRefusal.{TakeRefusal}
+use Rattle.u_machine.specs.declared.answer.ListRefusal.{ListRefusal}
+use Rattle.u_machine.specs.declared.answer.ListRefusal.TheVariants.{NoMemory}
+use Rattle.u_machine.specs.States.{State, Taken, Applies, Takes, IsMachine, IsSettled, TakeAnswer, count_of}
+use Rattle.u_machine.specs.Taking.{AreFirings, AreNew, TakesAll, TakeAllAnswer}
+use Rattle.u_machine.proofs.Counting.{no_more}
+
+pub takes_none : (old new : State) → Applies old new → TakesAll old [] new
+takes_none old new p = record {
+  job = p.job;
+  limit = p.limit;
+  taken = λ g. ((λ t. inl ((p.taken g).1 t)), λ s. elim s [ inl t ↦ (p.taken g).0 t | inr n ↦ absurd (Contains-nil g n) ]);
+  log = p.log;
+  history = p.history;
+}
+
+module _ (old mid new : State) (fs : List Firing) (r : TakesAll old fs mid) where
+  pub takes_applies : Applies mid new → TakesAll old fs new
+  takes_applies p = record {
+    job = p.job ∙ r.job;
+    limit = p.limit ∙ r.limit;
+    taken = λ g. ((λ t. (r.taken g).0 ((p.taken g).1 t)), λ s. (p.taken g).0 ((r.taken g).1 s));
+    log = (r.log.0 ++ p.log.0, rw (p.log.1, r.log.1) (append_assoc old.log r.log.0 p.log.0));
+    history = λ e k. p.history e (r.history e k);
+  }
+
+  -- one more that was taken before
+  pub takes_known : (f : Firing) → Taken mid f → Applies mid new → TakesAll old (fs ++ f ∷ []) new
+  takes_known f k p = let q = takes_applies p in record { job = q.job; limit = q.limit; taken = λ g. (to g, back g); log = q.log; history = q.history }
+    where
+      to : (g : Firing) → Taken new g → Taken old g ⊎ Contains (fs ++ f ∷ []) g
+      to g t = elim ((r.taken g).0 ((p.taken g).1 t)) [ inl a ↦ inl a | inr b ↦ inr (Contains-append_left fs (f ∷ []) g b) ]
+
+      back : (g : Firing) → Taken old g ⊎ Contains (fs ++ f ∷ []) g → Taken new g
+      back g (inl a) = (p.taken g).0 ((r.taken g).1 (inl a))
+      back g (inr b) = elim (Contains-push_cases fs f g b) [ inl a ↦ (p.taken g).0 ((r.taken g).1 (inr a)) | inr e ↦ (p.taken g).0 (subst (λ (h : Firing). Taken mid h) e k) ]
+
+  -- one more that is taken
+  pub takes_more : (f : Firing) → Takes mid f new → TakesAll old (fs ++ f ∷ []) new
+  takes_more f t = record {
+    job = t.job ∙ r.job;
+    limit = t.limit ∙ r.limit;
+    taken = λ g. (to g, back g);
+    log = (r.log.0 ++ t.log.0, rw (t.log.1, r.log.1) (append_assoc old.log r.log.0 t.log.0));
+    history = λ e k. t.history e (r.history e k);
+  }
+    where
+      to : (g : Firing) → Taken new g → Taken old g ⊎ Contains (fs ++ f ∷ []) g
+      to g k = over ((t.taken g).0 k)
+        where
+          over : Taken mid g ⊎ (f ≡ g) → Taken old g ⊎ Contains (fs ++ f ∷ []) g
+          over (inl a) = elim ((r.taken g).0 a) [ inl b ↦ inl b | inr b ↦ inr (Contains-append_left fs (f ∷ []) g b) ]
+          over (inr e) = inr (subst (λ (h : Firing). Contains (fs ++ f ∷ []) h) e (Contains-push fs f))
+
+      back : (g : Firing) → Taken old g ⊎ Contains (fs ++ f ∷ []) g → Taken new g
+      back g (inl a) = (t.taken g).1 (inl ((r.taken g).1 (inl a)))
+      back g (inr b) = elim (Contains-push_cases fs f g b) [ inl a ↦ (t.taken g).1 (inl ((r.taken g).1 (inr a))) | inr e ↦ (t.taken g).1 (inr e) ]
+
+  -- what `take` answers on the next one
+  pub takes_next : (f : Firing) (t : Took) → TakeAnswer mid f (Ok t) new → TakesAll old (fs ++ f ∷ []) new × IsSettled new
+  takes_next f took.Known a = (takes_known f a.0 a.1, a.2)
+  takes_next f took.Taken a = (takes_more f a.1, a.3)
+  takes_next f took.Parked a = (takes_more f a.1, a.3)
+
+  pub takes_next_or_not : (f : Firing) → Applies mid new ⊎ Takes mid f new → TakesAll old fs new ⊎ TakesAll old (fs ++ f ∷ []) new
+  takes_next_or_not f (inl p) = inl (takes_applies p)
+  takes_next_or_not f (inr t) = inr (takes_more f t)
+
+-- there is room for each new one of the list, since those that were taken before it are taken or new too
+pub room_for : (start mid : State) (fs done news : List Firing) (f : Firing) → IsMachine mid → TakesAll start done mid → AreNew start fs news → ((g : Firing) → Contains done g → Contains fs g) → Contains fs f → (Taken mid f → ⊥) → count_of start + length news ≤ start.limit → count_of mid < mid.limit
+room_for start mid fs done news f is r are before m new room =
+    let n = no_more ((mid.log ++ mid.parked) ++ f ∷ []) ((start.log ++ start.parked) ++ news) (Distinct-push (mid.log ++ mid.parked) f new is.distinct) within in
+    let a = length-append (mid.log ++ mid.parked) (f ∷ []) in
+    let b = length-append mid.log mid.parked in
+    let c = length-append (start.log ++ start.parked) news in
+    let d = length-append start.log start.parked in
+    let e = r.limit in
+    omega (arith, n, room)
+  where
+    among : (g : Firing) → Taken start g ⊎ Contains news g → Contains ((start.log ++ start.parked) ++ news) g
+    among g (inl t) = Contains-append_left (start.log ++ start.parked) news g t
+    among g (inr k) = Contains-append_right (start.log ++ start.parked) news g k
+
+    listed : (g : Firing) → Contains fs g → Contains ((start.log ++ start.parked) ++ news) g
+    listed g k = among g (are.all g k)
+
+    within : (g : Firing) → Contains ((mid.log ++ mid.parked) ++ f ∷ []) g → Contains ((start.log ++ start.parked) ++ news) g
+    within g k =
+        elim (Contains-push_cases (mid.log ++ mid.parked) f g k) [
+          | inl t ↦ elim ((r.taken g).0 t) [ inl a ↦ among g (inl a) | inr b ↦ listed g (before g b) ]
+          | inr e ↦ subst (λ (h : Firing). Contains ((start.log ++ start.parked) ++ news) h) e (listed f m)
+        ]
+
+-- those of the list that are new are new before, where taken ones were applied
+pub new_before : (old mid : State) (fs news : List Firing) → Applies old mid → AreNew mid fs news → AreNew old fs news
+new_before old mid fs news p are = record {
+  once = are.once;
+  new = λ g k. ((are.new g k).0, λ t. (are.new g k).1 ((p.taken g).0 t));
+  all = λ g k. elim (are.all g k) [ inl t ↦ inl ((p.taken g).1 t) | inr n ↦ inr n ];
+}
+
+pub all_no_memory : (old new : State) (fs : List Firing) (r : Result (Unit {0}) ListRefusal) → IsErrAnd r (λ e. e ≡ NoMemory) → (k : ℕ) → k ≤ length fs → TakesAll old (take k fs) new → TakeAllAnswer old fs r new
+all_no_memory old new fs (Ok u) h k l t = absurd h
+all_no_memory old new fs (Err e) h k l t = subst (λ (x : ListRefusal). TakeAllAnswer old fs (Err x) new) (sym h) (k, l, t)

@@ -1,0 +1,60 @@
+-- What a machine does on a list of calls.
+use Rattle.std.specs.Prelude.{◌≡◌, List, [], ◌∷◌, ◌++◌, Unit, Result, Ok, Err, Contains, ⊥}
+use Rattle.std.specs.declared.alloc.AllocError.{AllocError}
+use Rattle.u_system.specs.Firing.{Same, Cl, Whole}
+use Rattle.u_rule.specs.declared.firing.Firing.{Firing}
+use Rattle.u_rule.specs.declared.entry.Entry.{Entry}
+use Rattle.u_rule.specs.Rule.{system_of}
+use Rattle.u_machine.specs.declared.commands.Command.{Command}
+use Rattle.u_machine.specs.declared.commands.Command.TheVariants as calls
+use Rattle.u_machine.specs.declared.commands.Reply.{Reply}
+use Rattle.u_machine.specs.declared.commands.Reply.TheVariants as replies
+use Rattle.u_machine.specs.declared.answer.Refusal.TheVariants as refusals
+use Rattle.u_machine.specs.declared.answer.TakeRefusal.TheVariants as untaken
+use Rattle.u_machine.specs.declared.answer.ListRefusal.TheVariants as unlisted
+use Rattle.u_machine.specs.States.{State, Taken, IsMachine, IsSettled, Applies, FireAnswer, TakeAnswer, RunAnswer}
+use Rattle.u_machine.specs.Taking.{TakeAllAnswer}
+
+-- what was begun is applied, or some of it where there is no memory
+abbrev pub SettleAnswer : State → Result (Unit {0}) AllocError → State → Type 0
+SettleAnswer old (Ok u) new = Applies old new × IsSettled new
+SettleAnswer old (Err e) new = Applies old new
+
+-- the call has that answer, and leaves that state
+abbrev pub Does : State → Command → Reply → State → Type 0
+Does old (calls.Fire pick) (replies.Fire r) new = FireAnswer old pick r new
+Does old (calls.Take f) (replies.Take r) new = TakeAnswer old f r new
+Does old (calls.TakeAll fs) (replies.TakeAll r) new = TakeAllAnswer old fs.items r new
+Does old calls.Settle (replies.Settle r) new = SettleAnswer old r new
+Does old (calls.Run budget) (replies.Run r) new = RunAnswer old budget r new
+Does old c r new = ⊥
+
+-- the calls have these answers, one after another
+abbrev pub Obeys : State → List Command → List Reply → State → Type 0
+Obeys old [] [] new = new ≡ old
+Obeys old (c ∷ cs) (r ∷ rs) new = (mid : State) × Does old c r mid × IsMachine mid × Obeys mid cs rs new
+Obeys old cs rs new = ⊥
+
+-- the call was not refused for want of memory
+abbrev pub IsMet : Reply → Type 0
+IsMet (replies.Fire (Err refusals.NoMemory)) = ⊥
+IsMet (replies.Take (Err untaken.NoMemory)) = ⊥
+IsMet (replies.TakeAll (Err unlisted.NoMemory)) = ⊥
+IsMet (replies.Settle (Err e)) = ⊥
+IsMet (replies.Run (Err refusals.NoMemory)) = ⊥
+IsMet r = Unit {0}
+
+abbrev pub AreMet : List Reply → Type 0
+AreMet rs = (r : Reply) → Contains rs r → IsMet r
+
+-- nothing is lost: more firings may be taken and applied, and more entries may have entered
+pub record Extends (old new : State) : Type 0 where
+  pub job : new.job ≡ old.job
+  pub limit : new.limit ≡ old.limit
+  pub taken : (f : Firing) → Taken old f → Taken new f
+  pub log : (rest : List Firing) × (new.log ≡ old.log ++ rest)
+  pub history : (e : Entry) → Contains old.history e → Contains new.history e
+
+-- the history is the closure of what was taken
+abbrev pub IsClosure : State → Type 0
+IsClosure m = Same (Contains m.history) (Cl (system_of m.job) (Taken m))

@@ -1,0 +1,80 @@
+//! Lists of calls of one machine, and what holds after each list.
+ghost use Rattle.std.specs.Prelude.{◌≡◌, IfOk, OnErr};
+ghost use Rattle.u_machine.specs.States.{IsMachine, IsSettled};
+ghost use Rattle.u_machine.specs.Obeying.{Does, Obeys, AreMet, IsClosure, Extends};
+
+use crate::answer::{ListRefusal, Ran, Refusal, Step, TakeRefusal, Took};
+use crate::machine::Machine;
+use std::alloc::{AllocError, Global};
+use u_rule::Firing;
+
+/// One call of a machine.
+#[derive(Drop)]
+pub enum Command {
+    /// `fire`, with the number that picks one of the ready firings.
+    Fire(usize),
+    /// `take`.
+    Take(Firing),
+    /// `take_all`.
+    TakeAll(Vec<Firing>),
+    /// `settle`.
+    Settle,
+    /// `run`, with how often it may fire.
+    Run(usize),
+}
+
+/// What one call of a machine answered.
+#[derive(Clone, Copy, PartialEq, Eq, Debug)]
+pub enum Reply {
+    /// What `fire` answered.
+    Fire(Result<Step, Refusal>),
+    /// What `take` answered.
+    Take(Result<Took, TakeRefusal>),
+    /// What `take_all` answered.
+    TakeAll(Result<(), ListRefusal>),
+    /// What `settle` answered.
+    Settle(Result<(), AllocError>),
+    /// What `run` answered.
+    Run(Result<Ran, Refusal>),
+}
+
+impl<'a> Machine<'a> {
+    /// Makes the call, and hands on its answer.
+    pub fn obey(&mut self, command: &Command) -> Reply
+        ensures { Does self.old command.now result self.new }
+    {
+        match command {
+            Command::Fire(pick) => Reply::Fire(self.fire(*pick)),
+            Command::Take(firing) => Reply::Take(self.take(firing)),
+            Command::TakeAll(firings) => Reply::TakeAll(self.take_all(firings)),
+            Command::Settle => Reply::Settle(self.settle()),
+            Command::Run(budget) => Reply::Run(self.run(*budget)),
+        }
+    }
+
+    /// Makes the calls of the list one after another, and answers what each of them answered.
+    ///
+    /// # Errors
+    /// `AllocError` where there is no memory for the answers; then no call is made.
+    pub fn obey_all(
+        &mut self,
+        alloc: Global,
+        commands: &[Command],
+    ) -> Result<Vec<Reply>, AllocError>
+        ensures obeys { IfOk result (λ rs. Obeys self.old commands.now rs.items self.new) }
+        ensures extends { Extends self.old self.new }
+        ensures machine { IsMachine self.new }
+        ensures settled { IfOk result (λ rs. IsSettled self.old → AreMet rs.items → IsSettled self.new) }
+        ensures closure { IsSettled self.new → IsClosure self.new }
+        ensures err { OnErr result (self.new ≡ self.old) }
+    {
+        let mut replies = Vec::new(alloc);
+        replies.reserve(commands.len())?;
+        for command in commands {
+            let reply = self.obey(command);
+            replies.push(reply).unwrap();
+        }
+        self.holds();
+        Ok(replies)
+    }
+}
