@@ -12,3 +12,4 @@ pub mod Runs
 pub mod Counting
 pub mod Taking
 pub mod Replies
+pub mod Obeying

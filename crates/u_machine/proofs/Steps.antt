@@ -161,18 +161,18 @@ module _ (job : JobParts) (limit : ℕ) (log : FiringList) (done : ℕ) (taken p
             elim (Contains-append_cases (take done log) parked g m) [
               | inl a ↦ first a
               | inr b ↦ elim (w.rest g b) [
-                  | inl e ↦ rw longer (Contains-append_left (take done log ++ f ∷ []) less g (subst (λ (h : Firing). Contains (take done log ++ f ∷ []) h) e (Contains-push (take done log) f)))
-                  | inr k ↦ Contains-append_right (take (done + 1) log) less g k
-                ]
+                | inl e ↦ rw longer (Contains-append_left (take done log ++ f ∷ []) less g (subst (λ (h : Firing). Contains (take done log ++ f ∷ []) h) e (Contains-push (take done log) f)))
+                | inr k ↦ Contains-append_right (take (done + 1) log) less g k
+              ]
             ]
 
         back : Contains (take (done + 1) log ++ less) g → Contains (take done log ++ parked) g
         back m =
             elim (Contains-append_cases (take (done + 1) log) less g m) [
               | inl a ↦ elim (Contains-push_cases (take done log) f g (rw longer at a)) [
-                  | inl k ↦ Contains-append_left (take done log) parked g k
-                  | inr e ↦ Contains-append_right (take done log) parked g (subst (λ (h : Firing). Contains parked h) e was_parked)
-                ]
+                | inl k ↦ Contains-append_left (take done log) parked g k
+                | inr e ↦ Contains-append_right (take done log) parked g (subst (λ (h : Firing). Contains parked h) e was_parked)
+              ]
               | inr b ↦ Contains-append_right (take done log) parked g (w.less g b)
             ]
 

@@ -1,9 +1,9 @@
 -- Lists of firings that are taken one after another.
 use Rattle.std.proofs.Common.{◌≡◌, ◌<◌, ◌≤◌, ◌+◌, ◌⊎◌, inl, inr, refl, sym, ◌∙◌, subst, arith, ap, length, List, [], ◌∷◌, ◌++◌, append_assoc, append-nil, length-append, Ok, Err, false, ℕ, take, get_or, zero}
-use Rattle.std.specs.Prelude.{Contains, IsTrue, Result, Unit}
+use Rattle.std.specs.Prelude.{Contains, IsTrue, Result}
 use Rattle.std.specs.Result.{IsErrAnd}
 use Rattle.std.proofs.lemmas.List.{take_more}
-use Rattle.std.proofs.lemmas.List.Elements.{Contains-append_left, Contains-append_right, Contains-append_cases, Contains-push, Contains-push_cases}
+use Rattle.std.proofs.lemmas.List.Elements.{Contains-get_or, Contains-append_left, Contains-append_right, Contains-append_cases, Contains-push, Contains-push_cases}
 use Rattle.u_rule.specs.declared.firing.Firing.{Firing}
 use Rattle.u_rule.specs.Rule.{system_of}
 use Rattle.u_check.specs.Jobs.{JobParts}
@@ -16,7 +16,10 @@ use Rattle.u_machine.specs.declared.answer.TakeRefusal.{TakeRefusal}
 use Rattle.u_machine.specs.declared.answer.ListRefusal.{ListRefusal}
 use Rattle.u_machine.specs.declared.answer.ListRefusal.TheVariants.{NoMemory}
 use Rattle.u_machine.specs.States.{State, Taken, Applies, Takes, IsMachine, IsSettled, TakeAnswer, count_of}
-use Rattle.u_machine.specs.Taking.{AreFirings, AreNew, TakesAll, TakeAllAnswer}
+use Rattle.u_machine.specs.declared.answer.TakeRefusal.TheVariants as untaken
+use Rattle.u_machine.proofs.Lists.{Contains-taken}
+use Rattle.u_machine.proofs.Settled.{not_both}
+use Rattle.u_machine.specs.Taking.{AreFirings, AreNew, FoundNew, GainsNew, TakesAll, TakeAllAnswer}
 use Rattle.u_machine.proofs.Counting.{no_more}
 
 pub takes_none : (old new : State) → Applies old new → TakesAll old [] new
@@ -96,7 +99,7 @@ room_for start mid fs done news f is r are before m new room =
     among g (inr k) = Contains-append_right (start.log ++ start.parked) news g k
 
     listed : (g : Firing) → Contains fs g → Contains ((start.log ++ start.parked) ++ news) g
-    listed g k = among g (are.all g k)
+    listed g k = among g (are.found.all g k)
 
     within : (g : Firing) → Contains ((mid.log ++ mid.parked) ++ f ∷ []) g → Contains ((start.log ++ start.parked) ++ news) g
     within g k =
@@ -109,9 +112,61 @@ room_for start mid fs done news f is r are before m new room =
 pub new_before : (old mid : State) (fs news : List Firing) → Applies old mid → AreNew mid fs news → AreNew old fs news
 new_before old mid fs news p are = record {
   once = are.once;
-  new = λ g k. ((are.new g k).0, λ t. (are.new g k).1 ((p.taken g).0 t));
-  all = λ g k. elim (are.all g k) [ inl t ↦ inl ((p.taken g).1 t) | inr n ↦ inr n ];
+  found = record {
+    new = λ g k. ((are.found.new g k).0, λ t. (are.found.new g k).1 ((p.taken g).0 t));
+    all = λ g k. elim (are.found.all g k) [ inl t ↦ inl ((p.taken g).1 t) | inr n ↦ inr n ];
+  };
 }
+
+pub found_none : (m : State) (news : List Firing) → news ≡ [] → FoundNew m [] news
+found_none m news e = record { new = λ g k. absurd (Contains-nil g (rw e at k)); all = λ g k. absurd (Contains-nil g k) }
+
+pub found_more : (m : State) (fs old new : List Firing) (f : Firing) → FoundNew m fs old → GainsNew m f old new → FoundNew m (fs ++ f ∷ []) new
+found_more m fs old new f r p = record {
+  new = λ g k. of g (p.within g k);
+  all = λ g k. elim (Contains-push_cases fs f g k) [ inl a ↦ elim (r.all g a) [ inl t ↦ inl t | inr n ↦ inr (p.kept g n) ] | inr e ↦ subst (λ (h : Firing). Taken m h ⊎ Contains new h) e p.there ];
+}
+  where
+    of : (g : Firing) → Contains old g ⊎ ((f ≡ g) × (Taken m f → ⊥)) → Contains (fs ++ f ∷ []) g × (Taken m g → ⊥)
+    of g (inl k) = (Contains-append_left fs (f ∷ []) g (r.new g k).0, (r.new g k).1)
+    of g (inr (e, n)) = (subst (λ (h : Firing). Contains (fs ++ f ∷ []) h) e (Contains-push fs f), subst (λ (h : Firing). Taken m h → ⊥) e n)
+
+-- one more place of the list
+pub next_place : (fs : List Firing) (i : ℕ) (f : Firing) → i < length fs → f ≡ get_or fs i f → take (i + 1) fs ≡ take i fs ++ f ∷ []
+next_place fs i f l e = take_more fs i f l ∙ ap (λ (g : Firing). take i fs ++ g ∷ []) (sym e)
+
+-- taken ones were applied before
+pub takes_after : (old start new : State) (fs : List Firing) → Applies old start → TakesAll start fs new → TakesAll old fs new
+takes_after old start new fs p r = record {
+  job = r.job ∙ p.job;
+  limit = r.limit ∙ p.limit;
+  taken = λ g. (to g, back g);
+  log = (p.log.0 ++ r.log.0, rw (r.log.1, p.log.1) (append_assoc old.log p.log.0 r.log.0));
+  history = λ e k. r.history e (p.history e k);
+}
+  where
+    to : (g : Firing) → Taken new g → Taken old g ⊎ Contains fs g
+    to g t = elim ((r.taken g).0 t) [ inl a ↦ inl ((p.taken g).1 a) | inr b ↦ inr b ]
+
+    back : (g : Firing) → Taken old g ⊎ Contains fs g → Taken new g
+    back g (inl a) = (r.taken g).1 (inl ((p.taken g).0 a))
+    back g (inr b) = (r.taken g).1 (inr b)
+
+-- the list was taken up to some place
+pub part_taken : (start mid new : State) (fs : List Firing) (i : ℕ) (f : Firing) → i < length fs → f ≡ get_or fs i f → TakesAll start (take i fs) mid → Applies mid new ⊎ Takes mid f new → (k : ℕ) × (k ≤ length fs) × TakesAll start (take k fs) new
+part_taken start mid new fs i f l e r (inl p) = (i, omega (arith, l), takes_applies start mid new (take i fs) r p)
+part_taken start mid new fs i f l e r (inr t) = (i + 1, omega (arith, l), rw (next_place fs i f l e) (takes_more start mid new (take i fs) r f t))
+
+-- the next one of the list, which is a firing and for which there is room, is not refused
+module _ (start mid new : State) (fs news : List Firing) (i : ℕ) (f : Firing) (l : i < length fs) (at : f ≡ get_or fs i f) (is : IsMachine mid) (r : TakesAll start (take i fs) mid) (are : AreNew start fs news) where
+  listed : Contains fs f
+  listed = subst (λ (g : Firing). Contains fs g) (sym at) (Contains-get_or fs i f l)
+
+  pub never_full : count_of start + length news ≤ start.limit → TakeAnswer mid f (Err untaken.Full) new → ⊥
+  never_full room a = let n = room_for start mid fs (take i fs) news f is r are (λ g. Contains-taken i fs g) listed a.1 room in let e = a.2 in omega (arith, n)
+
+  pub never_other : AreFirings start.job fs → TakeAnswer mid f (Err untaken.NotAFiring) new → ⊥
+  never_other all a = let h = rw r.job at a.0 in not_both ((system_of start.job).is_firing f) (all f listed) h
 
 pub all_no_memory : (old new : State) (fs : List Firing) (r : Result (Unit {0}) ListRefusal) → IsErrAnd r (λ e. e ≡ NoMemory) → (k : ℕ) → k ≤ length fs → TakesAll old (take k fs) new → TakeAllAnswer old fs r new
 all_no_memory old new fs (Ok u) h k l t = absurd h

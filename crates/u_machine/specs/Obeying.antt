@@ -1,7 +1,7 @@
 -- What a machine does on a list of calls.
-use Rattle.std.specs.Prelude.{◌≡◌, List, [], ◌∷◌, ◌++◌, Unit, Result, Ok, Err, Contains, ⊥}
+use Rattle.std.specs.Prelude.{◌≡◌, List, [], ◌∷◌, ◌++◌, Result, Ok, Err, Contains}
 use Rattle.std.specs.declared.alloc.AllocError.{AllocError}
-use Rattle.u_system.specs.Firing.{Same, Cl, Whole}
+use Rattle.u_system.specs.Firing.{Same, Cl}
 use Rattle.u_rule.specs.declared.firing.Firing.{Firing}
 use Rattle.u_rule.specs.declared.entry.Entry.{Entry}
 use Rattle.u_rule.specs.Rule.{system_of}
@@ -9,6 +9,12 @@ use Rattle.u_machine.specs.declared.commands.Command.{Command}
 use Rattle.u_machine.specs.declared.commands.Command.TheVariants as calls
 use Rattle.u_machine.specs.declared.commands.Reply.{Reply}
 use Rattle.u_machine.specs.declared.commands.Reply.TheVariants as replies
+use Rattle.u_machine.specs.declared.answer.Step.{Step}
+use Rattle.u_machine.specs.declared.answer.Ran.{Ran}
+use Rattle.u_machine.specs.declared.answer.Took.{Took}
+use Rattle.u_machine.specs.declared.answer.Refusal.{Refusal}
+use Rattle.u_machine.specs.declared.answer.TakeRefusal.{TakeRefusal}
+use Rattle.u_machine.specs.declared.answer.ListRefusal.{ListRefusal}
 use Rattle.u_machine.specs.declared.answer.Refusal.TheVariants as refusals
 use Rattle.u_machine.specs.declared.answer.TakeRefusal.TheVariants as untaken
 use Rattle.u_machine.specs.declared.answer.ListRefusal.TheVariants as unlisted
@@ -22,18 +28,16 @@ SettleAnswer old (Err e) new = Applies old new
 
 -- the call has that answer, and leaves that state
 abbrev pub Does : State → Command → Reply → State → Type 0
-Does old (calls.Fire pick) (replies.Fire r) new = FireAnswer old pick r new
-Does old (calls.Take f) (replies.Take r) new = TakeAnswer old f r new
-Does old (calls.TakeAll fs) (replies.TakeAll r) new = TakeAllAnswer old fs.items r new
-Does old calls.Settle (replies.Settle r) new = SettleAnswer old r new
-Does old (calls.Run budget) (replies.Run r) new = RunAnswer old budget r new
-Does old c r new = ⊥
+Does old (calls.Fire pick) reply new = (r : Result Step Refusal) × (reply ≡ replies.Fire r) × FireAnswer old pick r new
+Does old (calls.Take f) reply new = (r : Result Took TakeRefusal) × (reply ≡ replies.Take r) × TakeAnswer old f r new
+Does old (calls.TakeAll fs) reply new = (r : Result (Unit {0}) ListRefusal) × (reply ≡ replies.TakeAll r) × TakeAllAnswer old fs.items r new
+Does old calls.Settle reply new = (r : Result (Unit {0}) AllocError) × (reply ≡ replies.Settle r) × SettleAnswer old r new
+Does old (calls.Run budget) reply new = (r : Result Ran Refusal) × (reply ≡ replies.Run r) × RunAnswer old budget r new
 
--- the calls have these answers, one after another
+-- the calls have these answers, one after another, and each leaves a machine
 abbrev pub Obeys : State → List Command → List Reply → State → Type 0
-Obeys old [] [] new = new ≡ old
-Obeys old (c ∷ cs) (r ∷ rs) new = (mid : State) × Does old c r mid × IsMachine mid × Obeys mid cs rs new
-Obeys old cs rs new = ⊥
+Obeys old [] rs new = (rs ≡ []) × (new ≡ old)
+Obeys old (c ∷ cs) rs new = (r : Reply) × (more : List Reply) × (mid : State) × (rs ≡ r ∷ more) × Does old c r mid × IsMachine mid × Obeys mid cs more new
 
 -- the call was not refused for want of memory
 abbrev pub IsMet : Reply → Type 0

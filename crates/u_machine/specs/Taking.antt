@@ -28,11 +28,15 @@ pub record TakesAll (old : State) (fs : List Firing) (new : State) : Type 0 wher
   pub log : (rest : List Firing) × (new.log ≡ old.log ++ rest)
   pub history : (e : Entry) → Contains old.history e → Contains new.history e
 
--- those of the list that are not taken, each once
-pub record AreNew (m : State) (fs news : List Firing) : Type 0 where
-  pub once : Distinct news
+-- those of the list that are not taken
+pub record FoundNew (m : State) (fs news : List Firing) : Type 0 where
   pub new : (g : Firing) → Contains news g → Contains fs g × (Taken m g → ⊥)
   pub all : (g : Firing) → Contains fs g → Taken m g ⊎ Contains news g
+
+-- and each of them once
+pub record AreNew (m : State) (fs news : List Firing) : Type 0 where
+  pub once : Distinct news
+  pub found : FoundNew m fs news
 
 -- the firing is put to the list unless it is taken
 pub record GainsNew (m : State) (f : Firing) (old new : List Firing) : Type 0 where

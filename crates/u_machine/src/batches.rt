@@ -1,5 +1,5 @@
 //! Lists of firings that a machine takes, one after another.
-ghost use Rattle.std.specs.Prelude.{◌≡◌, ◌↔◌, ◌<◌, ◌≤◌, ◌+◌, IfOk, IfSome, IsNone, IsTrue, IsFalse, Contains, length};
+ghost use Rattle.std.specs.Prelude.{◌≡◌, ◌↔◌, ◌<◌, ◌≤◌, ◌+◌, IfOk, OnOk, IfSome, IfNone, IsTrue, IsFalse, Contains, length};
 ghost use Rattle.u_rule.specs.declared.firing.Firing.{Firing};
 ghost use Rattle.u_machine.specs.States.{Taken, count_of};
 ghost use Rattle.u_machine.specs.Taking.{AreFirings, IsFirstOther, AreNew, GainsNew, TakeAllAnswer};
@@ -15,7 +15,7 @@ use u_system::OrderedSet;
 /// The place of the first that is no firing of the job.
 fn first_other(job: &Job, firings: &[Firing]) -> Option<usize>
     ensures some { IfSome result (λ k. IsFirstOther job.now firings.now k) }
-    ensures none { IsNone result → AreFirings job.now firings.now }
+    ensures none { IfNone result (AreFirings job.now firings.now) }
 {
     for (place, firing) in firings.iter().enumerate() {
         if !is_firing(job, firing) {
@@ -59,8 +59,7 @@ impl<'a> Inside<'a> {
         ensures room { IsTrue result → count_of (state_of self.now) + more ≤ self.now.limit }
         ensures full { IsFalse result → self.now.limit < count_of (state_of self.now) + more }
     {
-        let taken = self.log.len() + self.parked.len();
-        more <= self.limit - taken
+        more <= self.limit - self.log.len() - self.parked.len()
     }
 
     /// Takes the firings of the list in their order.
@@ -81,7 +80,8 @@ impl<'a> Inside<'a> {
             match self.take(firing) {
                 Ok(_) => {}
                 Err(TakeRefusal::NoMemory) => return Err(ListRefusal::NoMemory),
-                Err(_) => unreachable!(),
+                Err(TakeRefusal::NotAFiring) => unreachable!(),
+                Err(TakeRefusal::Full) => unreachable!(),
             }
         }
         Ok(())

@@ -4,6 +4,7 @@ ghost use Rattle.u_machine.specs.States.{IsMachine, IsSettled};
 ghost use Rattle.u_machine.specs.Obeying.{Does, Obeys, AreMet, IsClosure, Extends};
 
 use crate::answer::{ListRefusal, Ran, Refusal, Step, TakeRefusal, Took};
+use crate::entering::push_into_room;
 use crate::machine::Machine;
 use std::alloc::{AllocError, Global};
 use u_rule::Firing;
@@ -68,13 +69,14 @@ impl<'a> Machine<'a> {
         ensures closure { IsSettled self.new → IsClosure self.new }
         ensures err { OnErr result (self.new ≡ self.old) }
     {
+        self.holds();
         let mut replies = Vec::new(alloc);
         replies.reserve(commands.len())?;
         for command in commands {
             let reply = self.obey(command);
-            replies.push(reply).unwrap();
+            self.holds();
+            push_into_room(&mut replies, reply);
         }
-        self.holds();
         Ok(replies)
     }
 }

@@ -1,5 +1,5 @@
 //! What a firing gives, and where taken firings are put.
-ghost use Rattle.std.specs.Prelude.{◌≡◌, ◌<◌, ◌+◌, ◌++◌, [], ◌∷◌, OnOk, OnErr, IfOk, Contains, length, vec_len, vec_capacity};
+ghost use Rattle.std.specs.Prelude.{◌≡◌, ◌<◌, ◌≤◌, ◌+◌, ◌++◌, [], ◌∷◌, OnOk, OnErr, IfOk, Contains, length, vec_len, vec_capacity};
 ghost use Rattle.u_rule.specs.Rule.{system_of};
 ghost use Rattle.u_rule.specs.EntryOrder.{firing_cmp};
 ghost use Rattle.u_system.specs.Firing.{Same};
@@ -21,12 +21,13 @@ pub fn given_by(alloc: Global, job: &Job, firing: &Firing) -> Result<Vec<Entry>,
     }
 }
 
-/// Puts the firing at the end of a list that has room for it.
-pub fn push_into_room(list: &mut Vec<Firing>, firing: Firing)
+/// Puts the item at the end of a list that has room for it.
+pub fn push_into_room<T: Drop>(list: &mut Vec<T>, item: T)
     requires { vec_len list.old < vec_capacity list.old }
-    ensures { list.new.items ≡ list.old.items ++ firing ∷ [] }
+    ensures items { list.new.items ≡ list.old.items ++ item ∷ [] }
+    ensures capacity { vec_capacity list.old ≤ vec_capacity list.new }
 {
-    list.push(firing).unwrap();
+    list.push(item).unwrap();
 }
 
 /// Puts copies of the firing into both sets, or into neither.

@@ -61,11 +61,7 @@ fn set_of(alloc: Global, firings: &[Firing]) -> Result<OrderedSet<Firing>, Alloc
 
 impl<'a> Inside<'a> {
     /// The parts of a machine that holds the start token alone.
-    pub(crate) fn new(
-        alloc: Global,
-        job: &'a Job,
-        limit: usize,
-    ) -> Result<Inside<'a>, AllocError>
+    pub(crate) fn new(alloc: Global, job: &'a Job, limit: usize) -> Result<Inside<'a>, AllocError>
         ensures kept { IfOk result IsKept }
         ensures state { IfOk result (λ p. state_of p ≡ state job.now limit [] [] ((system_of job.now).start ∷ [])) }
     {

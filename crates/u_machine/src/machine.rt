@@ -10,6 +10,7 @@ ghost use Rattle.u_rule.specs.Rule.{system_of};
 ghost use Rattle.u_rule.specs.EntryOrder.{entry_cmp, firing_cmp};
 ghost use Rattle.u_machine.specs.States.{state, IsMachine, IsSettled, IsWhole, FireAnswer, RunAnswer, TakeAnswer, Applies, Taken};
 ghost use Rattle.u_machine.specs.Taking.{TakeAllAnswer};
+ghost use Rattle.u_system.specs.Firing.{Same};
 ghost use Rattle.u_system.specs.Rising.{Rises};
 
 use crate::answer::{ListRefusal, Ran, Refusal, Step, TakeRefusal, Took};
@@ -92,6 +93,15 @@ impl<'a> Machine<'a> {
     {
         let _entries = self.inside.history.len();
         let _parked = self.inside.parked.len();
+    }
+
+    /// What holds of two machines of one job that took the same firings, in whatever orders: once both
+    /// are settled, they have the same history. It does nothing, and callers cite its clause.
+    pub fn agrees_with(&self, other: &Machine<'_>)
+        ensures { IsSettled self.now → IsSettled other.now → other.now.job ≡ self.now.job → Same (Taken other.now) (Taken self.now) → other.now.history ≡ self.now.history }
+    {
+        self.holds();
+        other.holds();
     }
 
     /// The history: each entry that the machine holds.

@@ -13,8 +13,7 @@ returns-in_default-clause-parked c = subst (λ (f : Firing). IsWith c.args.parke
 pub returns-clause-still : goal.returns-clause-still
 returns-clause-still c x =
     let w = subst (λ (f : Firing). IsWith c.args.taken.now f c.insert.new.self) c.in_ok-first.ensures c.in_ok-insert.ensures.ok in
-    let v = c.remove.ensures.without in
-    (
+    let v = c.remove.ensures.without in (
       (λ m. elim ((w x).0 (v.less x m)) [ inl k ↦ k | inr e ↦ absurd (v.gone (subst (λ (f : Firing). Contains c.remove.new.self f) (sym e) m)) ]),
       λ m. elim (v.rest x ((w x).1 (inl m))) [ inl e ↦ absurd (c.requires.taken (subst (λ (f : Firing). Contains c.args.taken.now f) (sym e) m)) | inr k ↦ k ],
     )

@@ -12,8 +12,7 @@ loop-firing-preserved c f =
     let xs = c.args.firings.now in
     let i = c.loop-firing.firing-index in
     let w = subst (λ (g : Firing). IsWith c.loop-firing.set g c.insert.new.self) c.in_ok-copy.ensures c.in_ok-insert.ensures.ok in
-    let e : take (i + 1) xs ≡ take i xs ++ d ∷ [] = take_more xs i d c.loop-firing-test.true ∙ ap (λ (g : Firing). take i xs ++ g ∷ []) (sym c.firing-item.is) in
-    (
+    let e : take (i + 1) xs ≡ take i xs ++ d ∷ [] = take_more xs i d c.loop-firing-test.true ∙ ap (λ (g : Firing). take i xs ++ g ∷ []) (sym c.firing-item.is) in (
       (λ m. rw e (elim ((w f).0 m) [ inl k ↦ Contains-append_left (take i xs) (d ∷ []) f ((c.loop-firing.invariant f).0 k) | inr p ↦ subst (λ (g : Firing). Contains (take i xs ++ d ∷ []) g) p (Contains-push (take i xs) d) ])),
       λ m. (w f).1 (elim (Contains-push_cases (take i xs) d f (rw e at m)) [ inl k ↦ inl ((c.loop-firing.invariant f).1 k) | inr p ↦ inr p ]),
     )

@@ -21,8 +21,7 @@ returns-then-not-is_firing-clause-answer c = (
 
 pub returns-then-is_full-clause-answer : goal.returns-then-is_full-clause-answer
 returns-then-is_full-clause-answer c =
-    let p = c.settle.ensures.applies in
-    (
+    let p = c.settle.ensures.applies in (
       a_firing (state_of c.args.self.now) (state_of c.settle.new.self) c.args.firing.now p c.is_firing.result c.is_firing.ensures c.if-not-is_firing.false,
       not_taken_before (state_of c.args.self.now) (state_of c.settle.new.self) c.args.firing.now p c.is_firing.result c.is_firing.ensures c.knows.result c.knows.ensures.1 c.if-knows.false,
       sym p.count ∙ c.is_full.ensures.full c.if-is_full.true ∙ p.limit,
@@ -33,8 +32,7 @@ returns-then-is_full-clause-answer c =
 pub returns-then-not-begun-clause-answer : goal.returns-then-not-begun-clause-answer
 returns-then-not-begun-clause-answer c =
     let p = c.settle.ensures.applies in
-    let w = c.in_ok-begun.ensures.parked c.if-not-begun.true in
-    (
+    let w = c.in_ok-begun.ensures.parked c.if-not-begun.true in (
       is_new (state_of c.args.self.now) (state_of c.settle.new.self) c.args.firing.now p c.is_firing.result c.is_firing.ensures c.knows.result c.knows.ensures.1 c.if-knows.false c.if-not-is_firing.false (c.is_full.ensures.room c.if-is_full.false),
       takes_between _ _ _ _ _ p c.in_ok-begun.ensures.takes (Applies-refl _),
       w.0,
@@ -48,8 +46,7 @@ returns-in_err-settle-2-clause-answer c =
 
 pub returns-clause-answer : goal.returns-clause-answer
 returns-clause-answer c =
-    let p = c.settle.ensures.applies in
-    (
+    let p = c.settle.ensures.applies in (
       is_new (state_of c.args.self.now) (state_of c.settle.new.self) c.args.firing.now p c.is_firing.result c.is_firing.ensures c.knows.result c.knows.ensures.1 c.if-knows.false c.if-not-is_firing.false (c.is_full.ensures.room c.if-is_full.false),
       takes_between _ _ _ _ _ p c.in_ok-begun.ensures.takes c.settle-2.ensures.applies,
       applied_has c.settle.new.self.log.items c.args.firing.now c.take_new.new.self.log.items c.settle-2.new.self.done c.settle-2.new.self.log.items (c.in_ok-begun.ensures.begun c.if-not-begun.false) c.settle-2.ensures.log c.in_ok-settle-2.ensures.ok,

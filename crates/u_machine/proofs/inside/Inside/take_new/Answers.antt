@@ -56,7 +56,7 @@ pub returns-then-not-remove-clause-takes : goal.returns-then-not-remove-clause-t
 returns-then-not-remove-clause-takes c = rw c.in_ok-reserve.ensures.items (takes (goal.at.returns-then-not-remove-clause-takes c).After-remove)
 
 longer : (c : After-push_into_room) → c.push_into_room.new.list.items ≡ c.args.self.now.log.items ++ c.args.firing.now ∷ []
-longer c = c.push_into_room.ensures ∙ ap (λ (l : FiringList). l ++ c.in_ok-logged.logged ∷ []) c.in_ok-reserve.ensures.items ∙ ap (λ (f : Firing). c.args.self.now.log.items ++ f ∷ []) c.in_ok-logged.ensures
+longer c = c.push_into_room.ensures.items ∙ ap (λ (l : FiringList). l ++ c.in_ok-logged.logged ∷ []) c.in_ok-reserve.ensures.items ∙ ap (λ (f : Firing). c.args.self.now.log.items ++ f ∷ []) c.in_ok-logged.ensures
 
 pub returns-clause-kept : goal.returns-clause-kept
 returns-clause-kept c =
