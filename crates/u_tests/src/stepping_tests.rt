@@ -63,11 +63,7 @@ fn take_agrees(
 }
 
 /// Whether no parked firing is enabled.
-fn are_parked_rightly(
-    alloc: Global,
-    job: &Job,
-    machine: &Machine<'_>,
-) -> Result<bool, AllocError> {
+fn are_parked_rightly(alloc: Global, job: &Job, machine: &Machine<'_>) -> Result<bool, AllocError> {
     let entries = machine.history().entries()?;
     for firing in machine.parked().iter() {
         if is_enabled(alloc, job, &entries, firing)? {
@@ -89,7 +85,9 @@ fn step_agrees(
     let agrees = if random.next_word() % 3 == 0 {
         fire_agrees(alloc, job, machine, word)?
     } else {
-        let taken = word.checked_rem(list.len()).and_then(|place| list.get(place));
+        let taken = word
+            .checked_rem(list.len())
+            .and_then(|place| list.get(place));
         let Some(firing) = taken else {
             return Err(AllocError);
         };

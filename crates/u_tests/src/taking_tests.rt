@@ -45,20 +45,20 @@ fn offered(alloc: Global, log: &[Firing], argument: i64) -> Result<Vec<Firing>, 
 
 /// Takes the firings one after another, and counts the answers.
 fn take_each(machine: &mut Machine<'_>, firings: &[Firing]) -> Result<Counts, AllocError> {
-    let (mut taken, mut known, mut refused) = (0, 0, 0);
+    let mut counts = Counts {
+        taken: 0,
+        known: 0,
+        refused: 0,
+    };
     for firing in firings {
         match machine.take(firing) {
-            Ok(Took::Taken | Took::Parked) => taken += 1,
-            Ok(Took::Known) => known += 1,
-            Err(TakeRefusal::NotAFiring) => refused += 1,
+            Ok(Took::Taken | Took::Parked) => counts.taken = counts.taken.saturating_add(1),
+            Ok(Took::Known) => counts.known = counts.known.saturating_add(1),
+            Err(TakeRefusal::NotAFiring) => counts.refused = counts.refused.saturating_add(1),
             Err(_) => return Err(AllocError),
         }
     }
-    Ok(Counts {
-        taken,
-        known,
-        refused,
-    })
+    Ok(counts)
 }
 
 /// Whether a machine that takes the firings in that order ends with the text of the run, with so many
