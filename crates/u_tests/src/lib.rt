@@ -10,6 +10,8 @@ mod enabling;
 mod examples;
 mod holding;
 #[cfg(test)]
+mod machine_parts;
+#[cfg(test)]
 mod matching_tests;
 #[cfg(test)]
 mod merging_tests;
@@ -20,6 +22,10 @@ mod rounds;
 mod scan;
 #[cfg(test)]
 mod shuffling;
+#[cfg(test)]
+mod stepping_tests;
+#[cfg(test)]
+mod taking_tests;
 #[cfg(test)]
 mod tests;
 #[cfg(test)]

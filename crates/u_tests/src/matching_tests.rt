@@ -1,6 +1,7 @@
 //! Histories of worked programs, whose entries enter a matcher in random orders: what each entry
 //! answers is what the scan newly finds.
-use crate::examples::{EXAMPLES, job};
+use crate::examples::{EXAMPLES, FIRINGS, job};
+use crate::machine_parts::add_firing;
 use crate::scan::ready_firings;
 use crate::shuffling::shuffled;
 use std::alloc::{AllocError, Global};
@@ -13,21 +14,6 @@ use u_system::OrderedSet;
 
 /// How many orders are tried of each program's history. Each is fixed by its number.
 const ORDERS: u64 = 20;
-
-/// How many firings each of the example programs makes.
-const FIRINGS: [usize; 11] = [3, 45, 51, 50, 74, 20, 12, 4, 64, 208, 130];
-
-/// Adds a copy of the firing.
-#[tactic(auto, using(u_rule::specs::EntryOrder::firing_cmp_ties))]
-fn add_firing(
-    alloc: Global,
-    firings: &mut OrderedSet<Firing>,
-    firing: &Firing,
-) -> Result<(), AllocError> {
-    let copy = firing.copy(alloc)?;
-    firings.insert(copy).map_err(|_| AllocError)?;
-    Ok(())
-}
 
 /// The firings that were found, and the entries that they hold.
 #[derive(Drop)]

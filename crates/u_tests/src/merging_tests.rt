@@ -1,5 +1,6 @@
 //! Histories of parts of a run, merged in several orders: the bytes are those of the whole.
 use crate::examples::{DOUBLE, EXAMPLES, TWO_WRITERS, job};
+use crate::machine_parts::text_of;
 use std::alloc::{AllocError, Global};
 use std::test::Fail;
 use u_history::History;
@@ -28,13 +29,6 @@ fn part(
         }
     }
     Ok(history)
-}
-
-/// The text of the history.
-fn text_of(alloc: Global, history: &History) -> Result<Vec<u8>, AllocError> {
-    let mut text = Vec::new(alloc);
-    history.write_text(&mut text)?;
-    Ok(text)
 }
 
 /// The text of the parts, merged in that order.

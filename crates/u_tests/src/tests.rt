@@ -1,7 +1,7 @@
 //! Worked runs, where what the machine answers is compared with the plain programs.
 use crate::among::are_among;
 use crate::enabling::{are_in, enabled};
-use crate::examples::job;
+use crate::examples::{FACTORIAL, SUM, job};
 use crate::holding::{are_firings, held};
 use crate::rounds::whole;
 use crate::scan::enabled_firings;
@@ -19,14 +19,6 @@ const TWO_CONSTANTS: &[u8] =
 /// The control of a selection gets both truth values.
 const SELECTED_TWICE: &[u8] =
     b"u-program 1\nblock main\n1 0 begin -> 2.1 3.1 4.1 5.2\n2 0 const true -> 5.1\n3 0 const false -> 5.1\n4 0 const 0 -> 5.3\n5 0 select -> 6.1\n6 0 end ->\n";
-
-/// The sum of the numbers from the argument down to 1, over a loop.
-const SUM: &[u8] =
-    b"u-program 1\nblock main\nloop 1 0\n1 0 begin -> 2.1 3.1\n2 0 enter 1 -> 5.1 6.2 7.1 8.1 9.2\n3 0 const 0 -> 4.1\n4 0 enter 1 -> 9.1 12.1\n5 1 const 0 -> 6.1\n6 1 lt -> 10.2 11.2 12.2\n7 1 const 1 -> 8.2\n8 1 sub -> 10.1\n9 1 add -> 11.1\n10 1 switch -> 13.1 /\n11 1 switch -> 14.1 /\n12 1 switch -> / 15.1\n13 1 next -> 5.1 6.2 7.1 8.1 9.2\n14 1 next -> 9.1 12.1\n15 1 last -> 16.1\n16 1 leave -> 17.1\n17 0 end ->\n";
-
-/// The factorial, by calls.
-const FACTORIAL: &[u8] =
-    b"u-program 1\nblock main\n1 0 begin -> 2.1 3.2\n2 0 const @fact -> 3.1\n3 0 apply 4 ->\n4 0 back -> 5.1\n5 0 end ->\nblock fact\n1 0 begin -> 2.1 3.1 4.1 5.1 7.2\n2 0 const 0 -> 5.2\n3 0 const @one -> 6.2\n4 0 const @rec -> 6.3\n5 0 le -> 6.1\n6 0 select -> 7.1\n7 0 apply 8 ->\n8 0 back -> 9.1\n9 0 end ->\nblock rec\n1 0 begin -> 2.1 3.1 4.1 7.1\n2 0 const 1 -> 3.2\n3 0 sub -> 5.2\n4 0 const @fact -> 5.1\n5 0 apply 6 ->\n6 0 back -> 7.2\n7 0 mul -> 8.1\n8 0 end ->\nblock one\n1 0 begin -> 2.1\n2 0 const 1 -> 3.1\n3 0 end ->\n";
 
 /// Whether the plain program and the scan find the same firings, each of them once.
 fn scans_agree(alloc: Global, job: &Job, machine: &Machine<'_>) -> Result<bool, AllocError> {

@@ -1,0 +1,69 @@
+//! What the tests of machines share: logs, texts of histories, and the ready firings that the scan finds.
+use crate::scan::ready_firings;
+use std::alloc::{AllocError, Global};
+use u_check::Job;
+use u_history::History;
+use u_machine::Machine;
+use u_name::Name;
+use u_rule::{Firing, Values};
+use u_system::OrderedSet;
+use u_value::Value;
+
+/// Adds a copy of the firing.
+#[tactic(auto, using(u_rule::specs::EntryOrder::firing_cmp_ties))]
+pub fn add_firing(
+    alloc: Global,
+    firings: &mut OrderedSet<Firing>,
+    firing: &Firing,
+) -> Result<(), AllocError> {
+    let copy = firing.copy(alloc)?;
+    firings.insert(copy).map_err(|_| AllocError)?;
+    Ok(())
+}
+
+/// The firings that the scan finds enabled over the machine's history and that were not taken, in order.
+pub fn ready_of(
+    alloc: Global,
+    job: &Job,
+    machine: &Machine<'_>,
+) -> Result<Vec<Firing>, AllocError> {
+    let mut taken = OrderedSet::new(alloc);
+    for firing in machine.applied() {
+        add_firing(alloc, &mut taken, firing)?;
+    }
+    for firing in machine.parked().iter() {
+        add_firing(alloc, &mut taken, firing)?;
+    }
+    let ready = ready_firings(alloc, job, machine.history(), &taken)?;
+    Ok(ready)
+}
+
+/// The firings of the job's run, in the order in which they were applied, and the text of its history.
+pub fn run_of(alloc: Global, job: &Job) -> Result<(Vec<Firing>, Vec<u8>), AllocError> {
+    let mut machine = Machine::new(alloc, job, 1000)?;
+    machine.run(1000).map_err(|_| AllocError)?;
+    let mut log = Vec::new(alloc);
+    for firing in machine.applied() {
+        log.push(firing.copy(alloc)?)?;
+    }
+    let text = text_of(alloc, machine.history())?;
+    Ok((log, text))
+}
+
+/// The text of the history.
+pub fn text_of(alloc: Global, history: &History) -> Result<Vec<u8>, AllocError> {
+    let mut text = Vec::new(alloc);
+    history.write_text(&mut text)?;
+    Ok(text)
+}
+
+/// A firing of one value that no run makes: of the first statement of `main`, it is a firing of each
+/// example program, and of statement 999 it is none.
+pub fn forged(alloc: Global, statement: &[u8], value: i64) -> Result<Firing, AllocError> {
+    let activity = Name::read(alloc, statement).map_err(|_| AllocError)?;
+    Ok(Firing {
+        activity,
+        values: Values::one(alloc, Value::Int(value))?,
+        write: None,
+    })
+}
