@@ -8,7 +8,7 @@ ghost use Rattle.u_system.specs.Rising.{Rises, IsWith};
 use std::alloc::{AllocError, Global};
 use u_check::Job;
 use u_rule::{Entry, Firing, gives};
-use u_system::OrderedSet;
+use u_system::{HashedSet, OrderedSet};
 
 /// The entries that a firing of the job gives. The caller's firing is one of the job, so want of
 /// memory is the one refusal that comes.
@@ -34,7 +34,7 @@ pub fn push_into_room<T: Drop>(list: &mut Vec<T>, item: T)
 #[tactic(auto, using(u_rule::specs::EntryOrder::firing_cmp_ties))]
 pub fn put_in_both(
     alloc: Global,
-    taken: &mut OrderedSet<Firing>,
+    taken: &mut HashedSet<Firing>,
     parked: &mut OrderedSet<Firing>,
     firing: &Firing,
 ) -> Result<(), AllocError>

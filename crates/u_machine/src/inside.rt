@@ -19,7 +19,7 @@ use u_check::Job;
 use u_history::History;
 use u_match::Matcher;
 use u_rule::{Entry, Firing, start};
-use u_system::OrderedSet;
+use u_system::{HashedSet, OrderedSet};
 
 /// The parts of a machine.
 #[derive(Drop)]
@@ -32,7 +32,7 @@ pub(crate) struct Inside<'a> {
     pub(crate) log: Vec<Firing>,
     /// How many firings of the log were applied.
     pub(crate) done: usize,
-    pub(crate) taken: OrderedSet<Firing>,
+    pub(crate) taken: HashedSet<Firing>,
     /// The firings that were taken and not applied.
     pub(crate) parked: OrderedSet<Firing>,
     /// The firings that are enabled and not taken.
@@ -77,7 +77,7 @@ impl<'a> Inside<'a> {
             limit,
             log: Vec::new(alloc),
             done: 0,
-            taken: OrderedSet::new(alloc),
+            taken: HashedSet::new(alloc),
             parked: OrderedSet::new(alloc),
             ready,
             found: Vec::new(alloc),
@@ -219,7 +219,7 @@ impl<'a> Inside<'a> {
         ensures idle { OnOk result (IsIdle (left_of self.new) self.new.late) }
         ensures has { OnOk result (Contains self.new.history entry.now) }
     {
-        if self.history.contains(entry) {
+        if self.matcher.contains(entry) {
             return Ok(());
         }
         self.put(entry)?;
