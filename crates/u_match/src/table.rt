@@ -34,7 +34,7 @@ pub(crate) fn put<K: Ord + Drop, V: Drop>(
         list.push(value)?;
         return Ok(());
     }
-    let mut list = Vec::new(alloc);
+    let mut list = Vec::with_capacity(alloc, 1)?;
     list.push(value)?;
     table.insert(key, list)?;
     Ok(())

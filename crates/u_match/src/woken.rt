@@ -26,10 +26,10 @@ fn is_same(left: &Entry, right: &Entry) -> bool
 fn is_held(entries: &BTreeSet<Entry>, entry: &Entry, need: &Entry) -> bool
     ensures { IsTrue result ↔ (Contains entries.now.keys need.now ⊎ (entry.now ≡ need.now)) }
 {
-    if has_entry(entries, need) {
+    if is_same(entry, need) {
         return true;
     }
-    is_same(entry, need)
+    has_entry(entries, need)
 }
 
 /// Whether each of the needs is the entry, or in the set.

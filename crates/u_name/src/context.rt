@@ -207,11 +207,15 @@ impl Context {
                     number: number_2,
                     initiation: initiation_2,
                 },
-            ) => outer.compare(outer_2).then(
+            ) => {
+                let by_outer = outer.compare(outer_2);
+                if by_outer.is_ne() {
+                    return by_outer;
+                }
                 block
                     .cmp(block_2)
-                    .then(number.cmp(number_2).then(initiation.cmp(initiation_2))),
-            ),
+                    .then(number.cmp(number_2).then(initiation.cmp(initiation_2)))
+            }
             (
                 Node::Call {
                     outer,
@@ -225,13 +229,17 @@ impl Context {
                     statement: statement_2,
                     initiation: initiation_2,
                 },
-            ) => outer.compare(outer_2).then(
+            ) => {
+                let by_outer = outer.compare(outer_2);
+                if by_outer.is_ne() {
+                    return by_outer;
+                }
                 block.cmp(block_2).then(
                     statement
                         .cmp(statement_2)
                         .then(initiation.cmp(initiation_2)),
-                ),
-            ),
+                )
+            }
         }
     }
 }
