@@ -47,7 +47,7 @@ impl<K: Eq + Hash + Drop, V: Drop> Table<K, V> {
             list.push(value)?;
             return Ok(());
         }
-        let mut list = Vec::new(alloc);
+        let mut list = Vec::with_capacity(alloc, 1)?;
         list.push(value)?;
         self.lists.insert(key, list)?;
         Ok(())

@@ -41,7 +41,7 @@ impl Values {
     pub fn one(alloc: Global, first: Value) -> Result<Values, AllocError>
         ensures { IfOk result (λ v. v ≡ first ∷ []) }
     {
-        let mut all = Vec::new(alloc);
+        let mut all = Vec::with_capacity(alloc, 1)?;
         all.push(first)?;
         Ok(Values { all })
     }
@@ -53,7 +53,7 @@ impl Values {
     pub fn two(alloc: Global, first: Value, second: Value) -> Result<Values, AllocError>
         ensures { IfOk result (λ v. v ≡ first ∷ second ∷ []) }
     {
-        let mut all = Vec::new(alloc);
+        let mut all = Vec::with_capacity(alloc, 2)?;
         all.push(first)?;
         all.push(second)?;
         Ok(Values { all })
@@ -71,7 +71,7 @@ impl Values {
     ) -> Result<Values, AllocError>
         ensures { IfOk result (λ v. v ≡ first ∷ second ∷ third ∷ []) }
     {
-        let mut all = Vec::new(alloc);
+        let mut all = Vec::with_capacity(alloc, 3)?;
         all.push(first)?;
         all.push(second)?;
         all.push(third)?;
@@ -102,7 +102,7 @@ impl Values {
 fn copies(alloc: Global, values: &[Value]) -> Result<Vec<Value>, AllocError>
     ensures { IfOk result (λ v. v.items ≡ values.now) }
 {
-    let mut all = Vec::new(alloc);
+    let mut all = Vec::with_capacity(alloc, values.len())?;
     for value in values {
         all.push(value.copy()?)?;
     }
