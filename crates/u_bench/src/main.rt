@@ -21,14 +21,14 @@ use entering::enter_all;
 use inserts::insert_all;
 use names::{last_copy, name_at_depth};
 use order::{Order, order_of};
-use runs::{log_of, sum_of};
+use runs::{entries_of, firings_of, sum_of, take_each};
 use std::time::Instant;
 use turns::loop_tokens;
 use u_check::Job;
 use u_history::History;
 use u_machine::Machine;
 use u_match::Matcher;
-use u_rule::Entry;
+use u_rule::{Entry, Firing};
 
 /// The depths of the names that are copied.
 const DEPTHS: [u32; 2] = [1, 64];
@@ -111,20 +111,11 @@ fn time_inserts(rt: &HostRuntime, count: u32) -> Result<()>
     Ok(())
 }
 
-/// A machine that ran the job, with so many firings at most.
-fn run_of<'a>(rt: &HostRuntime, job: &'a Job, most: usize) -> Result<Machine<'a>> {
-    let mut machine = Machine::new(rt.alloc(), job, most)?;
-    let ran = machine.run(most);
-    ran.map_err(|_| anyhow!("the machine did not run"))?;
-    Ok(machine)
-}
-
 /// Lets the entries of a short sum enter a matcher, and prints how many they were and how many firings
 /// they woke.
 fn count_entering(rt: &HostRuntime) -> Result<()> {
     let job = sum_of(rt.alloc(), FEW_TURNS)?;
-    let machine = run_of(rt, &job, ENOUGH)?;
-    let entries = machine.history().entries()?;
+    let entries = entries_of(rt.alloc(), &job, ENOUGH)?;
     let mut matcher = Matcher::new(rt.alloc());
     let woken = enter_all(&mut matcher, &job, &entries)?;
     println!(rt; "entered {} entries, {woken} firings", matcher.len())?;
@@ -135,25 +126,26 @@ fn count_entering(rt: &HostRuntime) -> Result<()> {
 /// applied.
 fn count_takes(rt: &HostRuntime) -> Result<()> {
     let job = sum_of(rt.alloc(), FEW_TURNS)?;
-    let mut firings = log_of(rt.alloc(), &run_of(rt, &job, ENOUGH)?)?;
-    firings.reverse();
+    let firings = last_first(rt, &job, ENOUGH)?;
     let mut machine = Machine::new(rt.alloc(), &job, ENOUGH)?;
-    let taken = machine.take_all(&firings);
-    taken.map_err(|_| anyhow!("the machine did not take the firings"))?;
-    println!(rt;
-        "took {} firings, {} applied",
-        firings.len(),
-        machine.applied().len()
-    )?;
+    take_each(&mut machine, &firings)?;
+    let applied = machine.applied().len();
+    println!(rt; "took {} firings, {applied} applied", firings.len())?;
     Ok(())
+}
+
+/// The firings of the job's run, so many at most, last one first.
+fn last_first(rt: &HostRuntime, job: &Job, most: usize) -> Result<Vec<Firing>> {
+    let mut firings = firings_of(rt.alloc(), job, most)?;
+    firings.reverse();
+    Ok(firings)
 }
 
 /// Lets at most so many entries of a sum enter a matcher, first one first and then, into another one,
 /// last one first. Prints how many firings they woke, and how long that took.
 fn time_entries(rt: &HostRuntime, count: u32) -> Result<()> {
     let job = sum_of(rt.alloc(), i64::from(count))?;
-    let machine = run_of(rt, &job, count as usize)?;
-    let mut entries = machine.history().entries()?;
+    let mut entries = entries_of(rt.alloc(), &job, count as usize)?;
     entries.truncate(count as usize);
     time_entering(rt, &job, &entries)?;
     entries.reverse();
@@ -176,17 +168,21 @@ fn time_entering(rt: &HostRuntime, job: &Job, entries: &[Entry]) -> Result<()> {
 /// Has a machine take so many firings of a sum, last one first, and prints how long that took.
 fn time_takes(rt: &HostRuntime, count: u32) -> Result<()> {
     let job = sum_of(rt.alloc(), i64::from(count))?;
-    let mut firings = log_of(rt.alloc(), &run_of(rt, &job, count as usize)?)?;
-    firings.reverse();
+    let firings = last_first(rt, &job, count as usize)?;
     let mut machine = Machine::new(rt.alloc(), &job, count as usize)?;
-    let start = Instant::now(rt)?;
-    let taken = machine.take_all(&firings);
-    let spent = start.elapsed(rt)?.as_nanos();
-    taken.map_err(|_| anyhow!("the machine did not take the firings"))?;
+    let spent = time_taking(rt, &mut machine, &firings)?;
+    let applied = machine.applied().len();
     println!(rt;
-        "took {} firings, {} applied, in {spent} ns",
-        firings.len(),
-        machine.applied().len()
+        "took {} firings, {applied} applied, in {spent} ns",
+        firings.len()
     )?;
     Ok(())
+}
+
+/// Has the machine take the firings, and answers how many nanoseconds that took.
+fn time_taking(rt: &HostRuntime, machine: &mut Machine<'_>, firings: &[Firing]) -> Result<u128> {
+    let start = Instant::now(rt)?;
+    take_each(machine, firings)?;
+    let spent = start.elapsed(rt)?.as_nanos();
+    Ok(spent)
 }

@@ -1,12 +1,16 @@
-//! A loop, and the firings of its run.
+//! A loop, its run, and the entries and firings of it.
 ghost use Rattle.std.specs.Prelude.{◌≡◌, ◌++◌, IfOk, OnOk};
+ghost use Rattle.u_machine.specs.States.{IsSettled};
+ghost use Rattle.u_machine.specs.Taking.{TakesAll};
+ghost use Rattle.u_rule.specs.EntryOrder.{entry_cmp};
+ghost use Rattle.u_system.specs.Rising.{Rises};
 
 use anyhow::{Result, anyhow};
 use std::alloc::{AllocError, Global};
 use u_check::{Job, check};
 use u_machine::Machine;
 use u_program::read;
-use u_rule::Firing;
+use u_rule::{Entry, Firing};
 
 /// The sum of the numbers from its argument down to 1, over a loop.
 const SUM: &[u8] =
@@ -44,4 +48,54 @@ pub fn log_of(alloc: Global, machine: &Machine<'_>) -> Result<Vec<Firing>, Alloc
     let mut all = Vec::new(alloc);
     add_all(&mut all, alloc, machine.applied())?;
     Ok(all)
+}
+
+/// Runs the machine, with so many firings at most.
+///
+/// # Errors
+/// An error where there is no memory, or where the machine may not take as many.
+fn run_most(machine: &mut Machine<'_>, most: usize) -> Result<()> {
+    match machine.run(most) {
+        Ok(_) => Ok(()),
+        Err(_) => Err(anyhow!("the machine did not run")),
+    }
+}
+
+/// The entries of the job's run, with so many firings at most, in order.
+///
+/// # Errors
+/// An error where there is no memory.
+pub fn entries_of(alloc: Global, job: &Job, most: usize) -> Result<Vec<Entry>>
+    ensures { IfOk result (λ v. Rises entry_cmp v.items) }
+{
+    let mut machine = Machine::new(alloc, job, most)?;
+    run_most(&mut machine, most)?;
+    let entries = machine.history().entries()?;
+    Ok(entries)
+}
+
+/// Copies of the firings of the job's run, so many at most, in the order in which it applied them.
+///
+/// # Errors
+/// An error where there is no memory.
+pub fn firings_of(alloc: Global, job: &Job, most: usize) -> Result<Vec<Firing>> {
+    let mut machine = Machine::new(alloc, job, most)?;
+    run_most(&mut machine, most)?;
+    let firings = log_of(alloc, &machine)?;
+    Ok(firings)
+}
+
+/// Has the machine take the firings.
+///
+/// # Errors
+/// An error where there is no memory, where one of them is no firing of the job, or where the machine
+/// may not take as many.
+pub fn take_each(machine: &mut Machine<'_>, firings: &[Firing]) -> Result<()>
+    ensures all { OnOk result (TakesAll machine.old firings.now machine.new) }
+    ensures settled { OnOk result (IsSettled machine.new) }
+{
+    match machine.take_all(firings) {
+        Ok(()) => Ok(()),
+        Err(_) => Err(anyhow!("the machine did not take the firings")),
+    }
 }
