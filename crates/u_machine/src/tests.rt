@@ -284,31 +284,52 @@ fn takes_twice(machine: &mut Machine<'_>, firings: &[Firing]) -> bool {
         && machine.applied().len() == firings.len()
 }
 
-/// Whether new machines that take what the first one applied, from last to first, one by one and as
-/// one list, have its history then.
-fn agree_backwards(
+/// Whether a new machine that takes the firings one by one has the history of the first.
+fn agrees_one_by_one(
     alloc: Global,
-    machine: &mut Machine<'_>,
-    second: &mut Machine<'_>,
-    third: &mut Machine<'_>,
+    job: &Job,
+    first: &Machine<'_>,
+    firings: &[Firing],
 ) -> Result<bool, AllocError> {
-    if machine.run(200) != Ok(Ran::Quiet) {
+    let mut machine = Machine::new(alloc, job, 200)?;
+    if !takes_each(&mut machine, firings) {
         return Ok(false);
     }
-    let backwards = applied_backwards(alloc, machine)?;
-    if !takes_each(second, &backwards) || !takes_twice(third, &backwards) {
+    is_same_history(first, &machine)
+}
+
+/// Whether a new machine that takes the firings as a list, twice, has the history of the first.
+fn agrees_as_a_list(
+    alloc: Global,
+    job: &Job,
+    first: &Machine<'_>,
+    firings: &[Firing],
+) -> Result<bool, AllocError> {
+    let mut machine = Machine::new(alloc, job, 200)?;
+    if !takes_twice(&mut machine, firings) {
         return Ok(false);
     }
-    Ok(is_same_history(machine, second)? && is_same_history(machine, third)?)
+    is_same_history(first, &machine)
+}
+
+/// Whether new machines that take what the first one applied, from last to first, have its history
+/// then.
+fn agree_backwards(alloc: Global, job: &Job, first: &mut Machine<'_>) -> Result<bool, AllocError> {
+    if first.run(200) != Ok(Ran::Quiet) {
+        return Ok(false);
+    }
+    let backwards = applied_backwards(alloc, first)?;
+    if !agrees_one_by_one(alloc, job, first, &backwards)? {
+        return Ok(false);
+    }
+    agrees_as_a_list(alloc, job, first, &backwards)
 }
 
 /// Whether the history of the program on 3 depends on no order.
 fn depends_on_no_order(alloc: Global, text: &[u8]) -> Result<bool, AllocError> {
     let job = job(alloc, text, 3)?;
-    let mut machine = Machine::new(alloc, &job, 200)?;
-    let mut second = Machine::new(alloc, &job, 200)?;
-    let mut third = Machine::new(alloc, &job, 200)?;
-    agree_backwards(alloc, &mut machine, &mut second, &mut third)
+    let mut first = Machine::new(alloc, &job, 200)?;
+    agree_backwards(alloc, &job, &mut first)
 }
 
 #[test]

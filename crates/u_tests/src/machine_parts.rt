@@ -38,14 +38,22 @@ pub fn ready_of(
     Ok(ready)
 }
 
-/// The firings of the job's run, in the order in which they were applied, and the text of its history.
-pub fn run_of(alloc: Global, job: &Job) -> Result<(Vec<Firing>, Vec<u8>), AllocError> {
-    let mut machine = Machine::new(alloc, job, 1000)?;
-    machine.run(1000).map_err(|_| AllocError)?;
+/// Copies of the firings that the machine applied, in the order in which it did.
+fn log_of(alloc: Global, machine: &Machine<'_>) -> Result<Vec<Firing>, AllocError> {
     let mut log = Vec::new(alloc);
     for firing in machine.applied() {
         log.push(firing.copy(alloc)?)?;
     }
+    Ok(log)
+}
+
+/// The firings of the job's run, in the order in which they were applied, and the text of its history.
+pub fn run_of(alloc: Global, job: &Job) -> Result<(Vec<Firing>, Vec<u8>), AllocError> {
+    let mut machine = Machine::new(alloc, job, 1000)?;
+    if machine.run(1000).is_err() {
+        return Err(AllocError);
+    }
+    let log = log_of(alloc, &machine)?;
     let text = text_of(alloc, machine.history())?;
     Ok((log, text))
 }

@@ -1,4 +1,6 @@
 //! Worked entries that enter a matcher one after another, and the firings that each of them wakes.
+ghost use Rattle.u_name.specs.Context.{IsBetween};
+
 use crate::examples::{DOUBLE, TWO_WRITERS, job};
 use std::alloc::{AllocError, Global};
 use std::test::Fail;
@@ -18,8 +20,10 @@ fn value(alloc: Global, text: &str) -> Result<Value, AllocError> {
     Value::read(alloc, text.as_bytes()).map_err(|_| AllocError)
 }
 
-/// The token of that value at the port of the activity.
-fn token(alloc: Global, activity: &str, port: u8, text: &str) -> Result<Entry, AllocError> {
+/// The token of that value at the port, 1 to 3, of the activity.
+fn token(alloc: Global, activity: &str, port: u8, text: &str) -> Result<Entry, AllocError>
+    requires { IsBetween 1 port 3 }
+{
     let activity = name(alloc, activity)?;
     let value = value(alloc, text)?;
     Ok(Entry::Token(Token::new(activity, port, value)))
