@@ -125,7 +125,7 @@ try_following() {
 # `pairs` also each one of the call that comes after, and `everywhere` also each one of what comes
 # before the call and after it.
 scenario() {
-    local how=$1 from to number inside=0 nothing=0 something=0 later=0 unsettled=0 again=0
+    local how=$1 from=1 to=0 number inside=0 nothing=0 something=0 later=0 unsettled=0 again=0
     local elsewhere=0 wrong=0 verdict=right
     local begun=()
     shift
