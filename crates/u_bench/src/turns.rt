@@ -16,7 +16,7 @@ fn the_loop(alloc: Global) -> Result<Context, AllocError>
     ensures { IfOk result (λ c. c ≡ the_loop) }
 {
     let outer = Arc::new(alloc, Context::root())?;
-    Ok(Context::in_loop(outer, BlockName::new(b"main"), 1, 1))
+    Context::in_loop(alloc, outer, BlockName::new(b"main"), 1, 1)
 }
 
 /// The token of that number, which counts from 0: there are ten in a turn, one at port 1 of each of

@@ -110,7 +110,7 @@ impl Ord for BlockName {
     ghost matches_eq = { Prim.search (comparing, rules) };
 
     fn cmp(&self, other: &BlockName) -> Ordering {
-        if self.len == other.len && self.bytes == other.bytes {
+        if self == other {
             return Ordering::Equal;
         }
         self.as_bytes().cmp(other.as_bytes())

@@ -7,11 +7,15 @@ ghost use Rattle.std.specs.Cmp.Rules.{comparing, hashing};
 ghost use Rattle.std.specs.Ordering.{eq_by_cmp, as_partial_cmp};
 ghost use Rattle.std.proofs.lemmas.Cmp.{eq_by_cmp_equiv};
 ghost use Rattle.u_name.specs.Node.{tree_of};
+ghost use Rattle.u_name.specs.Path.{kinds, path, kinds_in, path_in, IsFollowed};
+ghost use Rattle.std.specs.Prelude.{◌++◌, [], ◌∷◌, option_map};
+ghost use Rattle.std.specs.Arc.{arc_value};
 ghost use Rattle.u_name.specs.ContextOrder.{context_cmp};
 ghost use Rattle.u_name.specs.ContextLaws.{context_cmp_total};
 ghost use Rattle.u_name.specs.ContextHash.{context_hash, hashes_alike};
 
 use crate::block_name::BlockName;
+use crate::path::{CALL, Frame, LOOP, Path, frame_behind, kind_before};
 use std::alloc::{AllocError, Global};
 use std::cmp::Ordering;
 use std::hash::{Hash, Hasher};
@@ -25,6 +29,7 @@ use std::sync::Arc;
 #[derive(Drop)]
 pub struct Context {
     node: Node,
+    path: Option<Arc<Path, Global>>,
 }
 
 /// What a context is.
@@ -68,7 +73,11 @@ impl Model for Context {
 
     ghost view = { λ a. tree_of a.node };
 
-    ghost invariant = { λ a. IsContext (tree_of a.node) };
+    ghost use Rattle.u_name.specs.Path.{IsFollowed, kinds_in, path_in};
+    ghost use Rattle.std.specs.Prelude.{option_map};
+    ghost use Rattle.std.specs.Arc.{arc_value};
+
+    ghost invariant = { λ a. IsFollowed (tree_of a.node) (kinds_in (option_map arc_value a.path)) (path_in (option_map arc_value a.path)) };
 
     ghost size = { depth };
 
@@ -82,7 +91,10 @@ impl Context {
     pub fn root() -> Context
         ensures { result ≡ Top }
     {
-        Context { node: Node::Root }
+        Context {
+            node: Node::Root,
+            path: None,
+        }
     }
 
     /// What the context is, with its parts.
@@ -93,52 +105,99 @@ impl Context {
         &self.node
     }
 
+    /// The kinds of the loops and calls that it is in, the innermost first.
+    fn kinds(&self) -> &[u8]
+        ensures { result.now ≡ kinds self.now }
+    {
+        match &self.path {
+            None => &[],
+            Some(path) => &path.kinds,
+        }
+    }
+
+    /// The loops and calls that it is in, the outermost first.
+    fn frames(&self) -> &[Frame]
+        ensures { result.now ≡ path self.now }
+    {
+        match &self.path {
+            None => &[],
+            Some(path) => &path.frames,
+        }
+    }
+
+    /// The path of a context in this one, of that kind and frame.
+    fn longer(&self, alloc: Global, kind: u8, frame: Frame) -> Result<Arc<Path, Global>, AllocError>
+        ensures kinds { IfOk result (λ p. p.value.kinds.items ≡ kind ∷ kinds self.now) }
+        ensures frames { IfOk result (λ p. p.value.frames.items ≡ path self.now ++ frame ∷ []) }
+    {
+        let kinds = kind_before(alloc, kind, self.kinds())?;
+        let frames = frame_behind(alloc, self.frames(), frame)?;
+        let path = Arc::new(alloc, Path { kinds, frames })?;
+        Ok(path)
+    }
+
     /// The context of a loop, in an outer context that is less than 64 deep.
     pub fn in_loop(
+        alloc: Global,
         outer: Arc<Context, Global>,
         block: BlockName,
         number: u8,
         initiation: u32,
-    ) -> Context
+    ) -> Result<Context, AllocError>
         requires shallow { depth outer.value < 64 }
         requires number_in { IsBetween 1 number 99 }
         requires initiation_in { IsBetween 1 initiation 4294967295 }
-        ensures { result ≡ InLoop outer.value block number initiation }
+        ensures { IfOk result (λ c. c ≡ InLoop outer.value block number initiation) }
     {
         let _ = &outer.node;
         let _ = block.as_bytes();
-        Context {
+        let frame = Frame {
+            block,
+            number: u16::from(number),
+            initiation,
+        };
+        let path = outer.longer(alloc, LOOP, frame)?;
+        Ok(Context {
             node: Node::Loop {
                 outer,
                 block,
                 number,
                 initiation,
             },
-        }
+            path: Some(path),
+        })
     }
 
     /// The context of a call, in an outer context that is less than 64 deep.
     pub fn in_call(
+        alloc: Global,
         outer: Arc<Context, Global>,
         block: BlockName,
         statement: u16,
         initiation: u32,
-    ) -> Context
+    ) -> Result<Context, AllocError>
         requires shallow { depth outer.value < 64 }
         requires statement_in { IsBetween 1 statement 999 }
         requires initiation_in { IsBetween 1 initiation 4294967295 }
-        ensures { result ≡ InCall outer.value block statement initiation }
+        ensures { IfOk result (λ c. c ≡ InCall outer.value block statement initiation) }
     {
         let _ = &outer.node;
         let _ = block.as_bytes();
-        Context {
+        let frame = Frame {
+            block,
+            number: statement,
+            initiation,
+        };
+        let path = outer.longer(alloc, CALL, frame)?;
+        Ok(Context {
             node: Node::Call {
                 outer,
                 block,
                 statement,
                 initiation,
             },
-        }
+            path: Some(path),
+        })
     }
 
     /// How many loops and calls it is in, 0 to 64.
@@ -153,10 +212,21 @@ impl Context {
         }
     }
 
+    /// Another hold of the path.
+    fn path_again(&self) -> Result<Option<Arc<Path, Global>>, AllocError>
+        ensures { IfOk result (λ p. IsFollowed self.now (kinds_in (option_map arc_value p)) (path_in (option_map arc_value p))) }
+    {
+        match &self.path {
+            None => Ok(None),
+            Some(path) => Ok(Some(Arc::try_clone(path)?)),
+        }
+    }
+
     /// An equal context. The outer contexts are shared.
     pub fn copy(&self) -> Result<Context, AllocError>
         ensures { IfOk result (λ c. c ≡ self.now) }
     {
+        let path = self.path_again()?;
         let node = match &self.node {
             Node::Root => Node::Root,
             Node::Loop {
@@ -182,62 +252,17 @@ impl Context {
                 initiation: *initiation,
             },
         };
-        Ok(Context { node })
+        Ok(Context { node, path })
     }
 
-    /// Kinds first, and for the same kind the outer contexts. The parts are compared only where those
-    /// are equal.
+    /// Kinds first, from the innermost outwards, and then the loops and calls from the outermost inwards.
+    #[tactic(auto, using(crate::specs::PathOrder::by_paths, crate::specs::PathOrder::by_kinds))]
     fn compare(&self, other: &Context) -> Ordering
         ensures { result ≡ context_cmp self.now other.now }
     {
-        match (&self.node, &other.node) {
-            (Node::Root, Node::Root) => Ordering::Equal,
-            (Node::Root, _) => Ordering::Less,
-            (_, Node::Root) => Ordering::Greater,
-            (Node::Loop { .. }, Node::Call { .. }) => Ordering::Less,
-            (Node::Call { .. }, Node::Loop { .. }) => Ordering::Greater,
-            (
-                Node::Loop {
-                    outer,
-                    block,
-                    number,
-                    initiation,
-                },
-                Node::Loop {
-                    outer: outer_2,
-                    block: block_2,
-                    number: number_2,
-                    initiation: initiation_2,
-                },
-            ) => match outer.compare(outer_2) {
-                Ordering::Equal => match block.cmp(block_2) {
-                    Ordering::Equal => number.cmp(number_2).then(initiation.cmp(initiation_2)),
-                    unequal => unequal,
-                },
-                unequal => unequal,
-            },
-            (
-                Node::Call {
-                    outer,
-                    block,
-                    statement,
-                    initiation,
-                },
-                Node::Call {
-                    outer: outer_2,
-                    block: block_2,
-                    statement: statement_2,
-                    initiation: initiation_2,
-                },
-            ) => match outer.compare(outer_2) {
-                Ordering::Equal => match block.cmp(block_2) {
-                    Ordering::Equal => statement
-                        .cmp(statement_2)
-                        .then(initiation.cmp(initiation_2)),
-                    unequal => unequal,
-                },
-                unequal => unequal,
-            },
+        match self.kinds().cmp(other.kinds()) {
+            Ordering::Equal => self.frames().cmp(other.frames()),
+            unequal => unequal,
         }
     }
 }
@@ -285,32 +310,28 @@ impl Hash for Context {
 
     ghost respects_eq = { hashes_alike };
 
+    /// One number for each loop and call. The blocks are left out: in the contexts of one program the
+    /// other parts tell almost all of them apart.
     fn hash<H: Hasher>(&self, state: &mut H) {
         match &self.node {
-            Node::Root => state.write_u8(0),
+            Node::Root => {}
             Node::Loop {
                 outer,
-                block,
                 number,
                 initiation,
+                ..
             } => {
-                state.write_u8(1);
                 outer.hash(state);
-                block.hash(state);
-                number.hash(state);
-                initiation.hash(state);
+                state.write_u64(u64::from(*initiation) * 65536 + u64::from(*number));
             }
             Node::Call {
                 outer,
-                block,
                 statement,
                 initiation,
+                ..
             } => {
-                state.write_u8(2);
                 outer.hash(state);
-                block.hash(state);
-                statement.hash(state);
-                initiation.hash(state);
+                state.write_u64(u64::from(*initiation) * 65536 + 32768 + u64::from(*statement));
             }
         }
     }

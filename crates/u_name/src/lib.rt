@@ -6,6 +6,7 @@ mod block_text;
 mod cell;
 mod context;
 mod name;
+mod path;
 mod reading;
 mod writing;
 

@@ -194,7 +194,7 @@ impl Name {
         }
         let outer = Arc::new(alloc, self.context.copy()?)?;
         Ok(Name {
-            context: Context::in_loop(outer, self.block, number, self.initiation),
+            context: Context::in_loop(alloc, outer, self.block, number, self.initiation)?,
             block: self.block,
             statement,
             initiation: 1,
@@ -239,7 +239,7 @@ impl Name {
         let _ = block.as_bytes();
         let outer = Arc::new(alloc, self.context.copy()?)?;
         Ok(Name {
-            context: Context::in_call(outer, self.block, self.statement, self.initiation),
+            context: Context::in_call(alloc, outer, self.block, self.statement, self.initiation)?,
             block,
             statement: 1,
             initiation: 1,
@@ -314,8 +314,19 @@ impl PartialEq for Name {
 
     ghost laws = { Prim.search (comparing, rules, name_cmp_total, eq_by_cmp_equiv) };
 
+    /// The contexts come last, since they are the longest.
+    #[tactic(auto, using(crate::proofs::EqualNames::other_block, crate::proofs::EqualNames::same_but_context))]
     fn eq(&self, other: &Name) -> bool {
-        self.compare(other).is_eq()
+        if self.statement != other.statement {
+            return false;
+        }
+        if self.initiation != other.initiation {
+            return false;
+        }
+        if self.block != other.block {
+            return false;
+        }
+        self.context == other.context
     }
 }
 
