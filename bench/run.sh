@@ -9,8 +9,11 @@
 # take 13 times as long, and the sum of 9998, with 99995 firings, may take a second; what takes less than
 # 20 milliseconds is not compared, since starting the program counts there.
 #
-# Where `rt` is on PATH, it then builds `u_bench` and times copies of names, and tokens of a long loop
-# that are put into a history: a hundred thousand have to take less than a second.
+# Where `rt` is on PATH, it then builds `u_bench` and times copies of names; tokens of a long loop that are
+# put into a history, of which a hundred thousand have to take less than a second; entries of a long sum
+# that enter a matcher, first one first and last one first, where ten times as many may take 13 times as
+# long; and firings of it that a machine takes last one first, of which a hundred thousand have to take
+# less than 3 seconds.
 set -u
 export LC_ALL=C
 
@@ -120,21 +123,68 @@ for size in 13 45 147; do
     timed "$top/programs/nested.u" "$size" $((11 + 18 * size + 9 * size * (size + 1) / 2))
 done
 
+# The nanoseconds at the end of a row of u_bench.
+spent_in() {
+    sed -n 's/.* in \([0-9]*\) ns$/\1/p' <<<"$1"
+}
+
 # Times so many tokens that are put into a history, and prints how long that took.
 timed_inserts() {
     local row spent
-    row=$("$top/crates/u_bench/out/u_bench" tokens "$1")
+    row=$("$bench" tokens "$1")
     printf '%s\n' "$row"
-    spent=$(sed -n 's/.* in \([0-9]*\) ns$/\1/p' <<<"$row")
+    spent=$(spent_in "$row")
     if [ -z "$spent" ] || [ "$spent" -ge 1000000000 ]; then
         echo "$1 tokens took a second or more" >&2
         failed=1
     fi
 }
 
+# Times so many entries that enter a matcher, first one first and then last one first, and prints how long
+# each took. `entered` has the microseconds of both at the call before, and `entries` how many they were.
+timed_entries() {
+    local row spent place=0
+    while IFS= read -r row; do
+        printf '%s\n' "$row"
+        spent=$(spent_in "$row")
+        if [ "${row%%,*}" != "entered $1 entries" ] || [ -z "$spent" ]; then
+            echo "$1 entries did not enter" >&2
+            failed=1
+        elif grows_too_much $((spent / 1000)) "$1" "${entered[place]:-0}" "$entries"; then
+            echo "$1 entries took more than they may after $entries" >&2
+            failed=1
+        fi
+        entered[place]=$((${spent:-0} / 1000))
+        place=$((place + 1))
+    done < <("$bench" entries "$1")
+    if [ "$place" -ne 2 ]; then
+        echo "$1 entries entered $place times, and not twice" >&2
+        failed=1
+    fi
+    entries=$1
+}
+
+# Times so many firings that a machine takes last one first, and prints how long that took.
+timed_takes() {
+    local row spent
+    row=$("$bench" firings "$1")
+    printf '%s\n' "$row"
+    spent=$(spent_in "$row")
+    if [ "${row% in *}" != "took $1 firings, $1 applied," ]; then
+        echo "$1 firings were not all taken and applied" >&2
+        failed=1
+    elif [ -z "$spent" ] || [ "$spent" -ge 3000000000 ]; then
+        echo "$1 firings taken last one first took 3 seconds or more" >&2
+        failed=1
+    fi
+}
+
 if command -v rt >/dev/null; then
+    bench=$top/crates/u_bench/out/u_bench entered=() entries=0
     if (cd "$top/crates/u_bench" && rt run -- names 1000000) </dev/null 2>"$temp/log"; then
         for count in 1000 10000 100000; do timed_inserts "$count"; done
+        for count in 1000 10000 100000; do timed_entries "$count"; done
+        for count in 1000 10000 100000; do timed_takes "$count"; done
     else
         tail -n 20 -- "$temp/log" >&2
         failed=1
