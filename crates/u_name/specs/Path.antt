@@ -1,9 +1,8 @@
 -- What contexts are compared by: the kinds of their loops and calls from the innermost outwards, and these themselves from
 -- the outermost inwards.
-use Rattle.std.specs.Prelude.{◌≡◌, ℕ, List, [], ◌∷◌, ◌++◌, Option, Some, None}
+use Rattle.std.specs.Prelude.{◌≡◌, ℕ, List, [], ◌∷◌, ◌++◌}
 use Rattle.u_name.specs.declared.path.Frame.{Frame}
-use Rattle.u_name.specs.declared.path.Path.{Path}
-use Rattle.u_name.specs.Context.{Tree, Top, InLoop, InCall, IsContext}
+use Rattle.u_name.specs.Context.{Tree, Top, InLoop, InCall}
 
 abbrev pub frame : List ℕ → ℕ → ℕ → Frame
 frame b n i = record { block = b; number = n; initiation = i }
@@ -18,18 +17,3 @@ abbrev pub path : Tree → List Frame
 path Top = []
 path (InLoop outer block number initiation) = path outer ++ frame block number initiation ∷ []
 path (InCall outer block statement initiation) = path outer ++ frame block statement initiation ∷ []
-
--- what is kept beside a context
-abbrev pub kinds_in : Option Path → List ℕ
-kinds_in None = []
-kinds_in (Some p) = p.kinds.items
-
-abbrev pub path_in : Option Path → List Frame
-path_in None = []
-path_in (Some p) = p.frames.items
-
--- a context, with its own kinds and path kept beside it
-pub record IsFollowed (tree : Tree) (of_kinds : List ℕ) (of_path : List Frame) : Type 0 where
-  pub is : IsContext tree
-  pub kinds : of_kinds ≡ kinds tree
-  pub path : of_path ≡ path tree

@@ -6,16 +6,15 @@ ghost use Rattle.std.specs.Cmp.{partial_order_from_own_ties};
 ghost use Rattle.std.specs.Cmp.Rules.{comparing, hashing};
 ghost use Rattle.std.specs.Ordering.{eq_by_cmp, as_partial_cmp};
 ghost use Rattle.std.proofs.lemmas.Cmp.{eq_by_cmp_equiv};
-ghost use Rattle.u_name.specs.Node.{tree_of};
-ghost use Rattle.u_name.specs.Path.{kinds, path, kinds_in, path_in, IsFollowed};
-ghost use Rattle.std.specs.Prelude.{◌++◌, [], ◌∷◌, option_map};
-ghost use Rattle.std.specs.Arc.{arc_value};
+ghost use Rattle.u_name.specs.Node.{tree_of, IsFollowed, IsBeside};
+ghost use Rattle.std.specs.Prelude.{◌++◌, [], ◌∷◌};
+ghost use Rattle.u_name.specs.Path.{kinds, path};
 ghost use Rattle.u_name.specs.ContextOrder.{context_cmp};
 ghost use Rattle.u_name.specs.ContextLaws.{context_cmp_total};
 ghost use Rattle.u_name.specs.ContextHash.{context_hash, hashes_alike};
 
 use crate::block_name::BlockName;
-use crate::path::{CALL, Frame, LOOP, Path, frame_behind, kind_before};
+use crate::path::{CALL, Frame, LOOP, frame_behind, kind_before};
 use std::alloc::{AllocError, Global};
 use std::cmp::Ordering;
 use std::hash::{Hash, Hasher};
@@ -29,7 +28,6 @@ use std::sync::Arc;
 #[derive(Drop)]
 pub struct Context {
     node: Node,
-    path: Option<Arc<Path, Global>>,
 }
 
 /// What a context is.
@@ -41,7 +39,7 @@ pub enum Node {
     /// The context of a loop that was entered.
     Loop {
         /// The context of the activity that entered it.
-        outer: Arc<Context, Global>,
+        outer: Arc<Outer, Global>,
         /// The block of that activity.
         block: BlockName,
         /// The loop's number, 1 to 99.
@@ -52,7 +50,7 @@ pub enum Node {
     /// The context of a call.
     Call {
         /// The context of the activity that called.
-        outer: Arc<Context, Global>,
+        outer: Arc<Outer, Global>,
         /// The block of that activity.
         block: BlockName,
         /// The statement of that activity, 1 to 999.
@@ -60,6 +58,17 @@ pub enum Node {
         /// The initiation of that activity, 1 to 4294967295.
         initiation: u32,
     },
+}
+
+/// A context that others lie in, with what it is compared by: the kinds of its loops and calls, the
+/// innermost first, and these themselves, the outermost first.
+#[cycle(context)]
+#[derive(Drop)]
+pub struct Outer {
+    /// The context.
+    pub context: Context,
+    kinds: Vec<u8>,
+    frames: Vec<Frame>,
 }
 
 impl Model for Context {
@@ -73,11 +82,9 @@ impl Model for Context {
 
     ghost view = { λ a. tree_of a.node };
 
-    ghost use Rattle.u_name.specs.Path.{IsFollowed, kinds_in, path_in};
-    ghost use Rattle.std.specs.Prelude.{option_map};
-    ghost use Rattle.std.specs.Arc.{arc_value};
+    ghost use Rattle.u_name.specs.Node.{IsFollowed};
 
-    ghost invariant = { λ a. IsFollowed (tree_of a.node) (kinds_in (option_map arc_value a.path)) (path_in (option_map arc_value a.path)) };
+    ghost invariant = { λ a. IsContext (tree_of a.node) × IsFollowed a.node };
 
     ghost size = { depth };
 
@@ -91,10 +98,7 @@ impl Context {
     pub fn root() -> Context
         ensures { result ≡ Top }
     {
-        Context {
-            node: Node::Root,
-            path: None,
-        }
+        Context { node: Node::Root }
     }
 
     /// What the context is, with its parts.
@@ -105,58 +109,25 @@ impl Context {
         &self.node
     }
 
-    /// The kinds of the loops and calls that it is in, the innermost first.
-    fn kinds(&self) -> &[u8]
-        ensures { result.now ≡ kinds self.now }
-    {
-        match &self.path {
-            None => &[],
-            Some(path) => &path.kinds,
-        }
-    }
-
-    /// The loops and calls that it is in, the outermost first.
-    fn frames(&self) -> &[Frame]
-        ensures { result.now ≡ path self.now }
-    {
-        match &self.path {
-            None => &[],
-            Some(path) => &path.frames,
-        }
-    }
-
-    /// The path of a context in this one, of that kind and frame.
-    fn longer(&self, alloc: Global, kind: u8, frame: Frame) -> Result<Arc<Path, Global>, AllocError>
-        ensures kinds { IfOk result (λ p. p.value.kinds.items ≡ kind ∷ kinds self.now) }
-        ensures frames { IfOk result (λ p. p.value.frames.items ≡ path self.now ++ frame ∷ []) }
-    {
-        let kinds = kind_before(alloc, kind, self.kinds())?;
-        let frames = frame_behind(alloc, self.frames(), frame)?;
-        let path = Arc::new(alloc, Path { kinds, frames })?;
-        Ok(path)
-    }
-
     /// The context of a loop, in an outer context that is less than 64 deep.
+    ///
+    /// # Errors
+    /// `AllocError` where there is no memory.
     pub fn in_loop(
         alloc: Global,
-        outer: Arc<Context, Global>,
+        outer: Context,
         block: BlockName,
         number: u8,
         initiation: u32,
     ) -> Result<Context, AllocError>
-        requires shallow { depth outer.value < 64 }
+        requires shallow { depth outer < 64 }
         requires number_in { IsBetween 1 number 99 }
         requires initiation_in { IsBetween 1 initiation 4294967295 }
-        ensures { IfOk result (λ c. c ≡ InLoop outer.value block number initiation) }
+        ensures { IfOk result (λ c. c ≡ InLoop outer block number initiation) }
     {
         let _ = &outer.node;
         let _ = block.as_bytes();
-        let frame = Frame {
-            block,
-            number: u16::from(number),
-            initiation,
-        };
-        let path = outer.longer(alloc, LOOP, frame)?;
+        let outer = outer.shared(alloc)?;
         Ok(Context {
             node: Node::Loop {
                 outer,
@@ -164,31 +135,28 @@ impl Context {
                 number,
                 initiation,
             },
-            path: Some(path),
         })
     }
 
     /// The context of a call, in an outer context that is less than 64 deep.
+    ///
+    /// # Errors
+    /// `AllocError` where there is no memory.
     pub fn in_call(
         alloc: Global,
-        outer: Arc<Context, Global>,
+        outer: Context,
         block: BlockName,
         statement: u16,
         initiation: u32,
     ) -> Result<Context, AllocError>
-        requires shallow { depth outer.value < 64 }
+        requires shallow { depth outer < 64 }
         requires statement_in { IsBetween 1 statement 999 }
         requires initiation_in { IsBetween 1 initiation 4294967295 }
-        ensures { IfOk result (λ c. c ≡ InCall outer.value block statement initiation) }
+        ensures { IfOk result (λ c. c ≡ InCall outer block statement initiation) }
     {
         let _ = &outer.node;
         let _ = block.as_bytes();
-        let frame = Frame {
-            block,
-            number: statement,
-            initiation,
-        };
-        let path = outer.longer(alloc, CALL, frame)?;
+        let outer = outer.shared(alloc)?;
         Ok(Context {
             node: Node::Call {
                 outer,
@@ -196,8 +164,68 @@ impl Context {
                 statement,
                 initiation,
             },
-            path: Some(path),
         })
+    }
+
+    /// The kinds of the loops and calls that it is in, the innermost first.
+    fn kinds(&self, alloc: Global) -> Result<Vec<u8>, AllocError>
+        ensures { IfOk result (λ v. v.items ≡ kinds self.now) }
+    {
+        match &self.node {
+            Node::Root => Ok(Vec::new(alloc)),
+            Node::Loop { outer, .. } => kind_before(alloc, LOOP, &outer.kinds),
+            Node::Call { outer, .. } => kind_before(alloc, CALL, &outer.kinds),
+        }
+    }
+
+    /// The loops and calls that it is in, the outermost first.
+    fn frames(&self, alloc: Global) -> Result<Vec<Frame>, AllocError>
+        ensures { IfOk result (λ v. v.items ≡ path self.now) }
+    {
+        match &self.node {
+            Node::Root => Ok(Vec::new(alloc)),
+            Node::Loop {
+                outer,
+                block,
+                number,
+                initiation,
+            } => {
+                let frame = Frame {
+                    block: *block,
+                    number: u16::from(*number),
+                    initiation: *initiation,
+                };
+                frame_behind(alloc, &outer.frames, frame)
+            }
+            Node::Call {
+                outer,
+                block,
+                statement,
+                initiation,
+            } => {
+                let frame = Frame {
+                    block: *block,
+                    number: *statement,
+                    initiation: *initiation,
+                };
+                frame_behind(alloc, &outer.frames, frame)
+            }
+        }
+    }
+
+    /// The context, for others to lie in.
+    fn shared(self, alloc: Global) -> Result<Arc<Outer, Global>, AllocError>
+        ensures { IfOk result (λ o. (o.value.context ≡ self) × IsBeside o.value) }
+    {
+        let kinds = self.kinds(alloc)?;
+        let frames = self.frames(alloc)?;
+        let outer = Outer {
+            context: self,
+            kinds,
+            frames,
+        };
+        let shared = Arc::new(alloc, outer)?;
+        Ok(shared)
     }
 
     /// How many loops and calls it is in, 0 to 64.
@@ -207,18 +235,8 @@ impl Context {
     {
         match &self.node {
             Node::Root => 0,
-            Node::Loop { outer, .. } => outer.depth() + 1,
-            Node::Call { outer, .. } => outer.depth() + 1,
-        }
-    }
-
-    /// Another hold of the path.
-    fn path_again(&self) -> Result<Option<Arc<Path, Global>>, AllocError>
-        ensures { IfOk result (λ p. IsFollowed self.now (kinds_in (option_map arc_value p)) (path_in (option_map arc_value p))) }
-    {
-        match &self.path {
-            None => Ok(None),
-            Some(path) => Ok(Some(Arc::try_clone(path)?)),
+            Node::Loop { outer, .. } => outer.context.depth() + 1,
+            Node::Call { outer, .. } => outer.context.depth() + 1,
         }
     }
 
@@ -226,7 +244,6 @@ impl Context {
     pub fn copy(&self) -> Result<Context, AllocError>
         ensures { IfOk result (λ c. c ≡ self.now) }
     {
-        let path = self.path_again()?;
         let node = match &self.node {
             Node::Root => Node::Root,
             Node::Loop {
@@ -252,16 +269,76 @@ impl Context {
                 initiation: *initiation,
             },
         };
-        Ok(Context { node, path })
+        Ok(Context { node })
     }
 
-    /// Kinds first, from the innermost outwards, and then the loops and calls from the outermost inwards.
-    #[tactic(auto, using(crate::specs::PathOrder::by_paths, crate::specs::PathOrder::by_kinds))]
+    /// Kinds first, and for the same kind the outer contexts. The parts are compared only where those
+    /// are equal.
     fn compare(&self, other: &Context) -> Ordering
         ensures { result ≡ context_cmp self.now other.now }
     {
-        match self.kinds().cmp(other.kinds()) {
-            Ordering::Equal => self.frames().cmp(other.frames()),
+        match (&self.node, &other.node) {
+            (Node::Root, Node::Root) => Ordering::Equal,
+            (Node::Root, _) => Ordering::Less,
+            (_, Node::Root) => Ordering::Greater,
+            (Node::Loop { .. }, Node::Call { .. }) => Ordering::Less,
+            (Node::Call { .. }, Node::Loop { .. }) => Ordering::Greater,
+            (
+                Node::Loop {
+                    outer,
+                    block,
+                    number,
+                    initiation,
+                },
+                Node::Loop {
+                    outer: outer_2,
+                    block: block_2,
+                    number: number_2,
+                    initiation: initiation_2,
+                },
+            ) => match outer.compare(outer_2) {
+                Ordering::Equal => match block.cmp(block_2) {
+                    Ordering::Equal => number.cmp(number_2).then(initiation.cmp(initiation_2)),
+                    unequal => unequal,
+                },
+                unequal => unequal,
+            },
+            (
+                Node::Call {
+                    outer,
+                    block,
+                    statement,
+                    initiation,
+                },
+                Node::Call {
+                    outer: outer_2,
+                    block: block_2,
+                    statement: statement_2,
+                    initiation: initiation_2,
+                },
+            ) => match outer.compare(outer_2) {
+                Ordering::Equal => match block.cmp(block_2) {
+                    Ordering::Equal => statement
+                        .cmp(statement_2)
+                        .then(initiation.cmp(initiation_2)),
+                    unequal => unequal,
+                },
+                unequal => unequal,
+            },
+        }
+    }
+}
+
+impl Outer {
+    /// Kinds first, from the innermost outwards, and then the loops and calls from the outermost inwards.
+    #[tactic(auto, using(crate::specs::PathOrder::by_paths, crate::specs::PathOrder::by_kinds))]
+    fn compare(&self, other: &Outer) -> Ordering
+        requires own { IsBeside self.now }
+        requires others { IsBeside other.now }
+        ensures { result ≡ context_cmp self.now.context other.now.context }
+    {
+        match self.kinds.cmp(&other.kinds) {
+            Ordering::Equal => self.frames.cmp(&other.frames),
             unequal => unequal,
         }
     }
@@ -321,7 +398,7 @@ impl Hash for Context {
                 initiation,
                 ..
             } => {
-                outer.hash(state);
+                outer.context.hash(state);
                 state.write_u64(u64::from(*initiation) * 65536 + u64::from(*number));
             }
             Node::Call {
@@ -330,7 +407,7 @@ impl Hash for Context {
                 initiation,
                 ..
             } => {
-                outer.hash(state);
+                outer.context.hash(state);
                 state.write_u64(u64::from(*initiation) * 65536 + 32768 + u64::from(*statement));
             }
         }

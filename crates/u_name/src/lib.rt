@@ -12,7 +12,7 @@ mod writing;
 
 pub use block_name::BlockName;
 pub use cell::Cell;
-pub use context::{Context, Node};
+pub use context::{Context, Node, Outer};
 pub use name::{Name, NameError};
 pub use reading::{Front, NameTextError, front_block, front_name};
 

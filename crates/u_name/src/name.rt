@@ -21,7 +21,6 @@ use std::alloc::{AllocError, AllocFailed, Global};
 use std::cmp::Ordering;
 use std::hash::{Hash, Hasher};
 use std::marker::Model;
-use std::sync::Arc;
 use thiserror::Error;
 
 /// Why a linkage call gives no name.
@@ -192,7 +191,7 @@ impl Name {
         if self.context.depth() == 64 {
             return Err(NameError::Deep);
         }
-        let outer = Arc::new(alloc, self.context.copy()?)?;
+        let outer = self.context.copy()?;
         Ok(Name {
             context: Context::in_loop(alloc, outer, self.block, number, self.initiation)?,
             block: self.block,
@@ -237,7 +236,7 @@ impl Name {
             return Err(NameError::Deep);
         }
         let _ = block.as_bytes();
-        let outer = Arc::new(alloc, self.context.copy()?)?;
+        let outer = self.context.copy()?;
         Ok(Name {
             context: Context::in_call(alloc, outer, self.block, self.statement, self.initiation)?,
             block,
@@ -272,7 +271,7 @@ impl Name {
                 block,
                 initiation,
                 ..
-            } => Ok(outside(outer, block, statement, *initiation)?),
+            } => Ok(outside(&outer.context, block, statement, *initiation)?),
             _ => unreachable!(),
         }
     }
@@ -289,7 +288,7 @@ impl Name {
                 block,
                 initiation,
                 ..
-            } => Ok(outside(caller, block, statement, *initiation)?),
+            } => Ok(outside(&caller.context, block, statement, *initiation)?),
             _ => unreachable!(),
         }
     }

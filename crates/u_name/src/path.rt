@@ -23,15 +23,6 @@ pub(crate) struct Frame {
     pub initiation: u32,
 }
 
-/// The loops and calls that a context is in.
-#[derive(Drop)]
-pub(crate) struct Path {
-    /// The kind of each, the innermost first.
-    pub kinds: Vec<u8>,
-    /// They themselves, the outermost first.
-    pub frames: Vec<Frame>,
-}
-
 /// The kinds with another one before them.
 pub(crate) fn kind_before(alloc: Global, kind: u8, kinds: &[u8]) -> Result<Vec<u8>, AllocError>
     ensures { IfOk result (λ v. v.items ≡ kind ∷ kinds.now) }
