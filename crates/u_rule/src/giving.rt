@@ -185,7 +185,7 @@ fn reached(alloc: Global, kind: &Kind, activity: &Name) -> Result<Name, NameErro
 }
 
 /// The value at each of the destinations, or the fault why the statement reaches none.
-#[tactic(auto, using(crate::proofs::Linkage::sent_on, crate::proofs::Linkage::refused_on))]
+#[tactic(auto, using(crate::proofs::Linkage::refused_on))]
 fn delivered(
     alloc: Global,
     kind: &Kind,
