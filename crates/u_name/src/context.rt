@@ -337,6 +337,9 @@ impl Outer {
         requires others { IsBeside other.now }
         ensures { result ≡ context_cmp self.now.context other.now.context }
     {
+        if let (Node::Root, Node::Root) = (&self.context.node, &other.context.node) {
+            return Ordering::Equal;
+        }
         match self.kinds.cmp(&other.kinds) {
             Ordering::Equal => self.frames.cmp(&other.frames),
             unequal => unequal,
