@@ -1,7 +1,7 @@
 -- Sixteen bytes are known by the two numbers that they make.
-use Rattle.std.specs.Prelude.{◌≡◌, ◌≤◌, ◌<◌, ◌+◌, ◌-◌, ℕ, suc, zero, List, [], ◌∷◌, ◌++◌, length, take, drop, refl}
+use Rattle.std.specs.Prelude.{◌≡◌, ◌<◌, ◌+◌, ◌-◌, ℕ, suc, zero, List, [], ◌∷◌, ◌++◌, length, take, drop, refl}
 use Rattle.std.proofs.Common.{sym, ◌∙◌, ap, arith, get_or, subst, length-drop}
-use Rattle.std.specs.Int.{from_be_bytes, to_be_bytes, w64}
+use Rattle.std.specs.Int.{from_be_bytes, w64}
 use Rattle.std.proofs.lemmas.Nat.{be_bytes_8}
 use Rattle.std.proofs.lemmas.List.{length-take, take-append-drop, get_or-drop, take_all}
 

@@ -1,6 +1,6 @@
 -- What contexts are compared by: the kinds of their loops and calls from the innermost outwards, and these themselves from
 -- the outermost inwards.
-use Rattle.std.specs.Prelude.{◌≡◌, ℕ, List, [], ◌∷◌, ◌++◌}
+use Rattle.std.specs.Prelude.{ℕ, List, [], ◌∷◌, ◌++◌}
 use Rattle.u_name.specs.declared.path.Frame.{Frame}
 use Rattle.u_name.specs.Context.{Tree, Top, InLoop, InCall}
 

@@ -1,4 +1,4 @@
-use Rattle.std.proofs.Common.{◌≡◌, ◌∙◌, sym}
+use Rattle.std.proofs.Common.{◌∙◌, sym}
 use Rattle.std.proofs.lemmas.Bool.{eqb-true}
 use Rattle.u_name.proofs.EightBytes.{same_whole}
 use Rattle.u_name.proofs.halves.same_bytes.Goals as goal
