@@ -3,7 +3,6 @@ ghost use Rattle.std.specs.Prelude.{◌≡◌, ◌≤◌, IfOk};
 ghost use Rattle.u_bench.specs.Turns.{the_loop, loop_token, loop_tokens};
 
 use std::alloc::{AllocError, Global};
-use std::sync::Arc;
 use u_name::{BlockName, Context, Name};
 use u_rule::{Entry, Token};
 use u_value::Value;
@@ -15,8 +14,7 @@ use u_value::Value;
 fn the_loop(alloc: Global) -> Result<Context, AllocError>
     ensures { IfOk result (λ c. c ≡ the_loop) }
 {
-    let outer = Arc::new(alloc, Context::root())?;
-    Ok(Context::in_loop(outer, BlockName::new(b"main"), 1, 1))
+    Context::in_loop(alloc, Context::root(), BlockName::new(b"main"), 1, 1)
 }
 
 /// The token of that number, which counts from 0: there are ten in a turn, one at port 1 of each of

@@ -132,7 +132,7 @@ impl<'a> Machine<'a> {
     /// # Errors
     /// `Full` where a firing is ready and the machine has taken as many as it may, and nothing is
     /// applied. `NoMemory` where there is no memory; then either no firing was taken, or the picked one
-    /// was and is not yet applied, which the next call sees to.
+    /// was and something that it began is not yet applied, which the next call sees to.
     pub fn fire(&mut self, pick: usize) -> Result<Step, Refusal>
         ensures answer { FireAnswer self.old pick result self.new }
         ensures whole { IfOk result (λ r. r ≡ Step.Quiet → IsWhole self.new) }
@@ -147,7 +147,8 @@ impl<'a> Machine<'a> {
     /// # Errors
     /// `NotAFiring` exactly where it is no firing of the job. `Full` where it is new and the machine has
     /// taken as many as it may. In both cases nothing is taken. `NoMemory` where there is no memory;
-    /// then it may have been taken and is not yet applied, which the next call sees to.
+    /// then it may have been taken, with something that it began not yet applied, which the next call
+    /// sees to.
     pub fn take(&mut self, firing: &Firing) -> Result<Took, TakeRefusal>
         ensures { TakeAnswer self.old firing.now result self.new }
     {

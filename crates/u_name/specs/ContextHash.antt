@@ -1,5 +1,5 @@
 -- What a context feeds to a hasher.
-use Rattle.std.specs.Prelude.{◌++◌, true, IsTrue, ◌≡◌}
+use Rattle.std.specs.Prelude.{◌++◌, ◌+◌, ◌*◌, [], true, IsTrue, ◌≡◌}
 use Rattle.std.proofs.Common.{ap}
 use Rattle.std.specs.Hash as fed
 use Rattle.std.specs.Hash.{HashWrites}
@@ -11,10 +11,11 @@ use Rattle.u_name.specs.Context.{Tree, Top, InLoop, InCall}
 use Rattle.u_name.specs.ContextOrder.{context_cmp}
 use Rattle.u_name.specs.ContextLaws.{context_cmp_ties}
 
+-- one number for each loop and call, the outermost first, from its initiation and its loop's or statement's number
 abbrev pub context_hash : Tree → HashWrites
-context_hash Top = fed.u8 0
-context_hash (InLoop outer block number initiation) = fed.u8 1 ++ context_hash outer ++ fed.slice fed.u8 block ++ fed.u8 number ++ fed.u32 initiation
-context_hash (InCall outer block statement initiation) = fed.u8 2 ++ context_hash outer ++ fed.slice fed.u8 block ++ fed.u16 statement ++ fed.u32 initiation
+context_hash Top = []
+context_hash (InLoop outer block number initiation) = context_hash outer ++ fed.u64 (initiation * 65536 + number)
+context_hash (InCall outer block statement initiation) = context_hash outer ++ fed.u64 (initiation * 65536 + 32768 + statement)
 
 tied : (r : Ordering) → is_eq r ≡ true → r ≡ Equal
 tied Less h = cc

@@ -1,6 +1,8 @@
 pub mod Block
 pub mod BlockLaws
 pub mod Context
+pub mod Path
+pub mod PathOrder
 pub mod ContextOrder
 pub mod Node
 pub mod NodeFalls

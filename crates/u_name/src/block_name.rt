@@ -11,6 +11,7 @@ ghost use Rattle.u_name.specs.Block.{IsBlock};
 ghost use lib.Pointwise.{pointwise};
 
 use crate::block_text::{begins_with_letter, block_len};
+use crate::halves::same_bytes;
 use std::alloc::AllocError;
 use std::cmp::Ordering;
 use std::hash::{Hash, Hasher};
@@ -110,7 +111,7 @@ impl Ord for BlockName {
     ghost matches_eq = { Prim.search (comparing, rules) };
 
     fn cmp(&self, other: &BlockName) -> Ordering {
-        if self.len == other.len && self.bytes == other.bytes {
+        if self.len == other.len && same_bytes(&self.bytes, &other.bytes) {
             return Ordering::Equal;
         }
         self.as_bytes().cmp(other.as_bytes())

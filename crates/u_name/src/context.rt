@@ -6,12 +6,15 @@ ghost use Rattle.std.specs.Cmp.{partial_order_from_own_ties};
 ghost use Rattle.std.specs.Cmp.Rules.{comparing, hashing};
 ghost use Rattle.std.specs.Ordering.{eq_by_cmp, as_partial_cmp};
 ghost use Rattle.std.proofs.lemmas.Cmp.{eq_by_cmp_equiv};
-ghost use Rattle.u_name.specs.Node.{tree_of};
+ghost use Rattle.u_name.specs.Node.{tree_of, IsFollowed, IsBeside};
+ghost use Rattle.std.specs.Prelude.{◌++◌, [], ◌∷◌};
+ghost use Rattle.u_name.specs.Path.{kinds, path};
 ghost use Rattle.u_name.specs.ContextOrder.{context_cmp};
 ghost use Rattle.u_name.specs.ContextLaws.{context_cmp_total};
 ghost use Rattle.u_name.specs.ContextHash.{context_hash, hashes_alike};
 
 use crate::block_name::BlockName;
+use crate::path::{CALL, Frame, LOOP, frame_behind, kind_before};
 use std::alloc::{AllocError, Global};
 use std::cmp::Ordering;
 use std::hash::{Hash, Hasher};
@@ -36,7 +39,7 @@ pub enum Node {
     /// The context of a loop that was entered.
     Loop {
         /// The context of the activity that entered it.
-        outer: Arc<Context, Global>,
+        outer: Arc<Outer, Global>,
         /// The block of that activity.
         block: BlockName,
         /// The loop's number, 1 to 99.
@@ -47,7 +50,7 @@ pub enum Node {
     /// The context of a call.
     Call {
         /// The context of the activity that called.
-        outer: Arc<Context, Global>,
+        outer: Arc<Outer, Global>,
         /// The block of that activity.
         block: BlockName,
         /// The statement of that activity, 1 to 999.
@@ -55,6 +58,17 @@ pub enum Node {
         /// The initiation of that activity, 1 to 4294967295.
         initiation: u32,
     },
+}
+
+/// A context that others lie in, with what it is compared by: the kinds of its loops and calls, the
+/// innermost first, and these themselves, the outermost first.
+#[cycle(context)]
+#[derive(Drop)]
+pub struct Outer {
+    /// The context.
+    pub context: Context,
+    kinds: Vec<u8>,
+    frames: Vec<Frame>,
 }
 
 impl Model for Context {
@@ -68,7 +82,9 @@ impl Model for Context {
 
     ghost view = { λ a. tree_of a.node };
 
-    ghost invariant = { λ a. IsContext (tree_of a.node) };
+    ghost use Rattle.u_name.specs.Node.{IsFollowed};
+
+    ghost invariant = { λ a. IsContext (tree_of a.node) × IsFollowed a.node };
 
     ghost size = { depth };
 
@@ -94,51 +110,122 @@ impl Context {
     }
 
     /// The context of a loop, in an outer context that is less than 64 deep.
+    ///
+    /// # Errors
+    /// `AllocError` where there is no memory.
     pub fn in_loop(
-        outer: Arc<Context, Global>,
+        alloc: Global,
+        outer: Context,
         block: BlockName,
         number: u8,
         initiation: u32,
-    ) -> Context
-        requires shallow { depth outer.value < 64 }
+    ) -> Result<Context, AllocError>
+        requires shallow { depth outer < 64 }
         requires number_in { IsBetween 1 number 99 }
         requires initiation_in { IsBetween 1 initiation 4294967295 }
-        ensures { result ≡ InLoop outer.value block number initiation }
+        ensures { IfOk result (λ c. c ≡ InLoop outer block number initiation) }
     {
         let _ = &outer.node;
         let _ = block.as_bytes();
-        Context {
+        let outer = outer.shared(alloc)?;
+        Ok(Context {
             node: Node::Loop {
                 outer,
                 block,
                 number,
                 initiation,
             },
-        }
+        })
     }
 
     /// The context of a call, in an outer context that is less than 64 deep.
+    ///
+    /// # Errors
+    /// `AllocError` where there is no memory.
     pub fn in_call(
-        outer: Arc<Context, Global>,
+        alloc: Global,
+        outer: Context,
         block: BlockName,
         statement: u16,
         initiation: u32,
-    ) -> Context
-        requires shallow { depth outer.value < 64 }
+    ) -> Result<Context, AllocError>
+        requires shallow { depth outer < 64 }
         requires statement_in { IsBetween 1 statement 999 }
         requires initiation_in { IsBetween 1 initiation 4294967295 }
-        ensures { result ≡ InCall outer.value block statement initiation }
+        ensures { IfOk result (λ c. c ≡ InCall outer block statement initiation) }
     {
         let _ = &outer.node;
         let _ = block.as_bytes();
-        Context {
+        let outer = outer.shared(alloc)?;
+        Ok(Context {
             node: Node::Call {
                 outer,
                 block,
                 statement,
                 initiation,
             },
+        })
+    }
+
+    /// The kinds of the loops and calls that it is in, the innermost first.
+    fn kinds(&self, alloc: Global) -> Result<Vec<u8>, AllocError>
+        ensures { IfOk result (λ v. v.items ≡ kinds self.now) }
+    {
+        match &self.node {
+            Node::Root => Ok(Vec::new(alloc)),
+            Node::Loop { outer, .. } => kind_before(alloc, LOOP, &outer.kinds),
+            Node::Call { outer, .. } => kind_before(alloc, CALL, &outer.kinds),
         }
+    }
+
+    /// The loops and calls that it is in, the outermost first.
+    fn frames(&self, alloc: Global) -> Result<Vec<Frame>, AllocError>
+        ensures { IfOk result (λ v. v.items ≡ path self.now) }
+    {
+        match &self.node {
+            Node::Root => Ok(Vec::new(alloc)),
+            Node::Loop {
+                outer,
+                block,
+                number,
+                initiation,
+            } => {
+                let frame = Frame {
+                    block: *block,
+                    number: u16::from(*number),
+                    initiation: *initiation,
+                };
+                frame_behind(alloc, &outer.frames, frame)
+            }
+            Node::Call {
+                outer,
+                block,
+                statement,
+                initiation,
+            } => {
+                let frame = Frame {
+                    block: *block,
+                    number: *statement,
+                    initiation: *initiation,
+                };
+                frame_behind(alloc, &outer.frames, frame)
+            }
+        }
+    }
+
+    /// The context, for others to lie in.
+    fn shared(self, alloc: Global) -> Result<Arc<Outer, Global>, AllocError>
+        ensures { IfOk result (λ o. (o.value.context ≡ self) × IsBeside o.value) }
+    {
+        let kinds = self.kinds(alloc)?;
+        let frames = self.frames(alloc)?;
+        let outer = Outer {
+            context: self,
+            kinds,
+            frames,
+        };
+        let shared = Arc::new(alloc, outer)?;
+        Ok(shared)
     }
 
     /// How many loops and calls it is in, 0 to 64.
@@ -148,8 +235,8 @@ impl Context {
     {
         match &self.node {
             Node::Root => 0,
-            Node::Loop { outer, .. } => outer.depth() + 1,
-            Node::Call { outer, .. } => outer.depth() + 1,
+            Node::Loop { outer, .. } => outer.context.depth() + 1,
+            Node::Call { outer, .. } => outer.context.depth() + 1,
         }
     }
 
@@ -242,6 +329,24 @@ impl Context {
     }
 }
 
+impl Outer {
+    /// Kinds first, from the innermost outwards, and then the loops and calls from the outermost inwards.
+    #[tactic(auto, using(crate::specs::PathOrder::by_paths, crate::specs::PathOrder::by_kinds))]
+    fn compare(&self, other: &Outer) -> Ordering
+        requires own { IsBeside self.now }
+        requires others { IsBeside other.now }
+        ensures { result ≡ context_cmp self.now.context other.now.context }
+    {
+        if let (Node::Root, Node::Root) = (&self.context.node, &other.context.node) {
+            return Ordering::Equal;
+        }
+        match self.kinds.cmp(&other.kinds) {
+            Ordering::Equal => self.frames.cmp(&other.frames),
+            unequal => unequal,
+        }
+    }
+}
+
 impl PartialEq for Context {
     ghost eq = { eq_by_cmp context_cmp };
 
@@ -285,32 +390,28 @@ impl Hash for Context {
 
     ghost respects_eq = { hashes_alike };
 
+    /// One number for each loop and call. The blocks are left out: in the contexts of one program the
+    /// other parts tell almost all of them apart.
     fn hash<H: Hasher>(&self, state: &mut H) {
         match &self.node {
-            Node::Root => state.write_u8(0),
+            Node::Root => {}
             Node::Loop {
                 outer,
-                block,
                 number,
                 initiation,
+                ..
             } => {
-                state.write_u8(1);
-                outer.hash(state);
-                block.hash(state);
-                number.hash(state);
-                initiation.hash(state);
+                outer.context.hash(state);
+                state.write_u64(u64::from(*initiation) * 65536 + u64::from(*number));
             }
             Node::Call {
                 outer,
-                block,
                 statement,
                 initiation,
+                ..
             } => {
-                state.write_u8(2);
-                outer.hash(state);
-                block.hash(state);
-                statement.hash(state);
-                initiation.hash(state);
+                outer.context.hash(state);
+                state.write_u64(u64::from(*initiation) * 65536 + 32768 + u64::from(*statement));
             }
         }
     }

@@ -5,13 +5,15 @@ mod block_name;
 mod block_text;
 mod cell;
 mod context;
+mod halves;
 mod name;
+mod path;
 mod reading;
 mod writing;
 
 pub use block_name::BlockName;
 pub use cell::Cell;
-pub use context::{Context, Node};
+pub use context::{Context, Node, Outer};
 pub use name::{Name, NameError};
 pub use reading::{Front, NameTextError, front_block, front_name};
 

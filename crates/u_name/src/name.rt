@@ -21,7 +21,6 @@ use std::alloc::{AllocError, AllocFailed, Global};
 use std::cmp::Ordering;
 use std::hash::{Hash, Hasher};
 use std::marker::Model;
-use std::sync::Arc;
 use thiserror::Error;
 
 /// Why a linkage call gives no name.
@@ -192,9 +191,9 @@ impl Name {
         if self.context.depth() == 64 {
             return Err(NameError::Deep);
         }
-        let outer = Arc::new(alloc, self.context.copy()?)?;
+        let outer = self.context.copy()?;
         Ok(Name {
-            context: Context::in_loop(outer, self.block, number, self.initiation),
+            context: Context::in_loop(alloc, outer, self.block, number, self.initiation)?,
             block: self.block,
             statement,
             initiation: 1,
@@ -237,9 +236,9 @@ impl Name {
             return Err(NameError::Deep);
         }
         let _ = block.as_bytes();
-        let outer = Arc::new(alloc, self.context.copy()?)?;
+        let outer = self.context.copy()?;
         Ok(Name {
-            context: Context::in_call(outer, self.block, self.statement, self.initiation),
+            context: Context::in_call(alloc, outer, self.block, self.statement, self.initiation)?,
             block,
             statement: 1,
             initiation: 1,
@@ -272,7 +271,7 @@ impl Name {
                 block,
                 initiation,
                 ..
-            } => Ok(outside(outer, block, statement, *initiation)?),
+            } => Ok(outside(&outer.context, block, statement, *initiation)?),
             _ => unreachable!(),
         }
     }
@@ -289,7 +288,7 @@ impl Name {
                 block,
                 initiation,
                 ..
-            } => Ok(outside(caller, block, statement, *initiation)?),
+            } => Ok(outside(&caller.context, block, statement, *initiation)?),
             _ => unreachable!(),
         }
     }
@@ -314,8 +313,19 @@ impl PartialEq for Name {
 
     ghost laws = { Prim.search (comparing, rules, name_cmp_total, eq_by_cmp_equiv) };
 
+    /// The contexts come last, since they are the longest.
+    #[tactic(auto, using(crate::proofs::EqualNames::other_block, crate::proofs::EqualNames::same_but_context))]
     fn eq(&self, other: &Name) -> bool {
-        self.compare(other).is_eq()
+        if self.statement != other.statement {
+            return false;
+        }
+        if self.initiation != other.initiation {
+            return false;
+        }
+        if self.block != other.block {
+            return false;
+        }
+        self.context == other.context
     }
 }
 

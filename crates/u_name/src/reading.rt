@@ -19,7 +19,6 @@ use crate::block_text::{begins_with_letter, block_len};
 use crate::context::Context;
 use crate::name::Name;
 use std::alloc::{AllocError, AllocFailed, Global};
-use std::sync::Arc;
 use thiserror::Error;
 use u_text::number_at;
 
@@ -234,11 +233,12 @@ fn extended(alloc: Global, outer: Context, frame: Frame) -> Result<Context, Allo
     requires fine { IsFrame (frame_value frame) }
     ensures { IfOk result (λ context. context ≡ reader.framed outer (frame_value frame)) }
 {
-    let outer = Arc::new(alloc, outer)?;
-    Ok(match frame.step {
-        Step::Loop(number) => Context::in_loop(outer, frame.block, number, frame.initiation),
-        Step::Call(statement) => Context::in_call(outer, frame.block, statement, frame.initiation),
-    })
+    match frame.step {
+        Step::Loop(number) => Context::in_loop(alloc, outer, frame.block, number, frame.initiation),
+        Step::Call(statement) => {
+            Context::in_call(alloc, outer, frame.block, statement, frame.initiation)
+        }
+    }
 }
 
 /// The part of a name's text behind the context's.

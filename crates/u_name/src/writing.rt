@@ -68,7 +68,7 @@ impl Context {
                 initiation,
             } => {
                 out.push(b'(')?;
-                outer.write_text(out)?;
+                outer.context.write_text(out)?;
                 push_loop(out, block, *number, *initiation)?;
                 out.push(b')')?;
                 Ok(())
@@ -80,7 +80,7 @@ impl Context {
                 initiation,
             } => {
                 out.push(b'(')?;
-                outer.write_text(out)?;
+                outer.context.write_text(out)?;
                 push_call(out, block, *statement, *initiation)?;
                 out.push(b')')?;
                 Ok(())

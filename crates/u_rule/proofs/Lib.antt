@@ -6,4 +6,5 @@ pub mod Follow
 pub mod InOrder
 pub mod Texts
 pub mod Lists
-pub mod Cells
+mod Both
+mod Cells

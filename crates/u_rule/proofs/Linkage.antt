@@ -1,5 +1,5 @@
 -- Where the destinations of a statement lie: beside one activity.
-use Rattle.std.proofs.Common.{◌≡◌, refl, ap, sym, ◌∙◌, ℕ, List, [], ◌∷◌, ◌++◌, map, Contains, inl, inr, Some, None, Ok}
+use Rattle.std.proofs.Common.{◌≡◌, refl, ap, sym, ◌∙◌, ℕ, List, [], ◌∷◌, map, Contains, inl, inr, Some, None, Ok}
 use Rattle.u_name.specs.Context.{Tree, Top, InLoop, InCall}
 use Rattle.u_name.specs.Name.{Activity, left, IsInLoop}
 use Rattle.u_value.specs.declared.value.Value.{Value}
@@ -36,7 +36,7 @@ sent_alike k a near v (d ∷ ds) i e =
     rw q (rw (sent_alike k a near v ds i e) refl)
 
 -- what is sent beside the activity that a statement reaches is what it hands on
-pub sent_on : (es : List Entry) (k : Kind) (a near : Activity) (v : Value) (ds : List Destination) → es ≡ [] ++ map (sent (beside near) v) ds → IsReachable k a → near ≡ reached k a a.statement → refusal_of k a ≡ None → es ≡ handed_on k a ds (Ok v)
+pub sent_on : (es : List Entry) (k : Kind) (a near : Activity) (v : Value) (ds : List Destination) → es ≡ map (sent (beside near) v) ds → IsReachable k a → near ≡ reached k a a.statement → refusal_of k a ≡ None → es ≡ handed_on k a ds (Ok v)
 sent_on es k a near v ds e i n r = rw r (e ∙ sent_alike k a near v ds i n)
 
 -- a refusal is a fault

@@ -26,10 +26,13 @@ use Rattle.u_rule.specs.declared.entry.Entry.TheVariants as entries
 use Rattle.u_rule.specs.declared.firing.Firing.{Firing}
 use Rattle.u_rule.specs.declared.firing.Written.{Written}
 
+abbrev pub has_its_values : StatementParts → Firing → Bool
+has_its_values s f = length f.values == ports_of s.kind && has_its_write s.kind f.values f.write
+
 -- a firing of that statement has one value for each port, and a write exactly where it reads a cell
 abbrev pub is_firing_at : List BlockParts → Option StatementParts → Firing → Bool
 is_firing_at p None f = false
-is_firing_at p (Some s) f = fits_at p s.region f.activity && (length f.values == ports_of s.kind && has_its_write s.kind f.values f.write)
+is_firing_at p (Some s) f = fits_at p s.region f.activity && has_its_values s f
 
 unfoldable pub is_firing_of : JobParts → Firing → Bool
 is_firing_of job f = is_firing_at job.program (statement_of job.program f.activity.block f.activity.statement) f

@@ -96,7 +96,7 @@ pub(crate) fn fits(
             }
             match holder_of(program, block, region) {
                 None => false,
-                Some(holder) => fits(program, outer, block, holder, *turn),
+                Some(holder) => fits(program, &outer.context, block, holder, *turn),
             }
         }
         Node::Call {
@@ -110,7 +110,7 @@ pub(crate) fn fits(
             }
             match calling_region(program, from, *caller) {
                 None => false,
-                Some(calling) => fits(program, outer, from, calling, *turn),
+                Some(calling) => fits(program, &outer.context, from, calling, *turn),
             }
         }
     }

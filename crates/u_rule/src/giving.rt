@@ -153,6 +153,21 @@ fn send(
     Ok(())
 }
 
+/// The tokens of the value at the destinations, beside the activity.
+fn tokens_beside(
+    alloc: Global,
+    activity: &Name,
+    value: &Value,
+    to: &[Destination],
+) -> Result<Vec<Entry>, AllocError>
+    requires { AllByRecursion IsDestination to.now }
+    ensures { IfOk result (λ v. v.items ≡ map (sent (beside activity.now) value.now) to.now) }
+{
+    let mut entries = Vec::new(alloc);
+    send(&mut entries, activity, value, to)?;
+    Ok(entries)
+}
+
 /// The activity beside which the destinations lie of a statement of that kind.
 fn reached(alloc: Global, kind: &Kind, activity: &Name) -> Result<Name, NameError>
     requires reaches { IsReachable kind.now activity.now }
@@ -170,7 +185,7 @@ fn reached(alloc: Global, kind: &Kind, activity: &Name) -> Result<Name, NameErro
 }
 
 /// The value at each of the destinations, or the fault why the statement reaches none.
-#[tactic(auto, using(crate::proofs::Linkage::sent_on, crate::proofs::Linkage::refused_on))]
+#[tactic(auto, using(crate::proofs::Linkage::refused_on))]
 fn delivered(
     alloc: Global,
     kind: &Kind,
@@ -184,11 +199,7 @@ fn delivered(
     ensures { IfOk result (λ v. v.items ≡ handed_on kind.now activity.now to.now (Ok value.now)) }
 {
     match reached(alloc, kind, activity) {
-        Ok(near) => {
-            let mut entries = Vec::new(alloc);
-            send(&mut entries, &near, value, to)?;
-            Ok(entries)
-        }
+        Ok(near) => tokens_beside(alloc, &near, value, to),
         Err(NameError::Deep) => fault(alloc, activity, FaultKind::Deep),
         Err(NameError::Initiation) => fault(alloc, activity, FaultKind::Initiation),
         Err(NameError::NoMemory) => Err(AllocError),

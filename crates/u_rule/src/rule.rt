@@ -11,7 +11,7 @@ ghost use Rattle.u_rule.specs.declared.rule.RuleError.TheVariants as errors;
 ghost use Rattle.u_rule.specs.EntryOrder.{entry_cmp};
 ghost use Rattle.u_system.specs.Rising.{Rises};
 ghost use Rattle.u_rule.specs.Fits.{statement_of, fits_at, IsFitting, AllFit};
-ghost use Rattle.u_rule.specs.Rule.{tokens_from, start_of, needs_of, gives_of, is_firing_of};
+ghost use Rattle.u_rule.specs.Rule.{tokens_from, start_of, needs_of, gives_of, is_firing_of, has_its_values};
 
 use crate::entry::Entry;
 use crate::firing::Firing;
@@ -47,9 +47,19 @@ fn fits_at(program: &Program, region: u8, activity: &Name) -> bool
     )
 }
 
+/// Whether the firing has one value for each port of the statement, and a write exactly where the
+/// statement is a `fetch` and its values name a cell.
+fn has_its_values(statement: &Statement, firing: &Firing) -> bool
+    ensures { result ≡ has_its_values statement.now firing.now }
+{
+    firing.values.as_slice().len() == ports_of(statement.kind())
+        && has_its_write(statement.kind(), firing)
+}
+
 /// Whether it is a firing of the job: an activity that fits, with one value for each port of its
-/// statement, and a write exactly where the statement is a `fetch` and its values name a cell.
-#[tactic(auto, unfolding(crate::specs::Rule::is_firing_of))]
+/// statement, and a write exactly where the statement is a `fetch` and its values name a cell. The
+/// place is looked at last, since that goes through the whole context.
+#[tactic(auto, unfolding(crate::specs::Rule::is_firing_of), using(crate::proofs::Both::with_true, crate::proofs::Both::with_false))]
 pub fn is_firing(job: &Job, firing: &Firing) -> bool
     ensures { result ≡ is_firing_of job.now firing.now }
 {
@@ -58,9 +68,7 @@ pub fn is_firing(job: &Job, firing: &Firing) -> bool
     match executed(program, activity) {
         None => false,
         Some(statement) => {
-            fits_at(program, statement.region(), activity)
-                && (firing.values.as_slice().len() == ports_of(statement.kind())
-                    && has_its_write(statement.kind(), firing))
+            has_its_values(statement, firing) && fits_at(program, statement.region(), activity)
         }
     }
 }

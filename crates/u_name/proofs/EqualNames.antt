@@ -1,0 +1,56 @@
+-- Names are equal where their statements, initiations, blocks and contexts are.
+use Rattle.std.specs.Prelude.{◌≡◌, ℕ, List, [], ◌∷◌, Bool, true, false, ◌==◌, ◌&&◌, refl}
+use Rattle.std.proofs.lemmas.Bool.{eqb-true}
+use Rattle.std.proofs.Common.{sym, ap, subst}
+use Rattle.std.specs.Ordering.{ordering_then, is_eq, eq_by_cmp}
+use Rattle.std.specs.declared.cmp.Ordering.{Ordering}
+use Rattle.std.specs.declared.cmp.Ordering.TheVariants.{Less, Equal, Greater}
+use Rattle.std.proofs.lemmas.Cmp.{nat_cmp_total, nat_list_cmp_total, nat_list_eq_equiv, tied_itself}
+use lib.Pointwise.{pointwise}
+use Rattle.u_name.specs.ContextOrder.{context_cmp}
+use Rattle.u_name.specs.Name.{Activity}
+use Rattle.u_name.specs.NameOrder.{name_cmp, same_name}
+
+unlike : (a b : Activity) → (a ≡ b → ⊥) → false ≡ eq_by_cmp name_cmp a b
+unlike a b h = decide (eq_by_cmp name_cmp a b) refl
+  where
+    decide : (r : Bool) → eq_by_cmp name_cmp a b ≡ r → false ≡ r
+    decide true e = absurd (h (same_name a b e))
+    decide false e = refl
+
+itself : (xs : List ℕ) → pointwise ◌==◌ xs xs ≡ true
+itself xs = nat_list_eq_equiv.refl xs
+
+pub other_block : (a b : Activity) → pointwise ◌==◌ a.block b.block ≡ false → false ≡ eq_by_cmp name_cmp a b
+other_block a b h = unlike a b (λ e. absurd (unequal (subst (λ (n : Activity). pointwise ◌==◌ a.block n.block ≡ true) e (itself a.block))))
+  where
+    unequal : pointwise ◌==◌ a.block b.block ≡ true → ⊥
+    unequal t = cc
+
+ends : (r : Ordering) → ordering_then r Equal ≡ r
+ends Less = refl
+ends Equal = refl
+ends Greater = refl
+
+alike : (a b : Activity) → a.statement ≡ b.statement → a.initiation ≡ b.initiation → a.block ≡ b.block → name_cmp a b ≡ context_cmp a.context b.context
+alike a b s i k =
+    rw (← s, ← i, ← k, tied_itself nat_list_cmp_total a.block, tied_itself nat_cmp_total a.statement, tied_itself nat_cmp_total a.initiation) (ends (context_cmp a.context b.context))
+
+both_hold : (a b : Bool) → (a && b) ≡ true → (a ≡ true) × (b ≡ true)
+both_hold true true h = (refl, refl)
+both_hold true false h = absurd (cc)
+both_hold false b h = absurd (cc)
+
+pub same_block : (xs ys : List ℕ) → pointwise ◌==◌ xs ys ≡ true → xs ≡ ys
+same_block [] [] h = refl
+same_block [] (y ∷ ys) h = absurd (cc)
+same_block (x ∷ xs) [] h = absurd (cc)
+same_block (x ∷ xs) (y ∷ ys) h =
+    let p = both_hold (x == y) (pointwise ◌==◌ xs ys) h in
+    let e = eqb-true x y p.0 in
+    let f = same_block xs ys p.1 in
+    rw (e, f) refl
+
+pub same_but_context : (a b : Activity) → a.statement ≡ b.statement → a.initiation ≡ b.initiation → pointwise ◌==◌ a.block b.block ≡ true
+    → eq_by_cmp context_cmp a.context b.context ≡ eq_by_cmp name_cmp a b
+same_but_context a b s i k = ap is_eq (sym (alike a b s i (same_block a.block b.block k)))
