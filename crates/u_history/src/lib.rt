@@ -2,15 +2,11 @@
 #![tactic(auto)]
 
 mod clash;
-#[cfg(test)]
-mod clash_tests;
 mod history;
 mod lookup;
 mod outcome;
 mod place;
 mod report;
-#[cfg(test)]
-mod set_tests;
 mod verdict;
 
 pub use clash::{CellClash, PortClash};

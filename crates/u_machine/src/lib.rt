@@ -8,8 +8,6 @@ mod commands;
 mod entering;
 mod inside;
 mod machine;
-#[cfg(test)]
-mod tests;
 
 pub use answer::{ListRefusal, Ran, Refusal, Step, TakeRefusal, Took};
 pub use commands::{Command, Reply};

@@ -15,8 +15,6 @@ mod keys;
 mod matcher;
 mod notes;
 mod table;
-#[cfg(test)]
-mod tests;
 mod woken;
 
 pub use matcher::Matcher;

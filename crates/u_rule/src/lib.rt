@@ -13,18 +13,10 @@ mod entry;
 mod firing;
 mod fits;
 mod giving;
-#[cfg(test)]
-mod linkage_tests;
 mod parts;
 mod rule;
-#[cfg(test)]
-mod structure_tests;
 mod structures;
-#[cfg(test)]
-mod tests;
 mod values;
-#[cfg(test)]
-mod worked;
 mod writing;
 
 pub use entry::Entry;

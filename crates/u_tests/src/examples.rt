@@ -1,4 +1,4 @@
-//! The programs of the folder programs, each with an argument.
+//! The programs of the folder programs, each with an argument, and one more.
 use std::alloc::{AllocError, Global};
 use u_check::{Job, check};
 use u_program::read;
@@ -40,7 +40,11 @@ const WAVEFRONT: &[u8] =
 const MATRICES: &[u8] =
     b"u-program 1\nblock main\nloop 1 0\nloop 2 0\nloop 3 2\nloop 4 0\n1 0 begin -> 2.1 2.2 7.1 29.1 85.1\n2 0 mul -> 3.1 4.1 5.1 6.1 28.1 30.1 86.1\n3 0 alloc -> 8.1 31.1\n4 0 alloc -> 9.1 32.1\n5 0 alloc -> 33.1 87.1\n6 0 enter 1 -> 10.1 11.2 12.1\n7 0 enter 1 -> 13.1\n8 0 enter 1 -> 14.1\n9 0 enter 1 -> 15.1\n10 1 const 0 -> 11.1\n11 1 lt -> 12.2 13.2 14.2 15.2\n12 1 switch -> 16.1 17.1 /\n13 1 switch -> 18.2 19.2 25.1 /\n14 1 switch -> 22.1 26.1 /\n15 1 switch -> 23.1 27.1 /\n16 1 const 1 -> 17.2\n17 1 sub -> 18.1 19.1 22.2 23.2 24.1\n18 1 div -> 20.1 21.1\n19 1 rem -> 20.2 21.2\n20 1 add -> 22.3\n21 1 sub -> 23.3\n22 1 store ->\n23 1 store ->\n24 1 next -> 10.1 11.2 12.1\n25 1 next -> 13.1\n26 1 next -> 14.1\n27 1 next -> 15.1\n28 0 enter 2 -> 34.1 35.2 36.1\n29 0 enter 2 -> 37.1\n30 0 enter 2 -> 38.1\n31 0 enter 2 -> 39.1\n32 0 enter 2 -> 40.1\n33 0 enter 2 -> 41.1\n34 2 const 0 -> 35.1\n35 2 lt -> 36.2 37.2 38.2 39.2 40.2 41.2\n36 2 switch -> 42.1 43.1 /\n37 2 switch -> 44.2 49.1 57.1 /\n38 2 switch -> 50.1 56.1 /\n39 2 switch -> 51.1 58.1 /\n40 2 switch -> 52.1 59.1 /\n41 2 switch -> 47.1 53.1 /\n42 2 const 1 -> 43.2\n43 2 sub -> 44.1 45.1 46.1 47.2 48.1\n44 2 rem -> 45.2 55.1\n45 2 sub -> 54.1\n46 2 const 0 -> 60.1\n47 2 store ->\n48 2 next -> 34.1 35.2 36.1\n49 2 next -> 37.1\n50 2 next -> 38.1\n51 2 next -> 39.1\n52 2 next -> 40.1\n53 2 next -> 41.1\n54 2 enter 3 -> 62.1\n55 2 enter 3 -> 61.1 63.1\n56 2 enter 3 -> 61.2 64.1\n57 2 enter 3 -> 65.1\n58 2 enter 3 -> 66.1\n59 2 enter 3 -> 67.1\n60 2 enter 3 -> 68.1\n61 3 lt -> 62.2 63.2 64.2 65.2 66.2 67.2 68.2\n62 3 switch -> 69.1 70.1 72.2 /\n63 3 switch -> 71.1 73.2 /\n64 3 switch -> 78.1 /\n65 3 switch -> 71.2 79.1 /\n66 3 switch -> 72.1 80.1 /\n67 3 switch -> 73.1 81.1 /\n68 3 switch -> 75.1 / 83.1\n69 3 const 1 -> 70.2\n70 3 add -> 76.1\n71 3 add -> 77.1\n72 3 fetch -> 74.1\n73 3 fetch -> 74.2\n74 3 mul -> 75.2\n75 3 add -> 82.1\n76 3 next -> 62.1\n77 3 next -> 61.1 63.1\n78 3 next -> 61.2 64.1\n79 3 next -> 65.1\n80 3 next -> 66.1\n81 3 next -> 67.1\n82 3 next -> 68.1\n83 3 last -> 84.1\n84 3 leave -> 47.3\n85 0 const 0 -> 88.1\n86 0 enter 4 -> 89.1 90.2 91.1\n87 0 enter 4 -> 92.1\n88 0 enter 4 -> 93.1\n89 4 const 0 -> 90.1\n90 4 lt -> 91.2 92.2 93.2\n91 4 switch -> 94.1 95.1 /\n92 4 switch -> 96.1 99.1 /\n93 4 switch -> 97.1 / 101.1\n94 4 const 1 -> 95.2\n95 4 sub -> 96.2 98.1\n96 4 fetch -> 97.2\n97 4 add -> 100.1\n98 4 next -> 89.1 90.2 91.1\n99 4 next -> 92.1\n100 4 next -> 93.1\n101 4 last -> 102.1\n102 4 leave -> 103.1\n103 0 end ->\n";
 
-/// Each program, and the argument that it is run on.
+/// Two constants go to the one port of `end`. It has no file of its own.
+pub const TWO_CONSTANTS: &[u8] =
+    b"u-program 1\nblock main\n1 0 begin -> 2.1 3.1\n2 0 const 5 -> 4.1\n3 0 const 6 -> 4.1\n4 0 end ->\n";
+
+/// Each program of the folder, and the argument that it is run on.
 pub const EXAMPLES: [(&[u8], i64); 11] = [
     (DOUBLE, 4),
     (SUM, 3),

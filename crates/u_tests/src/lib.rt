@@ -1,40 +1,45 @@
-//! The definitions of the theory of firing systems as plain, slow programs.
-//!
-//! Each is proved against its definition alone, and says nothing of how the machine works. So what
-//! the machine answers can be compared with what they answer on worked programs.
+//! The tests of the firing rule, the matcher, histories and the machine, on worked firings and programs.
+//! It has nothing else: a crate is proved once more for its tests, so those of the larger crates stand
+//! here.
 #![tactic(auto)]
 
-mod among;
-mod enabling;
+#[cfg(test)]
+mod agreement_tests;
+#[cfg(test)]
+mod clash_tests;
 #[cfg(test)]
 mod examples;
-mod holding;
+#[cfg(test)]
+mod linkage_tests;
 #[cfg(test)]
 mod machine_parts;
+#[cfg(test)]
+mod machine_tests;
+#[cfg(test)]
+mod matcher_tests;
 #[cfg(test)]
 mod matching_tests;
 #[cfg(test)]
 mod merging_tests;
 #[cfg(test)]
 mod plain_texts;
-mod reads;
-mod rounds;
-mod scan;
+#[cfg(test)]
+mod report_tests;
+#[cfg(test)]
+mod rule_tests;
+#[cfg(test)]
+mod set_tests;
 #[cfg(test)]
 mod shuffling;
 #[cfg(test)]
 mod stepping_tests;
 #[cfg(test)]
-mod taking_tests;
+mod structure_tests;
 #[cfg(test)]
-mod tests;
+mod taking_tests;
 #[cfg(test)]
 mod text_tests;
 #[cfg(test)]
-mod worked_matching;
-
-pub use among::are_among;
-pub use enabling::{are_in, enabled, is_enabled};
-pub use holding::{are_firings, held};
-pub use rounds::whole;
-pub use scan::{enabled_firings, ready_firings};
+mod worked_firings;
+#[cfg(test)]
+mod worked_histories;

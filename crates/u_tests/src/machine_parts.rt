@@ -1,10 +1,10 @@
 //! What the tests of machines share: logs, texts of histories, and the ready firings that the scan finds.
-use crate::scan::ready_firings;
 use std::alloc::{AllocError, Global};
 use u_check::Job;
 use u_history::History;
 use u_machine::Machine;
 use u_name::Name;
+use u_plain::ready_firings;
 use u_rule::{Firing, Values};
 use u_system::OrderedSet;
 use u_value::Value;
@@ -65,13 +65,24 @@ pub fn text_of(alloc: Global, history: &History) -> Result<Vec<u8>, AllocError> 
     Ok(text)
 }
 
-/// A firing of one value that no run makes: of the first statement of `main`, it is a firing of each
-/// example program, and of statement 999 it is none.
-pub fn forged(alloc: Global, statement: &[u8], value: i64) -> Result<Firing, AllocError> {
-    let activity = Name::read(alloc, statement).map_err(|_| AllocError)?;
+/// The firing of the activity with that name on one number.
+pub fn firing_of(alloc: Global, name: &str, number: i64) -> Result<Firing, AllocError> {
+    let activity = Name::read(alloc, name.as_bytes()).map_err(|_| AllocError)?;
+    let values = Values::one(alloc, Value::Int(number))?;
     Ok(Firing {
         activity,
-        values: Values::one(alloc, Value::Int(value))?,
+        values,
         write: None,
     })
+}
+
+/// A firing of a job that its run never makes: the first statement of `main` on another number than
+/// the argument.
+pub fn never_of(alloc: Global, argument: i64) -> Result<Firing, AllocError> {
+    firing_of(alloc, "-.main.1.1", argument.wrapping_add(1))
+}
+
+/// What is no firing of any example program, since they have no statement of that number.
+pub fn nowhere_of(alloc: Global, argument: i64) -> Result<Firing, AllocError> {
+    firing_of(alloc, "-.main.999.1", argument)
 }

@@ -2,13 +2,13 @@
 //! answers is what the scan newly finds.
 use crate::examples::{EXAMPLES, FIRINGS, job};
 use crate::machine_parts::add_firing;
-use crate::scan::ready_firings;
 use crate::shuffling::shuffled;
 use std::alloc::{AllocError, Global};
 use std::test::Fail;
 use u_check::Job;
 use u_history::History;
 use u_match::Matcher;
+use u_plain::ready_firings;
 use u_rule::{Entry, Firing, gives, start};
 use u_system::OrderedSet;
 
@@ -80,15 +80,13 @@ fn derived(alloc: Global, job: &Job) -> Result<History, AllocError> {
     Err(AllocError)
 }
 
-/// Whether all that the entries answer as they enter in that order is what the scan finds over them
-/// all, each firing once.
-fn all_agree(
+/// All that the entries answer as they enter the matcher in that order, sorted.
+fn answered_by(
     alloc: Global,
     job: &Job,
+    matcher: &mut Matcher,
     entries: &[Entry],
-    found: &[Firing],
-) -> Result<bool, AllocError> {
-    let mut matcher = Matcher::new(alloc);
+) -> Result<Vec<Firing>, AllocError> {
     let mut answered = Vec::new(alloc);
     for entry in entries {
         for firing in matcher.enter(job, entry)? {
@@ -96,18 +94,32 @@ fn all_agree(
         }
     }
     answered.sort()?;
+    Ok(answered)
+}
+
+/// Whether all that the entries answer as they enter in the random order of that seed is what the scan
+/// finds over them all, each firing once.
+fn all_agree(
+    alloc: Global,
+    job: &Job,
+    entries: Vec<Entry>,
+    found: &[Firing],
+    seed: u64,
+) -> Result<bool, AllocError> {
+    let entries = shuffled(alloc, entries, seed)?;
+    let answered = answered_by(alloc, job, &mut Matcher::new(alloc), &entries)?;
     Ok(answered.as_slice() == found)
 }
 
-/// Whether each entry that enters in that order answers what the scan newly finds. Then all that they
-/// answer together is what it finds over them all, each firing once.
-fn each_agrees(alloc: Global, job: &Job, entries: &[Entry]) -> Result<bool, AllocError> {
-    let mut matcher = Matcher::new(alloc);
-    let mut found = Found::new(alloc);
-    for entry in entries {
-        let answered = matcher.enter(job, entry)?;
-        let newly = found.newly(alloc, job, entry)?;
-        if answered.as_slice() != newly.as_slice() {
+/// Whether it is so in each of the random orders of the history.
+fn orders_agree(
+    alloc: Global,
+    job: &Job,
+    history: &History,
+    found: &[Firing],
+) -> Result<bool, AllocError> {
+    for seed in 0..ORDERS {
+        if !all_agree(alloc, job, history.entries()?, found, seed)? {
             return Ok(false);
         }
     }
@@ -116,32 +128,52 @@ fn each_agrees(alloc: Global, job: &Job, entries: &[Entry]) -> Result<bool, Allo
 
 /// How many firings the scan finds over the program's history, if in each of the random orders all
 /// that its entries answer is just these.
-fn orders_agree(alloc: Global, text: &[u8], argument: i64) -> Result<Option<usize>, AllocError> {
+fn firings_agreed(alloc: Global, text: &[u8], argument: i64) -> Result<Option<usize>, AllocError> {
     let job = job(alloc, text, argument)?;
     let history = derived(alloc, &job)?;
     let found = ready_firings(alloc, &job, &history, &OrderedSet::new(alloc))?;
-    for seed in 0..ORDERS {
-        let entries = shuffled(alloc, history.entries()?, seed)?;
-        if !all_agree(alloc, &job, &entries, &found)? {
-            return Ok(None);
-        }
-    }
-    Ok(Some(found.len()))
+    let agree = orders_agree(alloc, &job, &history, &found)?;
+    Ok(agree.then_some(found.len()))
 }
 
-/// Whether in so many random orders of the program's history each entry that enters answers what the
-/// scan newly finds.
-fn each_order_agrees(
+/// Whether the entry that enters answers what the scan newly finds.
+fn entry_agrees(
     alloc: Global,
-    text: &[u8],
-    argument: i64,
-    orders: u64,
+    job: &Job,
+    matcher: &mut Matcher,
+    found: &mut Found,
+    entry: &Entry,
 ) -> Result<bool, AllocError> {
+    let answered = matcher.enter(job, entry)?;
+    let newly = found.newly(alloc, job, entry)?;
+    Ok(answered.as_slice() == newly.as_slice())
+}
+
+/// Whether each entry that enters in the random order of that seed answers what the scan newly finds.
+/// Then all that they answer together is what it finds over them all, each firing once.
+fn each_agrees(
+    alloc: Global,
+    job: &Job,
+    entries: Vec<Entry>,
+    seed: u64,
+) -> Result<bool, AllocError> {
+    let entries = shuffled(alloc, entries, seed)?;
+    let mut matcher = Matcher::new(alloc);
+    let mut found = Found::new(alloc);
+    for entry in &entries {
+        if !entry_agrees(alloc, job, &mut matcher, &mut found, entry)? {
+            return Ok(false);
+        }
+    }
+    Ok(true)
+}
+
+/// Whether it is so in each of the random orders of the program's history.
+fn each_order_agrees(alloc: Global, text: &[u8], argument: i64) -> Result<bool, AllocError> {
     let job = job(alloc, text, argument)?;
     let history = derived(alloc, &job)?;
-    for seed in 0..orders {
-        let entries = shuffled(alloc, history.entries()?, seed)?;
-        if !each_agrees(alloc, &job, &entries)? {
+    for seed in 0..ORDERS {
+        if !each_agrees(alloc, &job, history.entries()?, seed)? {
             return Ok(false);
         }
     }
@@ -151,8 +183,8 @@ fn each_order_agrees(
 #[test]
 fn each_order_answers_the_firings_of_the_history(rt: HostRuntime) -> Result<(), Fail> {
     for ((text, argument), firings) in EXAMPLES.into_iter().zip(FIRINGS) {
-        let agreed = orders_agree(rt.alloc(), text, argument)?;
-        assert_eq!(rt; agreed, Some(firings));
+        let agreed = firings_agreed(rt.alloc(), text, argument);
+        assert_eq!(rt; agreed, Ok(Some(firings)));
     }
     Ok(())
 }
@@ -160,8 +192,7 @@ fn each_order_answers_the_firings_of_the_history(rt: HostRuntime) -> Result<(), 
 #[test]
 fn each_entry_answers_what_is_newly_found(rt: HostRuntime) -> Result<(), Fail> {
     for (text, argument) in EXAMPLES {
-        let agree = each_order_agrees(rt.alloc(), text, argument, ORDERS)?;
-        assert!(rt; agree);
+        assert_eq!(rt; each_order_agrees(rt.alloc(), text, argument), Ok(true));
     }
     Ok(())
 }

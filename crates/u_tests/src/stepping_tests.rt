@@ -1,8 +1,6 @@
 //! Steps of machines: what each of them does is what the plain programs say of the state before it.
-use crate::enabling::is_enabled;
 use crate::examples::{EXAMPLES, FIRINGS, SUM, TWO_WRITERS, job};
-use crate::holding::are_firings;
-use crate::machine_parts::{forged, ready_of, run_of};
+use crate::machine_parts::{never_of, nowhere_of, ready_of, run_of};
 use rand_core::utils::NextWord;
 use rand_pcg::Pcg32;
 use std::alloc::{AllocError, Global};
@@ -10,6 +8,7 @@ use std::slice;
 use std::test::Fail;
 use u_check::Job;
 use u_machine::{Machine, Step, TakeRefusal, Took};
+use u_plain::{are_firings, is_enabled};
 use u_rule::Firing;
 
 /// Whether `fire` does what it has to: of the ready firings that the scan finds, in order, the picked
@@ -97,8 +96,24 @@ fn step_agrees(
     Ok(agrees && parked)
 }
 
-/// Whether each of so many random steps agrees: those of a machine that is new at first, which fires,
-/// and takes firings of the run and forged ones.
+/// Whether each of so many random steps of the machine agrees.
+fn steps_agree(
+    alloc: Global,
+    job: &Job,
+    machine: &mut Machine<'_>,
+    list: &[Firing],
+    random: &mut Pcg32,
+    steps: usize,
+) -> Result<bool, AllocError> {
+    for _step in 0..steps {
+        if !step_agrees(alloc, job, machine, list, random)? {
+            return Ok(false);
+        }
+    }
+    Ok(machine.applied().len() > 0)
+}
+
+/// The same of a new machine.
 fn list_agrees(
     alloc: Global,
     job: &Job,
@@ -108,12 +123,30 @@ fn list_agrees(
 ) -> Result<bool, AllocError> {
     let mut random = Pcg32::new(seed, 54);
     let mut machine = Machine::new(alloc, job, 1000)?;
-    for _step in 0..steps {
-        if !step_agrees(alloc, job, &mut machine, list, &mut random)? {
+    steps_agree(alloc, job, &mut machine, list, &mut random, steps)
+}
+
+/// Whether fifty random lists of so many steps agree, which fire, and take firings of the list.
+fn fifty_agree(
+    alloc: Global,
+    job: &Job,
+    list: &[Firing],
+    steps: usize,
+) -> Result<bool, AllocError> {
+    for seed in 0..50 {
+        if !list_agrees(alloc, job, list, seed, steps)? {
             return Ok(false);
         }
     }
-    Ok(machine.applied().len() > 0)
+    Ok(true)
+}
+
+/// The firings of the job's run, and two forged ones.
+fn offered(alloc: Global, job: &Job) -> Result<Vec<Firing>, AllocError> {
+    let (mut list, _) = run_of(alloc, job)?;
+    list.push(never_of(alloc, job.argument())?)?;
+    list.push(nowhere_of(alloc, job.argument())?)?;
+    Ok(list)
 }
 
 /// Whether fifty random lists of so many steps agree on the program.
@@ -124,31 +157,20 @@ fn lists_agree(
     steps: usize,
 ) -> Result<bool, AllocError> {
     let job = job(alloc, text, argument)?;
-    let (mut list, _text) = run_of(alloc, &job)?;
-    let never = forged(alloc, b"-.main.1.1", argument.wrapping_add(1))?;
-    list.push(never)?;
-    let nowhere = forged(alloc, b"-.main.999.1", argument)?;
-    list.push(nowhere)?;
-    for seed in 0..50 {
-        if !list_agrees(alloc, &job, &list, seed, steps)? {
-            return Ok(false);
-        }
-    }
-    Ok(true)
+    let list = offered(alloc, &job)?;
+    fifty_agree(alloc, &job, &list, steps)
 }
 
-/// After how many firings a machine is quiet, if each of them is the one that the number picks of
+/// After how many firings the machine is quiet, if each of them is the one that the number picks of
 /// those that the scan finds ready.
 fn firings_agreed(
     alloc: Global,
-    text: &[u8],
-    argument: i64,
+    job: &Job,
+    machine: &mut Machine<'_>,
     pick: usize,
 ) -> Result<Option<usize>, AllocError> {
-    let job = job(alloc, text, argument)?;
-    let mut machine = Machine::new(alloc, &job, 1000)?;
     for count in 0..1000 {
-        if !fire_agrees(alloc, &job, &mut machine, pick)? {
+        if !fire_agrees(alloc, job, machine, pick)? {
             return Ok(None);
         }
         if machine.applied().len() == count {
@@ -158,12 +180,24 @@ fn firings_agreed(
     Ok(None)
 }
 
+/// The same of a new machine over the program on its argument.
+fn firings_agreed_anew(
+    alloc: Global,
+    text: &[u8],
+    argument: i64,
+    pick: usize,
+) -> Result<Option<usize>, AllocError> {
+    let job = job(alloc, text, argument)?;
+    let mut machine = Machine::new(alloc, &job, 1000)?;
+    firings_agreed(alloc, &job, &mut machine, pick)
+}
+
 #[test]
 fn each_firing_is_the_picked_one_of_the_scan(rt: HostRuntime) -> Result<(), Fail> {
     for ((text, argument), firings) in EXAMPLES.into_iter().zip(FIRINGS) {
         for pick in [0, 1, 7, usize::MAX] {
-            let agreed = firings_agreed(rt.alloc(), text, argument, pick)?;
-            assert_eq!(rt; agreed, Some(firings));
+            let agreed = firings_agreed_anew(rt.alloc(), text, argument, pick);
+            assert_eq!(rt; agreed, Ok(Some(firings)));
         }
     }
     Ok(())
@@ -171,14 +205,12 @@ fn each_firing_is_the_picked_one_of_the_scan(rt: HostRuntime) -> Result<(), Fail
 
 #[test]
 fn random_steps_of_the_sum_agree(rt: HostRuntime) -> Result<(), Fail> {
-    let agree = lists_agree(rt.alloc(), SUM, 3, 150)?;
-    assert!(rt; agree);
+    assert_eq!(rt; lists_agree(rt.alloc(), SUM, 3, 150), Ok(true));
     Ok(())
 }
 
 #[test]
 fn random_steps_of_the_two_writers_agree(rt: HostRuntime) -> Result<(), Fail> {
-    let agree = lists_agree(rt.alloc(), TWO_WRITERS, 0, 60)?;
-    assert!(rt; agree);
+    assert_eq!(rt; lists_agree(rt.alloc(), TWO_WRITERS, 0, 60), Ok(true));
     Ok(())
 }

@@ -1,6 +1,6 @@
 //! The firings of a run, taken in random orders, with repeats, and with forged ones between them.
 use crate::examples::{EXAMPLES, job};
-use crate::machine_parts::{forged, run_of, text_of};
+use crate::machine_parts::{never_of, nowhere_of, run_of, text_of};
 use crate::shuffling::shuffled;
 use std::alloc::{AllocError, Global};
 use std::test::Fail;
@@ -36,10 +36,8 @@ fn offered(alloc: Global, log: &[Firing], argument: i64) -> Result<Vec<Firing>, 
     for firing in log {
         add_twice(alloc, &mut firings, firing)?;
     }
-    let never = forged(alloc, b"-.main.1.1", argument.wrapping_add(1))?;
-    add_twice(alloc, &mut firings, &never)?;
-    let nowhere = forged(alloc, b"-.main.999.1", argument)?;
-    add_twice(alloc, &mut firings, &nowhere)?;
+    add_twice(alloc, &mut firings, &never_of(alloc, argument)?)?;
+    add_twice(alloc, &mut firings, &nowhere_of(alloc, argument)?)?;
     Ok(firings)
 }
 
@@ -61,17 +59,16 @@ fn take_each(machine: &mut Machine<'_>, firings: &[Firing]) -> Result<Counts, Al
     Ok(counts)
 }
 
-/// Whether a machine that takes the firings in that order ends with the text of the run, with so many
+/// Whether the machine that takes the firings in that order ends with the text of the run, with so many
 /// applied firings and one parked, and each firing was new once.
 fn order_agrees(
     alloc: Global,
-    job: &Job,
+    machine: &mut Machine<'_>,
     firings: &[Firing],
     applied: usize,
     text: &[u8],
 ) -> Result<bool, AllocError> {
-    let mut machine = Machine::new(alloc, job, 1000)?;
-    let counts = take_each(&mut machine, firings)?;
+    let counts = take_each(machine, firings)?;
     let wanted = Counts {
         taken: applied.saturating_add(1),
         known: applied.saturating_add(1),
@@ -82,24 +79,41 @@ fn order_agrees(
     Ok(counts == wanted && has_all && ends.as_slice() == text)
 }
 
-/// Whether in each of the random orders the machine ends as the run did, which has more than two firings.
-fn orders_agree(alloc: Global, text: &[u8], argument: i64) -> Result<bool, AllocError> {
-    let job = job(alloc, text, argument)?;
-    let (log, ends) = run_of(alloc, &job)?;
+/// Whether a new machine ends as the run did, where it takes in the random order of that seed what is
+/// offered.
+fn seed_agrees(
+    alloc: Global,
+    job: &Job,
+    log: &[Firing],
+    text: &[u8],
+    seed: u64,
+) -> Result<bool, AllocError> {
+    let firings = shuffled(alloc, offered(alloc, log, job.argument())?, seed)?;
+    let mut machine = Machine::new(alloc, job, 1000)?;
+    order_agrees(alloc, &mut machine, &firings, log.len(), text)
+}
+
+/// Whether it does so in each of the random orders; the run has more than two firings.
+fn orders_agree(alloc: Global, job: &Job, log: &[Firing], text: &[u8]) -> Result<bool, AllocError> {
     for seed in 0..ORDERS {
-        let firings = shuffled(alloc, offered(alloc, &log, argument)?, seed)?;
-        if !order_agrees(alloc, &job, &firings, log.len(), &ends)? {
+        if !seed_agrees(alloc, job, log, text, seed)? {
             return Ok(false);
         }
     }
     Ok(log.len() > 2)
 }
 
+/// The same of the program on its argument.
+fn program_agrees(alloc: Global, text: &[u8], argument: i64) -> Result<bool, AllocError> {
+    let job = job(alloc, text, argument)?;
+    let (log, ends) = run_of(alloc, &job)?;
+    orders_agree(alloc, &job, &log, &ends)
+}
+
 #[test]
 fn each_order_ends_with_the_history_of_the_run(rt: HostRuntime) -> Result<(), Fail> {
     for (text, argument) in EXAMPLES {
-        let agree = orders_agree(rt.alloc(), text, argument)?;
-        assert!(rt; agree);
+        assert_eq!(rt; program_agrees(rt.alloc(), text, argument), Ok(true));
     }
     Ok(())
 }

@@ -1,0 +1,17 @@
+use Rattle.std.proofs.lemmas.List.{take_all}
+use Rattle.u_rule.specs.declared.entry.Entry.{Entry}
+use Rattle.u_plain.specs.Joins.{IsWrite}
+use Rattle.u_match.proofs.Rounds.{each_more}
+use Rattle.u_plain.proofs.Lists.{behind_those}
+use Rattle.u_plain.proofs.reads.before_writes.Goals as goal
+
+pub loop-place-preserved : goal.loop-place-preserved
+loop-place-preserved c =
+    each_more (λ (x : Entry). IsWrite x → ⊥) c.args.entries.now c.loop-place.place c.index-entries-place.result c.loop-place-test.true c.index-entries-place.is
+    (λ a. let t = c.if-is_write.ensures.1 a in cc) c.loop-place.invariant
+
+pub returns-then-is_write-clause-all : goal.returns-then-is_write-clause-all
+returns-then-is_write-clause-all c = behind_those IsWrite c.args.entries.now c.loop-place.place c.loop-place.invariant
+
+pub returns-clause-all : goal.returns-clause-all
+returns-clause-all c x m p = absurd (c.loop-place.invariant x (rw (take_all c.loop-place.place c.args.entries.now c.loop-place-test.false) m) p)

@@ -1,0 +1,15 @@
+use Rattle.std.proofs.Common.{◌⊎◌, ◌↔◌, Contains, subst}
+use Rattle.u_rule.specs.declared.entry.Entry.{Entry}
+use Rattle.u_rule.specs.declared.firing.Firing.{Firing}
+use Rattle.u_plain.specs.Joins.{OfThree}
+use Rattle.u_system.specs.Firing.{SomeOf}
+use Rattle.u_system.proofs.Scan.{scan_more, scan_all}
+use Rattle.u_plain.proofs.scan.join_three.Goals as goal
+
+pub loop-middle-preserved : goal.loop-middle-preserved
+loop-middle-preserved c =
+    scan_more (λ (e : Entry). SomeOf c.args.thirds.now (OfThree c.args.job.now c.args.left.now e)) c.args.found.now.items c.args.seconds.now c.loop-middle.middle-index c.middle-item.result c.loop-middle.found.items c.join_thirds.new.found.items c.loop-middle-test.true c.loop-middle.invariant
+    (subst (λ (e : Entry). (f : Firing) → Contains c.join_thirds.new.found.items f ↔ (Contains c.loop-middle.found.items f ⊎ SomeOf c.args.thirds.now (OfThree c.args.job.now c.args.left.now e) f)) c.middle-item.is c.in_ok-join_thirds.ensures)
+
+pub returns : goal.returns
+returns c = scan_all (λ (e : Entry). SomeOf c.args.thirds.now (OfThree c.args.job.now c.args.left.now e)) c.args.found.now.items c.args.seconds.now c.loop-middle.middle-index c.loop-middle.found.items c.loop-middle-test.false c.loop-middle.invariant

@@ -1,7 +1,0 @@
-use Rattle.std.proofs.Common.{take, Contains, IsTrue}
-use Rattle.u_rule.specs.Rule.{is_firing_of}
-use Rattle.u_rule.specs.declared.firing.Firing.{Firing}
-use Rattle.u_tests.proofs.holding.are_firings.Given as goal
-
-abbrev pub invariant-loop-firing : goal.invariant-loop-firing
-invariant-loop-firing l = (f : Firing) → Contains (take l.firing-index l.firings) f → IsTrue (is_firing_of l.job f)

@@ -1,9 +1,0 @@
-use Rattle.std.proofs.Common.{take, ◌⊎◌, ◌↔◌, []}
-use Rattle.std.specs.Prelude.{Contains}
-use Rattle.u_rule.specs.declared.firing.Firing.{Firing}
-use Rattle.u_tests.specs.Joins.{Joins}
-use Rattle.u_system.specs.Firing.{SomeOf}
-use Rattle.u_tests.proofs.scan.enabled_firings.Given as goal
-
-abbrev pub invariant-loop-i : goal.invariant-loop-i
-invariant-loop-i l = (f : Firing) → Contains l.found.items f ↔ (Contains {X = Firing} [] f ⊎ SomeOf (take l.i l.entries) (Joins l.job l.entries) f)
