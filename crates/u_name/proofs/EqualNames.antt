@@ -1,6 +1,6 @@
 -- Names are equal where their statements, initiations, blocks and contexts are.
 use Rattle.std.specs.Prelude.{◌≡◌, ℕ, List, [], ◌∷◌, Bool, true, false, ◌==◌, ◌&&◌, refl}
-use Rattle.std.proofs.lemmas.Bool.{eqb-true}
+use Rattle.std.proofs.lemmas.Bool.{eqb-true, and_parts}
 use Rattle.std.proofs.Common.{sym, ap, subst}
 use Rattle.std.specs.Ordering.{ordering_then, is_eq, eq_by_cmp}
 use Rattle.std.specs.declared.cmp.Ordering.{Ordering}
@@ -36,17 +36,12 @@ alike : (a b : Activity) → a.statement ≡ b.statement → a.initiation ≡ b.
 alike a b s i k =
     rw (← s, ← i, ← k, tied_itself nat_list_cmp_total a.block, tied_itself nat_cmp_total a.statement, tied_itself nat_cmp_total a.initiation) (ends (context_cmp a.context b.context))
 
-both_hold : (a b : Bool) → (a && b) ≡ true → (a ≡ true) × (b ≡ true)
-both_hold true true h = (refl, refl)
-both_hold true false h = absurd (cc)
-both_hold false b h = absurd (cc)
-
 pub same_block : (xs ys : List ℕ) → pointwise ◌==◌ xs ys ≡ true → xs ≡ ys
 same_block [] [] h = refl
 same_block [] (y ∷ ys) h = absurd (cc)
 same_block (x ∷ xs) [] h = absurd (cc)
 same_block (x ∷ xs) (y ∷ ys) h =
-    let p = both_hold (x == y) (pointwise ◌==◌ xs ys) h in
+    let p = and_parts (x == y) (pointwise ◌==◌ xs ys) h in
     let e = eqb-true x y p.0 in
     let f = same_block xs ys p.1 in
     rw (e, f) refl

@@ -1,5 +1,5 @@
 //! Sixteen bytes, compared as two numbers.
-ghost use Rattle.std.specs.Prelude.{◌≡◌, ◌≤◌, IsTrue, length, take, drop};
+ghost use Rattle.std.specs.Prelude.{◌≡◌, ◌≤◌, ◌↔◌, IsTrue, length, take, drop};
 ghost use Rattle.std.specs.Int.{from_be_bytes, w64};
 
 /// The first eight bytes as one number.
@@ -23,7 +23,7 @@ fn halves(bytes: &[u8; 16]) -> (u64, u64)
 
 /// Whether they are the same bytes.
 pub(crate) fn same_bytes(left: &[u8; 16], right: &[u8; 16]) -> bool
-    ensures { IsTrue result → left.now ≡ right.now }
+    ensures { IsTrue result ↔ (left.now ≡ right.now) }
 {
     let left = halves(left);
     let right = halves(right);
