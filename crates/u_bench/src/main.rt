@@ -22,6 +22,7 @@ use inserts::insert_all;
 use names::{last_copy, name_at_depth};
 use order::{Order, order_of};
 use runs::{entries_of, firings_of, sum_of, take_each};
+use std::alloc::Global;
 use std::time::Instant;
 use turns::loop_tokens;
 use u_check::Job;
@@ -114,29 +115,50 @@ fn time_inserts(rt: &HostRuntime, count: u32) -> Result<()>
 /// Lets the entries of a short sum enter a matcher, and prints how many they were and how many firings
 /// they woke.
 fn count_entering(rt: &HostRuntime) -> Result<()> {
-    let job = sum_of(rt.alloc(), FEW_TURNS)?;
-    let entries = entries_of(rt.alloc(), &job, ENOUGH)?;
-    let mut matcher = Matcher::new(rt.alloc());
-    let woken = enter_all(&mut matcher, &job, &entries)?;
-    println!(rt; "entered {} entries, {woken} firings", matcher.len())?;
+    let (entered, woken) = short_entered(rt.alloc())?;
+    println!(rt; "entered {entered} entries, {woken} firings")?;
     Ok(())
+}
+
+/// How many entries a short sum has, and how many firings they wake as they enter a matcher.
+fn short_entered(alloc: Global) -> Result<(usize, usize)> {
+    let job = sum_of(alloc, FEW_TURNS)?;
+    let entries = entries_of(alloc, &job, ENOUGH)?;
+    entered_by(&mut Matcher::new(alloc), &job, &entries)
+}
+
+/// Lets the entries enter the matcher. Answers how many it has then, and how many firings they woke.
+fn entered_by(matcher: &mut Matcher, job: &Job, entries: &[Entry]) -> Result<(usize, usize)> {
+    let woken = enter_all(matcher, job, entries)?;
+    Ok((matcher.len(), woken))
 }
 
 /// Has a machine take the firings of a short sum, last one first, and prints how many it took and
 /// applied.
 fn count_takes(rt: &HostRuntime) -> Result<()> {
-    let job = sum_of(rt.alloc(), FEW_TURNS)?;
-    let firings = last_first(rt, &job, ENOUGH)?;
-    let mut machine = Machine::new(rt.alloc(), &job, ENOUGH)?;
-    take_each(&mut machine, &firings)?;
-    let applied = machine.applied().len();
-    println!(rt; "took {} firings, {applied} applied", firings.len())?;
+    let (taken, applied) = short_taken(rt.alloc())?;
+    println!(rt; "took {taken} firings, {applied} applied")?;
     Ok(())
 }
 
+/// How many firings a short sum makes, and how many of them a machine applies that takes them last
+/// one first.
+fn short_taken(alloc: Global) -> Result<(usize, usize)> {
+    let job = sum_of(alloc, FEW_TURNS)?;
+    let firings = last_first(alloc, &job, ENOUGH)?;
+    let mut machine = Machine::new(alloc, &job, ENOUGH)?;
+    taken_by(&mut machine, &firings)
+}
+
+/// Has the machine take the firings. Answers how many they are, and how many it applied.
+fn taken_by(machine: &mut Machine<'_>, firings: &[Firing]) -> Result<(usize, usize)> {
+    take_each(machine, firings)?;
+    Ok((firings.len(), machine.applied().len()))
+}
+
 /// The firings of the job's run, so many at most, last one first.
-fn last_first(rt: &HostRuntime, job: &Job, most: usize) -> Result<Vec<Firing>> {
-    let mut firings = firings_of(rt.alloc(), job, most)?;
+fn last_first(alloc: Global, job: &Job, most: usize) -> Result<Vec<Firing>> {
+    let mut firings = firings_of(alloc, job, most)?;
     firings.reverse();
     Ok(firings)
 }
@@ -145,44 +167,50 @@ fn last_first(rt: &HostRuntime, job: &Job, most: usize) -> Result<Vec<Firing>> {
 /// last one first. Prints how many firings they woke, and how long that took.
 fn time_entries(rt: &HostRuntime, count: u32) -> Result<()> {
     let job = sum_of(rt.alloc(), i64::from(count))?;
-    let mut entries = entries_of(rt.alloc(), &job, count as usize)?;
-    entries.truncate(count as usize);
-    time_entering(rt, &job, &entries)?;
+    time_orders(rt, &job, count as usize)
+}
+
+/// The same of that sum.
+fn time_orders(rt: &HostRuntime, job: &Job, count: usize) -> Result<()> {
+    let mut entries = entries_of(rt.alloc(), job, count)?;
+    entries.truncate(count);
+    time_entering(rt, job, &entries)?;
     entries.reverse();
-    time_entering(rt, &job, &entries)
+    time_entering(rt, job, &entries)
 }
 
 /// Lets the entries enter a matcher, and prints how many firings they woke, and how long that took.
 fn time_entering(rt: &HostRuntime, job: &Job, entries: &[Entry]) -> Result<()> {
-    let mut matcher = Matcher::new(rt.alloc());
+    time_matcher(rt, &mut Matcher::new(rt.alloc()), job, entries)
+}
+
+/// The same of that matcher.
+fn time_matcher(
+    rt: &HostRuntime,
+    matcher: &mut Matcher,
+    job: &Job,
+    entries: &[Entry],
+) -> Result<()> {
     let start = Instant::now(rt)?;
-    let woken = enter_all(&mut matcher, job, entries)?;
+    let (entered, woken) = entered_by(matcher, job, entries)?;
     let spent = start.elapsed(rt)?.as_nanos();
-    println!(rt;
-        "entered {} entries, {woken} firings, in {spent} ns",
-        matcher.len()
-    )?;
+    println!(rt; "entered {entered} entries, {woken} firings, in {spent} ns")?;
     Ok(())
 }
 
 /// Has a machine take so many firings of a sum, last one first, and prints how long that took.
 fn time_takes(rt: &HostRuntime, count: u32) -> Result<()> {
     let job = sum_of(rt.alloc(), i64::from(count))?;
-    let firings = last_first(rt, &job, count as usize)?;
+    let firings = last_first(rt.alloc(), &job, count as usize)?;
     let mut machine = Machine::new(rt.alloc(), &job, count as usize)?;
-    let spent = time_taking(rt, &mut machine, &firings)?;
-    let applied = machine.applied().len();
-    println!(rt;
-        "took {} firings, {applied} applied, in {spent} ns",
-        firings.len()
-    )?;
-    Ok(())
+    time_taking(rt, &mut machine, &firings)
 }
 
-/// Has the machine take the firings, and answers how many nanoseconds that took.
-fn time_taking(rt: &HostRuntime, machine: &mut Machine<'_>, firings: &[Firing]) -> Result<u128> {
+/// Has the machine take the firings, and prints how long that took.
+fn time_taking(rt: &HostRuntime, machine: &mut Machine<'_>, firings: &[Firing]) -> Result<()> {
     let start = Instant::now(rt)?;
-    take_each(machine, firings)?;
+    let (taken, applied) = taken_by(machine, firings)?;
     let spent = start.elapsed(rt)?.as_nanos();
-    Ok(spent)
+    println!(rt; "took {taken} firings, {applied} applied, in {spent} ns")?;
+    Ok(())
 }
