@@ -150,7 +150,9 @@ scenario() {
 }
 
 # The scenarios: what is refused, and PROGRAM FIRED PARKED CALL NUMBER NEXT. The two writers' run has
-# 12 firings, and that of the sum of 2 has 35.
+# 12 firings, that of the sum of 2 has 35, and that of the factorial of 1 has 34, in contexts down to
+# depth 3. Nested loops come down to depth 2. A name in a context below the first takes memory for the
+# path of the outer one besides.
 scenarios() {
     scenario everywhere writers 0 0 new 0 settle
     scenario call sum 0 0 new 0 settle
@@ -180,6 +182,11 @@ scenarios() {
     scenario call sum 0 0 backwards 0 settle
     scenario call sum 0 0 run 100 settle
     scenario call sum 0 0 list 0 settle
+    scenario call factorial 0 0 run 100 settle
+    scenario call factorial 0 33 take 0 settle
+    scenario call factorial 0 0 backwards 0 again
+    scenario call nested 0 0 run 100 settle
+    scenario call nested 0 0 forwards 0 again
 }
 
 if ! cc -std=c11 -O2 -shared -fPIC -o "$shim" "$here/refuse.c" -ldl; then
