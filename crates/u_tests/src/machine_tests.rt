@@ -1,6 +1,7 @@
 //! Worked runs.
 use crate::examples::{DOUBLE, SUM, TWO_CONSTANTS, TWO_WRITERS, job};
 use crate::machine_parts::firing_of;
+use crate::worked_firings::firing_with;
 use std::alloc::{AllocError, Global};
 use std::test::Fail;
 use u_check::Job;
@@ -194,6 +195,66 @@ fn what_no_run_enables_stays_parked(rt: HostRuntime) -> Result<(), Fail> {
 }
 
 #[test]
+fn a_firing_on_another_value_stays_parked(rt: HostRuntime) -> Result<(), Fail> {
+    let rows = [
+        (Call::Take("-.main.3.1", 8), Reply::Take(Ok(Took::Parked))),
+        (Call::Run(10), Reply::Run(Ok(Ran::Quiet))),
+    ];
+    let left = counts(rt.alloc(), DOUBLE, 3, 100_000, rows.as_slice());
+    assert_eq!(rt; left, Ok(Ok([3, 1, 5])));
+    Ok(())
+}
+
+#[test]
+fn the_early_end_is_applied_behind_the_sum(rt: HostRuntime) -> Result<(), Fail> {
+    let rows = [
+        (Call::Take("-.main.3.1", 8), Reply::Take(Ok(Took::Parked))),
+        (Call::Fire(0), fired(0)),
+        (Call::Fire(0), fired(1)),
+    ];
+    let applied = counts(rt.alloc(), DOUBLE, 4, 100_000, rows.as_slice());
+    assert_eq!(rt; applied, Ok(Ok([3, 0, 5])));
+    let rows = [
+        (Call::Take("-.main.3.1", 8), Reply::Take(Ok(Took::Parked))),
+        (Call::Fire(0), fired(0)),
+        (Call::Fire(0), fired(1)),
+        (Call::Fire(0), Reply::Fire(Ok(Step::Quiet))),
+    ];
+    let quiet = counts(rt.alloc(), DOUBLE, 4, 100_000, rows.as_slice());
+    assert_eq!(rt; quiet, Ok(Ok([3, 0, 5])));
+    Ok(())
+}
+
+#[test]
+fn a_new_machine_settles(rt: HostRuntime) -> Result<(), Fail> {
+    let rows = [(Call::Settle, Reply::Settle(Ok(())))];
+    let left = counts(rt.alloc(), DOUBLE, 4, 100_000, rows.as_slice());
+    assert_eq!(rt; left, Ok(Ok([0, 0, 1])));
+    Ok(())
+}
+
+#[test]
+fn ten_firings_of_the_sum_are_no_more(rt: HostRuntime) -> Result<(), Fail> {
+    let rows = [
+        (Call::Fire(0), fired(0)),
+        (Call::Fire(0), fired(1)),
+        (Call::Fire(0), fired(2)),
+        (Call::Fire(0), fired(3)),
+        (Call::Fire(0), fired(4)),
+        (Call::Fire(0), fired(5)),
+        (Call::Fire(0), fired(6)),
+        (Call::Fire(0), fired(7)),
+        (Call::Fire(0), fired(8)),
+        (Call::Fire(0), fired(9)),
+        (Call::Fire(0), Reply::Fire(Err(Refusal::Full))),
+        (Call::Take("-.main.1.1", 3), Reply::Take(Ok(Took::Known))),
+    ];
+    let left = counts(rt.alloc(), SUM, 3, 10, rows.as_slice());
+    assert_eq!(rt; left, Ok(Ok([10, 0, 19])));
+    Ok(())
+}
+
+#[test]
 fn applies_what_is_ready_and_taken(rt: HostRuntime) -> Result<(), Fail> {
     let rows = [(Call::Take("-.main.1.1", 4), Reply::Take(Ok(Took::Taken)))];
     let left = counts(rt.alloc(), DOUBLE, 4, 100, rows.as_slice());
@@ -247,6 +308,49 @@ fn refuses_a_list_by_the_first_that_is_no_firing(rt: HostRuntime) -> Result<(), 
     Ok(())
 }
 
+#[test]
+fn a_forged_firing_behind_a_true_one_refuses_both(rt: HostRuntime) -> Result<(), Fail> {
+    let list = Call::TakeAll(&[("-.main.1.1", 4), ("-.main.99.1", 1)]);
+    let rows = [(list, Reply::TakeAll(Err(ListRefusal::NotAFiring(1))))];
+    let left = counts(rt.alloc(), DOUBLE, 4, 100_000, rows.as_slice());
+    assert_eq!(rt; left, Ok(Ok([0, 0, 1])));
+    Ok(())
+}
+
+/// What a new machine over the double of 4 answers where it takes the firing.
+fn taken_anew(alloc: Global, firing: &Firing) -> Result<Took, TakeRefusal> {
+    let job = job(alloc, DOUBLE, 4)?;
+    let mut machine = Machine::new(alloc, &job, 100_000)?;
+    machine.take(firing)
+}
+
+/// What it answers at the firing of that name on these values, with that write.
+fn answer_to(
+    alloc: Global,
+    name: &str,
+    values: [&str; 3],
+    by: [&str; 2],
+) -> Result<Took, TakeRefusal> {
+    let firing = firing_with(alloc, name, values, by)?;
+    taken_anew(alloc, &firing)
+}
+
+#[test]
+fn refuses_a_statement_a_number_of_values_and_a_write_that_are_not_its_own(
+    rt: HostRuntime,
+) -> Result<(), Fail> {
+    let rows = [
+        ("-.main.99.1", ["1", "", ""], ["", ""]),
+        ("-.main.2.1", ["4", "", ""], ["", ""]),
+        ("-.main.3.1", ["8", "", ""], ["-.main.2.1", "8"]),
+    ];
+    for (name, values, by) in rows {
+        let answer = answer_to(rt.alloc(), name, values, by);
+        assert_eq!(rt; answer, Err(TakeRefusal::NotAFiring));
+    }
+    Ok(())
+}
+
 /// Copies of what the machine applied, from last to first.
 fn applied_backwards(alloc: Global, machine: &Machine<'_>) -> Result<Vec<Firing>, AllocError> {
     let mut list = Vec::new(alloc);
@@ -263,17 +367,19 @@ fn is_same_history(one: &Machine<'_>, other: &Machine<'_>) -> Result<bool, Alloc
     Ok(entries.as_slice() == others.as_slice())
 }
 
-/// Whether it takes each of them, and applies nothing before the last one came.
+/// Whether it parks each of them but the last one, and applies them all once that one comes.
 fn takes_each(machine: &mut Machine<'_>, firings: &[Firing]) -> bool {
-    for firing in firings {
-        if machine.knows(firing) || !machine.applied().is_empty() {
-            return false;
-        }
-        if machine.take(firing).is_err() {
+    let Some((last, early)) = firings.split_last() else {
+        return false;
+    };
+    for firing in early {
+        if machine.knows(firing) || machine.take(firing) != Ok(Took::Parked) {
             return false;
         }
     }
-    machine.applied().len() == firings.len()
+    machine.applied().is_empty()
+        && machine.take(last) == Ok(Took::Taken)
+        && machine.applied().len() == firings.len()
 }
 
 /// Whether it takes the list, and then the same list again.
@@ -313,10 +419,7 @@ fn agrees_as_a_list(
 
 /// Whether new machines that take what the first one applied, from last to first, have its history
 /// then.
-fn agree_backwards(alloc: Global, job: &Job, first: &mut Machine<'_>) -> Result<bool, AllocError> {
-    if first.run(200) != Ok(Ran::Quiet) {
-        return Ok(false);
-    }
+fn agree_backwards(alloc: Global, job: &Job, first: &Machine<'_>) -> Result<bool, AllocError> {
     let backwards = applied_backwards(alloc, first)?;
     if !agrees_one_by_one(alloc, job, first, &backwards)? {
         return Ok(false);
@@ -324,18 +427,31 @@ fn agree_backwards(alloc: Global, job: &Job, first: &mut Machine<'_>) -> Result<
     agrees_as_a_list(alloc, job, first, &backwards)
 }
 
-/// Whether the history of the program on 3 depends on no order.
-fn depends_on_no_order(alloc: Global, text: &[u8]) -> Result<bool, AllocError> {
+/// What a machine has that ran until it is quiet, if its history depends on no order.
+fn counts_in_any_order(
+    alloc: Global,
+    job: &Job,
+    machine: &mut Machine<'_>,
+) -> Result<Result<Counts, usize>, AllocError> {
+    let rows = [(Call::Run(200), Reply::Run(Ok(Ran::Quiet)))];
+    let left = counts_after(alloc, machine, rows.as_slice())?;
+    let agree = agree_backwards(alloc, job, machine)?;
+    Ok(if agree { left } else { Err(1) })
+}
+
+/// The same of a new machine over the program on 3.
+fn in_any_order(alloc: Global, text: &[u8]) -> Result<Result<Counts, usize>, AllocError> {
     let job = job(alloc, text, 3)?;
-    let mut first = Machine::new(alloc, &job, 200)?;
-    agree_backwards(alloc, &job, &mut first)
+    let mut machine = Machine::new(alloc, &job, 200)?;
+    counts_in_any_order(alloc, &job, &mut machine)
 }
 
 #[test]
 fn the_history_depends_on_no_order(rt: HostRuntime) -> Result<(), Fail> {
-    assert_eq!(rt; depends_on_no_order(rt.alloc(), TWO_CONSTANTS), Ok(true));
-    assert_eq!(rt; depends_on_no_order(rt.alloc(), TWO_WRITERS), Ok(true));
-    assert_eq!(rt; depends_on_no_order(rt.alloc(), SUM), Ok(true));
+    let alloc = rt.alloc();
+    assert_eq!(rt; in_any_order(alloc, TWO_CONSTANTS), Ok(Ok([5, 0, 7])));
+    assert_eq!(rt; in_any_order(alloc, TWO_WRITERS), Ok(Ok([12, 0, 20])));
+    assert_eq!(rt; in_any_order(alloc, SUM), Ok(Ok([45, 0, 70])));
     Ok(())
 }
 

@@ -47,7 +47,7 @@ pub fn plain_of(alloc: Global, name: &[u8], values: [&str; 3]) -> Result<Firing,
 }
 
 /// The firing of the activity of that name on these values, with the write.
-fn firing_of(
+pub fn firing_with(
     alloc: Global,
     name: &str,
     values: [&str; 3],
@@ -88,7 +88,7 @@ pub fn fires(
     wanted: &str,
 ) -> Result<bool, Fail> {
     let job = job(alloc, program, 4)?;
-    let firing = firing_of(alloc, name, values, by)?;
+    let firing = firing_with(alloc, name, values, by)?;
     let lines = lines_of(alloc, &job, &firing)?;
     Ok(lines.as_slice() == wanted.as_bytes())
 }
@@ -102,7 +102,7 @@ pub fn is_fit(
     by: [&str; 2],
 ) -> Result<bool, Fail> {
     let job = job(alloc, program, 4)?;
-    let firing = firing_of(alloc, name, values, by)?;
+    let firing = firing_with(alloc, name, values, by)?;
     Ok(is_firing(&job, &firing))
 }
 
