@@ -8,3 +8,7 @@ pub mod Texts
 pub mod Lists
 mod Both
 mod Cells
+pub mod EntryRead
+pub mod FiringRead
+pub mod Choosing
+pub mod EntryParts
