@@ -99,6 +99,7 @@ unfolding cell_text
 cell_spelled x v = refl
 
 pub cell_Reads : Reads cell_text IsCellText NoByte cell_at
+unfolding cell_at
 cell_Reads =
     mapped_Reads
     (both_Reads name_steps_Reads

@@ -38,7 +38,7 @@ abbrev pub port_at : Reader ℕ
 port_at = mapped port_of (choice 49 (empty tt) (choice 50 (empty tt) (fixed (51 ∷ []))))
 
 -- `n[i]`
-abbrev pub cell_at : Reader CellOf
+unfoldable pub cell_at : Reader CellOf
 cell_at = mapped (λ t. cell_of t.0 t.1.0) (both name_steps (λ _. lead 91 (both (number0 999999) (λ _. fixed (93 ∷ [])))))
 
 -- the word of a kind of fault, by its first byte

@@ -14,6 +14,7 @@ mod firing;
 mod fits;
 mod giving;
 mod parts;
+mod reading;
 mod rule;
 mod structures;
 mod values;
