@@ -1,5 +1,5 @@
 -- The readers of the parts of an entry, once the first byte is known.
-use Rattle.std.specs.Prelude.{◌≡◌, ℕ, ◌⊎◌, List, [], ◌∷◌, Ok, Err, refl}
+use Rattle.std.specs.Prelude.{◌≡◌, ℕ, ◌⊎◌, List, [], ◌∷◌, length, Result, Ok, Err, refl}
 use Rattle.std.proofs.Common.{◌∙◌, inl, inr, arith}
 use Rattle.u_text.specs.Reads.{Reader}
 use Rattle.u_text.specs.Parts.{empty, lead}
@@ -13,6 +13,7 @@ use Rattle.u_value.specs.declared.fault_kind.FaultKind.{FaultKind}
 use Rattle.u_value.specs.declared.fault_kind.FaultKind.TheVariants as kinds
 use Rattle.u_rule.proofs.Choosing.{NotBehind, chosen, passed, begins_with, begins_with_none}
 use Rattle.u_rule.specs.EntryReading.{OneOfThree, port_of, port_at, OneOfSeven, kind_of, ind, verflow, ero, eep, nitiation, ength, bounds, kind_at, token_at, write_at, fault_at, token_of, written_of, faulted_of, entry_of, entry_at}
+use Rattle.u_rule.specs.declared.entry.Entry.{Entry}
 use Rattle.u_rule.specs.declared.entry.Entry.TheVariants as entries
 
 -- ports
@@ -127,3 +128,13 @@ entry_other bs a b c =
     passed 116 token_at no_token entry_of bs a
     ∙ passed 119 write_at fault_or_answer (λ y. entry_of (inr y)) bs b
     ∙ passed 120 fault_at answer_at (λ y. entry_of (inr (inr y))) bs c
+
+abbrev pub R : Type 0
+R = Result (Entry × List ℕ) (List ℕ)
+
+pub entry_behind_other : (bs : List ℕ) (c : ℕ) (cs : List ℕ) (r : R) → bs ≡ c ∷ cs → (c ≡ 116 → ⊥) → (c ≡ 119 → ⊥) → (c ≡ 120 → ⊥) → mapped (λ v. entries.Answer v) answer_at bs ≡ r → entry_at bs ≡ r
+entry_behind_other bs c cs r e a b d h = entry_other bs (begins_with c 116 bs cs e a) (begins_with c 119 bs cs e b) (begins_with c 120 bs cs e d) ∙ h
+
+pub entry_behind_nothing : (bs : List ℕ) (r : R) → length bs ≡ 0 → mapped (λ v. entries.Answer v) answer_at bs ≡ r → entry_at bs ≡ r
+entry_behind_nothing [] r e h = entry_other [] (begins_with_none 116) (begins_with_none 119) (begins_with_none 120) ∙ h
+entry_behind_nothing (c ∷ cs) r e h = absurd (omega arith)

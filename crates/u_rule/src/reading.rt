@@ -251,16 +251,19 @@ fn front_answer(alloc: Global, bytes: &[u8]) -> Result<Front<'_, Entry>, AllocEr
 ///
 /// # Errors
 /// `AllocError` where there is no memory.
-#[tactic(auto, unfolding(crate::specs::EntryReading::entry_at))]
+#[tactic(auto, using(crate::proofs::EntryParts::entry_behind_other, crate::proofs::EntryParts::entry_behind_nothing))]
 pub fn front_entry(alloc: Global, bytes: &[u8]) -> Result<Front<'_, Entry>, AllocError>
     ensures { IfOk result (λ front. MatchResult front
         (λ found. entry_at bytes.now ≡ Ok (found.0, found.1.now))
         (λ rest. entry_at bytes.now ≡ Err rest.now)) }
 {
-    match bytes.split_first() {
-        Some((b't', rest)) => front_token(alloc, rest),
-        Some((b'w', rest)) => front_write(alloc, rest),
-        Some((b'x', rest)) => front_fault(alloc, rest),
+    let Some((first, rest)) = bytes.split_first() else {
+        return front_answer(alloc, bytes);
+    };
+    match *first {
+        b't' => front_token(alloc, rest),
+        b'w' => front_write(alloc, rest),
+        b'x' => front_fault(alloc, rest),
         _ => front_answer(alloc, bytes),
     }
 }
