@@ -9,11 +9,8 @@
 # take 13 times as long, and the sum of 9998, with 99995 firings, may take a second; what takes less than
 # 20 milliseconds is not compared, since starting the program counts there.
 #
-# Where `rt` is on PATH, it then builds `u_bench` and times copies of names; tokens of a long loop that are
-# put into a history, of which a hundred thousand have to take less than a second; entries of a long sum
-# that enter a matcher, first one first and last one first, where ten times as many may take 13 times as
-# long; and firings of it that a machine takes last one first, of which a hundred thousand have to take
-# less than 3 seconds.
+# Where `rt` is on PATH, it then builds `u_bench` and times firings of a long sum that a machine takes
+# last one first, of which a hundred thousand have to take less than 3 seconds.
 set -u
 export LC_ALL=C
 
@@ -128,42 +125,6 @@ spent_in() {
     sed -n 's/.* in \([0-9]*\) ns$/\1/p' <<<"$1"
 }
 
-# Times so many tokens that are put into a history, and prints how long that took.
-timed_inserts() {
-    local row spent
-    row=$("$bench" tokens "$1")
-    printf '%s\n' "$row"
-    spent=$(spent_in "$row")
-    if [ -z "$spent" ] || [ "$spent" -ge 1000000000 ]; then
-        echo "$1 tokens took a second or more" >&2
-        failed=1
-    fi
-}
-
-# Times so many entries that enter a matcher, first one first and then last one first, and prints how long
-# each took. `entered` has the microseconds of both at the call before, and `entries` how many they were.
-timed_entries() {
-    local row spent place=0
-    while IFS= read -r row; do
-        printf '%s\n' "$row"
-        spent=$(spent_in "$row")
-        if [ "${row%%,*}" != "entered $1 entries" ] || [ -z "$spent" ]; then
-            echo "$1 entries did not enter" >&2
-            failed=1
-        elif grows_too_much $((spent / 1000)) "$1" "${entered[place]:-0}" "$entries"; then
-            echo "$1 entries took more than they may after $entries" >&2
-            failed=1
-        fi
-        entered[place]=$((${spent:-0} / 1000))
-        place=$((place + 1))
-    done < <("$bench" entries "$1")
-    if [ "$place" -ne 2 ]; then
-        echo "$1 entries entered $place times, and not twice" >&2
-        failed=1
-    fi
-    entries=$1
-}
-
 # Times so many firings that a machine takes last one first, and prints how long that took.
 timed_takes() {
     local row spent
@@ -180,10 +141,8 @@ timed_takes() {
 }
 
 if command -v rt >/dev/null; then
-    bench=$top/crates/u_bench/out/u_bench entered=() entries=0
-    if (cd "$top/crates/u_bench" && rt run -- names 1000000) </dev/null 2>"$temp/log"; then
-        for count in 1000 10000 100000; do timed_inserts "$count"; done
-        for count in 1000 10000 100000; do timed_entries "$count"; done
+    bench=$top/crates/u_bench/out/u_bench
+    if (cd "$top/crates/u_bench" && rt run) </dev/null >"$temp/log" 2>&1; then
         for count in 1000 10000 100000; do timed_takes "$count"; done
     else
         tail -n 20 -- "$temp/log" >&2

@@ -1,6 +1,6 @@
 #!/usr/bin/env bash
 # Runs the built program on the cases of tests/cases, and compares standard output, standard error
-# and the exit status with what stands there; and runs the examples of docs/LANGUAGE.md and of
+# and the exit status with what stands there; and runs the examples of README.md, docs/LANGUAGE.md and
 # docs/programs. The last line is 'N passed, M failed'.
 #
 # The lines of a case:
@@ -203,7 +203,7 @@ run_examples() {
     end_example
 }
 
-for page in docs/LANGUAGE.md docs/programs/*.md; do
+for page in README.md docs/LANGUAGE.md docs/programs/*.md; do
     run_examples "$page"
 done
 

@@ -7,8 +7,6 @@ mod keeps;
 mod kinds;
 mod places;
 mod rule;
-#[cfg(test)]
-mod tests;
 
 pub use checker::{Refused, check};
 pub use job::{Checked, Job};

@@ -8,8 +8,6 @@ mod input;
 mod number;
 mod output;
 mod run;
-#[cfg(test)]
-mod tests;
 
 pub use argument::argument_of;
 pub use checking::check_text;

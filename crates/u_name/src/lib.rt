@@ -16,6 +16,3 @@ pub use cell::Cell;
 pub use context::{Context, Node, Outer};
 pub use name::{Name, NameError};
 pub use reading::{Front, NameTextError, front_block, front_name};
-
-#[cfg(test)]
-mod tests;

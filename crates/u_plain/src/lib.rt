@@ -6,10 +6,14 @@
 
 mod among;
 mod enabling;
+pub mod examples;
 mod holding;
+mod jobs;
 mod reads;
 mod rounds;
 mod scan;
+pub mod shuffling;
+pub mod worked;
 
 pub use among::are_among;
 pub use enabling::{are_in, enabled, is_enabled};

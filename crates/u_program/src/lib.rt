@@ -6,8 +6,6 @@ mod part;
 mod program;
 mod read_error;
 mod reading;
-#[cfg(test)]
-mod tests;
 mod text;
 mod writing;
 

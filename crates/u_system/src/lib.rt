@@ -13,8 +13,6 @@
 
 mod hashed_set;
 mod ordered_set;
-#[cfg(test)]
-mod tests;
 
 ghost use Rattle.std.specs.Prelude.{◌≡◌, ◌↔◌, OnOk, OnErr, IfOk, IfErr, Contains, ◌⊎◌, IsTrue, IsFalse, length, ◌<◌};
 ghost use Rattle.u_system.specs.Rising.{Rises, IsExact, IsWith, IsUnion};

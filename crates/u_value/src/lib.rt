@@ -12,8 +12,3 @@ pub use operators::{BinaryOperator, UnaryOperator, apply1, apply2, select};
 pub use reading::{ValueTextError, front_value};
 pub use reference::Reference;
 pub use value::Value;
-
-#[cfg(test)]
-mod reading_tests;
-#[cfg(test)]
-mod tests;

@@ -1,0 +1,67 @@
+#!/usr/bin/env python3
+"""Adds up the processor time of the prover while the gate runs.
+
+It looks at /proc four times a second, and knows each process of the prover by the crate that it is given
+and by the folder that it works in. When it is told to end (SIGTERM) it prints a line
+'time: CRATE PART SECONDS' for each crate and each of the parts `proof`, `tests` and `edits`.
+"""
+import os
+import signal
+import sys
+import time
+
+TICKS = os.sysconf("SC_CLK_TCK")
+EVERY = 0.25
+
+# For each process, by its number and the moment at which it started: crate, part, seconds.
+found = {}
+
+
+def text_of(path):
+    with open(path, encoding="utf-8", errors="replace") as file:
+        return file.read()
+
+
+def part_of(words, folder):
+    """Which part of the gate a process of the prover works at."""
+    if "/rt-edit-" in folder:
+        return "edits"
+    return "tests" if "--test" in words else "proof"
+
+
+def look_at(number):
+    """Notes how much processor time the process has had, if it is one of the prover's."""
+    line = text_of(f"/proc/{number}/stat")
+    if "(rattle" not in line:
+        return
+    fields = line.rsplit(")", 1)[1].split()
+    key = number, fields[19]
+    if key not in found:
+        words = text_of(f"/proc/{number}/cmdline").split("\0")
+        if "--crate-name" not in words:
+            return
+        folder = os.readlink(f"/proc/{number}/cwd")
+        found[key] = [words[words.index("--crate-name") + 1], part_of(words, folder), 0.0]
+    found[key][2] = (int(fields[11]) + int(fields[12])) / TICKS
+
+
+def end(*_):
+    sums = {}
+    for crate, part, seconds in found.values():
+        sums[crate, part] = sums.get((crate, part), 0.0) + seconds
+    for (crate, part), seconds in sorted(sums.items()):
+        print(f"time: {crate} {part} {seconds:.0f}")
+    sys.stdout.flush()
+    os._exit(0)
+
+
+signal.signal(signal.SIGTERM, end)
+while True:
+    for name in os.listdir("/proc"):
+        if name.isdigit():
+            try:
+                look_at(name)
+            except (OSError, IndexError, ValueError):
+                # The process has ended.
+                pass
+    time.sleep(EVERY)

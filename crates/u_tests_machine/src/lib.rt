@@ -1,0 +1,22 @@
+//! The tests of the machine and of the commands over bytes, on worked programs. It has nothing
+//! else: a crate is proved once more for its tests, so those of the two crates stand here.
+#![tactic(auto)]
+
+#[cfg(test)]
+mod agreement;
+#[cfg(test)]
+mod calls;
+#[cfg(test)]
+mod command_tests;
+#[cfg(test)]
+mod logs;
+#[cfg(test)]
+mod machine_rows;
+#[cfg(test)]
+mod machine_tests;
+#[cfg(test)]
+mod machines;
+#[cfg(test)]
+mod stepping;
+#[cfg(test)]
+mod torn;

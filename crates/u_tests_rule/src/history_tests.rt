@@ -1,0 +1,197 @@
+//! Worked histories: their texts, their reports, what they list, and what they merge to.
+use crate::derived::derived;
+use crate::report_rows::{REPORT_ROWS, Report};
+use crate::worked_entries::Line::{Answer, Token};
+use crate::worked_entries::{Line, cell_of, has_text, history_of};
+use std::alloc::{AllocError, Global};
+use std::test::Fail;
+use u_history::{History, report_text};
+use u_plain::examples::{DOUBLE, TWO_WRITERS, job};
+use u_plain::worked::name_of;
+use u_rule::{RuleError, Written};
+use u_value::Value;
+
+/// Whether the report is as the row says.
+fn reports(alloc: Global, row: &Report) -> Result<bool, AllocError> {
+    let history = history_of(alloc, row.3)?;
+    let text = report_text(alloc, row.0, row.1, row.2, &history)?;
+    Ok(text.as_slice() == row.4.as_bytes())
+}
+
+#[test]
+fn reports_list_what_a_history_says(rt: HostRuntime) -> Result<(), Fail> {
+    for row in REPORT_ROWS {
+        assert!(rt; reports(rt.alloc(), row)?);
+    }
+    Ok(())
+}
+
+/// The history of the double on 4.
+const DOUBLED: &str = "\
+t -.main.1.1 1 4
+t -.main.2.1 1 4
+t -.main.2.1 2 4
+t -.main.3.1 1 8
+a 8
+";
+
+/// The history of the two writers on 0.
+const WRITTEN_TWICE: &str = "\
+t -.main.1.1 1 0
+t -.main.2.1 1 0
+t -.main.3.1 1 0
+t -.main.4.1 1 0
+t -.main.5.1 1 0
+t -.main.6.1 1 1
+t -.main.7.1 1 &-.main.6.1#1
+t -.main.7.1 2 0
+t -.main.7.1 3 10
+t -.main.8.1 1 &-.main.6.1#1
+t -.main.8.1 2 0
+t -.main.8.1 3 20
+t -.main.9.1 1 &-.main.6.1#1
+t -.main.9.1 2 0
+t -.main.10.1 1 10
+t -.main.10.1 1 20
+w -.main.6.1[0] -.main.7.1 10
+w -.main.6.1[0] -.main.8.1 20
+a 10
+a 20
+";
+
+/// All that can be derived from the program on the argument.
+fn whole_of(alloc: Global, program: &[u8], argument: i64) -> Result<History, RuleError> {
+    let job = job(alloc, program, argument)?;
+    derived(alloc, &job)
+}
+
+/// Whether all that can be derived has that text.
+fn runs_to(alloc: Global, program: &[u8], argument: i64, wanted: &str) -> Result<bool, RuleError> {
+    let history = whole_of(alloc, program, argument)?;
+    let is_so = has_text(alloc, &history, wanted)?;
+    Ok(is_so)
+}
+
+#[test]
+fn whole_histories_have_these_lines(rt: HostRuntime) -> Result<(), Fail> {
+    for (program, argument, text) in [(DOUBLE, 4, DOUBLED), (TWO_WRITERS, 0, WRITTEN_TWICE)] {
+        assert!(rt; runs_to(rt.alloc(), program, argument, text)?);
+    }
+    Ok(())
+}
+
+/// Appends the values, a line each.
+fn put_values(out: &mut Vec<u8>, values: &[Value]) -> Result<(), AllocError> {
+    for value in values {
+        value.write_text(out)?;
+        out.push(b'\n')?;
+    }
+    Ok(())
+}
+
+/// Appends the values at that port.
+fn put_values_at(
+    alloc: Global,
+    history: &History,
+    activity: &str,
+    port: u8,
+    out: &mut Vec<u8>,
+) -> Result<(), AllocError> {
+    let activity = name_of(alloc, activity.as_bytes())?;
+    let values = history.values(&activity, port)?;
+    put_values(out, &values)
+}
+
+/// Appends the writes, a line each.
+fn put_pairs(out: &mut Vec<u8>, writes: &[Written]) -> Result<(), AllocError> {
+    for write in writes {
+        write.writer.write_text(out)?;
+        out.push(b' ')?;
+        write.value.write_text(out)?;
+        out.push(b'\n')?;
+    }
+    Ok(())
+}
+
+/// Appends the writes of that cell.
+fn put_writes(
+    alloc: Global,
+    history: &History,
+    maker: &str,
+    index: u16,
+    out: &mut Vec<u8>,
+) -> Result<(), AllocError> {
+    let cell = cell_of(alloc, maker, index)?;
+    let writes = history.writes(&cell)?;
+    put_pairs(out, &writes)
+}
+
+/// Appends the values at port 1 and port 2 of the read, and the writes of cell 0 and cell 1.
+fn put_listed(alloc: Global, history: &History, out: &mut Vec<u8>) -> Result<(), AllocError> {
+    put_values_at(alloc, history, "-.main.10.1", 1, out)?;
+    put_values_at(alloc, history, "-.main.10.1", 2, out)?;
+    put_writes(alloc, history, "-.main.6.1", 0, out)?;
+    put_writes(alloc, history, "-.main.6.1", 1, out)?;
+    Ok(())
+}
+
+/// What the history of the two writers lists there.
+fn listed(alloc: Global) -> Result<Vec<u8>, RuleError> {
+    let history = whole_of(alloc, TWO_WRITERS, 0)?;
+    let mut out = Vec::new(alloc);
+    put_listed(alloc, &history, &mut out)?;
+    Ok(out)
+}
+
+#[test]
+fn the_two_writers_give_two_values_and_two_writes(rt: HostRuntime) -> Result<(), Fail> {
+    let lines = b"10\n20\n-.main.7.1 10\n-.main.8.1 20\n";
+    assert!(rt; listed(rt.alloc())?.as_slice() == lines.as_slice());
+    Ok(())
+}
+
+/// Some of the lines of the double's history.
+const SOME: &[Line] = &[
+    Token("-.main.3.1", 1, "8"),
+    Token("-.main.1.1", 1, "4"),
+    Token("-.main.2.1", 2, "4"),
+];
+
+/// The other lines, and one of the same.
+const OTHERS: &[Line] = &[
+    Answer("8"),
+    Token("-.main.2.1", 1, "4"),
+    Token("-.main.1.1", 1, "4"),
+];
+
+/// The lines of two sets, and the text of both together.
+const MERGES: &[(&[Line], &[Line], &str)] = &[
+    (SOME, OTHERS, DOUBLED),
+    (OTHERS, SOME, DOUBLED),
+    (&[Answer("1")], &[Answer("1")], "a 1\n"),
+    (&[Answer("1")], &[], "a 1\n"),
+    (&[], &[Answer("1")], "a 1\n"),
+    (&[], &[], ""),
+];
+
+/// Merges the set of these lines in, and then a copy of all, which changes nothing.
+fn merge_in(alloc: Global, history: &mut History, lines: &[Line]) -> Result<(), AllocError> {
+    history.merge(&history_of(alloc, lines)?)?;
+    let same = history.copy()?;
+    history.merge(&same)
+}
+
+/// Whether the two sets merge to that text.
+fn merges(alloc: Global, left: &[Line], right: &[Line], wanted: &str) -> Result<bool, AllocError> {
+    let mut history = history_of(alloc, left)?;
+    merge_in(alloc, &mut history, right)?;
+    has_text(alloc, &history, wanted)
+}
+
+#[test]
+fn sets_merge_in_both_orders(rt: HostRuntime) -> Result<(), Fail> {
+    for (left, right, wanted) in MERGES {
+        assert!(rt; merges(rt.alloc(), left, right, wanted)?);
+    }
+    Ok(())
+}

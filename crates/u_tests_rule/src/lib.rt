@@ -1,0 +1,25 @@
+//! The tests of the firing rule, the matcher and histories, on worked firings and programs.
+#![tactic(auto)]
+
+#[cfg(test)]
+mod derived;
+#[cfg(test)]
+mod firing_tests;
+#[cfg(test)]
+mod history_tests;
+#[cfg(test)]
+mod linkage_rows;
+#[cfg(test)]
+mod matcher_tests;
+#[cfg(test)]
+mod matching_tests;
+#[cfg(test)]
+mod operator_rows;
+#[cfg(test)]
+mod report_rows;
+#[cfg(test)]
+mod structure_rows;
+#[cfg(test)]
+mod worked_entries;
+#[cfg(test)]
+mod worked_firings;

@@ -1,0 +1,172 @@
+//! Histories with their reports, byte by byte.
+use crate::worked_entries::Line;
+use crate::worked_entries::Line::{Answer, Fault, Token, Write};
+use u_history::State;
+use u_value::FaultKind;
+
+/// The state of a run, how many firings and parked firings there are, the entries of its history,
+/// and the report.
+pub type Report = (State, usize, usize, &'static [Line], &'static str);
+
+/// A history for each verdict, and histories whose cells and ports clash, or do not.
+pub const REPORT_ROWS: &[Report] = &[
+    // nothing
+    (
+        State::Paused,
+        0,
+        1,
+        &[],
+        "state paused\nfirings 0\nparked 1\nentries 0\nverdict none\n",
+    ),
+    // one answer, put in twice
+    (
+        State::Quiet,
+        3,
+        0,
+        &[Answer("8"), Answer("8")],
+        "state quiet\nfirings 3\nparked 0\nentries 1\nanswer 8\nverdict answer 8\n",
+    ),
+    // a fault goes before the answer
+    (
+        State::Quiet,
+        2,
+        0,
+        &[Answer("8"), Fault("-.main.2.1", FaultKind::Overflow)],
+        "\
+state quiet
+firings 2
+parked 0
+entries 2
+answer 8
+fault -.main.2.1 overflow
+verdict faulted
+",
+    ),
+    // two answers clash
+    (
+        State::Quiet,
+        2,
+        0,
+        &[Answer("20"), Answer("-30")],
+        "state quiet\nfirings 2\nparked 0\nentries 2\nanswer -30\nanswer 20\nverdict clashed\n",
+    ),
+    // two writes of one cell, and the tokens and answers that reads of it give
+    (
+        State::Quiet,
+        12,
+        0,
+        &[
+            Answer("20"),
+            Answer("10"),
+            Write("-.main.6.1", 0, "-.main.8.1", "20"),
+            Token("-.main.10.1", 1, "20"),
+            Token("-.main.8.1", 3, "20"),
+            Write("-.main.6.1", 0, "-.main.7.1", "10"),
+            Token("-.main.10.1", 1, "10"),
+            Token("-.main.7.1", 3, "10"),
+        ],
+        "\
+state quiet
+firings 12
+parked 0
+entries 8
+answer 10
+answer 20
+cell -.main.6.1[0] -.main.7.1 10
+cell -.main.6.1[0] -.main.8.1 20
+port -.main.10.1 1 10
+port -.main.10.1 1 20
+verdict clashed
+",
+    ),
+    // two writers of equal values clash, and go before the answer and the fault
+    (
+        State::Quiet,
+        4,
+        0,
+        &[
+            Answer("10"),
+            Fault("-.main.2.1", FaultKind::Zero),
+            Write("-.main.6.1", 0, "-.main.8.1", "10"),
+            Write("-.main.6.1", 0, "-.main.7.1", "10"),
+            Write("-.main.6.1", 1, "-.main.7.1", "10"),
+        ],
+        "\
+state quiet
+firings 4
+parked 0
+entries 5
+answer 10
+cell -.main.6.1[0] -.main.7.1 10
+cell -.main.6.1[0] -.main.8.1 10
+fault -.main.2.1 zero
+verdict clashed
+",
+    ),
+    // two writers, one of which writes two values
+    (
+        State::Quiet,
+        4,
+        0,
+        &[
+            Write("-.main.6.1", 0, "-.main.8.1", "20"),
+            Write("-.main.6.1", 0, "-.main.7.1", "30"),
+            Write("-.main.6.1", 0, "-.main.7.1", "10"),
+            Write("-.main.6.1", 1, "-.main.7.1", "10"),
+        ],
+        "\
+state quiet
+firings 4
+parked 0
+entries 4
+cell -.main.6.1[0] -.main.7.1 10
+cell -.main.6.1[0] -.main.7.1 30
+cell -.main.6.1[0] -.main.8.1 20
+verdict clashed
+",
+    ),
+    // one write, put in twice, and a write of another cell
+    (
+        State::Quiet,
+        4,
+        0,
+        &[
+            Answer("10"),
+            Write("-.main.6.1", 0, "-.main.7.1", "10"),
+            Write("-.main.6.1", 0, "-.main.7.1", "10"),
+            Write("-.main.6.1", 1, "-.main.7.1", "10"),
+        ],
+        "state quiet\nfirings 4\nparked 0\nentries 3\nanswer 10\nverdict answer 10\n",
+    ),
+    // three values at one port, and a token at the next
+    (
+        State::Quiet,
+        4,
+        0,
+        &[
+            Token("-.main.6.1", 1, "20"),
+            Token("-.main.6.1", 1, "10"),
+            Token("-.main.6.1", 1, "20"),
+            Token("-.main.6.1", 1, "-30"),
+            Token("-.main.6.1", 2, "10"),
+        ],
+        "\
+state quiet
+firings 4
+parked 0
+entries 4
+port -.main.6.1 1 -30
+port -.main.6.1 1 10
+port -.main.6.1 1 20
+verdict clashed
+",
+    ),
+    // one value at each of two ports
+    (
+        State::Paused,
+        4,
+        0,
+        &[Token("-.main.6.1", 1, "20"), Token("-.main.6.1", 2, "10")],
+        "state paused\nfirings 4\nparked 0\nentries 2\nverdict none\n",
+    ),
+];
