@@ -1,7 +1,7 @@
 #!/usr/bin/env bash
 # Runs the built program on the cases of tests/cases, and compares standard output, standard error
-# and the exit status with what stands there; and runs the examples of README.md, docs/LANGUAGE.md and
-# docs/programs. The last line is 'N passed, M failed'.
+# and the exit status with what stands there; runs the examples of README.md, docs/LANGUAGE.md and
+# docs/programs; and compares programs/ with the constants that tests run. The last line is 'N passed, M failed'.
 #
 # The lines of a case:
 #   case: NAME            begins a case
@@ -205,6 +205,19 @@ run_examples() {
 
 for page in README.md docs/LANGUAGE.md docs/programs/*.md; do
     run_examples "$page"
+done
+
+# The programs that tests run are constants of u_plain, and have to be the files of the folder programs.
+for file in programs/*.u; do
+    constant=$(basename -- "$file" .u)
+    if awk -v head="pub const ${constant^^}: &[u8] = b\"" \
+        'index($0, head) == 1 { on = 1; next } on && /^";$/ { exit } on { sub(/\\n\\$/, ""); print }' \
+        crates/u_plain/src/examples.rt | cmp -s -- - "$file"; then
+        passed=$((passed + 1))
+    else
+        failed=$((failed + 1))
+        echo "FAILED: $file is not the constant ${constant^^} of u_plain"
+    fi
 done
 
 echo "$passed passed, $failed failed"
