@@ -13,6 +13,9 @@ import time
 TICKS = os.sysconf("SC_CLK_TCK")
 EVERY = 0.25
 
+# The process that started this one: the gate.
+GATE = str(os.getppid())
+
 # For each process, by its number and the moment at which it started: crate, part, seconds.
 found = {}
 
@@ -29,14 +32,29 @@ def part_of(words, folder):
     return "tests" if "--test" in words else "proof"
 
 
+def fields_of(number):
+    """The fields of the process behind its name: its state, its parent and so on."""
+    return text_of(f"/proc/{number}/stat").rsplit(")", 1)[1].split()
+
+
+def is_ours(number):
+    """Whether the gate that started this script also started the process, or one that started it."""
+    while number not in ("0", "1"):
+        if number == GATE:
+            return True
+        number = fields_of(number)[1]
+    return False
+
+
 def look_at(number):
-    """Notes how much processor time the process has had, if it is one of the prover's."""
-    line = text_of(f"/proc/{number}/stat")
-    if "(rattle" not in line:
+    """Notes how much processor time the process has had, if it is one of the gate's provers."""
+    if "(rattle" not in text_of(f"/proc/{number}/stat"):
         return
-    fields = line.rsplit(")", 1)[1].split()
+    fields = fields_of(number)
     key = number, fields[19]
     if key not in found:
+        if not is_ours(number):
+            return
         words = text_of(f"/proc/{number}/cmdline").split("\0")
         if "--crate-name" not in words:
             return
