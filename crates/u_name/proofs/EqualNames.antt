@@ -1,15 +1,14 @@
 -- Names are equal where their statements, initiations, blocks and contexts are.
-use Rattle.std.specs.Prelude.{◌≡◌, ℕ, List, [], ◌∷◌, Bool, true, false, ◌==◌, ◌&&◌, refl}
-use Rattle.std.proofs.lemmas.Bool.{eqb-true, and_parts}
+use Rattle.std.specs.Prelude.{◌≡◌, ℕ, List, Bool, true, false, ◌==◌, refl}
 use Rattle.std.proofs.Common.{sym, ap, subst}
-use Rattle.std.specs.Ordering.{ordering_then, is_eq, eq_by_cmp}
-use Rattle.std.specs.declared.cmp.Ordering.{Ordering}
-use Rattle.std.specs.declared.cmp.Ordering.TheVariants.{Less, Equal, Greater}
+use Rattle.std.specs.Ordering.{is_eq, eq_by_cmp}
 use Rattle.std.proofs.lemmas.Cmp.{nat_cmp_total, nat_list_cmp_total, nat_list_eq_equiv, tied_itself}
+use Rattle.std.specs.Cmp.Lexicographic.{same_text}
 use lib.Pointwise.{pointwise}
 use Rattle.u_name.specs.ContextOrder.{context_cmp}
 use Rattle.u_name.specs.Name.{Activity}
 use Rattle.u_name.specs.NameOrder.{name_cmp, same_name}
+use Rattle.u_name.proofs.PathOrder.{then_equal}
 
 unlike : (a b : Activity) → (a ≡ b → ⊥) → false ≡ eq_by_cmp name_cmp a b
 unlike a b h = decide (eq_by_cmp name_cmp a b) refl
@@ -27,25 +26,10 @@ other_block a b h = unlike a b (λ e. absurd (unequal (subst (λ (n : Activity).
     unequal : pointwise ◌==◌ a.block b.block ≡ true → ⊥
     unequal t = cc
 
-ends : (r : Ordering) → ordering_then r Equal ≡ r
-ends Less = refl
-ends Equal = refl
-ends Greater = refl
-
 alike : (a b : Activity) → a.statement ≡ b.statement → a.initiation ≡ b.initiation → a.block ≡ b.block → name_cmp a b ≡ context_cmp a.context b.context
 alike a b s i k =
-    rw (← s, ← i, ← k, tied_itself nat_list_cmp_total a.block, tied_itself nat_cmp_total a.statement, tied_itself nat_cmp_total a.initiation) (ends (context_cmp a.context b.context))
-
-pub same_block : (xs ys : List ℕ) → pointwise ◌==◌ xs ys ≡ true → xs ≡ ys
-same_block [] [] h = refl
-same_block [] (y ∷ ys) h = absurd (cc)
-same_block (x ∷ xs) [] h = absurd (cc)
-same_block (x ∷ xs) (y ∷ ys) h =
-    let p = and_parts (x == y) (pointwise ◌==◌ xs ys) h in
-    let e = eqb-true x y p.0 in
-    let f = same_block xs ys p.1 in
-    rw (e, f) refl
+    rw (← s, ← i, ← k, tied_itself nat_list_cmp_total a.block, tied_itself nat_cmp_total a.statement, tied_itself nat_cmp_total a.initiation) (then_equal (context_cmp a.context b.context))
 
 pub same_but_context : (a b : Activity) → a.statement ≡ b.statement → a.initiation ≡ b.initiation → pointwise ◌==◌ a.block b.block ≡ true
     → eq_by_cmp context_cmp a.context b.context ≡ eq_by_cmp name_cmp a b
-same_but_context a b s i k = ap is_eq (sym (alike a b s i (same_block a.block b.block k)))
+same_but_context a b s i k = ap is_eq (sym (alike a b s i (same_text a.block b.block (sym k))))

@@ -1,6 +1,7 @@
-use Rattle.std.proofs.Common.{◌≡◌, ℕ, zero, suc, ◌+◌, ◌-◌, ◌<◌, false, cond, List, [], ◌∷◌, refl, sym, ◌∙◌, ap, arith, length, eqb, drop}
+-- How many `(` stand at the front, byte by byte.
+use Rattle.std.proofs.Common.{◌≡◌, ℕ, zero, suc, ◌+◌, ◌-◌, ◌<◌, false, cond, List, [], ◌∷◌, refl, ◌∙◌, ap, arith, length, eqb}
 use Rattle.std.proofs.lemmas.Bool.Decides.{nat_tests}
-use Rattle.u_name.specs.NameSteps.{paren_span}
+use Rattle.u_name.specs.NameReader.{paren_span}
 
 pub paren_step : (len c : ℕ) (cs : List ℕ) → len < 65 → c ≡ 40 → paren_span (65 - len) (c ∷ cs) ≡ paren_span (65 - (len + 1)) cs + 1
 paren_step len c cs lt h =
@@ -21,9 +22,3 @@ pub paren_empty : (room : ℕ) (cs : List ℕ) → length cs ≡ 0 → paren_spa
 paren_empty zero cs h = refl
 paren_empty (suc n) [] h = refl
 paren_empty (suc n) (c ∷ cs) h = absurd (omega arith)
-
-pub drop_turn : (n c : ℕ) (xs cs : List ℕ) → c ∷ cs ≡ drop n xs → cs ≡ drop (n + 1) xs
-drop_turn zero c [] cs h = cc
-drop_turn zero c (x ∷ xs) cs h = cc
-drop_turn (suc n) c [] cs h = cc
-drop_turn (suc n) c (x ∷ xs) cs h = let e : suc n + 1 ≡ suc (n + 1) = omega arith in drop_turn n c xs cs h ∙ ap (λ k. drop k (x ∷ xs)) (sym e)

@@ -1,3 +1,4 @@
+-- The parts that are pushed, one behind another, are the texts of contexts, names and cells.
 use Rattle.std.proofs.Common.{◌≡◌, ℕ, List, [], ◌∷◌, ◌++◌, append_assoc}
 use Rattle.std.specs.Fmt.{decimal}
 use Rattle.u_name.specs.Context.{Tree, Top, InLoop, InCall}

@@ -1,4 +1,5 @@
--- Contexts: Root, or a loop or a call with an outer context and three parts.
+-- Contexts: the root, or a loop or a call with an outer context and three parts.
+-- The law `of_frames-frames` stands here because `tree_code` needs it, which the model of Context cites.
 use Rattle.std.specs.Prelude.{Bool, true, false, ◌≡◌, ℕ, ◌+◌, ◌≤◌, List, [], ◌∷◌, refl}
 use Rattle.std.proofs.Common.{ap}
 use Rattle.std.specs.Coded.{Coded, code_by, coded×, coded_ℕ, coded_list, coded_bool}

@@ -1,12 +1,11 @@
 -- What a context feeds to a hasher.
+-- The laws stand here because the impl of Hash for Context cites them.
 use Rattle.std.specs.Prelude.{◌++◌, ◌+◌, ◌*◌, [], true, IsTrue, ◌≡◌}
 use Rattle.std.proofs.Common.{ap}
-use Rattle.std.specs.Hash as fed
 use Rattle.std.specs.Hash.{HashWrites}
-use Rattle.std.specs.Ordering.{eq_by_cmp, is_eq}
-use Rattle.std.specs.declared.cmp.Ordering.{Ordering}
-use Rattle.std.specs.declared.cmp.Ordering.TheVariants.{Less, Equal, Greater}
-use Rattle.std.specs.Prelude.{refl}
+use Rattle.std.specs.Ordering.{eq_by_cmp}
+use Rattle.std.specs.Cmp.{Equal-is}
+use Rattle.std.specs.Hash as fed
 use Rattle.u_name.specs.Context.{Tree, Top, InLoop, InCall}
 use Rattle.u_name.specs.ContextOrder.{context_cmp}
 use Rattle.u_name.specs.ContextLaws.{context_cmp_ties}
@@ -17,13 +16,8 @@ context_hash Top = []
 context_hash (InLoop outer block number initiation) = context_hash outer ++ fed.u64 (initiation * 65536 + number)
 context_hash (InCall outer block statement initiation) = context_hash outer ++ fed.u64 (initiation * 65536 + 32768 + statement)
 
-tied : (r : Ordering) → is_eq r ≡ true → r ≡ Equal
-tied Less h = cc
-tied Equal h = refl
-tied Greater h = cc
-
 pub same_context : (x y : Tree) → eq_by_cmp context_cmp x y ≡ true → x ≡ y
-same_context x y h = context_cmp_ties x y (tied _ h)
+same_context x y h = context_cmp_ties x y ((Equal-is (context_cmp x y)).0 h)
 
 pub hashes_alike : (x y : Tree) → IsTrue (eq_by_cmp context_cmp x y) → context_hash x ≡ context_hash y
 hashes_alike x y h = ap context_hash (same_context x y h)

@@ -1,4 +1,5 @@
--- The order of contexts is total, and ties only what is equal.
+-- Laws that stand here because the impls of Eq, Ord and Hash for Context cite them: the order of contexts is total, and
+-- ties only what is equal.
 use Rattle.std.specs.Prelude.{◌≡◌, ℕ, suc, zero, ◌+◌, ◌≤◌, List, [], refl}
 use Rattle.std.proofs.Common.{sym, ◌∙◌, ap, arith}
 use Rattle.std.specs.Ordering.{on, then_cmp, ordering_then, nat_cmp}

@@ -1,14 +1,16 @@
-use Rattle.std.specs.Prelude.{◌≡◌, true, ◌++◌, IsTrue, refl}
+-- The order of names, by context, block, statement and initiation, and what a name feeds to a hasher.
+-- The laws stand here because the impls of Eq, Ord and Hash for Name cite them.
+use Rattle.std.specs.Prelude.{◌≡◌, true, ◌++◌, IsTrue}
 use Rattle.std.proofs.Common.{ap, ◌∙◌}
-use Rattle.std.specs.Hash as fed
 use Rattle.std.specs.Hash.{HashWrites}
-use Rattle.std.specs.Ordering.{ordering_then, nat_cmp, is_eq, eq_by_cmp}
+use Rattle.std.specs.Ordering.{ordering_then, nat_cmp, eq_by_cmp}
 use Rattle.std.specs.declared.cmp.Ordering.{Ordering}
-use Rattle.std.specs.declared.cmp.Ordering.TheVariants.{Less, Equal, Greater}
-use Rattle.std.specs.Cmp.{IsTotalOrder}
+use Rattle.std.specs.declared.cmp.Ordering.TheVariants.{Equal}
+use Rattle.std.specs.Cmp.{IsTotalOrder, Equal-is}
 use Rattle.std.specs.Cmp.Lexicographic.{slice_cmp}
 use Rattle.std.specs.FinMap.{nat_cmp-IsAntisymmetric, slice_cmp-IsAntisymmetric}
 use Rattle.std.proofs.lemmas.Cmp.{nat_cmp_total, nat_list_cmp_total, on_total, then_total}
+use Rattle.std.specs.Hash as fed
 use Rattle.u_name.specs.ContextOrder.{context_cmp}
 use Rattle.u_name.specs.ContextLaws.{context_cmp_total, context_cmp_ties, both}
 use Rattle.u_name.specs.ContextHash.{context_hash}
@@ -21,21 +23,20 @@ name_cmp a b = ordering_then (context_cmp a.context b.context) (ordering_then (s
 pub name_cmp_total : IsTotalOrder name_cmp
 name_cmp_total = then_total (on_total (λ (n : Activity). n.context) context_cmp_total) (then_total (on_total (λ (n : Activity). n.block) nat_list_cmp_total) (then_total (on_total (λ (n : Activity). n.statement) nat_cmp_total) (on_total (λ (n : Activity). n.initiation) nat_cmp_total)))
 
-tied : (r : Ordering) → is_eq r ≡ true → r ≡ Equal
-tied Less h = cc
-tied Equal h = refl
-tied Greater h = cc
-
--- equal names are the same
-pub same_name : (a b : Activity) → eq_by_cmp name_cmp a b ≡ true → a ≡ b
-same_name a b h =
-    let u = both _ _ (tied _ h) in
+-- names that tie are the same
+pub name_cmp_ties : (a b : Activity) → name_cmp a b ≡ Equal → a ≡ b
+name_cmp_ties a b h =
+    let u = both _ _ h in
     let v = both _ _ u.1 in
     let w = both _ _ v.1 in
     ap (λ c. activity c a.block a.statement a.initiation) (context_cmp_ties a.context b.context u.0)
     ∙ ap (λ c. activity b.context c a.statement a.initiation) (slice_cmp-IsAntisymmetric nat_cmp-IsAntisymmetric a.block b.block v.0)
     ∙ ap (λ c. activity b.context b.block c a.initiation) (nat_cmp-IsAntisymmetric a.statement b.statement w.0)
     ∙ ap (λ c. activity b.context b.block b.statement c) (nat_cmp-IsAntisymmetric a.initiation b.initiation w.1)
+
+-- equal names are the same
+pub same_name : (a b : Activity) → eq_by_cmp name_cmp a b ≡ true → a ≡ b
+same_name a b h = name_cmp_ties a b ((Equal-is (name_cmp a b)).0 h)
 
 abbrev pub name_hash : Activity → HashWrites
 name_hash n = context_hash n.context ++ fed.slice fed.u8 n.block ++ fed.u16 n.statement ++ fed.u32 n.initiation

@@ -1,36 +1,40 @@
--- Reading names.
-use Rattle.std.specs.Prelude.{ℕ, zero, suc, List, [], ◌∷◌, ◌⊎◌}
+-- The reader of names as the code goes: the `(`, the `-`, the frames one by one, the tail.
+use Rattle.std.specs.Prelude.{ℕ, zero, suc, List, [], ◌∷◌, ◌⊎◌, Ok, cond, ◌==◌}
 use Rattle.std.proofs.Common.{inl, inr}
+use Rattle.u_text.specs.Then.{AreBoth, both}
+use Rattle.u_text.specs.Choice.{IsOne, mapped, choice}
+use Rattle.u_text.specs.Number.{number, IsUpTo}
+use Rattle.u_text.specs.Reader.{Reader, ◌>>=◌}
+use Rattle.u_text.specs.Parts.{empty, lead}
+use Rattle.u_text.specs.Fixed.{IsUnit}
+use Rattle.u_name.specs.Block.{IsBlock}
 use Rattle.u_name.specs.Context.{Tree, Top, InLoop, InCall}
 use Rattle.u_name.specs.Name.{Activity, activity}
-use Rattle.u_text.specs.Reads.{Reader}
-use Rattle.u_text.specs.Parts.{empty, lead}
-use Rattle.u_text.specs.Then.{both}
-use Rattle.u_text.specs.Choice.{mapped, choice}
-use Rattle.u_text.specs.Number.{number}
 use Rattle.u_name.specs.BlockText.{block_at}
 
+-- what is read of a loop or a call: the block, the number of the loop or of the statement, and the initiation
 abbrev pub Frame : Type 0
 Frame = List ℕ × ((ℕ ⊎ ℕ) × (ℕ × Unit {0}))
 
+-- what is read behind the context: the block, the statement and the initiation
 abbrev pub Tail : Type 0
 Tail = List ℕ × (ℕ × ℕ)
 
+-- this byte
 abbrev pub byte : ℕ → Reader (Unit {0})
 byte c = lead c (empty tt)
 
+-- `Ll` or `s`
 abbrev pub step_at : Reader (ℕ ⊎ ℕ)
 step_at = choice 76 (number 99) (number 999)
 
+-- `.c.Ll.i)` or `.c.s.i)`
 abbrev pub frame_at : Reader Frame
 frame_at = lead 46 (both block_at (λ _. lead 46 (both step_at (λ _. lead 46 (both (number 4294967295) (λ _. byte 41))))))
 
+-- `.c.s.i`
 abbrev pub tail_at : Reader Tail
 tail_at = lead 46 (both block_at (λ _. lead 46 (both (number 999) (λ _. lead 46 (number 4294967295)))))
-
-abbrev pub frames_at : ℕ → Reader (List Frame)
-frames_at zero = empty []
-frames_at (suc d) = mapped (λ z. z.0 ∷ z.1) (both frame_at (λ _. frames_at d))
 
 abbrev pub to_depth : ℕ ⊎ Unit {0} → ℕ
 to_depth = elim [ inl d ↦ suc d | inr _ ↦ 0 ]
@@ -40,22 +44,39 @@ abbrev pub opens_at : ℕ → Reader ℕ
 opens_at zero = mapped (λ _. 0) (byte 45)
 opens_at (suc n) = mapped to_depth (choice 40 (opens_at n) (byte 45))
 
+-- the context that a frame makes on an outer one
 abbrev pub framed : Tree → Frame → Tree
 framed u f = elim f.1.0 [ inl l ↦ InLoop u f.0 l f.1.1.0 | inr s ↦ InCall u f.0 s f.1.1.0 ]
 
--- the context that frames make on another one, the outermost first
-abbrev pub tree_onto : Tree → List Frame → Tree
-tree_onto u [] = u
-tree_onto u (f ∷ fs) = tree_onto (framed u f) fs
+-- the parts are in their ranges
+abbrev pub IsStep : ℕ ⊎ ℕ → Type 0
+IsStep = IsOne (IsUpTo 99) (IsUpTo 999)
 
-abbrev pub Whole : Type 0
-Whole = ℕ × (List Frame × Tail)
+abbrev pub IsFrame : Frame → Type 0
+IsFrame = AreBoth IsBlock (λ _. AreBoth IsStep (λ _. AreBoth (IsUpTo 4294967295) (λ _. IsUnit)))
 
-abbrev pub whole_at : Reader Whole
-whole_at = both (opens_at 64) (λ d. both (frames_at d) (λ _. tail_at))
+abbrev pub IsTail : Tail → Type 0
+IsTail = AreBoth IsBlock (λ _. AreBoth (IsUpTo 999) (λ _. IsUpTo 4294967295))
 
-abbrev pub name_of : Whole → Activity
-name_of z = activity (tree_onto Top z.1.0) z.1.1.0 z.1.1.1.0 z.1.1.1.1
+-- how many `(` stand at the front, up to a most
+abbrev pub paren_span : ℕ → List ℕ → ℕ
+paren_span zero cs = 0
+paren_span (suc room) [] = 0
+paren_span (suc room) (c ∷ cs) = cond (c == 40) (suc (paren_span room cs)) 0
 
-unfoldable pub name_at : Reader Activity
-name_at = mapped name_of whole_at
+-- so many frames, each around what is read before it
+abbrev pub frames_from : ℕ → Tree → Reader Tree
+frames_from zero u bs = Ok (u, bs)
+frames_from (suc d) u bs = frame_at bs >>= λ a. frames_from d (framed u a.0) a.1
+
+-- 64 `(` at most, and a `-`
+unfoldable pub dash_at : Reader ℕ
+dash_at bs = opens_at 64 bs
+
+-- what stands behind the `-` of a context of that depth
+abbrev pub rest_at : ℕ → Reader Activity
+rest_at d bs = frames_from d Top bs >>= λ c. tail_at c.1 >>= λ t. Ok (activity c.0 t.0.0 t.0.1.0 t.0.1.1, t.1)
+
+-- a whole name
+abbrev pub name_steps : Reader Activity
+name_steps bs = dash_at bs >>= λ d. rest_at d.0 d.1

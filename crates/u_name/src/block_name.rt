@@ -11,7 +11,6 @@ ghost use Rattle.u_name.specs.Block.{IsBlock};
 ghost use lib.Pointwise.{pointwise};
 
 use crate::block_text::{begins_with_letter, block_len};
-use crate::halves::same_bytes;
 use std::alloc::AllocError;
 use std::cmp::Ordering;
 use std::hash::{Hash, Hasher};
@@ -52,7 +51,7 @@ impl Copy for BlockName {}
 
 impl BlockName {
     /// The block's name with these bytes.
-    #[tactic(auto, using(crate::specs::BlockLaws::lies_well))]
+    #[tactic(auto, using(crate::proofs::LaidOut::lies_well))]
     pub fn new(name: &[u8]) -> BlockName
         requires { IsBlock name.now }
         ensures { result ≡ name.now }
@@ -85,6 +84,13 @@ impl BlockName {
     {
         &self.bytes[..self.len as usize]
     }
+}
+
+/// Whether they are the same bytes. Sixteen bytes are compared as one number.
+fn same_bytes(left: &[u8; 16], right: &[u8; 16]) -> bool
+    ensures { IsTrue result ↔ (left.now ≡ right.now) }
+{
+    u128::from_be_bytes(*left) == u128::from_be_bytes(*right)
 }
 
 impl PartialEq for BlockName {

@@ -1,13 +1,12 @@
 //! Contexts, as trees.
-ghost use Rattle.std.specs.Prelude.{◌≡◌, ◌≤◌, ◌<◌, ◌↔◌, IfOk, IsTrue};
+ghost use Rattle.std.specs.Prelude.{◌≡◌, ◌≤◌, ◌<◌, ◌↔◌, IfOk, IsTrue, ◌++◌, [], ◌∷◌};
 ghost use Rattle.u_name.specs.Context.{Top, InLoop, InCall, depth, IsContext, IsBetween};
 ghost use Rattle.std.proofs.Common.{rules};
 ghost use Rattle.std.specs.Cmp.{partial_order_from_own_ties};
 ghost use Rattle.std.specs.Cmp.Rules.{comparing, hashing};
 ghost use Rattle.std.specs.Ordering.{eq_by_cmp, as_partial_cmp};
 ghost use Rattle.std.proofs.lemmas.Cmp.{eq_by_cmp_equiv};
-ghost use Rattle.u_name.specs.Node.{tree_of, IsFollowed, IsBeside};
-ghost use Rattle.std.specs.Prelude.{◌++◌, [], ◌∷◌};
+ghost use Rattle.u_name.specs.NodeTree.{tree_of, IsFollowed, IsBeside};
 ghost use Rattle.u_name.specs.Path.{kinds, path};
 ghost use Rattle.u_name.specs.ContextOrder.{context_cmp};
 ghost use Rattle.u_name.specs.ContextLaws.{context_cmp_total};
@@ -78,17 +77,17 @@ impl Model for Context {
 
     ghost coded = { tree_code };
 
-    ghost use Rattle.u_name.specs.Node.{tree_of};
+    ghost use Rattle.u_name.specs.NodeTree.{tree_of};
 
     ghost view = { λ a. tree_of a.node };
 
-    ghost use Rattle.u_name.specs.Node.{IsFollowed};
+    ghost use Rattle.u_name.specs.NodeTree.{IsFollowed};
 
     ghost invariant = { λ a. IsContext (tree_of a.node) × IsFollowed a.node };
 
     ghost size = { depth };
 
-    ghost use Rattle.u_name.specs.NodeFalls.{deep-le-depth};
+    ghost use Rattle.u_name.specs.NodeDepth.{deep-le-depth};
 
     ghost size_decreases = { λ a h. deep-le-depth a.node };
 }
@@ -331,7 +330,7 @@ impl Context {
 
 impl Outer {
     /// Kinds first, from the innermost outwards, and then the loops and calls from the outermost inwards.
-    #[tactic(auto, using(crate::specs::PathOrder::by_paths, crate::specs::PathOrder::by_kinds))]
+    #[tactic(auto, using(crate::proofs::PathOrder::by_paths, crate::proofs::PathOrder::by_kinds))]
     fn compare(&self, other: &Outer) -> Ordering
         requires own { IsBeside self.now }
         requires others { IsBeside other.now }

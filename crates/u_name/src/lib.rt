@@ -5,7 +5,7 @@ mod block_name;
 mod block_text;
 mod cell;
 mod context;
-mod halves;
+mod exact;
 mod name;
 mod path;
 mod reading;

@@ -2,11 +2,10 @@
 //!
 //! Below, `u.c.s.i` is the name with the context `u`, the block `c`, the statement `s` and the
 //! initiation `i`.
-ghost use Rattle.std.specs.Prelude.{◌≡◌, ◌≤◌, ◌<◌, ◌+◌, IfOk, MatchResult, OnOk, IsTrue, ◌↔◌};
+ghost use Rattle.std.specs.Prelude.{◌≡◌, ◌≤◌, ◌<◌, ◌+◌, IfOk, MatchResult, OnOk, IsTrue, ◌↔◌, ◌++◌};
 ghost use Rattle.u_name.specs.Context.{depth, IsBetween, Tree};
 ghost use Rattle.u_name.specs.Name.{Activity, activity, IsName, loop_context, call_context, IsInLoop, IsInCall, left, returned};
 ghost use Rattle.std.proofs.Common.{rules};
-ghost use Rattle.std.specs.Prelude.{◌++◌};
 ghost use Rattle.std.specs.Cmp.{partial_order_from_own_ties};
 ghost use Rattle.std.specs.Cmp.Rules.{comparing, hashing};
 ghost use Rattle.std.specs.Ordering.{eq_by_cmp, as_partial_cmp};
@@ -204,8 +203,8 @@ impl Name {
     /// initiation is 4294967295.
     pub fn next(&self, statement: u16) -> Result<Name, NameError>
         requires { IsBetween 1 statement 999 }
-        ensures value { IfOk result
-            (λ n. n ≡ activity self.now.context self.now.block statement (self.now.initiation + 1)) }
+        ensures value { IfOk result (λ n. n
+            ≡ activity self.now.context self.now.block statement (self.now.initiation + 1)) }
         ensures refusal { MatchResult result (λ _. self.now.initiation < 4294967295)
             (λ e. RefusesAt e Initiation (self.now.initiation ≡ 4294967295)) }
     {
@@ -280,7 +279,8 @@ impl Name {
     pub fn back(&self, statement: u16) -> Result<Name, NameError>
         requires statement_in { IsBetween 1 statement 999 }
         requires in_call { IsInCall self.now.context }
-        ensures { MatchResult result (λ n. n ≡ returned self.now statement) (λ e. e ≡ NoMemory) }
+        ensures { MatchResult result (λ n. n ≡ returned self.now statement)
+            (λ e. e ≡ NoMemory) }
     {
         match self.context.node() {
             Node::Call {

@@ -6,11 +6,10 @@ ghost use Rattle.u_text.specs.Number.{number};
 ghost use Rattle.u_name.specs.BlockText.{block_at, begins_with_letter};
 ghost use Rattle.u_text.specs.Parts.{after_byte};
 ghost use Rattle.u_name.specs.NameReader as reader;
-ghost use Rattle.u_name.specs.ReaderValues.{step_value, frame_value, tail_value};
+ghost use Rattle.u_name.specs.CursorValues.{step_value, frame_value, tail_value};
 ghost use Rattle.u_name.specs.NameReading.{IsNameAt, IsNameOf, IsNameErrorAt, IsNameErrorOf};
-ghost use Rattle.u_name.specs.ReaderFaults.{Fails, FailsAt, IsFine};
-ghost use Rattle.u_name.specs.NameLaws.{IsFrame, IsTail};
-ghost use Rattle.u_name.specs.NameSteps.{dash_at, paren_span, frames_from, name_steps};
+ghost use Rattle.u_name.specs.NameReader.{IsFrame, IsTail, paren_span, frames_from, name_steps};
+ghost use Rattle.u_name.specs.CursorAnswers.{Fails, IsFine, ReadsOpens, ReadsNoOpens, ReadsName, ReadsNoName};
 ghost use Rattle.u_name.specs.declared.reading.ReadFault.TheVariants as faults;
 ghost use Rattle.u_name.specs.declared.reading.NameTextError.TheVariants.{BadName};
 
@@ -91,7 +90,7 @@ impl<'a> Cursor<'a> {
         }
     }
 
-    #[tactic(auto, using(u_text::specs::Number::number_bound))]
+    #[tactic(auto, using(u_text::proofs::NumberLaws::number_bound))]
     fn step(&mut self) -> Result<Step, Stuck>
         ensures { MatchResult result
             (λ step. reader.step_at self.old.rest.now ≡ Ok (step_value step, self.new.rest.now))
@@ -168,7 +167,7 @@ impl<'a> Cursor<'a> {
     }
 
     /// How many `(` stand at the front, 65 at most.
-    #[tactic(auto, using(crate::proofs::Parens::paren_step, crate::proofs::Parens::paren_stop, crate::proofs::Parens::paren_full, crate::proofs::Parens::paren_empty, crate::proofs::Parens::drop_turn))]
+    #[tactic(auto, using(crate::proofs::Parens::paren_step, crate::proofs::Parens::paren_stop, crate::proofs::Parens::paren_full, crate::proofs::Parens::paren_empty, u_text::proofs::PiecesLaws::drop_step))]
     fn parens(&mut self) -> u32
         ensures value { result ≡ paren_span 65 self.old.rest.now }
         ensures rest { self.new.rest.now ≡ drop result self.old.rest.now }
@@ -184,11 +183,11 @@ impl<'a> Cursor<'a> {
         count
     }
 
-    #[tactic(auto, using(crate::specs::NameSteps::opens_ok, crate::specs::NameSteps::opens_err))]
+    #[tactic(auto, using(crate::proofs::NameReaderLaws::opens_ok, crate::proofs::NameReaderLaws::opens_err))]
     fn opens(&mut self) -> Result<u32, ReadFault>
         ensures { MatchResult result
-            (λ depth. IsFine (paren_span 65 self.old.rest.now) × (depth ≤ 64) × (dash_at self.old.rest.now ≡ Ok (depth, self.new.rest.now)))
-            (λ fault. FailsAt fault (paren_span 65 self.old.rest.now) (dash_at self.old.rest.now) self.new.rest.now) }
+            (λ depth. ReadsOpens self.old.rest.now depth self.new.rest.now)
+            (λ fault. ReadsNoOpens self.old.rest.now fault self.new.rest.now) }
     {
         let depth = self.parens();
         if depth > 64 {
@@ -198,7 +197,7 @@ impl<'a> Cursor<'a> {
         Ok(depth)
     }
 
-    #[tactic(auto, using(crate::specs::NameSteps::frames_turn, crate::specs::NameSteps::frames_stuck))]
+    #[tactic(auto, using(crate::proofs::NameReaderLaws::frames_turn, crate::proofs::NameReaderLaws::frames_stuck))]
     fn frames(&mut self, alloc: Global, count: u32) -> Result<Context, ReadFault>
         requires { count ≤ 64 }
         ensures { MatchResult result
@@ -217,8 +216,8 @@ impl<'a> Cursor<'a> {
 
     fn name(&mut self, alloc: Global) -> Result<Name, ReadFault>
         ensures { MatchResult result
-            (λ name. IsFine (paren_span 65 self.old.rest.now) × (name_steps self.old.rest.now ≡ Ok (name, self.new.rest.now)))
-            (λ fault. FailsAt fault (paren_span 65 self.old.rest.now) (name_steps self.old.rest.now) self.new.rest.now) }
+            (λ name. ReadsName self.old.rest.now name self.new.rest.now)
+            (λ fault. ReadsNoName self.old.rest.now fault self.new.rest.now) }
     {
         let depth = self.opens()?;
         let context = self.frames(alloc, depth)?;
@@ -299,7 +298,7 @@ pub enum NameTextError {
 
 /// The longest name of a block at the front, and what is left behind it. Where there is none, all
 /// the bytes: no name of a block begins with the first.
-#[tactic(auto, using(crate::specs::BlockText::is_read_block))]
+#[tactic(auto, using(crate::proofs::BlockTextLaws::is_read_block))]
 pub fn front_block(bytes: &[u8]) -> Result<(BlockName, &[u8]), &[u8]>
     ensures { MatchResult result
         (λ found. block_at bytes.now ≡ Ok (found.0, found.1.now))

@@ -26,7 +26,8 @@ fn push_loop(
     number: u8,
     initiation: u32,
 ) -> Result<(), AllocError>
-    ensures { OnOk result (out.new.items ≡ out.old.items ++ loop_part block.now number initiation) }
+    ensures { OnOk result
+        (out.new.items ≡ out.old.items ++ loop_part block.now number initiation) }
 {
     push_block(out, block)?;
     out.push(b'.')?;
@@ -42,7 +43,8 @@ fn push_call(
     statement: u16,
     initiation: u32,
 ) -> Result<(), AllocError>
-    ensures { OnOk result (out.new.items ≡ out.old.items ++ call_part block.now statement initiation) }
+    ensures { OnOk result
+        (out.new.items ≡ out.old.items ++ call_part block.now statement initiation) }
 {
     push_block(out, block)?;
     push_behind(out, b'.', u32::from(statement))?;

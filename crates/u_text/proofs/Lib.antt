@@ -1,1 +1,14 @@
-pub mod Written
+pub mod ReaderLaws
+pub mod PartsLaws
+pub mod ThenLaws
+pub mod ChoiceLaws
+pub mod FixedLaws
+pub mod NumberLaws
+pub mod FromZeroLaws
+pub mod SignedLaws
+pub mod LongestLaws
+pub mod TextAtLaws
+pub mod PiecesLaws
+pub mod SpacedLaws
+pub mod WholeWordsLaws
+pub mod AppendingLaws

@@ -1,22 +1,7 @@
--- What a writer that may fail leaves in a list.
-use Rattle.std.specs.Prelude.{◌≡◌, ℕ, List, [], ◌++◌}
-use Rattle.std.proofs.Common.{sym, ◌∙◌, ap, append_assoc}
-use Rattle.std.proofs.lemmas.List.{append-nil}
+-- What a writer that may fail leaves in a list: the list begins with what it was.
+use Rattle.std.specs.Prelude.{◌≡◌, ℕ, List, ◌++◌}
 
 -- the list begins with what it was
 pub record Extends (old new : List ℕ) : Type 0 where
   pub more : List ℕ
   pub there : new ≡ old ++ more
-
-pub extends_same : (a b : List ℕ) → b ≡ a → Extends a b
-extends_same a b h = record { more = []; there = h ∙ sym (append-nil a) }
-
-pub extends_by : (a b more : List ℕ) → b ≡ a ++ more → Extends a b
-extends_by a b more h = record { more = more; there = h }
-
-pub extends_on : (a b c : List ℕ) → Extends a b → Extends b c → Extends a c
-extends_on a b c e f = record { more = e.more ++ f.more; there = f.there ∙ ap (λ t. t ++ f.more) e.there ∙ append_assoc a e.more f.more }
-
--- behind what was written, and then more
-pub extends_behind : (a b more c : List ℕ) → b ≡ a ++ more → Extends b c → Extends a c
-extends_behind a b more c h f = extends_on a b c (extends_by a b more h) f

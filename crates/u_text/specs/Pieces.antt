@@ -1,102 +1,27 @@
--- A text cut at a byte.
-use Rattle.std.specs.Prelude.{◌≡◌, ℕ, zero, suc, ◌+◌, ◌≤◌, length, take, drop, true, false, cond, ◌==◌, List, [], ◌∷◌, ◌++◌, refl}
-use Rattle.std.proofs.Common.{sym, ◌∙◌, ap, subst, arith}
-use Rattle.std.proofs.lemmas.List.{take-append-drop}
-use Rattle.u_text.specs.Parts.{alike, unlike, same_or}
+-- A text cut at a byte into pieces; its lines and its words.
+use Rattle.std.specs.Prelude.{◌≡◌, ℕ, cond, ◌==◌, List, [], ◌∷◌, ◌++◌}
 
-abbrev pub Cut : Type 0
-Cut = List (List ℕ) × List ℕ
+-- the pieces, and what stands behind the last of them
+abbrev pub PiecesAndRest : Type 0
+PiecesAndRest = List (List ℕ) × List ℕ
 
-abbrev pub onto : ℕ → Cut → Cut
+-- with one more byte in front of the first piece
+abbrev pub onto : ℕ → PiecesAndRest → PiecesAndRest
 onto b p = elim p.0 [ [] ↦ ([], b ∷ p.1) | l ∷ ls ↦ ((b ∷ l) ∷ ls, p.1) ]
 
 -- the pieces that end with the byte c, and what stands behind the last c
-unfoldable pub pieces : ℕ → List ℕ → Cut
+unfoldable pub pieces : ℕ → List ℕ → PiecesAndRest
 pieces c [] = ([], [])
 pieces c (b ∷ bs) = cond (b == c) ([] ∷ (pieces c bs).0, (pieces c bs).1) (onto b (pieces c bs))
 
--- the byte stands nowhere in it
-abbrev pub Free : ℕ → List ℕ → Type 0
-Free c [] = Unit {0}
-Free c (b ∷ bs) = (b ≡ c → ⊥) × Free c bs
+-- the first piece of the bytes, and what stands behind the byte that ends it
+abbrev pub IsCutInto : ℕ → List ℕ → List ℕ → List ℕ → Type 0
+IsCutInto c bs first rest = pieces c bs ≡ (first ∷ (pieces c rest).0, (pieces c rest).1)
 
 -- the lines that end with a newline, and what stands behind them
 abbrev pub lines : List ℕ → List (List ℕ)
 lines bs = (pieces 10 bs).0
 
-abbrev pub behind : List ℕ → List ℕ
-behind bs = (pieces 10 bs).1
-
 -- the words between single spaces
 unfoldable pub words : List ℕ → List (List ℕ)
 words bs = (pieces 32 bs).0 ++ ((pieces 32 bs).1 ∷ [])
-
-pieces_same : (c b : ℕ) (bs : List ℕ) → (b == c) ≡ true → pieces c (b ∷ bs) ≡ ([] ∷ (pieces c bs).0, (pieces c bs).1)
-unfolding pieces
-pieces_same c b bs h = ap (λ t. cond t ([] ∷ (pieces c bs).0, (pieces c bs).1) (onto b (pieces c bs))) h
-
-pieces_other : (c b : ℕ) (bs : List ℕ) → (b == c) ≡ false → pieces c (b ∷ bs) ≡ onto b (pieces c bs)
-unfolding pieces
-pieces_other c b bs h = ap (λ t. cond t ([] ∷ (pieces c bs).0, (pieces c bs).1) (onto b (pieces c bs))) h
-
-other : (c b : ℕ) → (b ≡ c → ⊥) → (b == c) ≡ false
-other c b h = elim (same_or b c) [ alike e f ↦ absurd (h e) | unlike e f ↦ f ]
-
-itself : (c : ℕ) → (c == c) ≡ true
-itself c = elim (same_or c c) [ alike e f ↦ f | unlike e f ↦ absurd (e refl) ]
-
-pub pieces_cut : (c : ℕ) (a r : List ℕ) → Free c a → pieces c (a ++ (c ∷ r)) ≡ (a ∷ (pieces c r).0, (pieces c r).1)
-pieces_cut c [] r f = pieces_same c c r (itself c)
-pieces_cut c (b ∷ a) r f = pieces_other c b (a ++ (c ∷ r)) (other c b f.0) ∙ ap (onto b) (pieces_cut c a r f.1)
-
-pub pieces_free : (c : ℕ) (a : List ℕ) → Free c a → pieces c a ≡ ([], a)
-unfolding pieces
-pieces_free c [] f = refl
-pieces_free c (b ∷ a) f = pieces_other c b a (other c b f.0) ∙ ap (onto b) (pieces_free c a f.1)
-
--- the text of pieces
-abbrev pub glued : ℕ → List (List ℕ) → List ℕ → List ℕ
-glued c [] r = r
-glued c (l ∷ ls) r = l ++ (c ∷ glued c ls r)
-
-glued_onto : (c b : ℕ) (p : Cut) → glued c (onto b p).0 (onto b p).1 ≡ b ∷ glued c p.0 p.1
-glued_onto c b p = at p.0 p.1
-  where
-    at : (ls : List (List ℕ)) (r : List ℕ) → glued c (onto b (ls, r)).0 (onto b (ls, r)).1 ≡ b ∷ glued c ls r
-    at [] r = refl
-    at (l ∷ ls) r = refl
-
-pub glued-pieces : (c : ℕ) (bs : List ℕ) → glued c (pieces c bs).0 (pieces c bs).1 ≡ bs
-unfolding pieces
-glued-pieces c [] = refl
-glued-pieces c (b ∷ bs) =
-    elim (same_or b c) [
-      | alike e f ↦ ap (λ p. glued c p.0 p.1) (pieces_same c b bs f) ∙ ap (λ t. c ∷ t) (glued-pieces c bs) ∙ ap (λ i. i ∷ bs) (sym e)
-      | unlike e f ↦ ap (λ p. glued c p.0 p.1) (pieces_other c b bs f) ∙ glued_onto c b (pieces c bs) ∙ ap (λ t. b ∷ t) (glued-pieces c bs)
-    ]
-
--- for the loop that cuts
-
-pub cut_here : (c k : ℕ) (bs others : List ℕ) → Free c (take k bs) → c ∷ others ≡ drop k bs → pieces c bs ≡ (take k bs ∷ (pieces c others).0, (pieces c others).1)
-cut_here c k bs others f h = ap (pieces c) (sym (ap (λ t. take k bs ++ t) h ∙ take-append-drop k bs)) ∙ pieces_cut c (take k bs) others f
-
-pub cut_nowhere : (c k : ℕ) (bs : List ℕ) → Free c (take k bs) → length bs ≤ k → pieces c bs ≡ ([], bs)
-cut_nowhere c k bs f h = pieces_free c bs (subst (Free c) (whole k bs h) f)
-  where
-    whole : (k : ℕ) (bs : List ℕ) → length bs ≤ k → take k bs ≡ bs
-    whole zero [] h = refl
-    whole zero (b ∷ bs) h = absurd (omega arith)
-    whole (suc k) [] h = refl
-    whole (suc k) (b ∷ bs) h = ap (λ t. b ∷ t) (whole k bs (omega arith))
-
-pub free_step : (c k b : ℕ) (bs others : List ℕ) → Free c (take k bs) → b ∷ others ≡ drop k bs → (b ≡ c → ⊥) → Free c (take (k + 1) bs)
-free_step c zero b [] others f h n = tt
-free_step c zero b (x ∷ bs) others f h n = let e : b ≡ x = cc in (λ g. n (e ∙ g), tt)
-free_step c (suc k) b [] others f h n = let e : suc (k + 1) ≡ suc k + 1 = omega arith in subst (λ m. Free c (take {A = ℕ} m [])) e tt
-free_step c (suc k) b (x ∷ bs) others f h n = let e : suc (k + 1) ≡ suc k + 1 = omega arith in subst (λ m. Free c (take m (x ∷ bs))) e (f.0, free_step c k b bs others f.1 h n)
-
-pub drop_step : (k b : ℕ) (bs others : List ℕ) → b ∷ others ≡ drop k bs → others ≡ drop (k + 1) bs
-drop_step zero b [] others h = cc
-drop_step zero b (x ∷ bs) others h = cc
-drop_step (suc k) b [] others h = cc
-drop_step (suc k) b (x ∷ bs) others h = let e : suc (k + 1) ≡ suc k + 1 = omega arith in drop_step k b bs others h ∙ ap (λ m. drop m (x ∷ bs)) e

@@ -1,10 +1,9 @@
 //! Fixed bytes and one number at the front of some bytes.
-ghost use Rattle.std.specs.Prelude.{◌≡◌, ◌≤◌, ◌<◌, ◌-◌, ◌^◌, pos, negsuc, Ok, Err, MatchResult};
-ghost use Rattle.u_text.specs.Choice.{mapped};
+ghost use Rattle.std.specs.Prelude.{◌≡◌, ◌≤◌, ◌<◌, ◌-◌, ◌^◌, Ok, Err, MatchResult};
 ghost use Rattle.u_text.specs.Fixed.{fixed};
 ghost use Rattle.u_text.specs.FromZero.{number0};
 ghost use Rattle.u_text.specs.Number.{number};
-ghost use Rattle.u_text.specs.Signed.{signed};
+ghost use Rattle.u_text.specs.Signed.{below_zero, from_zero, signed};
 ghost use Rattle.u_text.specs.Parts.{after_byte};
 
 /// The bytes behind the byte `wanted`.
@@ -32,7 +31,7 @@ pub fn after_all<'a>(bytes: &'a [u8], wanted: &[u8]) -> Result<&'a [u8], &'a [u8
 }
 
 /// The longest number from 1 to `max` at the front.
-#[tactic(auto, using(crate::specs::Number::number_bound))]
+#[tactic(auto, using(crate::proofs::NumberLaws::number_bound))]
 pub fn number_at(bytes: &[u8], max: u32) -> Result<(u32, &[u8]), &[u8]>
     requires { 9 ≤ max }
     ensures { MatchResult result
@@ -75,7 +74,7 @@ pub fn long_number_at(bytes: &[u8], max: u64) -> Result<(u64, &[u8]), &[u8]>
 }
 
 /// The longest number from 0 to `max` at the front.
-#[tactic(auto, using(crate::specs::FromZero::number0_at_bound))]
+#[tactic(auto, using(crate::proofs::FromZeroLaws::number0_at_bound))]
 pub fn number0_at(bytes: &[u8], max: u32) -> Result<(u32, &[u8]), &[u8]>
     requires { 9 ≤ max }
     ensures { MatchResult result
@@ -114,11 +113,11 @@ pub fn signed_at(bytes: &[u8]) -> Result<(i64, &[u8]), &[u8]>
 }
 
 /// The number below 0 whose digits without the minus stand at the front.
-#[tactic(auto, using(crate::specs::Number::number_bound, crate::specs::Number::number_least))]
+#[tactic(auto, using(crate::proofs::NumberLaws::number_bound, crate::proofs::NumberLaws::number_least))]
 fn below_zero_at(digits: &[u8]) -> Result<(i64, &[u8]), &[u8]>
     ensures { MatchResult result
-        (λ found. mapped (λ n. negsuc (n - 1)) (number (2 ^ 63)) digits.now ≡ Ok (found.0, found.1.now))
-        (λ rest. mapped (λ n. negsuc (n - 1)) (number (2 ^ 63)) digits.now ≡ Err rest.now) }
+        (λ found. below_zero digits.now ≡ Ok (found.0, found.1.now))
+        (λ rest. below_zero digits.now ≡ Err rest.now) }
 {
     match long_number_at(digits, 1 << 63) {
         Ok((n, rest)) => Ok((-((n - 1) as i64) - 1, rest)),
@@ -127,11 +126,11 @@ fn below_zero_at(digits: &[u8]) -> Result<(i64, &[u8]), &[u8]>
 }
 
 /// The number from 0 on at the front.
-#[tactic(auto, using(crate::specs::FromZero::number0_at_bound, std::proofs::lemmas::Int::to_z_pos))]
+#[tactic(auto, using(crate::proofs::FromZeroLaws::number0_at_bound, std::proofs::lemmas::Int::to_z_pos))]
 fn from_zero_at(bytes: &[u8]) -> Result<(i64, &[u8]), &[u8]>
     ensures { MatchResult result
-        (λ found. mapped pos (number0 (2 ^ 63 - 1)) bytes.now ≡ Ok (found.0, found.1.now))
-        (λ rest. mapped pos (number0 (2 ^ 63 - 1)) bytes.now ≡ Err rest.now) }
+        (λ found. from_zero bytes.now ≡ Ok (found.0, found.1.now))
+        (λ rest. from_zero bytes.now ≡ Err rest.now) }
 {
     match long_number0_at(bytes, i64::MAX as u64) {
         Ok((n, rest)) => Ok((n as i64, rest)),

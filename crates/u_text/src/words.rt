@@ -114,7 +114,7 @@ pub fn long_word(word: &[u8], max: u64) -> Result<u64, BadWord>
 }
 
 /// The number behind a minus that the whole word is, at least -2^63.
-#[tactic(auto, unfolding(crate::specs::WholeWords::number_word), using(crate::specs::Number::number_bound, crate::specs::Number::number_least))]
+#[tactic(auto, unfolding(crate::specs::WholeWords::number_word), using(crate::proofs::NumberLaws::number_bound, crate::proofs::NumberLaws::number_least))]
 pub fn negative_word(digits: &[u8]) -> Result<i64, BadWord>
     ensures { MatchResult result
         (λ z. negative_word digits.now ≡ Some z)
@@ -128,7 +128,7 @@ pub fn negative_word(digits: &[u8]) -> Result<i64, BadWord>
 
 /// The signed number of 64 bits that the whole word is. It has no plus, no leading zero,
 /// and zero has no minus.
-#[tactic(auto, unfolding(crate::specs::WholeWords::signed_word), using(crate::specs::WholeWords::number0_bound, std::proofs::lemmas::Int::to_z_pos))]
+#[tactic(auto, unfolding(crate::specs::WholeWords::signed_word), using(crate::proofs::WholeWordsLaws::number0_bound, std::proofs::lemmas::Int::to_z_pos))]
 pub fn signed_word(word: &[u8]) -> Result<i64, BadWord>
     ensures { MatchResult result
         (λ z. signed_word word.now ≡ Some z)

@@ -1,5 +1,4 @@
 pub mod Division
-pub mod Orders
 pub mod Ranges
 pub mod Written
-pub mod Read
+pub mod ReadingLaws

@@ -1,4 +1,4 @@
--- Kinds of faults: their order and their texts.
+-- The order of the kinds of faults, and their texts.
 use Rattle.std.specs.Prelude.{ℕ, List, codes}
 use Rattle.std.specs.Ordering.{nat_cmp}
 use Rattle.std.specs.declared.cmp.Ordering.{Ordering}

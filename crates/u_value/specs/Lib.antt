@@ -4,3 +4,4 @@ pub mod Operators
 pub mod Pointer
 pub mod Values
 pub mod Reading
+pub mod ExactOrders

@@ -1,4 +1,4 @@
--- Reading values.
+-- The reader of values, and what reading a value answers.
 use Rattle.std.specs.Prelude.{ℕ, ◌⊎◌, List, true, false, codes, FitsSigned}
 use Rattle.std.proofs.Common.{inl, inr}
 use Rattle.std.specs.Int.{w64}
@@ -6,8 +6,8 @@ use lib.IntN.{ℤ}
 use Rattle.u_name.specs.Block.{IsBlock}
 use Rattle.u_name.specs.BlockText.{block_at}
 use Rattle.u_name.specs.Name.{Activity, IsName}
-use Rattle.u_name.specs.NameSteps.{name_steps}
-use Rattle.u_text.specs.Reads.{Reader}
+use Rattle.u_name.specs.NameReader.{name_steps}
+use Rattle.u_text.specs.Reader.{Reader}
 use Rattle.u_text.specs.Parts.{lead}
 use Rattle.u_text.specs.Then.{both}
 use Rattle.u_text.specs.Choice.{mapped, choice}
@@ -29,9 +29,13 @@ IsValue (Bool b) = Unit {0}
 IsValue (Proc block) = IsBlock block
 IsValue (Ref p) = IsName p.name × IsPointer p
 
+-- behind a name: `#` and a length
+abbrev pub length_at : Reader ℕ
+length_at = lead 35 (number0 1000000)
+
 -- behind the `&`: a name, `#` and a length
 abbrev pub pointer_at : Reader (Activity × ℕ)
-pointer_at = both name_steps (λ _. lead 35 (number0 1000000))
+pointer_at = both name_steps (λ _. length_at)
 
 -- what was read, by its first byte
 abbrev pub Read : Type 0
@@ -48,6 +52,13 @@ alse = codes "alse"
 
 abbrev pub rue : List ℕ
 rue = codes "rue"
+
+-- what stands behind the first byte of `false`, and of `true`
+abbrev pub false_at : Reader Value
+false_at = mapped (λ _. Bool false) (fixed alse)
+
+abbrev pub true_at : Reader Value
+true_at = mapped (λ _. Bool true) (fixed rue)
 
 -- `&` and a pointer, `@` and a block, `false`, `true`, or a number
 unfoldable pub value_at : Reader Value

@@ -25,7 +25,7 @@ pub enum FaultKind {
 
 impl FaultKind {
     /// By the place in the list of the kinds, as `cmp`.
-    #[tactic(auto, using(crate::proofs::Orders::derived_fault_kind_cmp))]
+    #[tactic(auto, using(crate::specs::ExactOrders::derived_fault_kind_cmp))]
     pub fn compare(self, other: FaultKind) -> Ordering
         ensures { result ≡ fault_kind_cmp self other }
     {

@@ -1,6 +1,7 @@
 //! Values and operators.
 #![tactic(auto)]
 
+mod exact;
 mod fault_kind;
 mod operators;
 mod reading;

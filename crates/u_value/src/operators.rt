@@ -78,7 +78,9 @@ pub fn apply2(operator: BinaryOperator, a: &Value, b: &Value) -> Result<Value, F
 /// # Errors
 /// `Kind` where the control is no truth value.
 pub fn select<'a>(control: &Value, a: &'a Value, b: &'a Value) -> Result<&'a Value, FaultKind>
-    ensures { MatchResult result (λ v. chosen control.now a.now b.now ≡ Ok v.now) (λ k. chosen control.now a.now b.now ≡ Err k) }
+    ensures { MatchResult result
+        (λ v. chosen control.now a.now b.now ≡ Ok v.now)
+        (λ k. chosen control.now a.now b.now ≡ Err k) }
 {
     match control {
         Value::Bool(true) => Ok(a),

@@ -1,12 +1,9 @@
 //! Values read from bytes.
-ghost use Rattle.std.specs.Prelude.{◌≡◌, ◌≤◌, true, false, Ok, Err, MatchResult, IfOk, length, drop};
+ghost use Rattle.std.specs.Prelude.{◌≡◌, ◌≤◌, Ok, Err, MatchResult, IfOk, length, drop};
 ghost use Rattle.u_name.specs.BlockText.{block_at};
 ghost use Rattle.u_text.specs.Choice.{mapped};
-ghost use Rattle.u_text.specs.Fixed.{fixed};
-ghost use Rattle.u_text.specs.FromZero.{number0};
-ghost use Rattle.u_text.specs.Parts.{lead};
 ghost use Rattle.u_text.specs.Signed.{signed};
-ghost use Rattle.u_value.specs.Reading.{pointer_at, reference_of, alse, rue, value_at, IsValueOf, IsValueErrorOf, IsValueAt, IsValueErrorAt};
+ghost use Rattle.u_value.specs.Reading.{length_at, pointer_at, reference_of, false_at, true_at, value_at, IsValueOf, IsValueErrorOf, IsValueAt, IsValueErrorAt};
 ghost use Rattle.u_value.specs.declared.reading.ValueTextError.TheVariants.{NoMemory, BadValue};
 ghost use Rattle.u_value.specs.declared.value.Value.TheVariants as values;
 
@@ -38,11 +35,11 @@ impl From<AllocError> for ValueTextError {
 }
 
 /// `#` and a length from 0 to 1000000, behind a name.
-#[tactic(auto, using(u_text::specs::FromZero::number0_at_bound))]
+#[tactic(auto, using(u_text::proofs::FromZeroLaws::number0_at_bound))]
 fn with_length(name: Name, bytes: &[u8]) -> Front<'_, Reference>
     ensures { MatchResult result
-        (λ found. (found.0.name ≡ name) × (lead 35 (number0 1000000) bytes.now ≡ Ok (found.0.length, found.1.now)))
-        (λ rest. lead 35 (number0 1000000) bytes.now ≡ Err rest.now) }
+        (λ found. (found.0.name ≡ name) × (length_at bytes.now ≡ Ok (found.0.length, found.1.now)))
+        (λ rest. length_at bytes.now ≡ Err rest.now) }
 {
     let (length, rest) = number0_at(after(bytes, b'#')?, 1000000)?;
     Ok((Reference::new(name, length), rest))
@@ -79,8 +76,8 @@ fn front_procedure(bytes: &[u8]) -> Front<'_, Value>
 /// What is left of `false` behind its `f`.
 fn front_false(bytes: &[u8]) -> Front<'_, Value>
     ensures { MatchResult result
-        (λ found. mapped (λ _. values.Bool false) (fixed alse) bytes.now ≡ Ok (found.0, found.1.now))
-        (λ rest. mapped (λ _. values.Bool false) (fixed alse) bytes.now ≡ Err rest.now) }
+        (λ found. false_at bytes.now ≡ Ok (found.0, found.1.now))
+        (λ rest. false_at bytes.now ≡ Err rest.now) }
 {
     let rest = after_all(bytes, b"alse")?;
     Ok((Value::Bool(false), rest))
@@ -89,8 +86,8 @@ fn front_false(bytes: &[u8]) -> Front<'_, Value>
 /// What is left of `true` behind its `t`.
 fn front_true(bytes: &[u8]) -> Front<'_, Value>
     ensures { MatchResult result
-        (λ found. mapped (λ _. values.Bool true) (fixed rue) bytes.now ≡ Ok (found.0, found.1.now))
-        (λ rest. mapped (λ _. values.Bool true) (fixed rue) bytes.now ≡ Err rest.now) }
+        (λ found. true_at bytes.now ≡ Ok (found.0, found.1.now))
+        (λ rest. true_at bytes.now ≡ Err rest.now) }
 {
     let rest = after_all(bytes, b"rue")?;
     Ok((Value::Bool(true), rest))
@@ -111,7 +108,7 @@ fn front_number(bytes: &[u8]) -> Front<'_, Value>
 ///
 /// # Errors
 /// `AllocError` where there is no memory.
-#[tactic(auto, using(crate::proofs::Read::behind_other, crate::proofs::Read::behind_nothing))]
+#[tactic(auto, using(crate::proofs::ReadingLaws::behind_other, crate::proofs::ReadingLaws::behind_nothing))]
 pub fn front_value(alloc: Global, bytes: &[u8]) -> Result<Front<'_, Value>, AllocError>
     ensures { IfOk result (λ front. MatchResult front
         (λ found. value_at bytes.now ≡ Ok (found.0, found.1.now))

@@ -24,7 +24,7 @@ pub enum Value {
 
 impl Value {
     /// By kind, and then by the value, as `cmp`.
-    #[tactic(auto, using(crate::proofs::Orders::derived_value_cmp))]
+    #[tactic(auto, using(crate::specs::ExactOrders::derived_value_cmp))]
     pub fn compare(&self, other: &Value) -> Ordering
         ensures { result ≡ value_cmp self.now other.now }
     {

@@ -1,5 +1,5 @@
 use Rattle.std.proofs.Common.{rules, ◌≡◌, ◌∷◌, ◌+◌, drop, arith, length}
-use Rattle.u_text.specs.Pieces.{drop_step, free_step}
+use Rattle.u_text.proofs.PiecesLaws.{drop_step, free_step}
 use Rattle.u_text.proofs.cutting.cut.Goals as goal
 
 pub loop-first-preserved : goal.loop-first-preserved

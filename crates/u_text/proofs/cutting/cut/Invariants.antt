@@ -1,5 +1,5 @@
 use Rattle.std.proofs.Common.{◌≡◌, ◌+◌, length, take, drop}
-use Rattle.u_text.specs.Pieces.{Free}
+use Rattle.u_text.proofs.PiecesLaws.{Free}
 use Rattle.u_text.proofs.cutting.cut.Given as goal
 
 abbrev pub invariant-loop-first : goal.invariant-loop-first

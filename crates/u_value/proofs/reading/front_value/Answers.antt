@@ -1,7 +1,7 @@
 use Rattle.std.proofs.Common.{◌≡◌, ◌∷◌, ℕ, List, Result, Ok, Err, sym, subst, rules}
 use Rattle.std.specs.Prelude.{MatchResult, IfOk}
 use Rattle.u_value.specs.declared.value.Value.{Value}
-use Rattle.u_value.proofs.Read.{behind_ampersand, behind_at, behind_f, behind_t}
+use Rattle.u_value.proofs.ReadingLaws.{behind_ampersand, behind_at, behind_f, behind_t}
 use Rattle.u_value.proofs.reading.front_value.Goals as goal
 
 abbrev R : Type 0

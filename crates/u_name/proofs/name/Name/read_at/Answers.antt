@@ -1,5 +1,5 @@
 use Rattle.std.proofs.Common.{◌∙◌, ap, sym, subst, ◌≤◌, List, ℕ}
-use Rattle.u_name.specs.NameSteps.{name_steps, paren_span}
+use Rattle.u_name.specs.NameReader.{name_steps, paren_span}
 use Rattle.u_name.proofs.WholeTexts.{name_found, name_missing, name_found_within, name_missing_within}
 use Rattle.u_name.proofs.name.Name.read_at.Goals as goal
 

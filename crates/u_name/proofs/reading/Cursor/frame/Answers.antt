@@ -1,4 +1,4 @@
-use Rattle.u_name.proofs.Fine.{frame_is_fine}
+use Rattle.u_name.proofs.PartsInRange.{frame_is_fine}
 use Rattle.u_name.proofs.reading.Cursor.frame.Goals as goal
 
 pub returns-clause-fine : goal.returns-clause-fine

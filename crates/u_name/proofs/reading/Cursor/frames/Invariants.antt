@@ -1,6 +1,6 @@
 use Rattle.std.proofs.Common.{◌≡◌, ◌+◌}
 use Rattle.u_name.specs.Context.{depth, Top}
-use Rattle.u_name.specs.NameSteps.{frames_from}
+use Rattle.u_name.specs.NameReader.{frames_from}
 use Rattle.u_name.proofs.reading.Cursor.frames.Given as goal
 
 abbrev pub invariant-loop-left : goal.invariant-loop-left

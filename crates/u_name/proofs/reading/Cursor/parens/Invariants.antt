@@ -1,5 +1,5 @@
 use Rattle.std.proofs.Common.{◌≡◌, ◌≤◌, ◌+◌, ◌-◌, length, drop}
-use Rattle.u_name.specs.NameSteps.{paren_span}
+use Rattle.u_name.specs.NameReader.{paren_span}
 use Rattle.u_name.proofs.reading.Cursor.parens.Given as goal
 
 abbrev pub invariant-loop-byte : goal.invariant-loop-byte

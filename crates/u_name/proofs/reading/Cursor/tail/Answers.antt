@@ -1,4 +1,4 @@
-use Rattle.u_name.proofs.Fine.{tail_is_fine}
+use Rattle.u_name.proofs.PartsInRange.{tail_is_fine}
 use Rattle.u_name.proofs.reading.Cursor.tail.Goals as goal
 
 pub returns-clause-fine : goal.returns-clause-fine

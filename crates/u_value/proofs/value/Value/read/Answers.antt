@@ -1,7 +1,7 @@
 use Rattle.std.proofs.Common.{◌≡◌, ◌<◌, Ok, Err, length, rules, arith}
 use Rattle.std.proofs.lemmas.Bool.Decides.{nat_tests}
 use Rattle.u_value.specs.Reading.{value_at}
-use Rattle.u_value.proofs.Read.{value_whole, value_left_over, value_left_within, value_refused_whole, value_refused_within}
+use Rattle.u_value.proofs.ReadingLaws.{value_whole, value_left_over, value_left_within, value_refused_whole, value_refused_within}
 use Rattle.u_value.proofs.value.Value.read.Goals as goal
 
 pub overflow_sub-result : goal.overflow_sub-result

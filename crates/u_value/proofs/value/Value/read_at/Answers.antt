@@ -1,6 +1,6 @@
 use Rattle.std.proofs.Common.{◌≡◌, ◌∙◌, Ok, Err, ap, rules}
 use Rattle.u_value.specs.Reading.{value_at}
-use Rattle.u_value.proofs.Read.{value_found, value_missing, value_found_within, value_missing_within}
+use Rattle.u_value.proofs.ReadingLaws.{value_found, value_missing, value_found_within, value_missing_within}
 use Rattle.u_value.proofs.value.Value.read_at.Goals as goal
 
 pub overflow_sub-result : goal.overflow_sub-result

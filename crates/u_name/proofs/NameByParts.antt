@@ -1,22 +1,47 @@
-use Rattle.std.specs.Prelude.{◌≡◌, ℕ, zero, suc, ◌+◌, ◌≤◌, List, [], ◌∷◌, ◌++◌, ◌⊎◌, length, refl}
-use Rattle.std.proofs.Common.{true, sym, ◌∙◌, ap, subst, inl, inr, append_assoc, arith}
-use Rattle.std.specs.Prelude.{Ok}
+-- A reader of names that is put together of parts reads the longest text of a name.
+use Rattle.std.specs.Prelude.{◌≡◌, ℕ, zero, suc, ◌+◌, ◌≤◌, List, [], ◌∷◌, ◌++◌, ◌⊎◌, length, refl, true, Ok}
+use Rattle.std.proofs.Common.{sym, ◌∙◌, ap, subst, inl, inr, append_assoc, arith}
 use Rattle.std.proofs.lemmas.List.{append-nil}
 use Rattle.std.specs.Fmt.{decimal}
-use Rattle.u_name.specs.Block.{IsBlock, is_block_byte}
+use Rattle.u_text.proofs.ReaderLaws.{Reads}
+use Rattle.u_text.specs.Reader.{Reader}
+use Rattle.u_text.proofs.PartsLaws.{NoByte, empty_Reads, lead_Reads}
+use Rattle.u_text.specs.Parts.{empty}
+use Rattle.u_text.proofs.ThenLaws.{after, both_Reads}
+use Rattle.u_text.specs.Then.{AreBoth, both}
+use Rattle.u_text.proofs.ChoiceLaws.{mapped_Reads, one_text, choice_Reads}
+use Rattle.u_text.specs.Choice.{IsOne, mapped}
+use Rattle.u_text.specs.Number.{number, IsUpTo}
+use Rattle.u_text.proofs.NumberLaws.{IsDigit, number_Reads, number_first}
+use Rattle.u_text.specs.Fixed.{IsUnit}
+use Rattle.u_name.specs.Block.{is_block_byte}
 use Rattle.u_name.specs.Context.{Tree, Top, InLoop, InCall, depth, InRange}
 use Rattle.u_name.specs.Name.{Activity, activity, IsName}
-use Rattle.u_text.specs.Reads.{Reads}
-use Rattle.u_text.specs.Parts.{NoByte, empty_Reads, lead_Reads}
-use Rattle.u_text.specs.Then.{after, AreBoth, both_Reads}
-use Rattle.u_text.specs.Choice.{mapped_Reads, one_text, IsOne, choice_Reads}
-use Rattle.u_text.specs.Number.{number, IsUpTo, IsDigit, number_Reads, number_first}
-use Rattle.u_name.specs.BlockText.{IsBlockByte, block_Reads}
-use Rattle.u_name.specs.NameReader.{Frame, Tail, byte, step_at, frame_at, tail_at, frames_at, to_depth, opens_at, framed, tree_onto, Whole, whole_at, name_of, name_at}
+use Rattle.u_name.proofs.BlockTextLaws.{IsBlockByte, block_Reads}
+use Rattle.u_name.specs.NameReader.{Frame, Tail, byte, step_at, frame_at, tail_at, to_depth, opens_at, framed, IsStep, IsFrame, IsTail}
 use Rattle.u_name.specs.NameText.{context_text, name_text}
 
-abbrev pub IsUnit : Unit {0} → Type 0
-IsUnit z = z ≡ tt
+-- frames, the outermost first
+abbrev pub frames_at : ℕ → Reader (List Frame)
+frames_at zero = empty []
+frames_at (suc d) = mapped (λ z. z.0 ∷ z.1) (both frame_at (λ _. frames_at d))
+
+-- the context that frames make on another one, the outermost first
+abbrev pub tree_onto : Tree → List Frame → Tree
+tree_onto u [] = u
+tree_onto u (f ∷ fs) = tree_onto (framed u f) fs
+
+abbrev pub Whole : Type 0
+Whole = ℕ × (List Frame × Tail)
+
+abbrev pub whole_at : Reader Whole
+whole_at = both (opens_at 64) (λ d. both (frames_at d) (λ _. tail_at))
+
+abbrev pub name_of : Whole → Activity
+name_of z = activity (tree_onto Top z.1.0) z.1.1.0 z.1.1.1.0 z.1.1.1.1
+
+unfoldable pub name_at : Reader Activity
+name_at = mapped name_of whole_at
 
 byte_Reads : (c : ℕ) → Reads (λ (z : Unit {0}). c ∷ []) IsUnit NoByte (byte c)
 byte_Reads c = lead_Reads c (empty_Reads tt)
@@ -39,9 +64,6 @@ statement_Reads = number_Reads 999 (omega arith) (omega arith)
 abbrev step_text : ℕ ⊎ ℕ → List ℕ
 step_text = one_text 76 decimal decimal
 
-abbrev pub IsStep : ℕ ⊎ ℕ → Type 0
-IsStep = IsOne (IsUpTo 99) (IsUpTo 999)
-
 step_Reads : Reads step_text IsStep IsDigit step_at
 step_Reads = choice_Reads 76 (number_Reads 99 (omega arith) (omega arith)) statement_Reads (λ y u v w e. number_first 999 (omega arith) (omega arith) y w 76 u v (omega arith) e)
 
@@ -50,9 +72,6 @@ end_text = after decimal (λ _ _. 41 ∷ [])
 
 abbrev frame_text : Frame → List ℕ
 frame_text f = 46 ∷ after (λ b. b) (λ _ g. 46 ∷ after step_text (λ _ k. 46 ∷ end_text k) g) f
-
-abbrev pub IsFrame : Frame → Type 0
-IsFrame = AreBoth IsBlock (λ _. AreBoth IsStep (λ _. AreBoth (IsUpTo 4294967295) (λ _. IsUnit)))
 
 frame_Reads : Reads frame_text IsFrame NoByte frame_at
 frame_Reads =
@@ -67,9 +86,6 @@ frame_Reads =
 
 abbrev tail_text : Tail → List ℕ
 tail_text f = 46 ∷ after (λ b. b) (λ _ g. 46 ∷ after decimal (λ _ i. 46 ∷ decimal i) g) f
-
-abbrev pub IsTail : Tail → Type 0
-IsTail = AreBoth IsBlock (λ _. AreBoth (IsUpTo 999) (λ _. IsUpTo 4294967295))
 
 tail_Reads : Reads tail_text IsTail IsDigit tail_at
 tail_Reads =

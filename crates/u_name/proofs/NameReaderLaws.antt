@@ -1,36 +1,16 @@
--- The reader of names as the code goes: the `(`, the `-`, the frames one by one, the tail.
-use Rattle.std.specs.Prelude.{◌≡◌, ℕ, zero, suc, ◌-◌, ◌<◌, ◌≤◌, Bool, true, false, cond, ◌==◌, List, [], ◌∷◌, drop, Result, Ok, Err, refl}
-use Rattle.std.proofs.Common.{inl, inr, sym, ◌∙◌, ap, subst, arith}
+-- The reader of names as the code goes is the one that is put together of parts, so it reads the longest text of a name.
+use Rattle.std.specs.Prelude.{◌≡◌, ℕ, zero, suc, ◌≤◌, List, [], ◌∷◌, ◌⊎◌, refl, true, Ok, ◌-◌, ◌<◌, Bool, false, cond, ◌==◌, drop, Result, Err}
+use Rattle.std.proofs.Common.{sym, ◌∙◌, ap, subst, inl, inr, arith}
+use Rattle.u_text.proofs.ReaderLaws.{Reads}
+use Rattle.u_text.specs.Reader.{Reader, ◌>>=◌}
+use Rattle.u_text.proofs.NumberLaws.{IsDigit}
+use Rattle.u_text.specs.Parts.{after_byte}
+use Rattle.u_text.specs.Choice.{mapped}
 use Rattle.u_name.specs.Context.{Tree, Top}
 use Rattle.u_name.specs.Name.{Activity, activity, IsName}
-use Rattle.u_text.specs.Reads.{Reader, Reads, ◌>>=◌}
-use Rattle.u_text.specs.Parts.{after_byte}
-use Rattle.u_text.specs.Number.{IsDigit}
-use Rattle.u_text.specs.Choice.{mapped}
-use Rattle.std.specs.Prelude.{◌⊎◌}
+use Rattle.u_name.specs.NameReader.{Frame, Tail, byte, frame_at, tail_at, to_depth, opens_at, framed, paren_span, frames_from, rest_at, dash_at, name_steps}
+use Rattle.u_name.proofs.NameByParts.{frames_at, tree_onto, name_of, name_at, name_Reads}
 use Rattle.u_name.specs.NameText.{name_text}
-use Rattle.u_name.specs.NameReader.{Frame, Tail, byte, frame_at, frames_at, tail_at, opens_at, to_depth, framed, tree_onto, name_of, name_at}
-use Rattle.u_name.specs.NameLaws.{name_Reads}
-
--- how many `(` stand at the front, up to a most
-abbrev pub paren_span : ℕ → List ℕ → ℕ
-paren_span zero cs = 0
-paren_span (suc room) [] = 0
-paren_span (suc room) (c ∷ cs) = cond (c == 40) (suc (paren_span room cs)) 0
-
-abbrev pub frames_from : ℕ → Tree → Reader Tree
-frames_from zero u bs = Ok (u, bs)
-frames_from (suc d) u bs = frame_at bs >>= λ a. frames_from d (framed u a.0) a.1
-
-abbrev pub rest_at : ℕ → Reader Activity
-rest_at d bs = frames_from d Top bs >>= λ c. tail_at c.1 >>= λ t. Ok (activity c.0 t.0.0 t.0.1.0 t.0.1.1, t.1)
-
--- 64 `(` at most, and a `-`
-unfoldable pub dash_at : Reader ℕ
-dash_at bs = opens_at 64 bs
-
-abbrev pub name_steps : Reader Activity
-name_steps bs = dash_at bs >>= λ d. rest_at d.0 d.1
 
 abbrev R : Type 0 → Type 0
 R A = Result A (List ℕ)

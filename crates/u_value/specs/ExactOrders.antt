@@ -1,16 +1,17 @@
--- The orders are total, and tie only what is equal.
+-- Values and fault kinds have total orders in which only a thing itself ties with it. These laws
+-- stand here because the impls of `ExactOrd` cite them.
 use Rattle.std.proofs.Common.{◌≡◌, ℕ, ℤ, zero, suc, true, false, refl, ap, sym, ◌∙◌}
 use Rattle.std.specs.Prelude
-use Rattle.std.specs.Cmp.{IsTotalOrder}
+use Rattle.std.specs.Cmp.{IsTotalOrder, Equal-is}
 use Rattle.std.specs.FinMap.{nat_cmp-IsAntisymmetric}
 use Rattle.std.specs.Ordering.{is_eq, ordering_reverse, int_cmp, bool_cmp}
 use Rattle.std.specs.declared.cmp.Ordering.{Ordering}
 use Rattle.std.proofs.lemmas.Cmp.{tied_itself, nat_cmp_total, on_total, then_total}
 use Rattle.std.proofs.lemmas.Map.Lookups.{exact_signed}
 use Rattle.u_name.specs.ContextLaws.{both}
-use Rattle.u_name.specs.NameOrder.{name_cmp_total}
-use Rattle.u_name.proofs.ExactOrders.{block_cmp_ties, name_cmp_ties}
-use Rattle.std.specs.declared.cmp.Ordering.TheVariants.{Less, Equal, Greater}
+use Rattle.u_name.specs.NameOrder.{name_cmp_total, name_cmp_ties}
+use Rattle.u_name.specs.ExactOrders.{block_cmp_ties}
+use Rattle.std.specs.declared.cmp.Ordering.TheVariants.{Equal}
 use Rattle.u_value.specs.Pointer.{Pointer, pointer}
 use Rattle.u_value.specs.Values.{pointer_cmp, value_cmp}
 use Rattle.u_value.specs.FaultKinds.{fault_kind_cmp, fault_kind_place}
@@ -85,6 +86,10 @@ value_cmp_ties (Proc a) (Proc b) h = ap (λ n. Proc n) (block_cmp_ties a b h)
 value_cmp_ties (Ref a) (Ref b) h = ap (λ p. Ref p) (pointer_cmp_ties a b h)
 value_cmp_ties a b h = cc
 
+-- and so for the order that is derived
+pub derived_value_ties : (a b : Value) → (value_ord.ghosts).cmp a b ≡ Equal → a ≡ b
+derived_value_ties a b h = value_cmp_ties a b (sym (derived_value_cmp a b) ∙ h)
+
 kind_at : ℕ → FaultKind
 kind_at zero = Kind
 kind_at (suc zero) = Overflow
@@ -108,14 +113,13 @@ kind_at_place Bounds = refl
 pub fault_kind_cmp_ties : (a b : FaultKind) → fault_kind_cmp a b ≡ Equal → a ≡ b
 fault_kind_cmp_ties a b h = sym (kind_at_place a) ∙ ap kind_at (nat_cmp-IsAntisymmetric (fault_kind_place a) (fault_kind_place b) h) ∙ kind_at_place b
 
-tied : (r : Ordering) → is_eq r ≡ true → r ≡ Equal
-tied Less h = cc
-tied Equal h = refl
-tied Greater h = cc
+-- and so for the order that is derived
+pub derived_fault_kind_ties : (a b : FaultKind) → (fault_kind_ord.ghosts).cmp a b ≡ Equal → a ≡ b
+derived_fault_kind_ties a b h = fault_kind_cmp_ties a b (sym (derived_fault_kind_cmp a b) ∙ h)
 
 -- what `==` holds of is the same
 pub same_value : (a b : Value) → (value_eq.ghosts).eq a b ≡ true → a ≡ b
-same_value a b h = value_cmp_ties a b (sym (derived_value_cmp a b) ∙ tied _ (sym (value_laws.matches_eq-law a b) ∙ h))
+same_value a b h = value_cmp_ties a b (sym (derived_value_cmp a b) ∙ (Equal-is ((value_ord.ghosts).cmp a b)).0 (sym (value_laws.matches_eq-law a b) ∙ h))
 
 -- and what is the same is equal
 pub value_equals_itself : (a : Value) → (value_eq.ghosts).eq a a ≡ true

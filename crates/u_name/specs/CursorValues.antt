@@ -1,3 +1,4 @@
+-- What the parts of a name that the cursor reads stand for.
 use Rattle.std.specs.Prelude.{ℕ, ◌⊎◌}
 use Rattle.std.proofs.Common.{inl, inr}
 use Rattle.u_name.specs.declared.reading.Step.{Step}

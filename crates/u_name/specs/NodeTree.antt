@@ -1,3 +1,4 @@
+-- The tree that a node of a context is, and what stands beside an outer context.
 use Rattle.std.specs.Prelude.{◌≡◌}
 use Rattle.u_name.specs.declared.context.Node.{Node}
 use Rattle.u_name.specs.declared.context.Node.TheVariants.{Root, Loop, Call}

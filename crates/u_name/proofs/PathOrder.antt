@@ -23,15 +23,16 @@ then_same Less s t = refl
 then_same Equal s t = refl
 then_same Greater s t = refl
 
+-- what ties with a tie is the first
+pub then_equal : (r : Ordering) → ordering_then r Equal ≡ r
+then_equal Less = refl
+then_equal Equal = refl
+then_equal Greater = refl
+
 module _ {X : Type 0} (R : X → X → Ordering) where
   -- lists as long, with one more behind each
   behind : (xs ys : List X) (x y : X) → length xs ≡ length ys → slice_cmp R (xs ++ x ∷ []) (ys ++ y ∷ []) ≡ ordering_then (slice_cmp R xs ys) (R x y)
-  behind [] [] x y h = last (R x y)
-    where
-      last : (r : Ordering) → ordering_then r Equal ≡ r
-      last Less = refl
-      last Equal = refl
-      last Greater = refl
+  behind [] [] x y h = then_equal (R x y)
   behind [] (y' ∷ ys) x y h = absurd (omega arith)
   behind (x' ∷ xs) [] x y h = absurd (omega arith)
   behind (x' ∷ xs) (y' ∷ ys) x y h =

@@ -5,22 +5,28 @@ use Rattle.std.specs.Fmt.{decimal, signed_decimal}
 use Rattle.std.proofs.lemmas.Bool.Decides.{nat_tests}
 use Rattle.std.specs.Int.{w64}
 use lib.IntN.{ℤ}
-use Rattle.u_text.specs.Reads.{Reader, Reads, ◌>>=◌}
-use Rattle.u_text.specs.Parts.{alike, unlike, same_or, lead_Reads, widened}
-use Rattle.u_text.specs.Then.{after, AreBoth, both_Reads}
-use Rattle.u_text.specs.Choice.{mapped, mapped_Reads, choice, choice_Reads, one_text, IsOne}
-use Rattle.u_text.specs.Number.{IsDigit}
-use Rattle.u_text.specs.FromZero.{number0_Reads}
-use Rattle.u_text.specs.Signed.{signed, signed_Reads, signed_first}
-use Rattle.u_text.specs.Fixed.{fixed, fixed_Reads, IsUnit}
-use Rattle.u_text.specs.TextAt.{read_within, refused_within, whole_read, refused_whole, left_over, found_at, missing_at, found_within, missing_within}
+use Rattle.u_text.specs.Reader.{Reader, ◌>>=◌}
+use Rattle.u_text.proofs.ReaderLaws.{Reads}
+use Rattle.u_text.proofs.PartsLaws.{alike, unlike, same_or, lead_Reads, widened}
+use Rattle.u_text.proofs.ThenLaws.{after, both_Reads}
+use Rattle.u_text.specs.Then.{AreBoth}
+use Rattle.u_text.specs.Choice.{mapped, choice, IsOne}
+use Rattle.u_text.proofs.ChoiceLaws.{mapped_Reads, choice_Reads, one_text}
+use Rattle.u_text.proofs.NumberLaws.{IsDigit}
+use Rattle.u_text.proofs.FromZeroLaws.{number0_Reads}
+use Rattle.u_text.specs.Signed.{signed}
+use Rattle.u_text.proofs.SignedLaws.{signed_Reads, signed_first}
+use Rattle.u_text.specs.Fixed.{fixed, IsUnit}
+use Rattle.u_text.proofs.FixedLaws.{fixed_Reads}
+use Rattle.u_text.proofs.TextAtLaws.{read_within, refused_within, whole_read, refused_whole, left_over, found_at, missing_at, found_within, missing_within}
 use Rattle.u_name.specs.Block.{IsBlock}
-use Rattle.u_name.specs.BlockText.{block_at, block_Reads, IsBlockByte}
+use Rattle.u_name.specs.BlockText.{block_at}
+use Rattle.u_name.proofs.BlockTextLaws.{block_Reads, IsBlockByte}
 use Rattle.u_name.specs.Name.{Activity, IsName}
 use Rattle.u_name.specs.NameText.{name_text}
-use Rattle.u_name.specs.NameSteps.{name_steps_Reads}
+use Rattle.u_name.proofs.NameReaderLaws.{name_steps_Reads}
 use Rattle.u_value.specs.Values.{value_text, pointer_text}
-use Rattle.u_value.specs.Reading.{IsValue, pointer_at, Read, reference_of, value_of, alse, rue, value_at, IsValueOf, IsValueErrorOf, IsValueAt, IsValueErrorAt}
+use Rattle.u_value.specs.Reading.{IsValue, pointer_at, Read, reference_of, value_of, alse, rue, false_at, true_at, value_at, IsValueOf, IsValueErrorOf, IsValueAt, IsValueErrorAt}
 use Rattle.u_value.specs.declared.value.Value.{Value}
 use Rattle.u_value.specs.declared.value.Value.TheVariants.{Int, Bool, Proc, Ref}
 use Rattle.u_value.specs.declared.reading.ValueTextError.TheVariants.{BadValue}
@@ -184,12 +190,12 @@ pub behind_at : (bs cs : List ℕ) → bs ≡ 64 ∷ cs → value_at bs ≡ mapp
 unfolding value_at
 behind_at bs cs e = ap value_at e ∙ ap (on value_of) (twice inl inr (block_at cs)) ∙ twice (λ b. inr (inl b)) value_of (block_at cs)
 
-pub behind_f : (bs cs : List ℕ) → bs ≡ 102 ∷ cs → value_at bs ≡ mapped (λ _. Bool false) (fixed alse) cs
+pub behind_f : (bs cs : List ℕ) → bs ≡ 102 ∷ cs → value_at bs ≡ false_at cs
 unfolding value_at
 behind_f bs cs e =
     ap value_at e ∙ ap (on value_of) (ap (on inr) (twice inl inr (fixed alse cs)) ∙ twice (λ t. inr (inl t)) inr (fixed alse cs)) ∙ twice (λ t. inr (inr (inl t))) value_of (fixed alse cs)
 
-pub behind_t : (bs cs : List ℕ) → bs ≡ 116 ∷ cs → value_at bs ≡ mapped (λ _. Bool true) (fixed rue) cs
+pub behind_t : (bs cs : List ℕ) → bs ≡ 116 ∷ cs → value_at bs ≡ true_at cs
 unfolding value_at
 behind_t bs cs e =
     ap value_at e
