@@ -2,13 +2,6 @@ pub mod Member
 pub mod Held
 pub mod Closure
 pub mod Apart
-pub mod Scan
 pub mod Plain
-pub mod Ordered
 pub mod Determinate
-pub mod Sorted
 pub mod PlainFrom
-pub mod Places
-pub mod Keys
-pub mod Hashed
-pub mod Numbers

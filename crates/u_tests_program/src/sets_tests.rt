@@ -1,13 +1,12 @@
 //! Worked lists and sets of numbers.
 use std::alloc::{AllocError, Global};
 use std::test::Fail;
-use u_system::{OrderedSet, has, place_in, union};
+use u_sets::{OrderedSet, has, place_in};
 
 /// Numbers as they are put in, with whether each is new.
 const PUT_IN: &[(u32, bool)] = &[(7, true), (5, true), (7, false), (6, true)];
 
 /// Whether a list that 7, 5, 7 and 6 are put into in order is 5, 6 and 7.
-#[tactic(auto, using(u_system::proofs::Numbers::numbers_exact))]
 fn list_has(alloc: Global) -> Result<bool, AllocError> {
     let mut list = Vec::new(alloc);
     let is_new = place_in(&mut list, 7_u32)? && place_in(&mut list, 5_u32)?;
@@ -17,7 +16,6 @@ fn list_has(alloc: Global) -> Result<bool, AllocError> {
 }
 
 /// Whether an ordered set that they are put into has 5, 6 and 7, and then 6 and 7.
-#[tactic(auto, using(u_system::proofs::Numbers::numbers_exact))]
 fn ordered_set_has(alloc: Global) -> Result<bool, AllocError> {
     let mut set = OrderedSet::new(alloc);
     for (number, is_new) in PUT_IN {
@@ -29,17 +27,9 @@ fn ordered_set_has(alloc: Global) -> Result<bool, AllocError> {
     Ok(whole && set.nth(0) == Some(&5) && set.remove(&5) && set.nth(0) == Some(&6))
 }
 
-/// Whether the union of two lists in order is in order and has each number once.
-#[tactic(auto, using(u_system::proofs::Numbers::numbers_exact))]
-fn union_has(alloc: Global) -> Result<bool, AllocError> {
-    let all = union(alloc, [2_u32, 4].as_slice(), [1_u32, 4, 6].as_slice())?;
-    Ok(all.as_slice() == [1, 2, 4, 6].as_slice())
-}
-
 #[test]
 fn sets_have_what_was_put_in(rt: HostRuntime) -> Result<(), Fail> {
     assert!(rt; list_has(rt.alloc())?);
     assert!(rt; ordered_set_has(rt.alloc())?);
-    assert!(rt; union_has(rt.alloc())?);
     Ok(())
 }

@@ -1,0 +1,22 @@
+-- Lists that rise by an order, and orders in which only a thing itself ties with it.
+use Rattle.std.specs.Prelude.{◌≡◌, List, [], ◌∷◌, ◌↔◌, Contains}
+use Rattle.std.specs.declared.cmp.Ordering.{Ordering}
+use Rattle.std.specs.declared.cmp.Ordering.TheVariants.{Less, Equal}
+
+-- each member is below all later ones
+abbrev pub Ascending : {X : Type 0} → (X → X → Type 0) → List X → Type 0
+Ascending lt [] = Unit {0}
+Ascending {X} lt (x ∷ xs) = ((y : X) → Contains xs y → lt x y) × Ascending lt xs
+
+-- each member is below all later ones in that order
+abbrev pub Rises : {X : Type 0} → (X → X → Ordering) → List X → Type 0
+Rises R xs = Ascending (λ a b. R a b ≡ Less) xs
+
+-- only a thing itself ties with it
+abbrev pub IsExact : {X : Type 0} → (X → X → Ordering) → Type 0
+IsExact {X} R = (a b : X) → R a b ≡ Equal → a ≡ b
+
+-- xs is the list, in order, of exactly those with P
+pub record IsListOf {X : Type 0} (R : X → X → Ordering) (P : X → Type 0) (xs : List X) : Type 0 where
+  pub rises : Rises R xs
+  pub exact : (x : X) → Contains xs x ↔ P x

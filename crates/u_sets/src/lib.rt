@@ -1,0 +1,17 @@
+//! Sets that are kept in order or found by hashes, and lists that rise.
+//!
+//! `specs/` says when a list rises and what its members are after a key was put in or taken out;
+//! `proofs/` has the laws: one set has one list that rises, and how unions of such lists agree.
+//! Members are things that tie with nothing but themselves, so that a set never answers for a key
+//! that is merely alike: this is the fact of the trait `ExactOrd`.
+#![tactic(auto)]
+
+mod exact_ord;
+mod hashed_set;
+mod ordered_set;
+mod rising;
+
+pub use exact_ord::ExactOrd;
+pub use hashed_set::HashedSet;
+pub use ordered_set::OrderedSet;
+pub use rising::{has, place_in};
