@@ -15,8 +15,9 @@ use Rattle.u_program.specs.declared.program.Destination.{Destination}
 use Rattle.u_program.specs.Limits.{AreLoops}
 use Rattle.u_program.specs.Parts.{StatementParts, BlockParts}
 use Rattle.u_check.specs.declared.rule.Rule.{Rule}
-use Rattle.u_check.specs.declared.rule.Rule.TheVariants.{BlockNamesDiffer, MainExists, BeginComesFirst, RegionExists, DestinationExists, EntriesTakeNothing, EnterReachesItsLoop, ApplyNamesBack, BackIsNamed, ConstantNamesBlock, LoopStatementsInLoops, LastSendsToLeave, LeaveSendsOut, EndInOuterRegion, OwnRegion, PortsAreFed}
-use Rattle.u_check.specs.Rules.{ports_of, is_begin, is_back, is_last, is_leave, is_end, is_entry, is_of_loop, crosses, main_name, names_block, block_named, statement_at, held_by, sends, begins_well, is_outer, has_port, reaches, takes_tokens, lies_in, holds, enters_inward, lies_in_entered, is_back_in, names_back, applies_to, is_applied, leaves_after_last, lies_in_some, gives_block, sends_to, is_fed, is_whole, program_keeps, block_keeps, itself_keeps, destination_keeps, statement_keeps, IsChecked}
+use Rattle.u_check.specs.declared.rule.Rule.TheVariants.{BlockNamesDiffer, MainExists, BeginComesFirst, RegionExists, DestinationExists, BeginAndBackTakeNothing, EnterReachesItsLoop, ApplyNamesBack, BackIsNamed, ConstantNamesBlock, LoopStatementsInLoops, LastSendsToLeave, LeaveSendsOut, EndInOuterRegion, OwnRegion, PortsAreFed}
+use Rattle.u_check.specs.Kinds.{ports_of, is_begin, is_back, is_last, is_leave, is_end, comes_from_outside, is_of_loop, crosses}
+use Rattle.u_check.specs.Rules.{main_name, names_block, block_named, statement_at, held_by, sends, begins_well, is_outer, has_port, reaches, takes_tokens, lies_in, holds, enters_inward, lies_in_entered, is_back_in, names_back, applies_to, is_applied, leaves_after_last, lies_in_some, gives_block, sends_to, is_fed, is_whole, program_keeps, block_keeps, itself_keeps, destination_keeps, statement_keeps, IsChecked}
 use Rattle.u_check.proofs.First.{statement_breaks, at_place}
 use Rattle.u_check.proofs.Blocks.{place_of_member, named_first, named_some}
 use Rattle.u_check.proofs.KindTests.{back_kind}
@@ -131,10 +132,10 @@ sender ss n port e =
     let c = and_parts (b.1.statement == n) (b.1.port == port) b.4 in
     record { it = a.1; stands = (a.0, a.2, a.3); to = b.1; sends_there = (b.0, b.2, b.3); to_statement = eqb-true b.1.statement n c.0; to_port = eqb-true b.1.port port c.1 }
 
-whole : (ss : List StatementParts) (n : ℕ) (kind : Kind) → is_whole ss n kind ≡ true → is_entry kind ≡ false → (port : ℕ) → 1 ≤ port → port ≤ ports_of kind → is_fed ss n port ≡ true
+whole : (ss : List StatementParts) (n : ℕ) (kind : Kind) → is_whole ss n kind ≡ true → comes_from_outside kind ≡ false → (port : ℕ) → 1 ≤ port → port ≤ ports_of kind → is_fed ss n port ≡ true
 unfolding is_whole
 whole ss n kind e ne port from to =
-    let all : list_all (λ (j : ℕ). is_fed ss n j) (range_with_len 1 (ports_of kind)) ≡ true = elim (or_cases (is_entry kind) (list_all (λ (j : ℕ). is_fed ss n j) (range_with_len 1 (ports_of kind))) e) [ inl b ↦ absurd (false≢true (sym ne ∙ b)) | inr r ↦ r ] in
+    let all : list_all (λ (j : ℕ). is_fed ss n j) (range_with_len 1 (ports_of kind)) ≡ true = elim (or_cases (comes_from_outside kind) (list_all (λ (j : ℕ). is_fed ss n j) (range_with_len 1 (ports_of kind))) e) [ inl b ↦ absurd (false≢true (sym ne ∙ b)) | inr r ↦ r ] in
     let r = get_or-range_with_len 1 (ports_of kind) (port - 1) port (omega arith) in
     let l = length-range_with_len 1 (ports_of kind) in
     pass_of (λ (j : ℕ). is_fed ss n j) (range_with_len 1 (ports_of kind)) port all (port - 1, omega arith, omega arith)
@@ -301,7 +302,7 @@ module _ (p : List BlockParts) (c : IsChecked p) where
         named_some p name (procedure p name (sym (ap (gives_block p) q) ∙ keeps_itself ConstantNamesBlock))
 
     -- every port of a statement that is no `begin` and no `back` is some destination of the block
-    pub port_fed : is_entry s.kind ≡ false → (port : ℕ) → 1 ≤ port → port ≤ ports_of s.kind → Sender b.statements (k + 1) port
+    pub port_fed : comes_from_outside s.kind ≡ false → (port : ℕ) → 1 ≤ port → port ≤ ports_of s.kind → Sender b.statements (k + 1) port
     port_fed ne port from to =
         sender b.statements (k + 1) port (whole b.statements (k + 1) s.kind (keeps_itself PortsAreFed) ne port from to)
 
@@ -314,8 +315,8 @@ module _ (p : List BlockParts) (c : IsChecked p) where
       -- of the statement there
       module _ (t : StatementParts) (q : statement_at b.statements d.statement ≡ Some t) where
         -- that is no `begin` and no `back`
-        pub target_takes : is_entry t.kind ≡ false
-        target_takes = not-true (is_entry t.kind) (sym (ap takes_tokens q) ∙ keeps_destination EntriesTakeNothing d w)
+        pub target_takes : comes_from_outside t.kind ≡ false
+        target_takes = not-true (comes_from_outside t.kind) (sym (ap takes_tokens q) ∙ keeps_destination BeginAndBackTakeNothing d w)
 
         -- from an `enter`, that lies in its loop
         pub target_of_enter : (l : ℕ) → s.kind ≡ Enter l → t.region ≡ l

@@ -3,7 +3,7 @@ use Rattle.std.proofs.Common.{◌≡◌, refl, sym, true, false}
 use Rattle.std.proofs.lemmas.Bool.{false≢true}
 use Rattle.u_program.specs.declared.program.Kind.{Kind}
 use Rattle.u_program.specs.declared.program.Kind.TheVariants.{Begin, Last, Leave, Back, End}
-use Rattle.u_check.specs.Rules.{is_begin, is_back, is_last, is_leave, is_end, is_entry}
+use Rattle.u_check.specs.Kinds.{is_begin, is_back, is_last, is_leave, is_end, comes_from_outside}
 
 pub begin_kind : (k : Kind) → is_begin k ≡ true → k ≡ Begin
 begin_kind Begin e = refl
@@ -26,10 +26,10 @@ end_kind End e = refl
 end_kind k e = absurd (false≢true e)
 
 -- what takes tokens is neither a `begin` nor a `back`
-pub no_begin : (k : Kind) → is_entry k ≡ false → is_begin k ≡ false
+pub no_begin : (k : Kind) → comes_from_outside k ≡ false → is_begin k ≡ false
 no_begin Begin e = absurd (false≢true (sym e))
 no_begin k e = refl
 
-pub no_back : (k : Kind) → is_entry k ≡ false → is_back k ≡ false
+pub no_back : (k : Kind) → comes_from_outside k ≡ false → is_back k ≡ false
 no_back Back e = absurd (false≢true (sym e))
 no_back k e = refl

@@ -1,7 +1,7 @@
 -- The order of the rules.
 use Rattle.std.proofs.Common.{◌≡◌, ℕ, zero, suc, ◌+◌, ◌-◌, ◌<◌, ◌≤◌, refl, sym, ap, ◌∙◌, arith, lit≤, below_more, subst, List, [], ◌∷◌, get_or}
 use Rattle.u_check.specs.declared.rule.Rule.{Rule}
-use Rattle.u_check.specs.declared.rule.Rule.TheVariants.{BlockNamesDiffer, MainExists, BeginComesFirst, RegionExists, DestinationExists, EntriesTakeNothing, EnterReachesItsLoop, ApplyNamesBack, BackIsNamed, ConstantNamesBlock, LoopStatementsInLoops, LastSendsToLeave, LeaveSendsOut, EndInOuterRegion, OwnRegion, PortsAreFed}
+use Rattle.u_check.specs.declared.rule.Rule.TheVariants.{BlockNamesDiffer, MainExists, BeginComesFirst, RegionExists, DestinationExists, BeginAndBackTakeNothing, EnterReachesItsLoop, ApplyNamesBack, BackIsNamed, ConstantNamesBlock, LoopStatementsInLoops, LastSendsToLeave, LeaveSendsOut, EndInOuterRegion, OwnRegion, PortsAreFed}
 use Rattle.u_check.specs.Rules.{number_of}
 
 -- how many rules have a smaller number
@@ -9,7 +9,7 @@ abbrev pub place_of : Rule → ℕ
 place_of r = number_of r - 1
 
 abbrev pub in_order : List Rule
-in_order = BlockNamesDiffer ∷ MainExists ∷ BeginComesFirst ∷ RegionExists ∷ DestinationExists ∷ EntriesTakeNothing ∷ EnterReachesItsLoop ∷ ApplyNamesBack ∷ BackIsNamed ∷ ConstantNamesBlock ∷ LoopStatementsInLoops ∷ LastSendsToLeave ∷ LeaveSendsOut ∷ EndInOuterRegion ∷ OwnRegion ∷ PortsAreFed ∷ []
+in_order = BlockNamesDiffer ∷ MainExists ∷ BeginComesFirst ∷ RegionExists ∷ DestinationExists ∷ BeginAndBackTakeNothing ∷ EnterReachesItsLoop ∷ ApplyNamesBack ∷ BackIsNamed ∷ ConstantNamesBlock ∷ LoopStatementsInLoops ∷ LastSendsToLeave ∷ LeaveSendsOut ∷ EndInOuterRegion ∷ OwnRegion ∷ PortsAreFed ∷ []
 
 -- the rule at a place
 rule_at : (r : Rule) (d : Rule) → get_or in_order (place_of r) d ≡ r
@@ -18,7 +18,7 @@ rule_at MainExists d = refl
 rule_at BeginComesFirst d = refl
 rule_at RegionExists d = refl
 rule_at DestinationExists d = refl
-rule_at EntriesTakeNothing d = refl
+rule_at BeginAndBackTakeNothing d = refl
 rule_at EnterReachesItsLoop d = refl
 rule_at ApplyNamesBack d = refl
 rule_at BackIsNamed d = refl
@@ -55,7 +55,7 @@ numbered MainExists = (lit≤ tt, lit≤ tt)
 numbered BeginComesFirst = (lit≤ tt, lit≤ tt)
 numbered RegionExists = (lit≤ tt, lit≤ tt)
 numbered DestinationExists = (lit≤ tt, lit≤ tt)
-numbered EntriesTakeNothing = (lit≤ tt, lit≤ tt)
+numbered BeginAndBackTakeNothing = (lit≤ tt, lit≤ tt)
 numbered EnterReachesItsLoop = (lit≤ tt, lit≤ tt)
 numbered ApplyNamesBack = (lit≤ tt, lit≤ tt)
 numbered BackIsNamed = (lit≤ tt, lit≤ tt)

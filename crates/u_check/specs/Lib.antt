@@ -1,3 +1,4 @@
 pub mod Messages
 pub mod Jobs
+pub mod Kinds
 pub mod Rules

@@ -4,74 +4,12 @@ use Rattle.std.specs.List.{list_any, list_all, range_with_len}
 use lib.Pointwise.{pointwise}
 use Rattle.u_program.specs.declared.program.Constant.TheVariants as constants
 use Rattle.u_program.specs.declared.program.Kind.{Kind}
-use Rattle.u_program.specs.declared.program.Kind.TheVariants.{Begin, Const, Pass, Unary, Binary, Select, Switch, Enter, Next, Last, Leave, Apply, Back, Alloc, Store, Fetch, End}
+use Rattle.u_program.specs.declared.program.Kind.TheVariants.{Const, Enter, Apply}
 use Rattle.u_program.specs.declared.program.Destination.{Destination}
 use Rattle.u_program.specs.Parts.{StatementParts, BlockParts}
+use Rattle.u_check.specs.Kinds.{ports_of, is_begin, is_back, is_last, is_leave, is_end, comes_from_outside, is_of_loop, crosses}
 use Rattle.u_check.specs.declared.rule.Rule.{Rule}
-use Rattle.u_check.specs.declared.rule.Rule.TheVariants.{BlockNamesDiffer, MainExists, BeginComesFirst, RegionExists, DestinationExists, EntriesTakeNothing, EnterReachesItsLoop, ApplyNamesBack, BackIsNamed, ConstantNamesBlock, LoopStatementsInLoops, LastSendsToLeave, LeaveSendsOut, EndInOuterRegion, OwnRegion, PortsAreFed}
-
--- how many ports a statement of that kind has
-abbrev pub ports_of : Kind → ℕ
-ports_of Begin = 1
-ports_of (Const c) = 1
-ports_of Pass = 1
-ports_of (Unary o) = 1
-ports_of (Binary o) = 2
-ports_of Select = 3
-ports_of Switch = 2
-ports_of (Enter l) = 1
-ports_of Next = 1
-ports_of Last = 1
-ports_of Leave = 1
-ports_of (Apply n) = 2
-ports_of Back = 1
-ports_of Alloc = 1
-ports_of Store = 3
-ports_of Fetch = 2
-ports_of End = 1
-
-abbrev pub is_begin : Kind → Bool
-is_begin Begin = true
-is_begin k = false
-
-abbrev pub is_back : Kind → Bool
-is_back Back = true
-is_back k = false
-
-abbrev pub is_last : Kind → Bool
-is_last Last = true
-is_last k = false
-
-abbrev pub is_leave : Kind → Bool
-is_leave Leave = true
-is_leave k = false
-
-abbrev pub is_apply : Kind → Bool
-is_apply (Apply n) = true
-is_apply k = false
-
-abbrev pub is_end : Kind → Bool
-is_end End = true
-is_end k = false
-
--- whether its value comes from outside: from a call of its block, or from a call that it made
-abbrev pub is_entry : Kind → Bool
-is_entry Begin = true
-is_entry Back = true
-is_entry k = false
-
--- whether it stands in a loop alone
-abbrev pub is_of_loop : Kind → Bool
-is_of_loop Next = true
-is_of_loop Last = true
-is_of_loop Leave = true
-is_of_loop k = false
-
--- whether it sends from one region into another
-abbrev pub crosses : Kind → Bool
-crosses (Enter l) = true
-crosses Leave = true
-crosses k = false
+use Rattle.u_check.specs.declared.rule.Rule.TheVariants.{BlockNamesDiffer, MainExists, BeginComesFirst, RegionExists, DestinationExists, BeginAndBackTakeNothing, EnterReachesItsLoop, ApplyNamesBack, BackIsNamed, ConstantNamesBlock, LoopStatementsInLoops, LastSendsToLeave, LeaveSendsOut, EndInOuterRegion, OwnRegion, PortsAreFed}
 
 abbrev pub main_name : List ℕ
 main_name = codes "main"
@@ -122,7 +60,7 @@ reaches ss d = nat_le 1 d.statement && (nat_le 1 d.port && has_port (statement_a
 -- no destination is a `begin` or a `back`
 abbrev pub takes_tokens : Option StatementParts → Bool
 takes_tokens None = true
-takes_tokens (Some s) = not (is_entry s.kind)
+takes_tokens (Some s) = not (comes_from_outside s.kind)
 
 abbrev pub lies_in : ℕ → Option StatementParts → Bool
 lies_in region None = true
@@ -183,7 +121,7 @@ is_fed ss n port = list_any (λ (s : StatementParts). sends_to s n port) ss
 
 -- whether every port of statement n is some destination of the block; `begin` and `back` need none
 unfoldable pub is_whole : List StatementParts → ℕ → Kind → Bool
-is_whole ss n kind = is_entry kind || list_all (λ port. is_fed ss n port) (range_with_len 1 (ports_of kind))
+is_whole ss n kind = comes_from_outside kind || list_all (λ port. is_fed ss n port) (range_with_len 1 (ports_of kind))
 
 -- what a rule demands of a program as a whole
 abbrev pub program_keeps : Rule → List BlockParts → Bool
@@ -211,7 +149,7 @@ itself_keeps rule p b n s = true
 -- what a rule demands of a destination of statement s of block b
 abbrev pub destination_keeps : Rule → BlockParts → StatementParts → Destination → Bool
 destination_keeps DestinationExists b s d = reaches b.statements d
-destination_keeps EntriesTakeNothing b s d = takes_tokens (statement_at b.statements d.statement)
+destination_keeps BeginAndBackTakeNothing b s d = takes_tokens (statement_at b.statements d.statement)
 destination_keeps EnterReachesItsLoop b s d = lies_in_entered s.kind (statement_at b.statements d.statement)
 destination_keeps LastSendsToLeave b s d = leaves_after_last (is_last s.kind) (statement_at b.statements d.statement)
 destination_keeps LeaveSendsOut b s d = not (is_leave s.kind) || lies_in_some (held_by b.loops s.region) (statement_at b.statements d.statement)
@@ -229,7 +167,7 @@ number_of MainExists = 2
 number_of BeginComesFirst = 3
 number_of RegionExists = 4
 number_of DestinationExists = 5
-number_of EntriesTakeNothing = 6
+number_of BeginAndBackTakeNothing = 6
 number_of EnterReachesItsLoop = 7
 number_of ApplyNamesBack = 8
 number_of BackIsNamed = 9

@@ -14,7 +14,7 @@ const RULES: [Rule; 16] = [
     Rule::BeginComesFirst,
     Rule::RegionExists,
     Rule::DestinationExists,
-    Rule::EntriesTakeNothing,
+    Rule::BeginAndBackTakeNothing,
     Rule::EnterReachesItsLoop,
     Rule::ApplyNamesBack,
     Rule::BackIsNamed,

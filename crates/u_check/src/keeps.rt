@@ -4,7 +4,9 @@ ghost use Rattle.std.specs.List.{list_any, list_all, range_with_len};
 ghost use Rattle.u_program.specs.declared.program.Destination.{Destination};
 ghost use Rattle.u_check.specs.Rules.{main_name, names_block, gives_block, sends_to, is_fed, is_whole, program_keeps, block_keeps, itself_keeps, destination_keeps, statement_keeps};
 
-use crate::kinds::{crosses, is_back, is_end, is_entry, is_last, is_leave, is_of_loop, ports_of};
+use crate::kinds::{
+    comes_from_outside, crosses, is_back, is_end, is_last, is_leave, is_of_loop, ports_of,
+};
 use crate::places::{
     begins_well, enters_inward, has_region, held_by, is_applied, is_outer, leaves_after_last,
     lies_in, lies_in_entered, lies_in_some, names_back, reaches, takes_tokens,
@@ -41,7 +43,8 @@ fn gives_block(blocks: &[Block], kind: &Kind) -> bool
 
 /// Whether a destination of the list is that port of the statement of that number.
 fn lists(sent: &[Destination], number: usize, port: usize) -> bool
-    ensures { result ≡ list_any (λ (d : Destination). d.statement == number && d.port == port) sent.now }
+    ensures { result
+        ≡ list_any (λ (d : Destination). d.statement == number && d.port == port) sent.now }
 {
     sent.iter().any(|d| usize::from(d.statement) == number && usize::from(d.port) == port)
 }
@@ -65,7 +68,8 @@ fn is_fed(statements: &[Statement], number: usize, port: usize) -> bool
 /// Whether each of so many ports of the statement of that number is some destination of the block.
 fn all_fed(statements: &[Statement], number: usize, ports: usize) -> bool
     requires { ports ≤ 3 }
-    ensures { result ≡ list_all (λ port. is_fed statements.now number port) (range_with_len 1 ports) }
+    ensures { result
+        ≡ list_all (λ port. is_fed statements.now number port) (range_with_len 1 ports) }
 {
     (1..ports + 1).all(|port| is_fed(statements, number, port))
 }
@@ -75,7 +79,7 @@ fn all_fed(statements: &[Statement], number: usize, ports: usize) -> bool
 fn is_whole(statements: &[Statement], number: usize, kind: &Kind) -> bool
     ensures { result ≡ is_whole statements.now number kind.now }
 {
-    is_entry(kind) || all_fed(statements, number, ports_of(kind))
+    comes_from_outside(kind) || all_fed(statements, number, ports_of(kind))
 }
 
 /// Whether the program as a whole keeps the rule.
@@ -140,7 +144,7 @@ fn destination_keeps(
     let region = statement.region();
     match rule {
         Rule::DestinationExists => reaches(statements, destination),
-        Rule::EntriesTakeNothing => takes_tokens(statements, destination),
+        Rule::BeginAndBackTakeNothing => takes_tokens(statements, destination),
         Rule::EnterReachesItsLoop => lies_in_entered(kind, statements, destination),
         Rule::LastSendsToLeave => leaves_after_last(is_last(kind), statements, destination),
         Rule::LeaveSendsOut => !is_leave(kind)

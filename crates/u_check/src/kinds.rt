@@ -1,6 +1,6 @@
-//! What the rules ask of a statement's kind.
+//! What the checker and the firing rule ask of a statement's kind.
 ghost use Rattle.std.specs.Prelude.{◌≡◌};
-ghost use Rattle.u_check.specs.Rules.{ports_of, is_begin, is_back, is_last, is_leave, is_end, is_entry, is_of_loop, crosses};
+ghost use Rattle.u_check.specs.Kinds.{ports_of, is_begin, is_back, is_last, is_leave, is_apply, is_end, comes_from_outside, is_of_loop, crosses};
 
 use u_program::Kind;
 
@@ -43,6 +43,13 @@ pub fn is_leave(kind: &Kind) -> bool
     matches!(kind, Kind::Leave)
 }
 
+/// Whether it is `apply`.
+pub fn is_apply(kind: &Kind) -> bool
+    ensures { result ≡ is_apply kind.now }
+{
+    matches!(kind, Kind::Apply(_))
+}
+
 /// Whether it is `end`.
 pub fn is_end(kind: &Kind) -> bool
     ensures { result ≡ is_end kind.now }
@@ -52,8 +59,8 @@ pub fn is_end(kind: &Kind) -> bool
 
 /// Whether its value comes from no statement of its block: `begin`, which takes the argument of a call,
 /// and `back`, which takes the result of one.
-pub fn is_entry(kind: &Kind) -> bool
-    ensures { result ≡ is_entry kind.now }
+pub fn comes_from_outside(kind: &Kind) -> bool
+    ensures { result ≡ comes_from_outside kind.now }
 {
     matches!(kind, Kind::Begin | Kind::Back)
 }

@@ -2,7 +2,7 @@
 ghost use Rattle.std.specs.Prelude.{◌≡◌, ◌-◌, ◌<◌, ◌≤◌};
 ghost use Rattle.u_check.specs.Rules.{is_outer, has_region, held_by, statement_at, begins_well, has_port, reaches, takes_tokens, lies_in, lies_in_some, lies_in_entered, enters_inward, is_back_in, names_back, applies_to, is_applied, leaves_after_last};
 
-use crate::kinds::{is_back, is_begin, is_entry, is_leave, ports_of};
+use crate::kinds::{comes_from_outside, is_back, is_begin, is_leave, ports_of};
 use u_program::{Destination, Kind, Statement};
 
 /// Whether the statement lies in region 0.
@@ -120,7 +120,7 @@ pub fn takes_tokens(statements: &[Statement], destination: &Destination) -> bool
     ensures { result ≡ takes_tokens (statement_at statements.now destination.now.statement) }
 {
     match statements.get(usize::from(destination.statement).saturating_sub(1)) {
-        Some(statement) => !is_entry(statement.kind()),
+        Some(statement) => !comes_from_outside(statement.kind()),
         None => true,
     }
 }
@@ -148,7 +148,8 @@ pub fn lies_in_some(region: Option<u8>, statements: &[Statement], destination: &
 /// Whether the destination of an `enter` lies in its loop.
 #[tactic(auto, unfolding(crate::specs::Rules::lies_in_entered))]
 pub fn lies_in_entered(kind: &Kind, statements: &[Statement], destination: &Destination) -> bool
-    ensures { result ≡ lies_in_entered kind.now (statement_at statements.now destination.now.statement) }
+    ensures { result
+        ≡ lies_in_entered kind.now (statement_at statements.now destination.now.statement) }
 {
     match kind {
         Kind::Enter(number) => lies_in(*number, statements, destination),
@@ -158,7 +159,8 @@ pub fn lies_in_entered(kind: &Kind, statements: &[Statement], destination: &Dest
 
 /// Whether the destination is a `leave` where a `last` sends to it, and none where another does.
 pub fn leaves_after_last(last: bool, statements: &[Statement], destination: &Destination) -> bool
-    ensures { result ≡ leaves_after_last last (statement_at statements.now destination.now.statement) }
+    ensures { result
+        ≡ leaves_after_last last (statement_at statements.now destination.now.statement) }
 {
     match statements.get(usize::from(destination.statement).saturating_sub(1)) {
         Some(statement) => {

@@ -18,7 +18,7 @@ pub enum Rule {
     /// A destination names a statement of the block and a port of it. Broken by the sender.
     DestinationExists,
     /// No destination is a `begin` or a `back`. Broken by the sender.
-    EntriesTakeNothing,
+    BeginAndBackTakeNothing,
     /// The loop of an `enter` is held by the statement's region, and all its destinations lie in it.
     EnterReachesItsLoop,
     /// The `back` of an `apply` is a `back` of the block in the same region.
@@ -52,7 +52,7 @@ impl Rule {
             Rule::BeginComesFirst => 3,
             Rule::RegionExists => 4,
             Rule::DestinationExists => 5,
-            Rule::EntriesTakeNothing => 6,
+            Rule::BeginAndBackTakeNothing => 6,
             Rule::EnterReachesItsLoop => 7,
             Rule::ApplyNamesBack => 8,
             Rule::BackIsNamed => 9,

@@ -3,8 +3,8 @@ use Rattle.std.proofs.Common.{◌≡◌, ◌↔◌, ◌⊎◌, inl, inr, ℕ, Li
 use Rattle.std.specs.List.{AllZip}
 use Rattle.u_name.specs.Name.{Activity}
 use Rattle.u_name.specs.Cell.{CellOf, cell_cmp}
-use Rattle.u_system.specs.Firing.{SomeOf}
-use Rattle.u_system.specs.Rising.{Rises, IsWith, IsListOf}
+use Rattle.u_sets.specs.Members.{SomeOf, IsWith}
+use Rattle.u_sets.specs.Rising.{Rises, IsListOf}
 use Rattle.u_system.proofs.Member.{Contains-nil}
 use Rattle.u_value.specs.declared.value.Value.{Value}
 use Rattle.u_value.specs.contracts.value.ValueOrd.TheImpl.Laws as value_laws
@@ -19,10 +19,10 @@ use Rattle.u_history.specs.declared.clash.CellClash.{CellClash}
 use Rattle.u_history.specs.declared.clash.PortClash.{PortClash}
 use Rattle.u_history.specs.declared.clash.Port.{Port}
 use Rattle.u_history.specs.Orders.{value_order, written_order}
-use Rattle.u_history.specs.Says.{CellPairs, PortValues, PairIn, ValueAt, HasTwo, IsCellClash, IsPortClash, cell_clash_order, port_clash_order}
+use Rattle.u_history.specs.Outcomes.{CellPairs, PortValues, PairIn, ValueAt, HasTwo, IsCellClash, IsPortClash, cell_clash_order, port_clash_order}
 use Rattle.u_history.specs.Places.{AtOnePlace, IsClashing, IsWriteOf, IsTokenAt}
 use Rattle.u_history.specs.Clashes.{port_of, port_order, cell_pairs, port_values, HasPairsOf, HasValuesOf}
-use Rattle.u_history.proofs.Exact.{one_pair, one_value}
+use Rattle.u_history.proofs.OneValue.{one_pair, one_value}
 use Rattle.u_history.proofs.Grouped.{grouped, IsRow}
 
 module _ (H : Entry → Type 0) where

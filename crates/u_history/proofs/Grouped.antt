@@ -5,9 +5,9 @@ use Rattle.std.proofs.lemmas.List.{take_more}
 use Rattle.std.proofs.lemmas.Slice.Zip.{all_zipped_more}
 use Rattle.std.specs.Cmp.{IsTotalOrder}
 use Rattle.std.specs.declared.cmp.Ordering.TheVariants.{Less}
-use Rattle.u_system.specs.Rising.{Rises, IsListOf}
+use Rattle.u_sets.specs.Rising.{Rises, IsListOf}
 use Rattle.u_system.proofs.Member.{Contains-nil, Contains-head, Contains-tail, Contains-cons_cases}
-use Rattle.u_system.proofs.Places.{one_list_of}
+use Rattle.u_sets.proofs.Places.{one_list_of}
 
 -- one row more
 pub row_more : {C K : Type 0} (Q : C → K → Type 0) (cs : List C) (ks : List K) (i : ℕ) (c : C) (k : K) → i < length cs → c ≡ get_or cs i c → AllZip Q (take i cs) ks → Q c k → AllZip Q (take (i + 1) cs) (ks ++ k ∷ [])

@@ -1,11 +1,10 @@
 pub mod Clashing
-pub mod Exact
+pub mod OneValue
 pub mod Grouped
 pub mod Listed
 pub mod Merges
 pub mod Neighbours
 pub mod Reports
-pub mod Sets
 pub mod Spans
 pub mod Texts
 pub mod Unions

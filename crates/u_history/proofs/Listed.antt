@@ -2,11 +2,11 @@
 use Rattle.std.proofs.Common.{◌≡◌, ◌↔◌, ◌⊎◌, inl, inr, ℕ, ◌+◌, ◌<◌, ◌≤◌, List, [], ◌∷◌, Ordering, Contains, IsTrue, Bool, length, refl, sym, subst, ◌∙◌, ap, arith}
 use Rattle.std.specs.Prelude.{Result, IfOk}
 use Rattle.std.specs.Borrow.{Bor}
-use Rattle.u_system.specs.Firing.{SomeOf}
-use Rattle.u_system.specs.Rising.{Rises, IsWith, IsListOf}
+use Rattle.u_sets.specs.Members.{SomeOf, IsWith}
+use Rattle.u_sets.specs.Rising.{Rises, IsListOf}
 use Rattle.u_system.proofs.Member.{Contains-nil}
 use Rattle.u_rule.specs.declared.entry.Entry.{Entry}
-use Rattle.u_history.specs.Says.{lent}
+use Rattle.u_history.specs.Outcomes.{lent}
 
 pub length_lent : (es : List (Bor Entry)) → length (lent es) ≡ length es
 length_lent [] = refl

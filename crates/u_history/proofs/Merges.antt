@@ -1,9 +1,11 @@
 -- The laws of merging, as equations of histories: each is the list of its entries, which rises.
 use Rattle.std.proofs.Common.{◌≡◌, inl, inr, List, [], Contains}
-use Rattle.u_system.specs.Rising.{Rises, IsUnion}
+use Rattle.u_sets.specs.Rising.{Rises}
+use Rattle.u_sets.specs.Members.{IsUnion}
 use Rattle.u_system.proofs.Member.{Contains-nil}
-use Rattle.u_system.proofs.Places.{one_list, union_commutes, union_associates, union_itself}
-use Rattle.u_rule.specs.EntryOrder.{entry_cmp, entry_cmp_total}
+use Rattle.u_sets.proofs.Places.{one_list, union_commutes, union_associates, union_itself}
+use Rattle.u_rule.specs.EntryOrder.{entry_cmp}
+use Rattle.u_rule.specs.ExactOrders.{entry_cmp_total}
 use Rattle.u_rule.specs.declared.entry.Entry.{Entry}
 
 -- two histories, merged in either order, are one history

@@ -2,31 +2,31 @@
 use Rattle.std.proofs.Common.{◌≡◌, ◌↔◌, ◌⊎◌, inl, inr, ℕ, zero, suc, ◌<◌, ◌+◌, ◌-◌, List, [], ◌∷◌, get_or, length, Contains, subst, sym, ◌∙◌, arith, Ordering, refl, ap, IsTrue, Bool, ◌&&◌, ◌==◌}
 use Rattle.std.proofs.lemmas.Bool.{and_parts, and_from, eqb-true, eq-eqb}
 use Rattle.std.specs.Ordering.{nat_cmp, ordering_then, eq_by_cmp, is_eq}
-use Rattle.std.specs.Cmp.{IsTotalOrder, tied_itself}
+use Rattle.std.specs.Cmp.{IsTotalOrder, tied_itself, Equal-is}
 use Rattle.std.specs.FinMap.{nat_cmp-IsAntisymmetric}
 use Rattle.std.specs.declared.cmp.Ordering.TheVariants.{Less, Equal, Greater}
 use Rattle.std.proofs.lemmas.Cmp.{nat_cmp_total}
 use Rattle.std.proofs.lemmas.List.Elements.{Contains-get_or}
 use Rattle.std.proofs.lemmas.List.{get_or_default}
 use Rattle.u_name.specs.Name.{Activity}
-use Rattle.u_name.specs.NameOrder.{name_cmp, name_cmp_total}
+use Rattle.u_name.specs.NameOrder.{name_cmp, name_cmp_total, name_cmp_ties}
 use Rattle.u_name.specs.Cell.{CellOf, cell_of, cell_cmp}
-use Rattle.u_name.proofs.ExactOrders.{name_cmp_ties, cell_cmp_ties, cell_cmp_total}
-use Rattle.u_system.specs.Rising.{Rises, IsExact}
-use Rattle.u_system.proofs.Places.{irreflexive}
+use Rattle.u_sets.specs.Rising.{Rises, IsExact}
+use Rattle.u_sets.proofs.Places.{irreflexive}
+use Rattle.u_name.specs.ExactOrders.{cell_cmp_ties, cell_cmp_total}
 use Rattle.u_rule.specs.Parts.{TokenParts}
-use Rattle.u_rule.specs.EntryOrder.{entry_cmp, entry_cmp_total}
+use Rattle.u_rule.specs.EntryOrder.{entry_cmp}
+use Rattle.u_rule.specs.ExactOrders.{entry_cmp_total}
 use Rattle.u_rule.specs.declared.parts.Write.{Write}
 use Rattle.u_rule.specs.declared.entry.Entry.{Entry}
 use Rattle.u_rule.specs.declared.entry.Entry.TheVariants as entries
-use Rattle.u_history.proofs.Exact.{tie_of}
 use Rattle.u_history.specs.Orders.{write_order, token_order}
 use Rattle.u_history.specs.Places.{AtOnePlace, IsClashing}
 
 -- `==` on names and on cells tells them apart
 pub same_name : (a b : Activity) → IsTrue (eq_by_cmp name_cmp a b) ↔ (a ≡ b)
 same_name a b =
-    ((λ h. name_cmp_ties a b (tie_of (name_cmp a b) h)), λ e. ap (λ (x : Activity). eq_by_cmp name_cmp a x) (sym e) ∙ ap is_eq (tied_itself name_cmp_total a))
+    ((λ h. name_cmp_ties a b ((Equal-is (name_cmp a b)).0 h)), λ e. ap (λ (x : Activity). eq_by_cmp name_cmp a x) (sym e) ∙ ap is_eq (tied_itself name_cmp_total a))
 
 pub same_cell : (a b : CellOf) → IsTrue (eq_by_cmp name_cmp a.name b.name && a.index == b.index) ↔ (a ≡ b)
 same_cell a b = (to, back)

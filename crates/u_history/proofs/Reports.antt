@@ -3,22 +3,23 @@ use Rattle.std.proofs.Common.{◌≡◌, ℕ, List, length, sym, ◌∙◌}
 use Rattle.std.specs.Cmp.{IsTotalOrder}
 use Rattle.std.proofs.lemmas.Cmp.{nat_cmp_total, on_total, then_total}
 use Rattle.u_system.specs.Firing.{Same}
-use Rattle.u_system.proofs.Places.{one_list_of, list_of_same}
+use Rattle.u_sets.proofs.Places.{one_list_of, list_of_same}
 use Rattle.u_value.specs.declared.value.Value.{Value}
 use Rattle.u_value.specs.contracts.value.ValueOrd.TheImpl.Laws as value_laws
 use Rattle.u_name.specs.NameOrder.{name_cmp_total}
-use Rattle.u_name.proofs.ExactOrders.{cell_cmp_total}
+use Rattle.u_name.specs.ExactOrders.{cell_cmp_total}
 use Rattle.u_rule.specs.Parts.{token}
-use Rattle.u_rule.specs.EntryOrder.{entry_cmp, entry_cmp_total, write_of}
+use Rattle.u_rule.specs.EntryOrder.{entry_cmp, write_of}
+use Rattle.u_rule.specs.ExactOrders.{entry_cmp_total}
 use Rattle.u_rule.specs.declared.firing.Written.{Written}
 use Rattle.u_rule.specs.declared.parts.Fault.{Fault}
 use Rattle.u_rule.specs.declared.entry.Entry.{Entry}
 use Rattle.u_rule.specs.declared.entry.Entry.TheVariants as entries
 use Rattle.u_rule.specs.contracts.firing.WrittenOrd.TheImpl.Laws as written_laws
 use Rattle.u_rule.specs.contracts.parts.FaultOrd.TheImpl.Laws as fault_laws
-use Rattle.u_history.specs.declared.report.State.{State}
+use Rattle.u_history.specs.declared.report.Ending.{Ending}
 use Rattle.u_history.specs.Orders.{value_order, written_order, fault_order}
-use Rattle.u_history.specs.Says.{CellPairs, PortValues, PairIn, ValueAt, HasTwo, IsCellClash, IsPortClash, cell_clash_order, port_clash_order, IsOutcome}
+use Rattle.u_history.specs.Outcomes.{CellPairs, PortValues, PairIn, ValueAt, HasTwo, IsCellClash, IsPortClash, cell_clash_order, port_clash_order, IsOutcome}
 use Rattle.u_history.specs.Report.{IsReportOf, report_text}
 
 cells_total : IsTotalOrder cell_clash_order
@@ -58,7 +59,7 @@ module _ (H K : Entry → Type 0) (same : Same H K) where
   }
 
   -- and so is its report
-  pub report_same : (state : State) (firings parked : ℕ) (text : List ℕ) → IsReportOf H state firings parked text → IsReportOf K state firings parked text
+  pub report_same : (state : Ending) (firings parked : ℕ) (text : List ℕ) → IsReportOf H state firings parked text → IsReportOf K state firings parked text
   report_same state firings parked text r = record {
     entries = r.entries;
     all_entries = list_of_same entry_cmp entry_cmp_total H K same r.entries r.all_entries;
@@ -71,7 +72,7 @@ module _ (H K : Entry → Type 0) (same : Same H K) where
   }
 
   -- sets that are the same have one report
-  pub report_one : (state : State) (firings parked : ℕ) (text other : List ℕ) → IsReportOf H state firings parked text → IsReportOf K state firings parked other → text ≡ other
+  pub report_one : (state : Ending) (firings parked : ℕ) (text other : List ℕ) → IsReportOf H state firings parked text → IsReportOf K state firings parked other → text ≡ other
   report_one state firings parked text other r q =
       let a = one_list_of entry_cmp entry_cmp_total H K same r.entries q.entries r.all_entries q.all_entries in
       let b = one_list_of value_order value_laws.total-law (λ v. H (entries.Answer v)) (λ v. K (entries.Answer v)) (λ v. same (entries.Answer v)) r.answers q.answers r.outcome.all_answers q.outcome.all_answers in

@@ -7,14 +7,14 @@ use Rattle.std.specs.Ordering.{nat_cmp, ordering_then}
 use Rattle.std.specs.Cmp.{IsTotalOrder}
 use Rattle.std.specs.declared.cmp.Ordering.TheVariants.{Less, Equal, Greater}
 use Rattle.u_name.specs.Name.{Activity}
-use Rattle.u_name.specs.NameOrder.{name_cmp, name_cmp_total}
+use Rattle.u_name.specs.NameOrder.{name_cmp, name_cmp_total, name_cmp_ties}
 use Rattle.u_name.specs.Cell.{CellOf, cell_cmp}
 use Rattle.u_name.specs.ContextLaws.{both}
-use Rattle.u_name.proofs.ExactOrders.{name_cmp_ties, cell_cmp_ties, cell_cmp_total}
-use Rattle.u_system.specs.Firing.{SomeOf}
-use Rattle.u_system.specs.Rising.{Rises, IsExact, IsListOf}
+use Rattle.u_sets.specs.Members.{SomeOf}
+use Rattle.u_sets.specs.Rising.{Rises, IsExact, IsListOf}
+use Rattle.u_name.specs.ExactOrders.{cell_cmp_ties, cell_cmp_total}
 use Rattle.u_system.proofs.Member.{Contains-nil}
-use Rattle.u_system.proofs.Places.{irreflexive}
+use Rattle.u_sets.proofs.Places.{irreflexive}
 use Rattle.u_rule.specs.Parts.{TokenParts}
 use Rattle.u_rule.specs.EntryOrder.{entry_cmp}
 use Rattle.u_rule.specs.declared.parts.Write.{Write}

@@ -4,9 +4,11 @@ use Rattle.std.specs.Borrow.{Bor}
 use Rattle.std.specs.Map.Iter.{deref}
 use Rattle.std.proofs.lemmas.List.Elements.{Contains-append_left, Contains-push, Contains-push_cases}
 use Rattle.u_system.proofs.Member.{Contains-nil}
-use Rattle.u_system.proofs.Places.{one_list}
-use Rattle.u_system.specs.Rising.{Rises, IsWith, IsUnion}
-use Rattle.u_rule.specs.EntryOrder.{entry_cmp, entry_cmp_total}
+use Rattle.u_sets.proofs.Places.{one_list}
+use Rattle.u_sets.specs.Rising.{Rises}
+use Rattle.u_sets.specs.Members.{IsWith, IsUnion}
+use Rattle.u_rule.specs.EntryOrder.{entry_cmp}
+use Rattle.u_rule.specs.ExactOrders.{entry_cmp_total}
 use Rattle.u_rule.specs.declared.entry.Entry.{Entry}
 
 module _ {X : Type 0} where

@@ -3,14 +3,14 @@ use Rattle.std.specs.Prelude.{◌≡◌, ℕ}
 use Rattle.std.specs.declared.cmp.Ordering.{Ordering}
 use Rattle.u_name.specs.Name.{Activity}
 use Rattle.u_name.specs.Cell.{CellOf}
-use Rattle.u_system.specs.Rising.{IsListOf}
+use Rattle.u_sets.specs.Rising.{IsListOf}
 use Rattle.u_rule.specs.declared.entry.Entry.{Entry}
 use Rattle.u_history.specs.declared.clash.CellClash.{CellClash}
 use Rattle.u_history.specs.declared.clash.PortClash.{PortClash}
 use Rattle.u_history.specs.declared.clash.Port.{Port}
 use Rattle.u_history.specs.contracts.clash.PortOrd.TheImpl as port_ord
 use Rattle.u_history.specs.Orders.{value_order, written_order}
-use Rattle.u_history.specs.Says.{CellPairs, PortValues, PairIn, ValueAt}
+use Rattle.u_history.specs.Outcomes.{CellPairs, PortValues, PairIn, ValueAt}
 
 abbrev pub port_of : Activity → ℕ → Port
 port_of activity number = record { activity = activity; number = number }

@@ -1,8 +1,9 @@
 pub mod Stored
 pub mod Orders
 pub mod Text
-pub mod Says
+pub mod Outcomes
 pub mod Places
 pub mod Clashes
 pub mod Verdicts
 pub mod Report
+pub mod ExactPorts

@@ -1,6 +1,6 @@
 -- The text of a report.
 use Rattle.std.specs.Prelude.{◌≡◌, ℕ, List, [], ◌∷◌, ◌++◌, codes, decimal, length}
-use Rattle.u_system.specs.Rising.{IsListOf}
+use Rattle.u_sets.specs.Rising.{IsListOf}
 use Rattle.u_name.specs.NameText.{name_text}
 use Rattle.u_name.specs.Name.{Activity}
 use Rattle.u_name.specs.Cell.{CellOf, cell_text}
@@ -11,9 +11,9 @@ use Rattle.u_rule.specs.EntryOrder.{entry_cmp}
 use Rattle.u_rule.specs.declared.parts.Fault.{Fault}
 use Rattle.u_rule.specs.declared.firing.Written.{Written}
 use Rattle.u_rule.specs.declared.entry.Entry.{Entry}
-use Rattle.u_history.specs.declared.report.State.{State}
-use Rattle.u_history.specs.declared.report.State.TheVariants.{Quiet, Paused}
-use Rattle.u_history.specs.Says.{IsOutcome, CellPairs, PortValues}
+use Rattle.u_history.specs.declared.report.Ending.{Ending}
+use Rattle.u_history.specs.declared.report.Ending.TheVariants.{Quiet, Paused}
+use Rattle.u_history.specs.Outcomes.{IsOutcome, CellPairs, PortValues}
 use Rattle.u_history.specs.Verdicts.{Judgement, says_clashed, says_faulted, says_answer, says_none, judged}
 
 -- one text after another
@@ -25,7 +25,7 @@ texts f (x ∷ xs) = f x ++ texts f xs
 unfoldable pub count_line : List ℕ → ℕ → List ℕ
 count_line word n = word ++ (decimal n ++ codes "\n")
 
-unfoldable pub state_line : State → List ℕ
+unfoldable pub state_line : Ending → List ℕ
 state_line Quiet = codes "state quiet\n"
 state_line Paused = codes "state paused\n"
 
@@ -66,12 +66,12 @@ outcome_text answers cells ports faults =
     texts answer_line answers ++ (texts cell_lines cells ++ (texts port_lines ports ++ (texts fault_line faults ++ verdict_line (judged answers cells ports faults))))
 
 -- of a set with so many entries and that outcome
-unfoldable pub report_text : State → ℕ → ℕ → ℕ → List Value → List CellPairs → List PortValues → List Fault → List ℕ
+unfoldable pub report_text : Ending → ℕ → ℕ → ℕ → List Value → List CellPairs → List PortValues → List Fault → List ℕ
 report_text state firings parked entries answers cells ports faults =
     state_line state ++ (counts_text firings parked entries ++ outcome_text answers cells ports faults)
 
 -- text is the report of the set H, at that state and with these counts
-pub record IsReportOf (H : Entry → Type 0) (state : State) (firings parked : ℕ) (text : List ℕ) : Type 0 where
+pub record IsReportOf (H : Entry → Type 0) (state : Ending) (firings parked : ℕ) (text : List ℕ) : Type 0 where
   pub entries : List Entry
   pub all_entries : IsListOf entry_cmp H entries
   pub answers : List Value

@@ -2,7 +2,7 @@
 use Rattle.std.specs.Prelude.{List, [], ◌∷◌}
 use Rattle.u_value.specs.declared.value.Value.{Value}
 use Rattle.u_rule.specs.declared.parts.Fault.{Fault}
-use Rattle.u_history.specs.Says.{CellPairs, PortValues}
+use Rattle.u_history.specs.Outcomes.{CellPairs, PortValues}
 use Rattle.u_history.specs.declared.verdict.Verdict.{Verdict}
 use Rattle.u_history.specs.declared.verdict.Verdict.TheVariants.{Clashed, Faulted, Answer, NoAnswer}
 

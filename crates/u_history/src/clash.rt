@@ -6,20 +6,21 @@ ghost use Rattle.std.specs.Prelude.{◌≡◌, ◌<◌, ◌+◌, ◌-◌, ◌↔
 ghost use Rattle.std.proofs.Common.{get_or};
 ghost use Rattle.std.specs.List.{AllZip};
 ghost use Rattle.u_name.specs.Cell.{CellOf, cell_cmp};
-ghost use Rattle.u_system.specs.Rising.{Rises, IsListOf};
+ghost use Rattle.u_sets.specs.Rising.{Rises, IsListOf};
 ghost use Rattle.u_rule.specs.EntryOrder.{entry_cmp};
 ghost use Rattle.u_rule.specs.declared.entry.Entry.{Entry};
 ghost use Rattle.u_history.specs.declared.clash.Port.{Port};
-ghost use Rattle.u_history.specs.Says.{lent, PairIn, ValueAt, HasTwo, IsCellClash, IsPortClash, cell_clash_order, port_clash_order};
+ghost use Rattle.u_history.specs.Outcomes.{lent, PairIn, ValueAt, HasTwo, IsCellClash, IsPortClash, cell_clash_order, port_clash_order};
 ghost use Rattle.u_history.specs.Places.{AtOnePlace, IsClashing, IsWriteOf, IsTokenAt};
 ghost use Rattle.u_history.specs.Clashes.{port_order, cell_pairs, port_values, HasPairsOf, HasValuesOf};
+ghost use Rattle.u_sets.specs.Members.{Gains};
 
 use crate::lookup::{pairs_in, values_at};
 use crate::place::{entry_at, is_at_port, is_in_cell};
 use std::alloc::{AllocError, Global};
 use u_name::{Cell, Name};
 use u_rule::{Entry, Written};
-use u_system::place_in;
+use u_sets::place_in;
 use u_value::Value;
 
 /// A cell that has two pairs of a writer and a value, or more. Two writers of equal values clash too.
@@ -44,7 +45,7 @@ pub struct PortClash {
 
 /// A port of an activity. Ports are ordered by activity, and then by number.
 #[derive(PartialEq, Eq, PartialOrd, Ord, Drop)]
-struct Port {
+pub(crate) struct Port {
     activity: Name,
     number: u8,
 }
@@ -103,11 +104,12 @@ fn is_clashing(entries: &[&Entry], index: usize) -> bool
 }
 
 /// Adds the entry's cell, if it is a write that clashes.
-#[tactic(auto, using(crate::proofs::Exact::cells_exact))]
 fn add_cell(list: &mut Vec<Cell>, entry: &Entry, clashing: bool) -> Result<(), AllocError>
     requires { Rises cell_cmp list.old.items }
     ensures rises { Rises cell_cmp list.new.items }
-    ensures ok { OnOk result ((c : CellOf) → Contains list.new.items c ↔ (Contains list.old.items c ⊎ (IsTrue clashing × IsWriteOf c entry.now))) }
+    ensures ok { OnOk result
+        (Gains list.old.items
+        (λ (c : CellOf). IsTrue clashing × IsWriteOf c entry.now) list.new.items) }
 {
     if let Entry::Write(item) = entry {
         if clashing {
@@ -118,11 +120,12 @@ fn add_cell(list: &mut Vec<Cell>, entry: &Entry, clashing: bool) -> Result<(), A
 }
 
 /// Adds the entry's port, if it is a token that clashes.
-#[tactic(auto, using(crate::proofs::Exact::ports_exact))]
 fn add_port(list: &mut Vec<Port>, entry: &Entry, clashing: bool) -> Result<(), AllocError>
     requires { Rises port_order list.old.items }
     ensures rises { Rises port_order list.new.items }
-    ensures ok { OnOk result ((p : Port) → Contains list.new.items p ↔ (Contains list.old.items p ⊎ (IsTrue clashing × IsTokenAt p.activity p.number entry.now))) }
+    ensures ok { OnOk result
+        (Gains list.old.items
+        (λ (p : Port). IsTrue clashing × IsTokenAt p.activity p.number entry.now) list.new.items) }
 {
     if let Entry::Token(item) = entry {
         if clashing {
@@ -139,7 +142,8 @@ fn add_port(list: &mut Vec<Port>, entry: &Entry, clashing: bool) -> Result<(), A
 /// The cells with two pairs or more, in order.
 fn clashing_cells(alloc: Global, entries: &[&Entry]) -> Result<Vec<Cell>, AllocError>
     requires { Rises entry_cmp (lent entries.now) }
-    ensures { IfOk result (λ v. IsListOf cell_cmp (λ c. HasTwo (PairIn (Contains (lent entries.now)) c)) v.items) }
+    ensures { IfOk result
+        (λ v. IsListOf cell_cmp (λ c. HasTwo (PairIn (Contains (lent entries.now)) c)) v.items) }
 {
     let mut list = Vec::new(alloc);
     for index in 0..entries.len() {
@@ -152,7 +156,10 @@ fn clashing_cells(alloc: Global, entries: &[&Entry]) -> Result<Vec<Cell>, AllocE
 /// The ports with two values or more, in order.
 fn clashing_ports(alloc: Global, entries: &[&Entry]) -> Result<Vec<Port>, AllocError>
     requires { Rises entry_cmp (lent entries.now) }
-    ensures { IfOk result (λ v. IsListOf port_order (λ (p : Port). HasTwo (ValueAt (Contains (lent entries.now)) p.activity p.number)) v.items) }
+    ensures { IfOk result
+        (λ v. IsListOf port_order
+        (λ (p : Port). HasTwo
+        (ValueAt (Contains (lent entries.now)) p.activity p.number)) v.items) }
 {
     let mut list = Vec::new(alloc);
     for index in 0..entries.len() {
@@ -194,7 +201,8 @@ fn all_with_pairs(
     cells: &[Cell],
 ) -> Result<Vec<CellClash>, AllocError>
     requires { Rises entry_cmp (lent entries.now) }
-    ensures { IfOk result (λ v. AllZip (HasPairsOf (Contains (lent entries.now))) cells.now v.items) }
+    ensures { IfOk result
+        (λ v. AllZip (HasPairsOf (Contains (lent entries.now))) cells.now v.items) }
 {
     let mut list = Vec::new(alloc);
     for cell in cells {
@@ -210,7 +218,8 @@ fn all_with_values(
     ports: &[Port],
 ) -> Result<Vec<PortClash>, AllocError>
     requires { Rises entry_cmp (lent entries.now) }
-    ensures { IfOk result (λ v. AllZip (HasValuesOf (Contains (lent entries.now))) ports.now v.items) }
+    ensures { IfOk result
+        (λ v. AllZip (HasValuesOf (Contains (lent entries.now))) ports.now v.items) }
 {
     let mut list = Vec::new(alloc);
     for port in ports {
@@ -222,7 +231,9 @@ fn all_with_values(
 /// The cells that have two pairs or more, each with all its pairs, in order.
 pub fn cell_clashes(alloc: Global, entries: &[&Entry]) -> Result<Vec<CellClash>, AllocError>
     requires { Rises entry_cmp (lent entries.now) }
-    ensures { IfOk result (λ v. IsListOf cell_clash_order (IsCellClash (Contains (lent entries.now))) (map cell_pairs v.items)) }
+    ensures { IfOk result
+        (λ v. IsListOf cell_clash_order (IsCellClash (Contains (lent entries.now)))
+        (map cell_pairs v.items)) }
 {
     let cells = clashing_cells(alloc, entries)?;
     let list = all_with_pairs(alloc, entries, &cells)?;
@@ -232,7 +243,9 @@ pub fn cell_clashes(alloc: Global, entries: &[&Entry]) -> Result<Vec<CellClash>,
 /// The ports that have two values or more, each with all its values, in order.
 pub fn port_clashes(alloc: Global, entries: &[&Entry]) -> Result<Vec<PortClash>, AllocError>
     requires { Rises entry_cmp (lent entries.now) }
-    ensures { IfOk result (λ v. IsListOf port_clash_order (IsPortClash (Contains (lent entries.now))) (map port_values v.items)) }
+    ensures { IfOk result
+        (λ v. IsListOf port_clash_order (IsPortClash (Contains (lent entries.now)))
+        (map port_values v.items)) }
 {
     let ports = clashing_ports(alloc, entries)?;
     let list = all_with_values(alloc, entries, &ports)?;

@@ -1,30 +1,31 @@
 //! Sets of entries.
 ghost use Rattle.std.specs.Prelude.{◌≡◌, ◌↔◌, ◌++◌, [], OnOk, OnErr, IfOk, IfErr, Contains, ◌⊎◌, IsTrue, length, map};
 ghost use Rattle.std.specs.Map.Iter.{ShowsInOrder, deref};
-ghost use Rattle.u_system.specs.Rising.{Rises, IsWith, IsUnion, IsListOf};
+ghost use Rattle.u_sets.specs.Rising.{Rises, IsListOf};
+ghost use Rattle.u_sets.specs.Members.{IsWith, IsUnion};
 ghost use Rattle.u_rule.specs.EntryOrder.{entry_cmp};
 ghost use Rattle.u_rule.specs.declared.entry.Entry.{Entry};
 ghost use Rattle.u_history.specs.Orders.{value_order, written_order};
 ghost use Rattle.u_text.specs.Appending.{Extends};
 ghost use Rattle.u_history.specs.Text.{history_text};
-ghost use Rattle.u_history.specs.Says.{IsOutcome, PairIn, ValueAt};
+ghost use Rattle.u_history.specs.Outcomes.{IsOutcome, PairIn, ValueAt};
 ghost use Rattle.u_history.specs.Clashes.{cell_pairs, port_values};
 
 use crate::lookup::{pairs_in, values_at};
 use crate::outcome::Outcome;
 use std::alloc::{AllocError, AllocFailed, Global};
-use std::collections::BTreeSet;
 use std::collections::btree_set::Iter;
 use std::marker::Model;
 use u_name::{Cell, Name};
 use u_rule::{Entry, Written};
+use u_sets::OrderedSet;
 use u_value::Value;
 
 /// A set of entries. Contracts see it as the list of its entries, in order.
 #[derive(Drop)]
 pub struct History {
     alloc: Global,
-    entries: BTreeSet<Entry>,
+    entries: OrderedSet<Entry>,
 }
 
 impl Model for History {
@@ -36,12 +37,12 @@ impl Model for History {
 
     ghost coded = { entries_code };
 
-    ghost use Rattle.u_system.specs.Rising.{Rises};
+    ghost use Rattle.u_sets.specs.Rising.{Rises};
     ghost use Rattle.u_rule.specs.EntryOrder.{entry_cmp};
 
-    ghost view = { λ h. h.entries.keys };
+    ghost view = { λ h. h.entries };
 
-    ghost invariant = { λ h. Rises entry_cmp h.entries.keys };
+    ghost invariant = { λ h. Rises entry_cmp h.entries };
 }
 
 impl History {
@@ -51,7 +52,7 @@ impl History {
     {
         History {
             alloc,
-            entries: BTreeSet::new(alloc),
+            entries: OrderedSet::new(alloc),
         }
     }
 
@@ -70,7 +71,7 @@ impl History {
         self.entries.contains(entry)
     }
 
-    /// Puts the entry in. Answers whether it was new.
+    /// Puts the entry in. Returns whether it was new.
     ///
     /// # Errors
     /// The entry is handed back where memory runs out, and the set stays as it was.
@@ -124,7 +125,8 @@ impl History {
     /// # Errors
     /// `AllocError` where there is no memory.
     pub fn values(&self, activity: &Name, port: u8) -> Result<Vec<Value>, AllocError>
-        ensures { IfOk result (λ v. IsListOf value_order (ValueAt (Contains self.now) activity.now port) v.items) }
+        ensures { IfOk result
+            (λ v. IsListOf value_order (ValueAt (Contains self.now) activity.now port) v.items) }
     {
         let entries = self.references()?;
         values_at(self.alloc, &entries, activity, port)
@@ -135,7 +137,8 @@ impl History {
     /// # Errors
     /// `AllocError` where there is no memory.
     pub fn writes(&self, cell: &Cell) -> Result<Vec<Written>, AllocError>
-        ensures { IfOk result (λ v. IsListOf written_order (PairIn (Contains self.now) cell.now) v.items) }
+        ensures { IfOk result
+            (λ v. IsListOf written_order (PairIn (Contains self.now) cell.now) v.items) }
     {
         let entries = self.references()?;
         pairs_in(self.alloc, &entries, cell)
@@ -146,7 +149,7 @@ impl History {
     ///
     /// # Errors
     /// `AllocError` where there is no memory.
-    #[tactic(auto, using(u_text::specs::Appending::extends_by, u_text::specs::Appending::extends_behind))]
+    #[tactic(auto, using(u_text::proofs::AppendingLaws::extends_by, u_text::proofs::AppendingLaws::extends_behind))]
     pub fn write_text(&self, out: &mut Vec<u8>) -> Result<(), AllocError>
         ensures ok { OnOk result (out.new.items ≡ out.old.items ++ history_text self.now) }
         ensures err { OnErr result (Extends out.old.items out.new.items) }
@@ -163,7 +166,10 @@ impl History {
     /// # Errors
     /// `AllocError` where there is no memory.
     pub fn outcome(&self) -> Result<Outcome, AllocError>
-        ensures { IfOk result (λ o. IsOutcome (Contains self.now) o.answers.items (map cell_pairs o.cell_clashes.items) (map port_values o.port_clashes.items) o.faults.items) }
+        ensures { IfOk result
+            (λ o. IsOutcome (Contains self.now) o.answers.items
+            (map cell_pairs o.cell_clashes.items)
+            (map port_values o.port_clashes.items) o.faults.items) }
     {
         let entries = self.references()?;
         Outcome::of(self.alloc, &entries)

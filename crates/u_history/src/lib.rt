@@ -2,6 +2,7 @@
 #![tactic(auto)]
 
 mod clash;
+mod exact;
 mod history;
 mod lookup;
 mod outcome;
@@ -12,5 +13,5 @@ mod verdict;
 pub use clash::{CellClash, PortClash};
 pub use history::History;
 pub use outcome::Outcome;
-pub use report::{State, report_text};
+pub use report::{Ending, report_text};
 pub use verdict::Verdict;

@@ -1,23 +1,23 @@
 //! What stands at one port, and in one cell.
 ghost use Rattle.std.specs.Prelude.{◌≡◌, ◌↔◌, ◌⊎◌, OnOk, IfOk, Contains};
-ghost use Rattle.u_system.specs.Rising.{Rises, IsListOf};
+ghost use Rattle.u_sets.specs.Rising.{Rises, IsListOf};
 ghost use Rattle.u_value.specs.declared.value.Value.{Value};
 ghost use Rattle.u_rule.specs.Parts.{token};
 ghost use Rattle.u_rule.specs.EntryOrder.{entry_cmp, write_of};
 ghost use Rattle.u_rule.specs.declared.firing.Written.{Written};
 ghost use Rattle.u_rule.specs.declared.entry.Entry.TheVariants as kinds;
 ghost use Rattle.u_history.specs.Orders.{value_order, written_order};
-ghost use Rattle.u_history.specs.Says.{lent, PairIn, ValueAt};
+ghost use Rattle.u_history.specs.Outcomes.{lent, PairIn, ValueAt};
+ghost use Rattle.u_sets.specs.Members.{Gains};
 
 use crate::place::{Place, entry_at, first_at, is_at, is_at_port, is_in_cell};
 use std::alloc::{AllocError, Global};
 use u_name::{Cell, Name};
 use u_rule::{Entry, Written};
-use u_system::place_in;
+use u_sets::place_in;
 use u_value::Value;
 
 /// Adds the entry's value, if it is a token at that port.
-#[tactic(auto, using(crate::proofs::Exact::answers_exact))]
 fn add_value(
     list: &mut Vec<Value>,
     entry: &Entry,
@@ -26,7 +26,9 @@ fn add_value(
 ) -> Result<(), AllocError>
     requires { Rises value_order list.old.items }
     ensures rises { Rises value_order list.new.items }
-    ensures ok { OnOk result ((x : Value) → Contains list.new.items x ↔ (Contains list.old.items x ⊎ (entry.now ≡ kinds.Token (token activity.now port x)))) }
+    ensures ok { OnOk result
+        (Gains list.old.items
+        (λ (x : Value). entry.now ≡ kinds.Token (token activity.now port x)) list.new.items) }
 {
     if let Entry::Token(item) = entry {
         if is_at_port(item, activity, port) {
@@ -44,7 +46,9 @@ pub fn values_at(
     port: u8,
 ) -> Result<Vec<Value>, AllocError>
     requires { Rises entry_cmp (lent entries.now) }
-    ensures { IfOk result (λ v. IsListOf value_order (ValueAt (Contains (lent entries.now)) activity.now port) v.items) }
+    ensures { IfOk result
+        (λ v. IsListOf value_order
+        (ValueAt (Contains (lent entries.now)) activity.now port) v.items) }
 {
     let mut list = Vec::new(alloc);
     let place = Place::Port(activity, port);
@@ -59,11 +63,13 @@ pub fn values_at(
 }
 
 /// Adds the entry's writer and value, if it is a write of that cell.
-#[tactic(auto, using(crate::proofs::Exact::pairs_exact))]
 fn add_pair(list: &mut Vec<Written>, entry: &Entry, cell: &Cell) -> Result<(), AllocError>
     requires { Rises written_order list.old.items }
     ensures rises { Rises written_order list.new.items }
-    ensures ok { OnOk result ((x : Written) → Contains list.new.items x ↔ (Contains list.old.items x ⊎ (entry.now ≡ kinds.Write (write_of cell.now x.writer x.value)))) }
+    ensures ok { OnOk result
+        (Gains list.old.items
+        (λ (x : Written). entry.now
+        ≡ kinds.Write (write_of cell.now x.writer x.value)) list.new.items) }
 {
     if let Entry::Write(item) = entry {
         if is_in_cell(item, cell) {
@@ -81,7 +87,8 @@ fn add_pair(list: &mut Vec<Written>, entry: &Entry, cell: &Cell) -> Result<(), A
 /// alone, once they are found.
 pub fn pairs_in(alloc: Global, entries: &[&Entry], cell: &Cell) -> Result<Vec<Written>, AllocError>
     requires { Rises entry_cmp (lent entries.now) }
-    ensures { IfOk result (λ v. IsListOf written_order (PairIn (Contains (lent entries.now)) cell.now) v.items) }
+    ensures { IfOk result
+        (λ v. IsListOf written_order (PairIn (Contains (lent entries.now)) cell.now) v.items) }
 {
     let mut list = Vec::new(alloc);
     let place = Place::Cell(cell);

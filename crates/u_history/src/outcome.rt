@@ -1,21 +1,22 @@
 //! What a set of entries says.
 ghost use Rattle.std.specs.Prelude.{◌≡◌, ◌↔◌, ◌⊎◌, OnOk, IfOk, Contains, map};
-ghost use Rattle.u_system.specs.Rising.{Rises, IsListOf};
+ghost use Rattle.u_sets.specs.Rising.{Rises, IsListOf};
 ghost use Rattle.u_rule.specs.EntryOrder.{entry_cmp};
 ghost use Rattle.u_value.specs.declared.value.Value.{Value};
 ghost use Rattle.u_rule.specs.declared.parts.Fault.{Fault};
 ghost use Rattle.u_rule.specs.declared.entry.Entry.TheVariants as kinds;
 ghost use Rattle.u_history.specs.Orders.{value_order, fault_order};
-ghost use Rattle.u_history.specs.Says.{IsOutcome, lent};
+ghost use Rattle.u_history.specs.Outcomes.{IsOutcome, lent};
 ghost use Rattle.u_history.specs.Clashes.{cell_pairs, port_values};
 ghost use Rattle.u_history.specs.Verdicts.{judged, judgement};
+ghost use Rattle.u_sets.specs.Members.{Gains};
 
 use crate::clash::{CellClash, PortClash, cell_clashes, port_clashes};
 use crate::place::entry_at;
 use crate::verdict::Verdict;
 use std::alloc::{AllocError, Global};
 use u_rule::{Entry, Fault};
-use u_system::place_in;
+use u_sets::place_in;
 use u_value::Value;
 
 /// What a set of entries says. Each list is in order.
@@ -32,11 +33,11 @@ pub struct Outcome {
 }
 
 /// Adds the entry, if it is an answer.
-#[tactic(auto, using(crate::proofs::Exact::answers_exact))]
 fn add_answer(list: &mut Vec<Value>, entry: &Entry) -> Result<(), AllocError>
     requires { Rises value_order list.old.items }
     ensures rises { Rises value_order list.new.items }
-    ensures ok { OnOk result ((x : Value) → Contains list.new.items x ↔ (Contains list.old.items x ⊎ (entry.now ≡ kinds.Answer x))) }
+    ensures ok { OnOk result
+        (Gains list.old.items (λ (x : Value). entry.now ≡ kinds.Answer x) list.new.items) }
 {
     if let Entry::Answer(item) = entry {
         place_in(list, item.copy()?)?;
@@ -45,11 +46,11 @@ fn add_answer(list: &mut Vec<Value>, entry: &Entry) -> Result<(), AllocError>
 }
 
 /// Adds the entry, if it is a fault.
-#[tactic(auto, using(crate::proofs::Exact::faults_exact))]
 fn add_fault(list: &mut Vec<Fault>, entry: &Entry) -> Result<(), AllocError>
     requires { Rises fault_order list.old.items }
     ensures rises { Rises fault_order list.new.items }
-    ensures ok { OnOk result ((x : Fault) → Contains list.new.items x ↔ (Contains list.old.items x ⊎ (entry.now ≡ kinds.Fault x))) }
+    ensures ok { OnOk result
+        (Gains list.old.items (λ (x : Fault). entry.now ≡ kinds.Fault x) list.new.items) }
 {
     if let Entry::Fault(item) = entry {
         place_in(list, item.copy()?)?;
@@ -59,7 +60,8 @@ fn add_fault(list: &mut Vec<Fault>, entry: &Entry) -> Result<(), AllocError>
 
 /// The answers, in order.
 fn answers(alloc: Global, entries: &[&Entry]) -> Result<Vec<Value>, AllocError>
-    ensures { IfOk result (λ v. IsListOf value_order (λ x. Contains (lent entries.now) (kinds.Answer x)) v.items) }
+    ensures { IfOk result
+        (λ v. IsListOf value_order (λ x. Contains (lent entries.now) (kinds.Answer x)) v.items) }
 {
     let mut list = Vec::new(alloc);
     for index in 0..entries.len() {
@@ -70,7 +72,8 @@ fn answers(alloc: Global, entries: &[&Entry]) -> Result<Vec<Value>, AllocError>
 
 /// The faults, in order.
 fn faults(alloc: Global, entries: &[&Entry]) -> Result<Vec<Fault>, AllocError>
-    ensures { IfOk result (λ v. IsListOf fault_order (λ x. Contains (lent entries.now) (kinds.Fault x)) v.items) }
+    ensures { IfOk result
+        (λ v. IsListOf fault_order (λ x. Contains (lent entries.now) (kinds.Fault x)) v.items) }
 {
     let mut list = Vec::new(alloc);
     for index in 0..entries.len() {
@@ -83,7 +86,10 @@ impl Outcome {
     /// What the entries say.
     pub(crate) fn of(alloc: Global, entries: &[&Entry]) -> Result<Outcome, AllocError>
         requires { Rises entry_cmp (lent entries.now) }
-        ensures { IfOk result (λ o. IsOutcome (Contains (lent entries.now)) o.answers.items (map cell_pairs o.cell_clashes.items) (map port_values o.port_clashes.items) o.faults.items) }
+        ensures { IfOk result
+            (λ o. IsOutcome (Contains (lent entries.now)) o.answers.items
+            (map cell_pairs o.cell_clashes.items)
+            (map port_values o.port_clashes.items) o.faults.items) }
     {
         Ok(Outcome {
             answers: answers(alloc, entries)?,
@@ -96,7 +102,9 @@ impl Outcome {
     /// The verdict: clashed, where something clashes or there is more than one answer; else faulted,
     /// where there is a fault; else the answer, if there is one.
     pub fn verdict(&self) -> Verdict<'_>
-        ensures { judgement result ≡ judged self.now.answers.items (map cell_pairs self.now.cell_clashes.items) (map port_values self.now.port_clashes.items) self.now.faults.items }
+        ensures { judgement result
+            ≡ judged self.now.answers.items (map cell_pairs self.now.cell_clashes.items)
+            (map port_values self.now.port_clashes.items) self.now.faults.items }
     {
         if !self.cell_clashes.is_empty()
             || !self.port_clashes.is_empty()

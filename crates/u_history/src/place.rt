@@ -5,10 +5,10 @@ ghost use Rattle.std.specs.declared.cmp.Ordering.TheVariants.{Less};
 ghost use Rattle.u_name.specs.NameOrder.{name_cmp};
 ghost use Rattle.u_name.specs.Cell.{cell_cmp};
 ghost use Rattle.std.proofs.Common.{get_or};
-ghost use Rattle.u_system.specs.Rising.{Rises};
+ghost use Rattle.u_sets.specs.Rising.{Rises};
 ghost use Rattle.u_rule.specs.EntryOrder.{entry_cmp};
 ghost use Rattle.u_rule.specs.declared.entry.Entry.{Entry};
-ghost use Rattle.u_history.specs.Says.{lent};
+ghost use Rattle.u_history.specs.Outcomes.{lent};
 ghost use Rattle.u_history.specs.Places.{IsAt, IsBefore};
 
 use u_name::{Cell, Name};
@@ -59,7 +59,9 @@ pub fn is_at(entry: &Entry, place: Place<'_>) -> bool
 
 /// Whether the token stands before all tokens at that port.
 fn is_before_port(token: &Token, activity: &Name, port: u8) -> bool
-    ensures { IsTrue result ↔ (ordering_then (name_cmp token.now.activity activity.now) (nat_cmp token.now.port port) ≡ Less) }
+    ensures { IsTrue result
+        ↔ (ordering_then (name_cmp token.now.activity activity.now) (nat_cmp token.now.port port)
+        ≡ Less) }
 {
     token
         .activity()
@@ -91,8 +93,10 @@ fn is_before(entry: &Entry, place: Place<'_>) -> bool
 pub fn first_at(entries: &[&Entry], place: Place<'_>) -> usize
     requires { Rises entry_cmp (lent entries.now) }
     ensures bound { result ≤ length entries.now }
-    ensures before { (k : ℕ) (d : Entry) → k < result → IsBefore place.entry (get_or (lent entries.now) k d) }
-    ensures behind { (k : ℕ) (d : Entry) → result ≤ k → k < length entries.now → IsBefore place.entry (get_or (lent entries.now) k d) → ⊥ }
+    ensures before { (k : ℕ) (d : Entry) → k < result
+        → IsBefore place.entry (get_or (lent entries.now) k d) }
+    ensures behind { (k : ℕ) (d : Entry) → result ≤ k → k < length entries.now
+        → IsBefore place.entry (get_or (lent entries.now) k d) → ⊥ }
 {
     let mut low = 0;
     let mut high = entries.len();

@@ -1,6 +1,6 @@
 //! Reports.
 ghost use Rattle.std.specs.Prelude.{◌≡◌, ◌++◌, Contains, OnOk, IfOk, codes, decimal, length, map};
-ghost use Rattle.u_history.specs.Says.{IsOutcome};
+ghost use Rattle.u_history.specs.Outcomes.{IsOutcome};
 ghost use Rattle.u_history.specs.Clashes.{cell_pairs, port_values};
 ghost use Rattle.u_history.specs.Verdicts.{judgement};
 ghost use Rattle.u_history.specs.Report.{texts, count_line, state_line, answer_line, cell_line, cell_lines, port_line, port_lines, fault_line, verdict_line, counts_text, outcome_text, report_text, IsReportOf};
@@ -17,7 +17,7 @@ use u_value::Value;
 
 /// Whether a run ended.
 #[derive(Clone, Copy, Debug, PartialEq, Eq)]
-pub enum State {
+pub enum Ending {
     /// Nothing is ready to fire.
     Quiet,
     /// The run stopped while something was ready to fire.
@@ -50,12 +50,12 @@ fn put_count(out: &mut Vec<u8>, word: &[u8], number: usize) -> Result<(), AllocE
 }
 
 #[tactic(auto, unfolding(crate::specs::Report::state_line))]
-fn put_state(out: &mut Vec<u8>, state: State) -> Result<(), AllocError>
+fn put_state(out: &mut Vec<u8>, state: Ending) -> Result<(), AllocError>
     ensures { OnOk result (out.new.items ≡ out.old.items ++ state_line state) }
 {
     match state {
-        State::Quiet => put(out, b"state quiet\n"),
-        State::Paused => put(out, b"state paused\n"),
+        Ending::Quiet => put(out, b"state quiet\n"),
+        Ending::Paused => put(out, b"state paused\n"),
     }
 }
 
@@ -123,7 +123,8 @@ fn put_values(
     port: u8,
     values: &[Value],
 ) -> Result<(), AllocError>
-    ensures { OnOk result (out.new.items ≡ out.old.items ++ texts (port_line activity.now port) values.now) }
+    ensures { OnOk result
+        (out.new.items ≡ out.old.items ++ texts (port_line activity.now port) values.now) }
 {
     for value in values {
         put_value(out, activity, port, value)?;
@@ -159,7 +160,8 @@ fn put_cell(out: &mut Vec<u8>, clash: &CellClash) -> Result<(), AllocError>
 }
 
 fn put_cells(out: &mut Vec<u8>, clashes: &[CellClash]) -> Result<(), AllocError>
-    ensures { OnOk result (out.new.items ≡ out.old.items ++ texts cell_lines (map cell_pairs clashes.now)) }
+    ensures { OnOk result
+        (out.new.items ≡ out.old.items ++ texts cell_lines (map cell_pairs clashes.now)) }
 {
     for clash in clashes {
         put_cell(out, clash)?;
@@ -175,7 +177,8 @@ fn put_port(out: &mut Vec<u8>, clash: &PortClash) -> Result<(), AllocError>
 }
 
 fn put_ports(out: &mut Vec<u8>, clashes: &[PortClash]) -> Result<(), AllocError>
-    ensures { OnOk result (out.new.items ≡ out.old.items ++ texts port_lines (map port_values clashes.now)) }
+    ensures { OnOk result
+        (out.new.items ≡ out.old.items ++ texts port_lines (map port_values clashes.now)) }
 {
     for clash in clashes {
         put_port(out, clash)?;
@@ -194,7 +197,8 @@ fn put_faults(out: &mut Vec<u8>, faults: &[Fault]) -> Result<(), AllocError>
 
 #[tactic(auto, using(crate::proofs::Texts::join2))]
 fn put_answer_verdict(out: &mut Vec<u8>, answer: &Value) -> Result<(), AllocError>
-    ensures { OnOk result (out.new.items ≡ out.old.items ++ (codes "verdict " ++ answer_line answer.now)) }
+    ensures { OnOk result
+        (out.new.items ≡ out.old.items ++ (codes "verdict " ++ answer_line answer.now)) }
 {
     put(out, b"verdict ")?;
     put_answer(out, answer)
@@ -202,7 +206,8 @@ fn put_answer_verdict(out: &mut Vec<u8>, answer: &Value) -> Result<(), AllocErro
 
 #[tactic(auto, unfolding(crate::specs::Report::verdict_line))]
 fn put_verdict(out: &mut Vec<u8>, verdict: Verdict<'_>) -> Result<(), AllocError>
-    ensures { OnOk result (out.new.items ≡ out.old.items ++ verdict_line (judgement verdict.entry)) }
+    ensures { OnOk result
+        (out.new.items ≡ out.old.items ++ verdict_line (judgement verdict.entry)) }
 {
     match verdict {
         Verdict::Clashed => put(out, b"verdict clashed\n"),
@@ -214,7 +219,10 @@ fn put_verdict(out: &mut Vec<u8>, verdict: Verdict<'_>) -> Result<(), AllocError
 
 #[tactic(auto, unfolding(crate::specs::Report::outcome_text), using(crate::proofs::Texts::join5))]
 fn put_outcome(out: &mut Vec<u8>, outcome: &Outcome) -> Result<(), AllocError>
-    ensures { OnOk result (out.new.items ≡ out.old.items ++ outcome_text outcome.now.answers.items (map cell_pairs outcome.now.cell_clashes.items) (map port_values outcome.now.port_clashes.items) outcome.now.faults.items) }
+    ensures { OnOk result
+        (out.new.items ≡ out.old.items
+        ++ outcome_text outcome.now.answers.items (map cell_pairs outcome.now.cell_clashes.items)
+        (map port_values outcome.now.port_clashes.items) outcome.now.faults.items) }
 {
     put_answers(out, &outcome.answers)?;
     put_cells(out, &outcome.cell_clashes)?;
@@ -229,7 +237,7 @@ fn put_outcome(out: &mut Vec<u8>, outcome: &Outcome) -> Result<(), AllocError>
 #[tactic(auto, unfolding(crate::specs::Report::report_text), using(crate::proofs::Texts::join3))]
 pub fn report_text(
     alloc: Global,
-    state: State,
+    state: Ending,
     firings: usize,
     parked: usize,
     history: &History,

@@ -9,7 +9,7 @@ use Rattle.u_rule.specs.Structures.{wrote}
 use Rattle.u_rule.specs.declared.parts.Write.{Write}
 use Rattle.u_rule.specs.declared.entry.Entry.{Entry}
 use Rattle.u_rule.specs.declared.entry.Entry.TheVariants as entries
-use Rattle.u_match.specs.Under.{KeepsAll}
+use Rattle.u_match.specs.KeyedLists.{KeepsAll}
 use Rattle.u_match.specs.declared.keys.Tables.{Tables}
 use Rattle.u_match.specs.Keys.{place_eq, cell_eq, place, values_at, writes_of, met_at, Notes, IsComplete, StaysComplete, IsCompleteWith}
 use Rattle.u_match.proofs.Noted.{notes_still}

@@ -8,7 +8,7 @@ use Rattle.u_program.specs.declared.program.Kind.{Kind}
 use Rattle.u_program.specs.declared.program.Kind.TheVariants.{Begin, Fetch}
 use Rattle.u_program.specs.Parts.{StatementParts, BlockParts}
 use Rattle.u_check.specs.Jobs.{JobParts}
-use Rattle.u_check.specs.Rules.{ports_of}
+use Rattle.u_check.specs.Kinds.{ports_of}
 use Rattle.u_rule.specs.Parts.{token, ValueList}
 use Rattle.u_rule.specs.Rule.{is_firing_of, is_firing_at, needs_of}
 use Rattle.u_rule.specs.Fits.{statement_of, fits_at}

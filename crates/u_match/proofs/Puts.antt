@@ -5,7 +5,7 @@ use Rattle.std.specs.Global.{Vec}
 use Rattle.std.specs.HashMap.{get}
 use Rattle.std.specs.HashMap.Eq.{lookup_congr}
 use Rattle.u_match.specs.declared.table.Table.{Table}
-use Rattle.u_match.specs.Under.{items_of, under, KeepsAll}
+use Rattle.u_match.specs.KeyedLists.{items_of, under, KeepsAll}
 
 module _ {K V : Type 0} (eq : K → K → Bool) (o : IsEquivalence eq) where
   -- equal keys have one list

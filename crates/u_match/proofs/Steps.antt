@@ -5,18 +5,14 @@ use Rattle.u_name.specs.Name.{Activity}
 use Rattle.u_value.specs.declared.value.Value.{Value}
 use Rattle.u_rule.specs.Structures.{cell_named}
 use Rattle.u_rule.specs.declared.firing.Firing.{Firing}
-use Rattle.u_system.specs.Firing.{SomeOf}
+use Rattle.u_sets.specs.Members.{SomeOf, Gains}
 use Rattle.u_system.proofs.Member.{Contains-nil}
-use Rattle.u_system.proofs.Scan.{scan_more}
+use Rattle.u_sets.proofs.Gathering.{scan_more}
 use Rattle.u_match.specs.Joins.{IsReading, ReadsCell, JoinsOne, JoinsToken}
 use Rattle.u_rule.specs.Parts.{TokenParts}
 use Rattle.u_match.specs.declared.keys.Place.{Place}
 use Rattle.u_match.specs.declared.keys.Tables.{Tables}
 use Rattle.u_match.specs.Keys.{writes_of, met_at, place}
-
--- new has what old has, and those with P
-abbrev pub Gains : List Firing → (Firing → Type 0) → List Firing → Type 0
-Gains old P new = (f : Firing) → Contains new f ↔ (Contains old f ⊎ P f)
 
 -- one round of a loop
 pub round : {Y : Type 0} (P : Y → Firing → Type 0) (start old new : List Firing) (ys : List Y) (i : ℕ) (d : Y) → i < length ys → d ≡ get_or ys i d → Gains start (SomeOf (take i ys) P) old → Gains old (P d) new → Gains start (SomeOf (take (i + 1) ys) P) new

@@ -1,26 +1,20 @@
 -- What the tests of a firing say.
-use Rattle.std.proofs.Common.{◌≡◌, ◌↔◌, ◌⊎◌, inl, inr, sym, subst, ap, ◌∙◌, refl, List, Bool, true, IsTrue, Contains, Ordering}
+use Rattle.std.proofs.Common.{◌≡◌, ◌↔◌, ◌⊎◌, inl, inr, sym, subst, ap, ◌∙◌, refl, List, Bool, true, IsTrue, Contains}
 use Rattle.std.specs.Ordering.{is_eq}
-use Rattle.std.specs.Cmp.{tied_itself}
-use Rattle.std.specs.declared.cmp.Ordering.TheVariants.{Less, Equal, Greater}
+use Rattle.std.specs.Cmp.{tied_itself, Equal-is}
+use Rattle.std.specs.declared.cmp.Ordering.TheVariants.{Equal}
 use Rattle.u_check.specs.Jobs.{JobParts}
 use Rattle.u_rule.specs.Rule.{is_firing_of, needs_of}
-use Rattle.u_rule.specs.EntryOrder.{entry_cmp, entry_cmp_total, entry_cmp_ties}
+use Rattle.u_rule.specs.EntryOrder.{entry_cmp}
+use Rattle.u_rule.specs.ExactOrders.{entry_cmp_total, entry_cmp_ties}
 use Rattle.u_rule.specs.declared.entry.Entry.{Entry}
 use Rattle.u_rule.specs.declared.firing.Firing.{Firing}
-use Rattle.u_system.specs.Firing.{SomeOf}
-use Rattle.u_system.specs.Rising.{IsWith}
+use Rattle.u_sets.specs.Members.{SomeOf, IsWith, Gains}
 use Rattle.u_match.specs.Waking.{IsWokenBy}
-use Rattle.u_match.proofs.Steps.{Gains}
-
-tie_of : (r : Ordering) → is_eq r ≡ true → r ≡ Equal
-tie_of Less h = cc
-tie_of Equal h = refl
-tie_of Greater h = cc
 
 pub same_entry : (a b : Entry) → IsTrue (is_eq (entry_cmp a b)) ↔ (a ≡ b)
 same_entry a b =
-    ((λ h. entry_cmp_ties a b (tie_of (entry_cmp a b) h)), λ e. ap is_eq (subst (λ (x : Entry). entry_cmp a x ≡ Equal) e (tied_itself entry_cmp_total a)))
+    ((λ h. entry_cmp_ties a b ((Equal-is (entry_cmp a b)).0 h)), λ e. ap is_eq (subst (λ (x : Entry). entry_cmp a x ≡ Equal) e (tied_itself entry_cmp_total a)))
 
 -- the firing is added where it passes
 pub added : (W : Firing → Type 0) (g : Firing) (old new : List Firing) → W g → Gains old (λ f. g ≡ f) new → Gains old (λ f. (g ≡ f) × W f) new

@@ -11,7 +11,7 @@ use Rattle.u_rule.specs.declared.entry.Entry.TheVariants as entries
 use Rattle.u_rule.specs.declared.firing.Firing.{Firing}
 use Rattle.u_rule.specs.declared.firing.Written.{Written}
 use Rattle.u_rule.specs.declared.parts.Write.{Write}
-use Rattle.u_system.specs.Firing.{SomeOf}
+use Rattle.u_sets.specs.Members.{SomeOf}
 use Rattle.u_match.specs.declared.keys.Read.{Read}
 use Rattle.u_match.specs.declared.keys.Tables.{Tables}
 use Rattle.u_match.specs.Keys.{met_at, writes_of, reads_of}

@@ -7,7 +7,7 @@ use Rattle.u_value.specs.declared.value.Value.{Value}
 use Rattle.u_rule.specs.Parts.{TokenParts, token}
 use Rattle.u_rule.specs.EntryOrder.{written}
 use Rattle.u_rule.specs.Structures.{cell_named, wrote}
-use Rattle.u_system.specs.Rising.{IsWith}
+use Rattle.u_sets.specs.Members.{IsWith}
 use Rattle.u_rule.specs.declared.entry.Entry.{Entry}
 use Rattle.u_rule.specs.declared.entry.Entry.TheVariants as entries
 use Rattle.u_rule.specs.declared.firing.Written.{Written}
@@ -16,7 +16,7 @@ use Rattle.u_match.specs.declared.keys.Read.{Read}
 use Rattle.u_match.specs.declared.keys.Tables.{Tables}
 use Rattle.u_match.specs.contracts.keys.PlacePartialEq.TheImpl as place_partial
 use Rattle.u_match.specs.declared.table.Table.{Table}
-use Rattle.u_match.specs.Under.{under}
+use Rattle.u_match.specs.KeyedLists.{under}
 
 abbrev pub place : Activity → ℕ → Place
 place activity port = record { activity = activity; port = port }

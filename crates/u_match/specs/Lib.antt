@@ -1,4 +1,4 @@
-pub mod Under
+pub mod KeyedLists
 pub mod Keys
 pub mod Joins
 pub mod Waking

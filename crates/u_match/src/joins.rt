@@ -3,18 +3,18 @@
 ghost use Rattle.std.specs.Prelude.{◌≡◌, ◌↔◌, ◌⊎◌, [], ◌∷◌, OnOk, IfOk, Contains, Some, None, Ok};
 ghost use Rattle.u_rule.specs.declared.firing.Firing.{Firing};
 ghost use Rattle.u_rule.specs.EntryOrder.{firing, written};
-ghost use Rattle.u_system.specs.Firing.{SomeOf};
+ghost use Rattle.u_sets.specs.Members.{SomeOf, AreThose, Gains, IsWith};
 ghost use Rattle.u_match.specs.Joins.{IsThree, IsReading, ReadsCell, JoinsTwo, JoinsOne, JoinsToken, IsWoken, JoinsWrite, Meets};
 
-use crate::keys::{Read, Tables, cell_at, met_at, place_of};
+use crate::keys::{Read, Tables, met_at, place_of};
 use std::alloc::{AllocError, Global};
 use u_name::Name;
-use u_rule::{Entry, Firing, Token, Values, Write, Written};
+use u_rule::{Entry, Firing, Token, Values, Write, Written, cell_at};
 use u_value::Value;
 
 /// Adds the firing.
 fn add(found: &mut Vec<Firing>, firing: Firing) -> Result<(), AllocError>
-    ensures { OnOk result ((f : Firing) → Contains found.new.items f ↔ (Contains found.old.items f ⊎ (firing ≡ f))) }
+    ensures { OnOk result (IsWith found.old.items firing found.new.items) }
 {
     found.push(firing)?;
     Ok(())
@@ -55,7 +55,8 @@ fn of_three(
     second: &Value,
     third: &Value,
 ) -> Result<Firing, AllocError>
-    ensures { IfOk result (λ f. f ≡ firing activity.now (first.now ∷ second.now ∷ third.now ∷ []) None) }
+    ensures { IfOk result
+        (λ f. f ≡ firing activity.now (first.now ∷ second.now ∷ third.now ∷ []) None) }
 {
     let value = first.copy()?;
     let other = second.copy()?;
@@ -76,7 +77,9 @@ fn of_read(
     writer: &Name,
     value: &Value,
 ) -> Result<Firing, AllocError>
-    ensures { IfOk result (λ f. f ≡ firing activity.now (first.now ∷ second.now ∷ []) (Some (written writer.now value.now))) }
+    ensures { IfOk result
+        (λ f. f ≡ firing activity.now (first.now ∷ second.now ∷ [])
+        (Some (written writer.now value.now))) }
 {
     let by = Written {
         writer: writer.copy()?,
@@ -98,7 +101,9 @@ fn add_readings(
     writes: &[Written],
     found: &mut Vec<Firing>,
 ) -> Result<(), AllocError>
-    ensures { OnOk result ((f : Firing) → Contains found.new.items f ↔ (Contains found.old.items f ⊎ SomeOf writes.now (IsReading activity.now first.now second.now) f)) }
+    ensures { OnOk result
+        (Gains found.old.items
+        (SomeOf writes.now (IsReading activity.now first.now second.now)) found.new.items) }
 {
     for write in writes {
         let reading = of_read(alloc, activity, first, second, &write.writer, &write.value)?;
@@ -116,7 +121,9 @@ fn add_reads(
     second: &Value,
     found: &mut Vec<Firing>,
 ) -> Result<(), AllocError>
-    ensures { OnOk result ((f : Firing) → Contains found.new.items f ↔ (Contains found.old.items f ⊎ ReadsCell tables.now activity.now first.now second.now f)) }
+    ensures { OnOk result
+        (Gains found.old.items
+        (ReadsCell tables.now activity.now first.now second.now) found.new.items) }
 {
     let named = cell_at(first, second)?;
     let cell = match named {
@@ -137,7 +144,9 @@ fn join_thirds(
     thirds: &[Value],
     found: &mut Vec<Firing>,
 ) -> Result<(), AllocError>
-    ensures { OnOk result ((f : Firing) → Contains found.new.items f ↔ (Contains found.old.items f ⊎ SomeOf thirds.now (IsThree activity.now first.now second.now) f)) }
+    ensures { OnOk result
+        (Gains found.old.items
+        (SomeOf thirds.now (IsThree activity.now first.now second.now)) found.new.items) }
 {
     for third in thirds {
         let tripled = of_three(alloc, activity, first, second, third)?;
@@ -157,7 +166,9 @@ fn join_two(
     thirds: &[Value],
     found: &mut Vec<Firing>,
 ) -> Result<(), AllocError>
-    ensures { OnOk result ((f : Firing) → Contains found.new.items f ↔ (Contains found.old.items f ⊎ JoinsTwo tables.now activity.now first.now thirds.now second.now f)) }
+    ensures { OnOk result
+        (Gains found.old.items
+        (JoinsTwo tables.now activity.now first.now thirds.now second.now) found.new.items) }
 {
     let joined = of_two(alloc, activity, first, second)?;
     add(found, joined)?;
@@ -176,7 +187,10 @@ fn join_seconds(
     thirds: &[Value],
     found: &mut Vec<Firing>,
 ) -> Result<(), AllocError>
-    ensures { OnOk result ((f : Firing) → Contains found.new.items f ↔ (Contains found.old.items f ⊎ SomeOf seconds.now (JoinsTwo tables.now activity.now first.now thirds.now) f)) }
+    ensures { OnOk result
+        (Gains found.old.items
+        (SomeOf seconds.now
+        (JoinsTwo tables.now activity.now first.now thirds.now)) found.new.items) }
 {
     for second in seconds {
         join_two(alloc, tables, activity, first, second, thirds, found)?;
@@ -194,7 +208,9 @@ fn join_one(
     thirds: &[Value],
     found: &mut Vec<Firing>,
 ) -> Result<(), AllocError>
-    ensures { OnOk result ((f : Firing) → Contains found.new.items f ↔ (Contains found.old.items f ⊎ JoinsOne tables.now activity.now seconds.now thirds.now first.now f)) }
+    ensures { OnOk result
+        (Gains found.old.items
+        (JoinsOne tables.now activity.now seconds.now thirds.now first.now) found.new.items) }
 {
     let alone = of_one(alloc, activity, first)?;
     add(found, alone)?;
@@ -211,7 +227,9 @@ fn join_firsts(
     seconds: &[Value],
     thirds: &[Value],
 ) -> Result<Vec<Firing>, AllocError>
-    ensures { IfOk result (λ v. (f : Firing) → Contains v.items f ↔ SomeOf firsts.now (JoinsOne tables.now activity.now seconds.now thirds.now) f) }
+    ensures { IfOk result
+        (λ v. AreThose
+        (SomeOf firsts.now (JoinsOne tables.now activity.now seconds.now thirds.now)) v.items) }
 {
     let mut found = Vec::new(alloc);
     for first in firsts {
@@ -226,7 +244,7 @@ pub(crate) fn with_token(
     tables: &Tables,
     token: &Token,
 ) -> Result<Vec<Firing>, AllocError>
-    ensures { IfOk result (λ v. (f : Firing) → Contains v.items f ↔ JoinsToken tables.now token.now f) }
+    ensures { IfOk result (λ v. AreThose (JoinsToken tables.now token.now) v.items) }
 {
     let first = place_of(token, 1)?;
     let second = place_of(token, 2)?;
@@ -240,7 +258,7 @@ pub(crate) fn with_token(
 
 /// The firings of the reads, each with the write.
 fn wake_each(alloc: Global, write: &Write, reads: &[Read]) -> Result<Vec<Firing>, AllocError>
-    ensures { IfOk result (λ v. (f : Firing) → Contains v.items f ↔ SomeOf reads.now (IsWoken write.now) f) }
+    ensures { IfOk result (λ v. AreThose (SomeOf reads.now (IsWoken write.now)) v.items) }
 {
     let mut found = Vec::new(alloc);
     for read in reads {
@@ -263,7 +281,7 @@ pub(crate) fn with_write(
     tables: &Tables,
     write: &Write,
 ) -> Result<Vec<Firing>, AllocError>
-    ensures { IfOk result (λ v. (f : Firing) → Contains v.items f ↔ JoinsWrite tables.now write.now f) }
+    ensures { IfOk result (λ v. AreThose (JoinsWrite tables.now write.now) v.items) }
 {
     let reads = tables.reads.under(&write.cell);
     let found = wake_each(alloc, write, reads)?;
@@ -276,7 +294,7 @@ pub(crate) fn with_entry(
     tables: &Tables,
     entry: &Entry,
 ) -> Result<Vec<Firing>, AllocError>
-    ensures { IfOk result (λ v. (f : Firing) → Contains v.items f ↔ Meets tables.now entry.now f) }
+    ensures { IfOk result (λ v. AreThose (Meets tables.now entry.now) v.items) }
 {
     match entry {
         Entry::Token(token) => {

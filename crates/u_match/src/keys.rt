@@ -1,7 +1,5 @@
 //! Where entries meet: tokens at the ports of an activity, and reads with writes at a cell.
-ghost use Rattle.std.specs.Prelude.{◌≡◌, ◌↔◌, ◌∷◌, [], IfOk, Some, Ok};
-ghost use Rattle.u_name.specs.Cell.{CellOf};
-ghost use Rattle.u_rule.specs.Structures.{cell_named, is_index};
+ghost use Rattle.std.specs.Prelude.{◌≡◌, [], IfOk};
 ghost use Rattle.u_match.specs.Keys.{place, met_at, IsComplete};
 
 use crate::table::Table;
@@ -77,28 +75,4 @@ pub(crate) fn met_at<'a>(
         return slice::from_ref(token.value());
     }
     tokens.under(at)
-}
-
-/// Whether the index is that of a cell of a structure of that length.
-fn is_index(index: i64, length: u32) -> bool
-    ensures { result ≡ is_index index length }
-{
-    0 <= index && index < i64::from(length)
-}
-
-/// The cell that a structure and an index name, where they name one.
-pub(crate) fn cell_at(structure: &Value, index: &Value) -> Result<Option<Cell>, AllocError>
-    ensures { IfOk result (λ o. (c : CellOf) → (o ≡ Some c) ↔ (cell_named (structure.now ∷ index.now ∷ []) ≡ Ok c)) }
-{
-    let Value::Ref(structure) = structure else {
-        return Ok(None);
-    };
-    let Value::Int(index) = index else {
-        return Ok(None);
-    };
-    if !is_index(*index, structure.length()) {
-        return Ok(None);
-    }
-    let name = structure.name().copy()?;
-    Ok(Some(Cell::new(name, *index as u32)))
 }

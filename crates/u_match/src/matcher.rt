@@ -3,7 +3,8 @@ ghost use Rattle.std.specs.Prelude.{◌≡◌, ◌↔◌, [], IfOk, OnOk, OnErr,
 ghost use Rattle.u_rule.specs.declared.entry.Entry.{Entry};
 ghost use Rattle.u_rule.specs.declared.firing.Firing.{Firing};
 ghost use Rattle.u_rule.specs.EntryOrder.{firing_cmp};
-ghost use Rattle.u_system.specs.Rising.{Rises, IsWith};
+ghost use Rattle.u_sets.specs.Rising.{Rises};
+ghost use Rattle.u_sets.specs.Members.{IsWith, AreThose, HasOr};
 ghost use Rattle.u_match.specs.Waking.{IsWokenBy};
 
 use crate::joins::with_entry;
@@ -14,7 +15,7 @@ use std::alloc::{AllocError, Global};
 use std::marker::Model;
 use u_check::Job;
 use u_rule::{Entry, Firing};
-use u_system::HashedSet;
+use u_sets::HashedSet;
 
 /// A set of entries, with what each of them may meet. Contracts see a list
 /// of its entries.
@@ -58,7 +59,6 @@ impl Matcher {
     }
 
     /// Whether the entry is there.
-    #[tactic(auto, using(u_rule::specs::EntryOrder::entry_cmp_ties))]
     pub fn contains(&self, entry: &Entry) -> bool
         ensures { IsTrue result ↔ Contains self.now entry.now }
     {
@@ -67,7 +67,8 @@ impl Matcher {
 
     /// The firings that the entry wakes where it enters.
     fn woken(&self, job: &Job, entry: &Entry) -> Result<Vec<Firing>, AllocError>
-        ensures exact { IfOk result (λ v. (f : Firing) → Contains v.items f ↔ IsWokenBy job.now entry.now (λ x. Contains self.now x ⊎ (entry.now ≡ x)) f) }
+        ensures exact { IfOk result
+            (λ v. AreThose (IsWokenBy job.now entry.now (HasOr self.now entry.now)) v.items) }
         ensures rises { IfOk result (λ v. Rises firing_cmp v.items) }
     {
         let met = with_entry(self.alloc, &self.tables, entry)?;
@@ -84,9 +85,9 @@ impl Matcher {
     ///
     /// # Errors
     /// `AllocError` where there is no memory; the set stays as it was.
-    #[tactic(auto, using(u_rule::specs::EntryOrder::entry_cmp_ties))]
     pub fn enter(&mut self, job: &Job, entry: &Entry) -> Result<Vec<Firing>, AllocError>
-        ensures exact { IfOk result (λ v. (f : Firing) → Contains v.items f ↔ IsWokenBy job.now entry.now (Contains self.new) f) }
+        ensures exact { IfOk result
+            (λ v. AreThose (IsWokenBy job.now entry.now (Contains self.new)) v.items) }
         ensures order { IfOk result (λ v. Rises firing_cmp v.items) }
         ensures ok { OnOk result (IsWith self.old entry.now self.new) }
         ensures err { OnErr result (self.new ≡ self.old) }

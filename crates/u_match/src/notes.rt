@@ -4,14 +4,14 @@ ghost use Rattle.std.specs.Prelude.{◌≡◌, ◌⊎◌, OnOk, Contains};
 ghost use Rattle.u_name.specs.Cell.{CellOf};
 ghost use Rattle.u_value.specs.declared.value.Value.{Value};
 ghost use Rattle.u_rule.specs.EntryOrder.{written};
-ghost use Rattle.u_match.specs.Under.{under, KeepsAll};
+ghost use Rattle.u_match.specs.KeyedLists.{under, KeepsAll};
 ghost use Rattle.u_match.specs.Keys.{cell_eq, place_eq, values_at, met_at, Notes, StaysComplete, IsCompleteWith};
 
-use crate::keys::{Place, Read, Tables, cell_at, met_at, place_of};
+use crate::keys::{Place, Read, Tables, met_at, place_of};
 use crate::table::Table;
 use std::alloc::{AllocError, Global};
 use u_name::{Cell, Name};
-use u_rule::{Entry, Token, Write, Written};
+use u_rule::{Entry, Token, Write, Written, cell_at};
 use u_value::Value;
 
 /// Notes the read of the cell that the structure and the index name, where they name one.
@@ -48,7 +48,8 @@ fn note_indices(
     indices: &[Value],
 ) -> Result<(), AllocError>
     ensures kept { KeepsAll cell_eq reads.old reads.new }
-    ensures ok { OnOk result ((w : Value) → Contains indices.now w → Notes activity.now structure.now w reads.new) }
+    ensures ok { OnOk result
+        ((w : Value) → Contains indices.now w → Notes activity.now structure.now w reads.new) }
 {
     for index in indices {
         note_read(alloc, reads, activity, structure, index)?;
@@ -65,7 +66,9 @@ fn note_reads(
     indices: &[Value],
 ) -> Result<(), AllocError>
     ensures kept { KeepsAll cell_eq reads.old reads.new }
-    ensures ok { OnOk result ((v : Value) → Contains structures.now v → (w : Value) → Contains indices.now w → Notes activity.now v w reads.new) }
+    ensures ok { OnOk result
+        ((v : Value) → Contains structures.now v → (w : Value) → Contains indices.now w
+        → Notes activity.now v w reads.new) }
 {
     for structure in structures {
         note_indices(alloc, reads, activity, structure, indices)?;
@@ -81,7 +84,10 @@ fn note_reads_of(
     token: &Token,
 ) -> Result<(), AllocError>
     ensures kept { KeepsAll cell_eq reads.old reads.new }
-    ensures ok { OnOk result ((v : Value) → Contains (met_at tokens.now token.now 1) v → (w : Value) → Contains (met_at tokens.now token.now 2) w → (token.now.port ≡ 3) ⊎ Notes token.now.activity v w reads.new) }
+    ensures ok { OnOk result
+        ((v : Value) → Contains (met_at tokens.now token.now 1) v → (w : Value)
+        → Contains (met_at tokens.now token.now 2) w
+        → (token.now.port ≡ 3) ⊎ Notes token.now.activity v w reads.new) }
 {
     if token.port() == 3 {
         return Ok(());
@@ -101,7 +107,8 @@ fn note_value(
     token: &Token,
 ) -> Result<(), AllocError>
     ensures kept { KeepsAll place_eq tokens.old tokens.new }
-    ensures ok { OnOk result (Contains (values_at tokens.new token.now.activity token.now.port) token.now.value) }
+    ensures ok { OnOk result
+        (Contains (values_at tokens.new token.now.activity token.now.port) token.now.value) }
 {
     let at = place_of(token, token.port())?;
     let value = token.value().copy()?;
@@ -116,7 +123,9 @@ fn note_write(
     write: &Write,
 ) -> Result<(), AllocError>
     ensures kept { KeepsAll cell_eq writes.old writes.new }
-    ensures ok { OnOk result (Contains (under cell_eq writes.new write.now.cell) (written write.now.writer write.now.value)) }
+    ensures ok { OnOk result
+        (Contains (under cell_eq writes.new write.now.cell)
+        (written write.now.writer write.now.value)) }
 {
     let cell = write.cell.copy()?;
     let by = Written {

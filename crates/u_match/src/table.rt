@@ -1,6 +1,6 @@
 //! Lists under keys.
 ghost use Rattle.std.specs.Prelude.{◌≡◌, [], OnOk, Contains};
-ghost use Rattle.u_match.specs.Under.{under, KeepsAll};
+ghost use Rattle.u_match.specs.KeyedLists.{under, KeepsAll};
 
 use std::alloc::{AllocError, Global};
 use std::collections::HashMap;
@@ -14,7 +14,7 @@ pub(crate) struct Table<K: Eq + Hash + Drop, V: Drop> {
 
 impl<K: Eq + Hash + Drop, V: Drop> Table<K, V> {
     /// The table without anything. It takes no memory.
-    #[tactic(auto, unfolding(crate::specs::Under::under))]
+    #[tactic(auto, unfolding(crate::specs::KeyedLists::under))]
     pub(crate) fn new(alloc: Global) -> Table<K, V>
         ensures { (k : K) → under K.eq result k ≡ [] }
     {
@@ -24,7 +24,7 @@ impl<K: Eq + Hash + Drop, V: Drop> Table<K, V> {
     }
 
     /// What stands under the key.
-    #[tactic(auto, unfolding(crate::specs::Under::under))]
+    #[tactic(auto, unfolding(crate::specs::KeyedLists::under))]
     pub(crate) fn under(&self, key: &K) -> &[V]
         ensures { result.now ≡ under K.eq self.now key.now }
     {
@@ -38,7 +38,7 @@ impl<K: Eq + Hash + Drop, V: Drop> Table<K, V> {
     ///
     /// # Errors
     /// `AllocError` where there is no memory; what stood under each key still does.
-    #[tactic(auto, unfolding(crate::specs::Under::under))]
+    #[tactic(auto, unfolding(crate::specs::KeyedLists::under))]
     pub(crate) fn put(&mut self, alloc: Global, key: K, value: V) -> Result<(), AllocError>
         ensures kept { KeepsAll K.eq self.old self.new }
         ensures ok { OnOk result (Contains (under K.eq self.new key) value) }

@@ -4,13 +4,15 @@ ghost use Rattle.std.specs.Prelude.{◌≡◌, ◌↔◌, ◌⊎◌, IfOk, OnOk,
 ghost use Rattle.u_rule.specs.declared.entry.Entry.{Entry};
 ghost use Rattle.u_rule.specs.declared.firing.Firing.{Firing};
 ghost use Rattle.u_rule.specs.EntryOrder.{firing_cmp};
-ghost use Rattle.u_system.specs.Rising.{Rises};
+ghost use Rattle.u_sets.specs.Rising.{Rises};
 ghost use Rattle.u_match.specs.Waking.{IsWokenBy};
+ghost use Rattle.u_system.specs.Firing.{Within};
+ghost use Rattle.u_sets.specs.Members.{AreThose, Gains, HasOr};
 
 use std::alloc::{AllocError, Global};
 use u_check::Job;
 use u_rule::{Entry, Firing, RuleError, needs};
-use u_system::{HashedSet, has, place_in};
+use u_sets::{HashedSet, has, place_in};
 
 /// Whether the two are one entry.
 #[tactic(auto, using(crate::proofs::Wakes::same_entry))]
@@ -21,9 +23,8 @@ fn is_same(left: &Entry, right: &Entry) -> bool
 }
 
 /// Whether it is the entry, or in the set.
-#[tactic(auto, using(u_rule::specs::EntryOrder::entry_cmp_ties))]
 fn is_held(entries: &HashedSet<Entry>, entry: &Entry, need: &Entry) -> bool
-    ensures { IsTrue result ↔ (Contains entries.now need.now ⊎ (entry.now ≡ need.now)) }
+    ensures { IsTrue result ↔ HasOr entries.now entry.now need.now }
 {
     if is_same(entry, need) {
         return true;
@@ -33,7 +34,7 @@ fn is_held(entries: &HashedSet<Entry>, entry: &Entry, need: &Entry) -> bool
 
 /// Whether each of the needs is the entry, or in the set.
 fn are_held(entries: &HashedSet<Entry>, entry: &Entry, needs: &[Entry]) -> bool
-    ensures { IsTrue result ↔ ((x : Entry) → Contains needs.now x → Contains entries.now x ⊎ (entry.now ≡ x)) }
+    ensures { IsTrue result ↔ Within (HasOr entries.now entry.now) needs.now }
 {
     for need in needs {
         if !is_held(entries, entry, need) {
@@ -44,7 +45,6 @@ fn are_held(entries: &HashedSet<Entry>, entry: &Entry, needs: &[Entry]) -> bool
 }
 
 /// Whether it is a firing of the job that needs the entry, and the set has all else that it needs.
-#[tactic(auto, using(u_rule::specs::EntryOrder::entry_cmp_ties))]
 fn is_woken(
     alloc: Global,
     job: &Job,
@@ -52,7 +52,8 @@ fn is_woken(
     entry: &Entry,
     firing: &Firing,
 ) -> Result<bool, AllocError>
-    ensures { IfOk result (λ b. IsTrue b ↔ IsWokenBy job.now entry.now (λ x. Contains entries.now x ⊎ (entry.now ≡ x)) firing.now) }
+    ensures { IfOk result
+        (λ b. IsTrue b ↔ IsWokenBy job.now entry.now (HasOr entries.now entry.now) firing.now) }
 {
     let needs = match needs(alloc, job, firing) {
         Ok(needs) => needs,
@@ -67,7 +68,6 @@ fn is_woken(
 }
 
 /// Puts a copy of the firing in its place, if the entry wakes it.
-#[tactic(auto, using(u_rule::specs::EntryOrder::firing_cmp_ties))]
 fn add_woken(
     alloc: Global,
     job: &Job,
@@ -78,7 +78,10 @@ fn add_woken(
 ) -> Result<(), AllocError>
     requires { Rises firing_cmp found.old.items }
     ensures rises { Rises firing_cmp found.new.items }
-    ensures ok { OnOk result ((f : Firing) → Contains found.new.items f ↔ (Contains found.old.items f ⊎ ((firing.now ≡ f) × IsWokenBy job.now entry.now (λ x. Contains entries.now x ⊎ (entry.now ≡ x)) f))) }
+    ensures ok { OnOk result
+        (Gains found.old.items
+        (λ (f : Firing). (firing.now ≡ f)
+        × IsWokenBy job.now entry.now (HasOr entries.now entry.now) f) found.new.items) }
 {
     let woken = is_woken(alloc, job, entries, entry, firing)?;
     if !woken {
@@ -100,7 +103,10 @@ pub(crate) fn woken_of(
     entry: &Entry,
     firings: &[Firing],
 ) -> Result<Vec<Firing>, AllocError>
-    ensures exact { IfOk result (λ v. (f : Firing) → Contains v.items f ↔ (Contains firings.now f × IsWokenBy job.now entry.now (λ x. Contains entries.now x ⊎ (entry.now ≡ x)) f)) }
+    ensures exact { IfOk result
+        (λ v. AreThose
+        (λ (f : Firing). Contains firings.now f
+        × IsWokenBy job.now entry.now (HasOr entries.now entry.now) f) v.items) }
     ensures rises { IfOk result (λ v. Rises firing_cmp v.items) }
 {
     let mut found = Vec::new(alloc);

@@ -3,7 +3,8 @@ use Rattle.std.proofs.Common.{◌≡◌, ◌↔◌, ◌∙◌, sym, refl, subst,
 use Rattle.std.specs.Cmp.{tied_itself}
 use Rattle.std.specs.Ordering.{is_eq}
 use Rattle.std.specs.declared.cmp.Ordering.TheVariants.{Less, Equal, Greater}
-use Rattle.u_rule.specs.EntryOrder.{entry_cmp, entry_cmp_total, entry_cmp_ties, firing_cmp, firing_cmp_total, firing_cmp_ties}
+use Rattle.u_rule.specs.EntryOrder.{entry_cmp, firing_cmp}
+use Rattle.u_rule.specs.ExactOrders.{entry_cmp_total, entry_cmp_ties, firing_cmp_total, firing_cmp_ties}
 use Rattle.u_rule.specs.declared.entry.Entry.{Entry}
 use Rattle.u_rule.specs.declared.firing.Firing.{Firing}
 

@@ -6,7 +6,8 @@ use Rattle.u_rule.specs.Rule.{system_of}
 use Rattle.u_rule.specs.EntryOrder.{write_of}
 use Rattle.u_rule.specs.declared.entry.Entry.{Entry}
 use Rattle.u_rule.specs.declared.firing.Firing.{Firing}
-use Rattle.u_system.specs.Firing.{Enabled, SomeOf}
+use Rattle.u_sets.specs.Members.{SomeOf}
+use Rattle.u_system.specs.Firing.{Enabled}
 use Rattle.u_plain.specs.Joins.{Joins, JoinsRead}
 use Rattle.u_plain.proofs.ScanLaws.{enabled_is_joined}
 use Rattle.u_plain.specs.Tries.{FitsFirst}

@@ -5,12 +5,12 @@ use Rattle.std.specs.Ordering.{ordering_then}
 use Rattle.std.specs.declared.cmp.Ordering.TheVariants.{Less, Equal, Greater}
 use Rattle.std.proofs.lemmas.List.Elements.{Contains-get_or}
 use Rattle.u_name.specs.Name.{Activity}
-use Rattle.u_name.specs.NameOrder.{name_cmp, name_cmp_total}
-use Rattle.u_name.proofs.ExactOrders.{name_cmp_ties}
-use Rattle.u_rule.specs.EntryOrder.{entry_cmp, entry_cmp_total}
+use Rattle.u_name.specs.NameOrder.{name_cmp, name_cmp_total, name_cmp_ties}
+use Rattle.u_rule.specs.EntryOrder.{entry_cmp}
+use Rattle.u_rule.specs.ExactOrders.{entry_cmp_total}
 use Rattle.u_rule.specs.declared.entry.Entry.{Entry}
 use Rattle.u_rule.specs.declared.entry.Entry.TheVariants as entries
-use Rattle.u_system.specs.Rising.{Rises}
+use Rattle.u_sets.specs.Rising.{Rises}
 use Rattle.u_system.proofs.Member.{Contains-nil, Contains-head, Contains-tail, Contains-cons_cases}
 use Rattle.u_plain.specs.Joins.{SameActivity}
 

@@ -5,7 +5,7 @@ use Rattle.u_check.specs.Jobs.{JobParts}
 use Rattle.u_rule.specs.EntryOrder.{entry_cmp}
 use Rattle.u_rule.specs.declared.entry.Entry.{Entry}
 use Rattle.u_rule.specs.declared.firing.Firing.{Firing}
-use Rattle.u_system.specs.Rising.{Rises}
+use Rattle.u_sets.specs.Rising.{Rises}
 use Rattle.u_plain.proofs.Lists.{Contains-dropped}
 use Rattle.u_plain.proofs.Neighbours.{stands_behind}
 use Rattle.u_plain.proofs.ScanLaws.{alike, ahead}

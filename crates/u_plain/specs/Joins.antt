@@ -11,7 +11,7 @@ use Rattle.u_rule.specs.EntryOrder.{firing, written, write_of}
 use Rattle.u_rule.specs.declared.entry.Entry.{Entry}
 use Rattle.u_rule.specs.declared.entry.Entry.TheVariants as entries
 use Rattle.u_rule.specs.declared.firing.Firing.{Firing}
-use Rattle.u_system.specs.Firing.{SomeOf}
+use Rattle.u_sets.specs.Members.{SomeOf}
 
 -- f is a firing, and this is its one token
 pub record OfOne (job : JobParts) (left : Entry) (f : Firing) : Type 0 where

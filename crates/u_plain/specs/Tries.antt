@@ -8,7 +8,8 @@ use Rattle.u_rule.specs.declared.parts.Write.{Write}
 use Rattle.u_rule.specs.declared.entry.Entry.{Entry}
 use Rattle.u_rule.specs.declared.entry.Entry.TheVariants as entries
 use Rattle.u_rule.specs.declared.firing.Firing.{Firing}
-use Rattle.u_system.specs.Firing.{Enabled, SomeOf}
+use Rattle.u_sets.specs.Members.{SomeOf}
+use Rattle.u_system.specs.Firing.{Enabled}
 
 -- the token's activity with its value
 abbrev pub IsOfOne : Entry → Firing → Type 0

@@ -39,7 +39,8 @@ pub fn are_among(list: &[Firing], firings: &[Firing]) -> bool
 
 /// Adds the firing at the end, unless it is there.
 pub fn add_new(list: &mut Vec<Firing>, firing: Firing) -> Result<(), AllocError>
-    ensures { OnOk result ((f : Firing) → Contains list.new.items f ↔ (Contains list.old.items f ⊎ (firing ≡ f))) }
+    ensures { OnOk result
+        ((f : Firing) → Contains list.new.items f ↔ (Contains list.old.items f ⊎ (firing ≡ f))) }
 {
     if is_among(list, &firing) {
         return Ok(());

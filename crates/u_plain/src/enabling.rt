@@ -3,7 +3,8 @@ ghost use Rattle.std.specs.Prelude.{◌≡◌, ◌↔◌, ◌⊎◌, [], ◌∷�
 ghost use Rattle.u_rule.specs.Rule.{system_of, needs_of, is_firing_of};
 ghost use Rattle.u_rule.specs.declared.entry.Entry.{Entry};
 ghost use Rattle.u_rule.specs.declared.firing.Firing.{Firing};
-ghost use Rattle.u_system.specs.Firing.{Enabled, SomeOf};
+ghost use Rattle.u_sets.specs.Members.{SomeOf};
+ghost use Rattle.u_system.specs.Firing.{Enabled};
 ghost use Rattle.u_plain.specs.Tries.{IsOfOne, IsOfTwo, IsOfThree, IsOfRead, IsOfThird, EnabledOver, FitsTwo, FitsThree, FitsTriple, FitsFirst};
 
 use crate::among::add_new;
@@ -53,7 +54,8 @@ pub fn is_enabled(
     held: &[Entry],
     firing: &Firing,
 ) -> Result<bool, AllocError>
-    ensures { IfOk result (λ b. IsTrue b ↔ Enabled (system_of job.now) (Contains held.now) firing.now) }
+    ensures { IfOk result
+        (λ b. IsTrue b ↔ Enabled (system_of job.now) (Contains held.now) firing.now) }
 {
     match needs(alloc, job, firing) {
         Ok(needed) => Ok(are_in(held, &needed)),
@@ -97,7 +99,8 @@ fn record_of_three(
     middle: &Entry,
     right: &Entry,
 ) -> Result<Option<Firing>, AllocError>
-    ensures { IfOk result (λ o. (f : Firing) → (o ≡ Some f) ↔ IsOfThree left.now middle.now right.now f) }
+    ensures { IfOk result
+        (λ o. (f : Firing) → (o ≡ Some f) ↔ IsOfThree left.now middle.now right.now f) }
 {
     let (Entry::Token(first), Entry::Token(second), Entry::Token(third)) = (left, middle, right)
     else {
@@ -121,7 +124,8 @@ fn record_of_read(
     middle: &Entry,
     right: &Entry,
 ) -> Result<Option<Firing>, AllocError>
-    ensures { IfOk result (λ o. (f : Firing) → (o ≡ Some f) ↔ IsOfRead left.now middle.now right.now f) }
+    ensures { IfOk result
+        (λ o. (f : Firing) → (o ≡ Some f) ↔ IsOfRead left.now middle.now right.now f) }
 {
     let (Entry::Token(first), Entry::Token(second), Entry::Write(write)) = (left, middle, right)
     else {
@@ -145,7 +149,8 @@ fn record_of_third(
     middle: &Entry,
     right: &Entry,
 ) -> Result<Option<Firing>, AllocError>
-    ensures { IfOk result (λ o. (f : Firing) → (o ≡ Some f) ↔ IsOfThird left.now middle.now right.now f) }
+    ensures { IfOk result
+        (λ o. (f : Firing) → (o ≡ Some f) ↔ IsOfThird left.now middle.now right.now f) }
 {
     match right {
         Entry::Write(_) => record_of_read(alloc, left, middle, right),
@@ -161,7 +166,10 @@ fn add(
     made: Option<Firing>,
     found: &mut Vec<Firing>,
 ) -> Result<(), AllocError>
-    ensures { OnOk result ((f : Firing) → Contains found.new.items f ↔ (Contains found.old.items f ⊎ ((made ≡ Some f) × EnabledOver job.now held.now f))) }
+    ensures { OnOk result
+        ((f : Firing)
+        → Contains found.new.items f
+        ↔ (Contains found.old.items f ⊎ ((made ≡ Some f) × EnabledOver job.now held.now f))) }
 {
     let Some(firing) = made else {
         return Ok(());
@@ -181,7 +189,10 @@ fn add_pairs(
     left: &Entry,
     found: &mut Vec<Firing>,
 ) -> Result<(), AllocError>
-    ensures { OnOk result ((f : Firing) → Contains found.new.items f ↔ (Contains found.old.items f ⊎ SomeOf held.now (FitsTwo job.now held.now left.now) f)) }
+    ensures { OnOk result
+        ((f : Firing)
+        → Contains found.new.items f
+        ↔ (Contains found.old.items f ⊎ SomeOf held.now (FitsTwo job.now held.now left.now) f)) }
 {
     for right in held {
         let made = record_of_two(alloc, left, right)?;
@@ -199,7 +210,11 @@ fn add_thirds(
     middle: &Entry,
     found: &mut Vec<Firing>,
 ) -> Result<(), AllocError>
-    ensures { OnOk result ((f : Firing) → Contains found.new.items f ↔ (Contains found.old.items f ⊎ SomeOf held.now (FitsThree job.now held.now left.now middle.now) f)) }
+    ensures { OnOk result
+        ((f : Firing)
+        → Contains found.new.items f
+        ↔ (Contains found.old.items f
+        ⊎ SomeOf held.now (FitsThree job.now held.now left.now middle.now) f)) }
 {
     for right in held {
         let made = record_of_third(alloc, left, middle, right)?;
@@ -216,7 +231,10 @@ fn add_triples(
     left: &Entry,
     found: &mut Vec<Firing>,
 ) -> Result<(), AllocError>
-    ensures { OnOk result ((f : Firing) → Contains found.new.items f ↔ (Contains found.old.items f ⊎ FitsTriple job.now held.now left.now f)) }
+    ensures { OnOk result
+        ((f : Firing)
+        → Contains found.new.items f
+        ↔ (Contains found.old.items f ⊎ FitsTriple job.now held.now left.now f)) }
 {
     for middle in held {
         add_thirds(alloc, job, held, left, middle, found)?;
@@ -232,7 +250,10 @@ fn add_firings(
     left: &Entry,
     found: &mut Vec<Firing>,
 ) -> Result<(), AllocError>
-    ensures { OnOk result ((f : Firing) → Contains found.new.items f ↔ (Contains found.old.items f ⊎ FitsFirst job.now held.now left.now f)) }
+    ensures { OnOk result
+        ((f : Firing)
+        → Contains found.new.items f
+        ↔ (Contains found.old.items f ⊎ FitsFirst job.now held.now left.now f)) }
 {
     let alone = record_of_one(alloc, left)?;
     add(alloc, job, held, alone, found)?;
@@ -247,7 +268,9 @@ fn add_firings(
 /// # Errors
 /// `AllocError` where there is no memory.
 pub fn enabled(alloc: Global, job: &Job, held: &[Entry]) -> Result<Vec<Firing>, AllocError>
-    ensures { IfOk result (λ v. (f : Firing) → Contains v.items f ↔ Enabled (system_of job.now) (Contains held.now) f) }
+    ensures { IfOk result
+        (λ v. (f : Firing)
+        → Contains v.items f ↔ Enabled (system_of job.now) (Contains held.now) f) }
 {
     let mut found = Vec::new(alloc);
     for left in held {

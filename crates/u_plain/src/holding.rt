@@ -48,7 +48,8 @@ fn add_all(all: &mut Vec<Entry>, more: &[Entry]) -> Result<(), AllocError>
 /// `AllocError` where there is no memory.
 pub fn held(alloc: Global, job: &Job, firings: &[Firing]) -> Result<Vec<Entry>, AllocError>
     requires { Within (λ f. IsTrue (is_firing_of job.now f)) firings.now }
-    ensures { IfOk result (λ v. (e : Entry) → Contains v.items e ↔ Held (system_of job.now) firings.now e) }
+    ensures { IfOk result
+        (λ v. (e : Entry) → Contains v.items e ↔ Held (system_of job.now) firings.now e) }
 {
     let mut all = Vec::new(alloc);
     all.push(start(job))?;

@@ -8,8 +8,8 @@ ghost use Rattle.u_rule.specs.declared.firing.Firing.{Firing};
 ghost use Rattle.u_rule.specs.EntryOrder.{entry_cmp, firing, written};
 ghost use Rattle.u_rule.specs.Structures.{cell_named};
 ghost use Rattle.u_plain.specs.Joins.{JoinsRead, OfRead, IsWrite};
-ghost use Rattle.u_system.specs.Firing.{SomeOf};
-ghost use Rattle.u_system.specs.Rising.{Rises};
+ghost use Rattle.u_sets.specs.Members.{SomeOf};
+ghost use Rattle.u_sets.specs.Rising.{Rises};
 
 use crate::scan::{add, behind, followers, front, is_of_one_activity, token_at};
 use std::alloc::{AllocError, Global};
@@ -24,7 +24,9 @@ fn record_of_read(
     second: &Token,
     write: &Write,
 ) -> Result<Firing, AllocError>
-    ensures { IfOk result (λ f. f ≡ firing first.now.activity (first.now.value ∷ second.now.value ∷ []) (Some (written write.now.writer write.now.value))) }
+    ensures { IfOk result
+        (λ f. f ≡ firing first.now.activity (first.now.value ∷ second.now.value ∷ [])
+        (Some (written write.now.writer write.now.value))) }
 {
     let by = Written {
         writer: write.writer.copy()?,
@@ -46,7 +48,8 @@ fn read(
     right: &Entry,
     from: &Entry,
 ) -> Result<Option<Firing>, AllocError>
-    ensures { IfOk result (λ o. (f : Firing) → (o ≡ Some f) ↔ OfRead job.now left.now right.now from.now f) }
+    ensures { IfOk result
+        (λ o. (f : Firing) → (o ≡ Some f) ↔ OfRead job.now left.now right.now from.now f) }
 {
     let Some(first) = token_at(left, 1) else {
         return Ok(None);
@@ -80,7 +83,8 @@ fn is_write(entry: &Entry) -> bool
 /// How many of the entries stand before the first write; all, if there is none.
 fn before_writes(entries: &[Entry]) -> usize
     ensures within { result ≤ length entries.now }
-    ensures all { (x : Entry) → Contains entries.now x → IsWrite x → Contains (drop result entries.now) x }
+    ensures all { (x : Entry) → Contains entries.now x → IsWrite x
+        → Contains (drop result entries.now) x }
 {
     for (place, entry) in entries.iter().enumerate() {
         if is_write(entry) {
@@ -99,7 +103,10 @@ fn read_each(
     writes: &[Entry],
     found: &mut Vec<Firing>,
 ) -> Result<(), AllocError>
-    ensures { OnOk result ((f : Firing) → Contains found.new.items f ↔ (Contains found.old.items f ⊎ SomeOf writes.now (OfRead job.now left.now right.now) f)) }
+    ensures { OnOk result
+        ((f : Firing)
+        → Contains found.new.items f
+        ↔ (Contains found.old.items f ⊎ SomeOf writes.now (OfRead job.now left.now right.now) f)) }
 {
     for from in writes {
         let reading = read(alloc, job, left, right, from)?;
@@ -118,7 +125,10 @@ fn join_reads(
     writes: &[Entry],
     found: &mut Vec<Firing>,
 ) -> Result<(), AllocError>
-    ensures { OnOk result ((f : Firing) → Contains found.new.items f ↔ (Contains found.old.items f ⊎ JoinsRead job.now seconds.now writes.now left.now f)) }
+    ensures { OnOk result
+        ((f : Firing)
+        → Contains found.new.items f
+        ↔ (Contains found.old.items f ⊎ JoinsRead job.now seconds.now writes.now left.now f)) }
 {
     for right in seconds {
         read_each(alloc, job, left, right, writes, found)?;
@@ -137,7 +147,10 @@ fn reads_behind(
     found: &mut Vec<Firing>,
 ) -> Result<(), AllocError>
     requires { Rises entry_cmp (left.now ∷ rest.now) }
-    ensures { OnOk result ((f : Firing) → Contains found.new.items f ↔ (Contains found.old.items f ⊎ JoinsRead job.now rest.now writes.now left.now f)) }
+    ensures { OnOk result
+        ((f : Firing)
+        → Contains found.new.items f
+        ↔ (Contains found.old.items f ⊎ JoinsRead job.now rest.now writes.now left.now f)) }
 {
     let count = followers(left, rest);
     let seconds = front(rest, count);
@@ -154,7 +167,11 @@ pub fn add_reads(
     found: &mut Vec<Firing>,
 ) -> Result<(), AllocError>
     requires { Rises entry_cmp entries.now }
-    ensures { OnOk result ((f : Firing) → Contains found.new.items f ↔ (Contains found.old.items f ⊎ SomeOf entries.now (JoinsRead job.now entries.now entries.now) f)) }
+    ensures { OnOk result
+        ((f : Firing)
+        → Contains found.new.items f
+        ↔ (Contains found.old.items f
+        ⊎ SomeOf entries.now (JoinsRead job.now entries.now entries.now) f)) }
 {
     let place = before_writes(entries);
     let writes = behind(entries, place);

@@ -29,7 +29,8 @@ fn fire_all(alloc: Global, fired: &mut Vec<Firing>, ready: &[Firing]) -> Result<
 /// # Errors
 /// `AllocError` where there is no memory.
 pub fn whole(alloc: Global, job: &Job, rounds: usize) -> Result<Option<Vec<Entry>>, AllocError>
-    ensures { IfOk result (λ o. IfSome o (λ v. (e : Entry) → Contains v.items e ↔ Whole (system_of job.now) e)) }
+    ensures { IfOk result
+        (λ o. IfSome o (λ v. (e : Entry) → Contains v.items e ↔ Whole (system_of job.now) e)) }
 {
     let mut fired = Vec::new(alloc);
     for _round in 0..rounds {

@@ -5,29 +5,31 @@
 //! values by that token and each of the activity's tokens that stand behind it, a firing of three
 //! values by two such tokens and each of those from the first one at port 3 on. A second pass finds
 //! the firings that read a cell.
-ghost use Rattle.std.specs.Prelude.{◌≡◌, ◌↔◌, ◌<◌, ◌≤◌, ◌+◌, [], ◌∷◌, IfOk, OnOk, Contains, ◌⊎◌, Some, None, IsTrue, length, take, drop};
+ghost use Rattle.std.specs.Prelude.{◌≡◌, ◌↔◌, ◌<◌, ◌≤◌, ◌+◌, [], ◌∷◌, IfOk, OnOk, Contains, ◌⊎◌, Some, None, IsTrue, length, take, drop, MatchOption};
 ghost use Rattle.std.proofs.Common.{get_or};
 ghost use Rattle.u_rule.specs.Rule.{system_of};
 ghost use Rattle.u_rule.specs.declared.entry.Entry.{Entry};
 ghost use Rattle.u_rule.specs.declared.firing.Firing.{Firing};
 ghost use Rattle.u_rule.specs.EntryOrder.{entry_cmp, firing_cmp, firing};
-ghost use Rattle.std.specs.Prelude.{MatchOption};
 ghost use Rattle.u_rule.specs.Parts.{TokenParts};
 ghost use Rattle.u_rule.specs.declared.entry.Entry.TheVariants as entries;
 ghost use Rattle.u_plain.specs.Joins.{Joins, JoinsThree, OfOne, OfTwo, OfThree, SameActivity, IsAtPort};
-ghost use Rattle.u_system.specs.Firing.{Enabled, SomeOf};
-ghost use Rattle.u_system.specs.Rising.{Rises};
+ghost use Rattle.u_sets.specs.Members.{SomeOf};
+ghost use Rattle.u_system.specs.Firing.{Enabled};
+ghost use Rattle.u_sets.specs.Rising.{Rises};
 
 use crate::reads::add_reads;
 use std::alloc::{AllocError, Global};
 use u_check::Job;
 use u_history::History;
 use u_rule::{Entry, Firing, Token, Values, is_firing};
-use u_system::{OrderedSet, place_in};
+use u_sets::{OrderedSet, place_in};
 
 /// The token, if the entry is one at that port.
 pub(crate) fn token_at(entry: &Entry, port: u8) -> Option<&Token>
-    ensures { MatchOption result ((t : TokenParts) → entry.now ≡ entries.Token t → t.port ≡ port → ⊥) (λ t. (entry.now ≡ entries.Token t.now) × (t.now.port ≡ port)) }
+    ensures { MatchOption result
+        ((t : TokenParts) → entry.now ≡ entries.Token t → t.port ≡ port → ⊥)
+        (λ t. (entry.now ≡ entries.Token t.now) × (t.now.port ≡ port)) }
 {
     match entry {
         Entry::Token(token) if token.port() == port => Some(token),
@@ -74,7 +76,8 @@ fn is_same_activity(left: &Entry, right: &Entry) -> bool
 
 /// The record of the first token's activity with the values of both.
 fn record_of_two(alloc: Global, first: &Token, second: &Token) -> Result<Firing, AllocError>
-    ensures { IfOk result (λ f. f ≡ firing first.now.activity (first.now.value ∷ second.now.value ∷ []) None) }
+    ensures { IfOk result
+        (λ f. f ≡ firing first.now.activity (first.now.value ∷ second.now.value ∷ []) None) }
 {
     Ok(Firing {
         activity: first.activity().copy()?,
@@ -111,7 +114,9 @@ fn record_of_three(
     second: &Token,
     third: &Token,
 ) -> Result<Firing, AllocError>
-    ensures { IfOk result (λ f. f ≡ firing first.now.activity (first.now.value ∷ second.now.value ∷ third.now.value ∷ []) None) }
+    ensures { IfOk result
+        (λ f. f ≡ firing first.now.activity
+        (first.now.value ∷ second.now.value ∷ third.now.value ∷ []) None) }
 {
     let value = first.value().copy()?;
     let other = second.value().copy()?;
@@ -132,7 +137,8 @@ fn triple(
     middle: &Entry,
     right: &Entry,
 ) -> Result<Option<Firing>, AllocError>
-    ensures { IfOk result (λ o. (f : Firing) → (o ≡ Some f) ↔ OfThree job.now left.now middle.now right.now f) }
+    ensures { IfOk result
+        (λ o. (f : Firing) → (o ≡ Some f) ↔ OfThree job.now left.now middle.now right.now f) }
 {
     let Some(first) = token_at(left, 1) else {
         return Ok(None);
@@ -169,7 +175,8 @@ fn is_at_port(entry: &Entry, port: u8) -> bool
 /// How many of the entries stand before the first token at that port; all, if there is none.
 fn before_port(others: &[Entry], port: u8) -> usize
     ensures within { result ≤ length others.now }
-    ensures all { (x : Entry) → Contains others.now x → IsAtPort port x → Contains (drop result others.now) x }
+    ensures all { (x : Entry) → Contains others.now x → IsAtPort port x
+        → Contains (drop result others.now) x }
 {
     for (place, entry) in others.iter().enumerate() {
         if is_at_port(entry, port) {
@@ -184,7 +191,8 @@ fn before_port(others: &[Entry], port: u8) -> usize
 pub(crate) fn followers(left: &Entry, rest: &[Entry]) -> usize
     requires { Rises entry_cmp (left.now ∷ rest.now) }
     ensures within { result ≤ length rest.now }
-    ensures all { (x : Entry) → Contains rest.now x → SameActivity left.now x → Contains (take result rest.now) x }
+    ensures all { (x : Entry) → Contains rest.now x → SameActivity left.now x
+        → Contains (take result rest.now) x }
 {
     for (i, entry) in rest.iter().enumerate() {
         if !is_same_activity(left, entry) {
@@ -196,7 +204,9 @@ pub(crate) fn followers(left: &Entry, rest: &[Entry]) -> usize
 
 /// Adds the firing, if there is one.
 pub(crate) fn add(found: &mut Vec<Firing>, firing: Option<Firing>) -> Result<(), AllocError>
-    ensures { OnOk result ((f : Firing) → Contains found.new.items f ↔ (Contains found.old.items f ⊎ (firing ≡ Some f))) }
+    ensures { OnOk result
+        ((f : Firing)
+        → Contains found.new.items f ↔ (Contains found.old.items f ⊎ (firing ≡ Some f))) }
 {
     if let Some(firing) = firing {
         found.push(firing)?;
@@ -212,7 +222,10 @@ fn join_two(
     seconds: &[Entry],
     found: &mut Vec<Firing>,
 ) -> Result<(), AllocError>
-    ensures { OnOk result ((f : Firing) → Contains found.new.items f ↔ (Contains found.old.items f ⊎ SomeOf seconds.now (OfTwo job.now left.now) f)) }
+    ensures { OnOk result
+        ((f : Firing)
+        → Contains found.new.items f
+        ↔ (Contains found.old.items f ⊎ SomeOf seconds.now (OfTwo job.now left.now) f)) }
 {
     for right in seconds {
         let joined = pair(alloc, job, left, right)?;
@@ -230,7 +243,11 @@ fn join_thirds(
     thirds: &[Entry],
     found: &mut Vec<Firing>,
 ) -> Result<(), AllocError>
-    ensures { OnOk result ((f : Firing) → Contains found.new.items f ↔ (Contains found.old.items f ⊎ SomeOf thirds.now (OfThree job.now left.now middle.now) f)) }
+    ensures { OnOk result
+        ((f : Firing)
+        → Contains found.new.items f
+        ↔ (Contains found.old.items f
+        ⊎ SomeOf thirds.now (OfThree job.now left.now middle.now) f)) }
 {
     for right in thirds {
         let tripled = triple(alloc, job, left, middle, right)?;
@@ -248,7 +265,10 @@ fn join_three(
     thirds: &[Entry],
     found: &mut Vec<Firing>,
 ) -> Result<(), AllocError>
-    ensures { OnOk result ((f : Firing) → Contains found.new.items f ↔ (Contains found.old.items f ⊎ JoinsThree job.now seconds.now thirds.now left.now f)) }
+    ensures { OnOk result
+        ((f : Firing)
+        → Contains found.new.items f
+        ↔ (Contains found.old.items f ⊎ JoinsThree job.now seconds.now thirds.now left.now f)) }
 {
     for middle in seconds {
         join_thirds(alloc, job, left, middle, thirds, found)?;
@@ -265,7 +285,10 @@ fn join(
     found: &mut Vec<Firing>,
 ) -> Result<(), AllocError>
     requires { Rises entry_cmp (left.now ∷ rest.now) }
-    ensures { OnOk result ((f : Firing) → Contains found.new.items f ↔ (Contains found.old.items f ⊎ Joins job.now rest.now left.now f)) }
+    ensures { OnOk result
+        ((f : Firing)
+        → Contains found.new.items f
+        ↔ (Contains found.old.items f ⊎ Joins job.now rest.now left.now f)) }
 {
     let alone = single(alloc, job, left)?;
     add(found, alone)?;
@@ -304,7 +327,9 @@ pub fn enabled_firings(
     entries: &[Entry],
 ) -> Result<Vec<Firing>, AllocError>
     requires { Rises entry_cmp entries.now }
-    ensures { IfOk result (λ v. (f : Firing) → Contains v.items f ↔ Enabled (system_of job.now) (Contains entries.now) f) }
+    ensures { IfOk result
+        (λ v. (f : Firing)
+        → Contains v.items f ↔ Enabled (system_of job.now) (Contains entries.now) f) }
 {
     let mut found = Vec::new(alloc);
     for i in 0..entries.len() {
@@ -322,8 +347,11 @@ pub fn not_among(
     found: &[Firing],
     taken: &OrderedSet<Firing>,
 ) -> Result<Vec<Firing>, AllocError>
-    ensures exact { IfOk result (λ v. (f : Firing) → Contains v.items f → Contains found.now f × (Contains taken.now f → ⊥)) }
-    ensures all { IfOk result (λ v. (f : Firing) → Contains found.now f → Contains v.items f ⊎ Contains taken.now f) }
+    ensures exact { IfOk result
+        (λ v. (f : Firing) → Contains v.items f
+        → Contains found.now f × (Contains taken.now f → ⊥)) }
+    ensures all { IfOk result
+        (λ v. (f : Firing) → Contains found.now f → Contains v.items f ⊎ Contains taken.now f) }
     ensures rises { IfOk result (λ v. Rises firing_cmp v.items) }
 {
     let mut rest = Vec::new(alloc);
@@ -334,7 +362,6 @@ pub fn not_among(
 }
 
 /// Adds the firing in its place, unless it is in the list or the set.
-#[tactic(auto, using(u_rule::specs::EntryOrder::firing_cmp_ties))]
 fn add_new(
     alloc: Global,
     rest: &mut Vec<Firing>,
@@ -342,9 +369,11 @@ fn add_new(
     firing: &Firing,
 ) -> Result<(), AllocError>
     requires { Rises firing_cmp rest.old.items }
-    ensures exact { (f : Firing) → Contains rest.new.items f → Contains rest.old.items f ⊎ ((firing.now ≡ f) × (Contains taken.now f → ⊥)) }
+    ensures exact { (f : Firing) → Contains rest.new.items f
+        → Contains rest.old.items f ⊎ ((firing.now ≡ f) × (Contains taken.now f → ⊥)) }
     ensures kept { (f : Firing) → Contains rest.old.items f → Contains rest.new.items f }
-    ensures there { OnOk result (Contains rest.new.items firing.now ⊎ Contains taken.now firing.now) }
+    ensures there { OnOk result
+        (Contains rest.new.items firing.now ⊎ Contains taken.now firing.now) }
     ensures rises { Rises firing_cmp rest.new.items }
 {
     if taken.contains(firing) {
@@ -365,8 +394,12 @@ pub fn ready_firings(
     history: &History,
     taken: &OrderedSet<Firing>,
 ) -> Result<Vec<Firing>, AllocError>
-    ensures exact { IfOk result (λ v. (f : Firing) → Contains v.items f → Enabled (system_of job.now) (Contains history.now) f × (Contains taken.now f → ⊥)) }
-    ensures all { IfOk result (λ v. (f : Firing) → Enabled (system_of job.now) (Contains history.now) f → Contains v.items f ⊎ Contains taken.now f) }
+    ensures exact { IfOk result
+        (λ v. (f : Firing) → Contains v.items f
+        → Enabled (system_of job.now) (Contains history.now) f × (Contains taken.now f → ⊥)) }
+    ensures all { IfOk result
+        (λ v. (f : Firing) → Enabled (system_of job.now) (Contains history.now) f
+        → Contains v.items f ⊎ Contains taken.now f) }
     ensures rises { IfOk result (λ v. Rises firing_cmp v.items) }
 {
     let entries = history.entries()?;

@@ -3,7 +3,7 @@ use std::alloc::{AllocError, Global};
 use u_history::History;
 use u_name::Name;
 use u_rule::{Firing, Values, Written};
-use u_system::OrderedSet;
+use u_sets::OrderedSet;
 use u_value::Value;
 
 /// The name of that text. Another text is answered by want of memory.
@@ -87,7 +87,6 @@ pub fn put_firing(out: &mut Vec<u8>, firing: &Firing) -> Result<(), AllocError> 
 }
 
 /// Adds a copy of the firing.
-#[tactic(auto, using(u_rule::specs::EntryOrder::firing_cmp_ties))]
 pub fn add_firing(
     alloc: Global,
     firings: &mut OrderedSet<Firing>,

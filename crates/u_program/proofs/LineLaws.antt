@@ -5,10 +5,15 @@ use Rattle.std.proofs.lemmas.Bool.{and_parts, leb-true}
 use Rattle.std.proofs.Common.{sym, ◌∙◌, ap, subst, arith, inl, inr}
 use Rattle.std.specs.Fmt.{decimal}
 use Rattle.u_name.specs.Block.{IsBlock, is_block_byte}
-use Rattle.u_text.specs.Number.{IsUpTo, AllDigit, decimal_digits}
-use Rattle.u_text.specs.Pieces.{Free, words}
-use Rattle.u_text.specs.Spaced.{spaced, AllFree, free_append, all_free_append, free_spaced, free_above, free_decimal, free_signed, words_spaced, words_are}
-use Rattle.u_text.specs.WholeWords.{◌then◌, is, number_word, number_word_sound, number_word_complete, number0_word, number0_word_sound, number0_word_complete, told, then_some, some_same, none_some}
+use Rattle.u_text.specs.Number.{IsUpTo}
+use Rattle.u_text.proofs.NumberLaws.{AllDigit, decimal_digits}
+use Rattle.u_text.proofs.PiecesLaws.{Free}
+use Rattle.u_text.specs.Pieces.{words}
+use Rattle.u_text.specs.Spaced.{spaced}
+use Rattle.u_text.proofs.SpacedLaws.{AllFree, free_append, all_free_append, free_spaced, free_above, free_decimal, free_signed, words_spaced, words_are}
+use Rattle.u_text.specs.WholeWords.{◌then◌, is, number_word, number0_word}
+use Rattle.u_text.proofs.WholeWordsLaws.{number_word_sound, number_word_complete, number0_word_sound, number0_word_complete, told, then_some}
+use Rattle.std.proofs.lemmas.Option.{same_Some, none-some}
 use Rattle.u_program.specs.declared.reading.Line.{Line}
 use Rattle.u_program.specs.declared.reading.Line.TheVariants.{Block, Loop, Statement}
 use Rattle.u_program.specs.declared.program.Constant.{Constant}
@@ -137,16 +142,16 @@ module _ (c : ℕ) where
 
 name_line_sound : (ws : Words) (l : Line) → name_line ws ≡ Some l → IsLine l × ((first : List ℕ) → first ≡ (codes "block") → first ++ spaced ws ≡ line_text l)
 unfolding block_line
-name_line_sound [] l h = absurd (none_some l h)
+name_line_sound [] l h = absurd (none-some l h)
 name_line_sound (w ∷ []) l h =
     let a = then_some (name_word w) (λ name. alone (Block name) []) l h in
     let s = name_word_sound w a.0 a.1 in
-    let e : Block a.0 ≡ l = some_same (Block a.0) l a.2 in
+    let e : Block a.0 ≡ l = same_Some (Block a.0) l a.2 in
     subst (λ l. IsLine l × ((first : List ℕ) → first ≡ (codes "block") → first ++ spaced (w ∷ []) ≡ line_text l)) e
     (s.0, λ first g. ap (λ t. t ++ spaced (w ∷ [])) g ∙ ap (λ w. (codes "block") ++ spaced (w ∷ [])) s.1)
 name_line_sound (w ∷ v ∷ ws) l h =
     let a = then_some (name_word w) (λ name. None) l h in
-    absurd (none_some l a.2)
+    absurd (none-some l a.2)
 
 -- what stands behind a loop's number
 abbrev held_at : Words → ℕ → Option Line
@@ -154,20 +159,20 @@ held_at ws n = word_at ws then λ b. number0_word 99 b.0 then λ h. alone (Loop 
 
 held_sound : (n : ℕ) (ws : Words) (l : Line) → IsUpTo 100 n → held_at ws n ≡ Some l → IsLine l × (codes "loop" ++ spaced (decimal n ∷ ws) ≡ line_text l)
 unfolding loop_line
-held_sound n [] l v h = absurd (none_some l h)
+held_sound n [] l v h = absurd (none-some l h)
 held_sound n (w ∷ []) l v h =
     let a = then_some (number0_word 99 w) (λ k. alone (Loop n k) []) l h in
     let s = number0_word_sound 99 w a.0 (omega arith) (omega arith) a.1 in
-    let e : Loop n a.0 ≡ l = some_same (Loop n a.0) l a.2 in
+    let e : Loop n a.0 ≡ l = same_Some (Loop n a.0) l a.2 in
     subst (λ l. IsLine l × (codes "loop" ++ spaced (decimal n ∷ w ∷ []) ≡ line_text l)) e
     ((v, s.0), ap (λ w. codes "loop" ++ spaced (decimal n ∷ w ∷ [])) s.1)
 held_sound n (w ∷ u ∷ ws) l v h =
     let a = then_some (number0_word 99 w) (λ k. None) l h in
-    absurd (none_some l a.2)
+    absurd (none-some l a.2)
 
 numbers_sound : (w : List ℕ) (ws : Words) (l : Line) → w ≡ codes "loop" → numbers_at ws ≡ Some l → IsLine l × (w ++ spaced ws ≡ line_text l)
 unfolding numbers_at
-numbers_sound w [] l e h = absurd (none_some l h)
+numbers_sound w [] l e h = absurd (none-some l h)
 numbers_sound w (v ∷ ws) l e h =
     let a = then_some (number_word 100 v) (held_at ws) l h in
     let s = number_word_sound 100 v a.0 (omega arith) (omega arith) a.1 in
@@ -181,7 +186,7 @@ numbered_sound w ws l h =
     let s = number_word_sound 1000 w a.0 (omega arith) (omega arith) a.1 in
     let b = then_some (statement_at ws) (λ s. Some (Statement a.0 s)) l a.2 in
     let t = statement_sound ws b.0 b.1 in
-    let e : Statement a.0 b.0 ≡ l = some_same (Statement a.0 b.0) l b.2 in
+    let e : Statement a.0 b.0 ≡ l = same_Some (Statement a.0 b.0) l b.2 in
     subst (λ l. IsLine l × (w ++ spaced ws ≡ line_text l)) e ((s.0, t.0), ap (λ w. w ++ spaced ws) s.1 ∙ ap (λ ws. decimal a.0 ++ spaced ws) t.1)
 
 abbrev after_block : Bool → List ℕ → Words → Option Line
@@ -203,7 +208,7 @@ pub line_sound : (text : List ℕ) (l : Line) → line_at (words text) ≡ Some 
 line_sound text l h = at (words text) refl h
   where
     at : (ws : Words) → words text ≡ ws → line_at ws ≡ Some l → IsLine l × (text ≡ line_text l)
-    at [] e k = absurd (none_some l k)
+    at [] e k = absurd (none-some l k)
     at (w ∷ ws) e k = let s = line_sound_at w ws l k in (s.0, words_are text w ws e ∙ s.1)
 
 -- a number is no word that begins with a letter
@@ -233,8 +238,8 @@ line_complete (Statement n s) v =
 
 -- where the reader refuses, the line is none
 pub line_none : (text : List ℕ) → line_at (words text) ≡ None → (l : Line) → IsLine l → text ≡ line_text l → ⊥
-line_none text h l v e = none_some l (sym h ∙ ap (λ t. line_at (words t)) e ∙ line_complete l v)
+line_none text h l v e = none-some l (sym h ∙ ap (λ t. line_at (words t)) e ∙ line_complete l v)
 
 -- two lines with one text are one line
 pub line_same : (a b : Line) → IsLine a → IsLine b → line_text a ≡ line_text b → a ≡ b
-line_same a b v w e = some_same a b (sym (line_complete a v) ∙ ap (λ t. line_at (words t)) e ∙ line_complete b w)
+line_same a b v w e = same_Some a b (sym (line_complete a v) ∙ ap (λ t. line_at (words t)) e ∙ line_complete b w)

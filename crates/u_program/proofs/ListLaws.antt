@@ -3,7 +3,9 @@ use Rattle.std.specs.Prelude.{◌≡◌, ℕ, ◌≤◌, ◌<◌, Bool, true, fa
 use Rattle.std.proofs.Common.{sym, ◌∙◌, ap, subst, arith, inl, inr, append_assoc}
 use Rattle.std.proofs.lemmas.List.{append-nil}
 use Rattle.std.specs.Fmt.{decimal}
-use Rattle.u_text.specs.WholeWords.{◌then◌, told, some_same, none_some, then_some, le_cases, number0_word, number0_word_sound, number0_word_complete}
+use Rattle.u_text.specs.WholeWords.{◌then◌, number0_word}
+use Rattle.u_text.proofs.WholeWordsLaws.{told, then_some, le_cases, number0_word_sound, number0_word_complete}
+use Rattle.std.proofs.lemmas.Option.{same_Some, none-some}
 use Rattle.u_program.specs.declared.program.Kind.{Kind}
 use Rattle.u_program.specs.declared.program.Kind.TheVariants.{Switch, Apply, Store, End}
 use Rattle.u_program.specs.declared.program.Destination.{Destination}
@@ -35,7 +37,7 @@ no_slash = refl
 not_slash : (w : List ℕ) (d : Destination) → destination_at w ≡ Some d → is_slash w ≡ false
 not_slash w d h =
     elim (told w slash (is_slash w) refl) [
-      | inl a ↦ absurd (none_some d (sym no_slash ∙ ap destination_at (sym a.1) ∙ h))
+      | inl a ↦ absurd (none-some d (sym no_slash ∙ ap destination_at (sym a.1) ∙ h))
       | inr a ↦ a
     ]
 
@@ -55,9 +57,9 @@ SaysList slashed below ws ds rest = Ascending below ds × IsLeft slashed rest ×
 
 none_left : (slashed : Bool) (below : ℕ) (ds : List Destination) (rest : Words) → ◌≡◌ {A = Option (List Destination × Words)} (cond slashed None (Some ([], []))) (Some (ds, rest)) → SaysList slashed below [] ds rest
 unfolding SaysList
-none_left true below ds rest h = absurd (none_some _ h)
+none_left true below ds rest h = absurd (none-some _ h)
 none_left false below ds rest h =
-    let o = some_same ([], []) (ds, rest) h in
+    let o = same_Some ([], []) (ds, rest) h in
     let e : [] ≡ ds = ap (λ t. t.0) o in
     let f : [] ≡ rest = ap (λ t. t.1) o in
     subst (λ ds. Ascending below ds × (rest ≡ []) × ([] ≡ map destination_word ds ++ [])) e (tt, sym f, refl)
@@ -68,10 +70,10 @@ more_sound slashed below w ws ds rest others h =
     let a = then_some (destination_at w) (more_at slashed below ws) (ds, rest) h in
     let s = destination_sound w a.0 a.1 in
     elim (le_cases (rank a.0) below) [
-      | inl b ↦ absurd (none_some _ (ap (λ t. cond t None (destinations_at slashed (rank a.0) ws then λ es. Some (a.0 ∷ es.0, es.1))) (sym b.0) ∙ a.2))
+      | inl b ↦ absurd (none-some _ (ap (λ t. cond t None (destinations_at slashed (rank a.0) ws then λ es. Some (a.0 ∷ es.0, es.1))) (sym b.0) ∙ a.2))
       | inr b ↦
           let g = then_some (destinations_at slashed (rank a.0) ws) (λ es. Some (a.0 ∷ es.0, es.1)) (ds, rest) (ap (λ t. cond t None (destinations_at slashed (rank a.0) ws then λ es. Some (a.0 ∷ es.0, es.1))) (sym b.0) ∙ a.2) in
-          let o = some_same (a.0 ∷ g.0.0, g.0.1) (ds, rest) g.2 in
+          let o = same_Some (a.0 ∷ g.0.0, g.0.1) (ds, rest) g.2 in
           let e : a.0 ∷ g.0.0 ≡ ds = ap (λ t. t.0) o in
           let f : g.0.1 ≡ rest = ap (λ t. t.1) o in
           let i = others a.0 g.0.0 (g.1 ∙ ap (λ r. Some (g.0.0, r)) f) in
@@ -85,7 +87,7 @@ slash_sound false below w ws ds rest others h = more_sound false below w ws ds r
 slash_sound true below w ws ds rest others h =
     elim (told w slash (is_slash w) refl) [
       | inl a ↦
-          let o = some_same ([], ws) (ds, rest) (ap (λ t. cond t (Some ([], ws)) (destination_at w then more_at true below ws)) (sym a.0) ∙ h) in
+          let o = same_Some ([], ws) (ds, rest) (ap (λ t. cond t (Some ([], ws)) (destination_at w then more_at true below ws)) (sym a.0) ∙ h) in
           let e : [] ≡ ds = ap (λ t. t.0) o in
           let f : ws ≡ rest = ap (λ t. t.1) o in
           subst (λ ds. Ascending below ds × Unit {0} × (w ∷ ws ≡ map destination_word ds ++ (slash ∷ rest))) e (tt, tt, ap (λ w. w ∷ ws) a.1 ∙ ap (λ ws. slash ∷ ws) f)
@@ -118,11 +120,11 @@ SaysLists : Kind → Words → List Destination → List Destination → Type 0
 SaysLists k ws to otherwise = Ascending 0 to × IsListed (has_list k) to × Ascending 0 otherwise × IsListed (has_otherwise k) otherwise × (ws ≡ lists_words k to otherwise)
 
 no_otherwise : (rest : Words) (otherwise : List Destination) (last : Words) → ◌≡◌ {A = Option (List Destination × Words)} (Some ([], rest)) (Some (otherwise, last)) → otherwise ≡ []
-no_otherwise rest otherwise last h = let o = some_same ([], rest) (otherwise, last) h in sym (ap (λ t. t.0) o)
+no_otherwise rest otherwise last h = let o = same_Some ([], rest) (otherwise, last) h in sym (ap (λ t. t.0) o)
 
 none_sound : (ws : Words) (ds : List Destination) (rest : Words) → none_at ws ≡ Some (ds, rest) → (ds ≡ []) × (ws ≡ [])
-none_sound [] ds rest h = let o = some_same ([], []) (ds, rest) h in (sym (ap (λ t. t.0) o), refl)
-none_sound (w ∷ ws) ds rest h = absurd (none_some _ h)
+none_sound [] ds rest h = let o = same_Some ([], []) (ds, rest) h in (sym (ap (λ t. t.0) o), refl)
+none_sound (w ∷ ws) ds rest h = absurd (none-some _ h)
 
 unlisted_sound : (ws : Words) (to : List Destination) (rest : Words) (otherwise : List Destination) (last : Words) → none_at ws ≡ Some (to, rest) → ◌≡◌ {A = Option (List Destination × Words)} (Some ([], rest)) (Some (otherwise, last)) → Ascending 0 to × (to ≡ []) × Ascending 0 otherwise × (otherwise ≡ []) × (ws ≡ map destination_word to ++ [])
 unlisted_sound ws to rest otherwise last h i =
@@ -197,7 +199,7 @@ lists_of_sound region k ws s low valid h =
     let g = then_some (list_at k ws) (λ to. otherwise_at k to.1 then said region k to.0) s h in
     let o = then_some (otherwise_at k g.0.1) (said region k g.0.0) s g.2 in
     let i = lists_sound k ws g.0.0 g.0.1 o.0.0 o.0.1 g.1 o.1 in
-    let j = some_same (statement region k g.0.0 o.0.0) s o.2 in
+    let j = same_Some (statement region k g.0.0 o.0.0) s o.2 in
     subst (λ s. IsStatement no_limits s × (decimal region ∷ kind_word k ∷ (argument_words k ++ (arrow ∷ ws)) ≡ statement_words s)) j (
       record { region = low; kind = valid; to = i.0; listed = i.1; few = tt; otherwise = i.2; listed_otherwise = i.3; few_otherwise = tt },
       ap (λ t. decimal region ∷ kind_word k ∷ (argument_words k ++ (arrow ∷ t))) i.4,
@@ -205,7 +207,7 @@ lists_of_sound region k ws s low valid h =
 
 pub statement_sound : (ws : Words) (s : StatementParts) → statement_at ws ≡ Some s → IsStatement no_limits s × (ws ≡ statement_words s)
 unfolding statement_at
-statement_sound [] s h = absurd (none_some s h)
+statement_sound [] s h = absurd (none-some s h)
 statement_sound (w ∷ ws) s h =
     let a = then_some (number0_word 99 w) (rest_of ws) s h in
     let b = number0_word_sound 99 w a.0 (omega arith) (omega arith) a.1 in

@@ -4,7 +4,7 @@ use Rattle.std.proofs.Common.{sym, ◌∙◌, ap, arith, append_assoc}
 use Rattle.std.specs.List.{AllByRecursion}
 use Rattle.std.specs.Fmt.{decimal}
 use Rattle.u_name.specs.Block.{IsBlock}
-use Rattle.u_text.specs.Number.{number_first}
+use Rattle.u_text.proofs.NumberLaws.{number_first}
 use Rattle.u_text.specs.Spaced.{spaced}
 use Rattle.u_program.specs.Parts.{StatementParts, BlockParts}
 use Rattle.u_program.specs.Limits.{Limits, AtMost, AreLoops, IsStatement, IsBlockOf}

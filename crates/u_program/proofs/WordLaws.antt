@@ -5,12 +5,16 @@ use Rattle.std.proofs.Common.{sym, ◌∙◌, ap, subst, arith, inl, inr}
 use Rattle.std.specs.Fmt.{decimal}
 use lib.IntN.{ℤ, pos, negsuc}
 use Rattle.u_name.specs.Block.{IsBlock}
-use Rattle.u_name.specs.BlockText.{block_Reads}
-use Rattle.u_text.specs.Reads.{Reads}
-use Rattle.u_text.specs.Parts.{lead_Reads, alike, unlike, same_or}
-use Rattle.u_text.specs.Then.{after, AreBoth, both_Reads}
-use Rattle.u_text.specs.Number.{IsUpTo, IsDigit, AllDigit, number_Reads, decimal_digits}
-use Rattle.u_text.specs.WholeWords.{◌then◌, whole, is, told, some_same, none_some, then_some, le_cases, whole_sound, whole_complete, number0_word, number_word, number_word_sound, number_word_complete, number0_word_sound, signed_word, signed_word_sound, signed_word_complete}
+use Rattle.u_name.proofs.BlockTextLaws.{block_Reads}
+use Rattle.u_text.proofs.ReaderLaws.{Reads}
+use Rattle.u_text.proofs.PartsLaws.{lead_Reads, alike, unlike, same_or}
+use Rattle.u_text.proofs.ThenLaws.{after, both_Reads}
+use Rattle.u_text.specs.Then.{AreBoth}
+use Rattle.u_text.specs.Number.{IsUpTo}
+use Rattle.u_text.proofs.NumberLaws.{IsDigit, AllDigit, number_Reads, decimal_digits}
+use Rattle.u_text.specs.WholeWords.{◌then◌, whole, is, number0_word, number_word, signed_word}
+use Rattle.u_text.proofs.WholeWordsLaws.{told, then_some, le_cases, whole_sound, whole_complete, number_word_sound, number_word_complete, number0_word_sound, signed_word_sound, signed_word_complete}
+use Rattle.std.proofs.lemmas.Option.{same_Some, none-some}
 use Rattle.u_program.specs.declared.program.Constant.{Constant}
 use Rattle.u_program.specs.declared.program.Constant.TheVariants as constants
 use Rattle.u_program.specs.declared.program.Kind.{Kind}
@@ -49,8 +53,8 @@ dot_Reads = both_Reads (number_Reads 999 (omega arith) (omega arith)) (λ _ _. l
 ported_sound : (z : ℕ × ℕ) (d : Destination) → ported z ≡ Some d → (z.1 ≤ 3) × (◌≡◌ {A = Destination} (record { statement = z.0; port = z.1 }) d)
 ported_sound z d h =
     elim (le_cases z.1 3) [
-      | inl a ↦ (a.1, some_same _ d (ap (λ t. cond t (Some (record { statement = z.0; port = z.1 })) None) (sym a.0) ∙ h))
-      | inr a ↦ absurd (none_some d (ap (λ t. cond t (Some (record { statement = z.0; port = z.1 })) None) (sym a.0) ∙ h))
+      | inl a ↦ (a.1, same_Some _ d (ap (λ t. cond t (Some (record { statement = z.0; port = z.1 })) None) (sym a.0) ∙ h))
+      | inr a ↦ absurd (none-some d (ap (λ t. cond t (Some (record { statement = z.0; port = z.1 })) None) (sym a.0) ∙ h))
     ]
 
 pub destination_sound : (w : List ℕ) (d : Destination) → destination_at w ≡ Some d → IsDestination d × (w ≡ destination_word d)
@@ -77,17 +81,17 @@ other_at b c cs = cond b (name_word cs then λ name. Some (constants.Proc name))
 
 other_sound : (w : List ℕ) (k : Constant) → other_constant w ≡ Some k → Says w k
 unfolding Says other_at
-other_sound [] k h = absurd (none_some k h)
+other_sound [] k h = absurd (none-some k h)
 other_sound (c ∷ cs) k h =
     elim (same_or c 64) [
       | alike e f ↦
           let a = then_some (name_word cs) (λ name. Some (constants.Proc name)) k (ap (λ b. other_at b c cs) (sym f) ∙ h) in
           let s = name_word_sound cs a.0 a.1 in
-          subst (λ k. IsConstant k × (c ∷ cs ≡ constant_word k)) (some_same (constants.Proc a.0) k a.2) (s.0, ap (λ c. c ∷ cs) e ∙ ap (λ t. 64 ∷ t) s.1)
+          subst (λ k. IsConstant k × (c ∷ cs ≡ constant_word k)) (same_Some (constants.Proc a.0) k a.2) (s.0, ap (λ c. c ∷ cs) e ∙ ap (λ t. 64 ∷ t) s.1)
       | unlike e f ↦
           let a = then_some (signed_word (c ∷ cs)) (λ n. Some (constants.Int n)) k (ap (λ b. other_at b c cs) (sym f) ∙ h) in
           let s = signed_word_sound (c ∷ cs) a.0 a.1 in
-          subst (λ k. IsConstant k × (c ∷ cs ≡ constant_word k)) (some_same (constants.Int a.0) k a.2) (s.0, s.1)
+          subst (λ k. IsConstant k × (c ∷ cs ≡ constant_word k)) (same_Some (constants.Int a.0) k a.2) (s.0, s.1)
     ]
 
 truth_or : Bool → Bool → List ℕ → Option Constant
@@ -95,7 +99,7 @@ truth_or a b w = cond a (Some (constants.Bool true)) (cond b (Some (constants.Bo
 
 truth_sound : (w : List ℕ) (t : Bool) (k : Constant) → w ≡ constant_word (constants.Bool t) → ◌≡◌ {A = Option Constant} (Some (constants.Bool t)) (Some k) → Says w k
 unfolding Says
-truth_sound w t k e h = subst (λ k. IsConstant k × (w ≡ constant_word k)) (some_same (constants.Bool t) k h) (tt, e)
+truth_sound w t k e h = subst (λ k. IsConstant k × (w ≡ constant_word k)) (same_Some (constants.Bool t) k h) (tt, e)
 
 pub constant_sound : (w : List ℕ) (k : Constant) → constant_at w ≡ Some k → IsConstant k × (w ≡ constant_word k)
 unfolding constant_at Says truth_or
@@ -113,7 +117,7 @@ constant_sound w k h =
 -- a number is no truth value and no procedure
 number_is_other : (n : ℤ) (ds : List ℕ) → ((t : Bool) → ds ≡ constant_word (constants.Bool t) → ⊥) → ((cs : List ℕ) → ds ≡ 64 ∷ cs → ⊥) → signed_word ds ≡ Some n → constant_at ds ≡ Some (constants.Int n)
 unfolding constant_at truth_or other_at signed_word
-number_is_other n [] t p h = absurd (none_some n h)
+number_is_other n [] t p h = absurd (none-some n h)
 number_is_other n (c ∷ cs) t p h =
     elim (told (c ∷ cs) (codes "true") (is (c ∷ cs) (codes "true")) refl) [
       | inl a ↦ absurd (t true a.1)
@@ -158,11 +162,11 @@ IsPlain k = IsKind k × (argument_words k ≡ [])
 
 among_sound : (ks : List Kind) (w : List ℕ) (k : Kind) → AllByRecursion IsPlain ks → kind_among ks w ≡ Some k → IsPlain k × (w ≡ kind_word k)
 unfolding kind_among
-among_sound [] w k v h = absurd (none_some k h)
+among_sound [] w k v h = absurd (none-some k h)
 among_sound (j ∷ ks) w k v h =
     elim (told w (kind_word j) (is w (kind_word j)) refl) [
       | inl a ↦
-          let e = some_same j k (ap (λ b. cond b (Some j) (kind_among ks w)) (sym a.0) ∙ h) in
+          let e = same_Some j k (ap (λ b. cond b (Some j) (kind_among ks w)) (sym a.0) ∙ h) in
           subst (λ k. IsPlain k × (w ≡ kind_word k)) e (v.0, a.1)
       | inr a ↦ among_sound ks w k v.1 (ap (λ b. cond b (Some j) (kind_among ks w)) (sym a) ∙ h)
     ]
@@ -176,11 +180,11 @@ SaysKind w ws k rest = IsKind k × (w ∷ ws ≡ kind_word k ∷ (argument_words
 
 const_sound : (w : List ℕ) (ws : Words) (k : Kind) (rest : Words) → w ≡ codes "const" → const_at ws ≡ Some (k, rest) → SaysKind w ws k rest
 unfolding SaysKind
-const_sound w [] k rest e h = absurd (none_some _ h)
+const_sound w [] k rest e h = absurd (none-some _ h)
 const_sound w (v ∷ ws) k rest e h =
     let a = then_some (constant_at v) (λ c. Some (Const c, ws)) (k, rest) h in
     let s = constant_sound v a.0 a.1 in
-    let o = some_same (Const a.0, ws) (k, rest) a.2 in
+    let o = same_Some (Const a.0, ws) (k, rest) a.2 in
     let f : Const a.0 ≡ k = ap (λ t. t.0) o in
     let g : ws ≡ rest = ap (λ t. t.1) o in
     subst (λ k. IsKind k × (w ∷ v ∷ ws ≡ kind_word k ∷ (argument_words k ++ rest))) f
@@ -192,11 +196,11 @@ counted_at max make ws = word_at ws then λ a. number_word max a.0 then λ n. So
 
 counted_sound : (max : ℕ) (word : List ℕ) (make : ℕ → Kind) → 9 ≤ max → max < 2 ^ 64 → ((n : ℕ) → IsUpTo max n → IsKind (make n)) → ((n : ℕ) → kind_word (make n) ≡ word) → ((n : ℕ) → argument_words (make n) ≡ decimal n ∷ []) → (w : List ℕ) (ws : Words) (k : Kind) (rest : Words) → w ≡ word → counted_at max make ws ≡ Some (k, rest) → SaysKind w ws k rest
 unfolding SaysKind
-counted_sound max word make low high valid named said w [] k rest e h = absurd (none_some _ h)
+counted_sound max word make low high valid named said w [] k rest e h = absurd (none-some _ h)
 counted_sound max word make low high valid named said w (v ∷ ws) k rest e h =
     let a = then_some (number_word max v) (λ n. Some (make n, ws)) (k, rest) h in
     let s = number_word_sound max v a.0 low high a.1 in
-    let o = some_same (make a.0, ws) (k, rest) a.2 in
+    let o = same_Some (make a.0, ws) (k, rest) a.2 in
     let f : make a.0 ≡ k = ap (λ t. t.0) o in
     let g : ws ≡ rest = ap (λ t. t.1) o in
     subst (λ k. IsKind k × (w ∷ v ∷ ws ≡ kind_word k ∷ (argument_words k ++ rest))) f
@@ -207,7 +211,7 @@ unfolding SaysKind IsPlain
 plain_sound w ws k rest h =
     let a = then_some (kind_among plain_kinds w) (λ k. Some (k, ws)) (k, rest) h in
     let s = among_sound plain_kinds w a.0 are_plain a.1 in
-    let o = some_same (a.0, ws) (k, rest) a.2 in
+    let o = same_Some (a.0, ws) (k, rest) a.2 in
     let f : a.0 ≡ k = ap (λ t. t.0) o in
     let g : ws ≡ rest = ap (λ t. t.1) o in
     subst (λ k. IsKind k × (w ∷ ws ≡ kind_word k ∷ (argument_words k ++ rest))) f
@@ -235,7 +239,7 @@ kind_of_sound w ws k rest h =
 
 pub kind_sound : (ws : Words) (k : Kind) (rest : Words) → kind_at ws ≡ Some (k, rest) → IsKind k × (ws ≡ kind_word k ∷ (argument_words k ++ rest))
 unfolding kind_at SaysKind
-kind_sound [] k rest h = absurd (none_some _ h)
+kind_sound [] k rest h = absurd (none-some _ h)
 kind_sound (w ∷ ws) k rest h = kind_of_sound w ws k rest h
 
 pub kind_complete : (k : Kind) (rest : Words) → IsKind k → kind_at (kind_word k ∷ (argument_words k ++ rest)) ≡ Some (k, rest)
@@ -270,13 +274,13 @@ kind_complete End rest v = refl
 
 pub arrow_sound : (ws : Words) (u : Unit {0}) (rest : Words) → arrow_at ws ≡ Some (u, rest) → ws ≡ arrow ∷ rest
 unfolding arrow_at
-arrow_sound [] u rest h = absurd (none_some _ h)
+arrow_sound [] u rest h = absurd (none-some _ h)
 arrow_sound (w ∷ ws) u rest h =
     elim (told w arrow (is w arrow) refl) [
       | inl a ↦
-          let o = some_same (tt, ws) (u, rest) (ap (λ b. cond b (Some (tt, ws)) None) (sym a.0) ∙ h) in
+          let o = same_Some (tt, ws) (u, rest) (ap (λ b. cond b (Some (tt, ws)) None) (sym a.0) ∙ h) in
           ap (λ w. w ∷ ws) a.1 ∙ ap (λ ws. arrow ∷ ws) (ap (λ t. t.1) o)
-      | inr a ↦ absurd (none_some _ (ap (λ b. cond b (Some (tt, ws)) None) (sym a) ∙ h))
+      | inr a ↦ absurd (none-some _ (ap (λ b. cond b (Some (tt, ws)) None) (sym a) ∙ h))
     ]
 
 -- bounds of numbers

@@ -1,5 +1,5 @@
 -- The ranges and limits within which a list of blocks is a program.
-use Rattle.std.specs.Prelude.{◌≡◌, Bool, true, false, ℕ, suc, ◌+◌, ◌*◌, ◌≤◌, ◌<◌, List, [], ◌∷◌, length, Option, Some, None}
+use Rattle.std.specs.Prelude.{◌≡◌, Bool, true, false, ℕ, suc, ◌+◌, ◌*◌, ◌≤◌, ◌<◌, List, [], ◌∷◌, length, Option, Some, None, FitsSigned}
 use Rattle.std.specs.List.{AllByRecursion}
 use Rattle.u_name.specs.Block.{IsBlock}
 use Rattle.u_name.specs.Context.{IsBetween}
@@ -9,7 +9,6 @@ use Rattle.u_program.specs.declared.program.Kind.{Kind}
 use Rattle.u_program.specs.declared.program.Kind.TheVariants.{Const, Switch, Enter, Apply, Store, End}
 use Rattle.u_program.specs.declared.program.Destination.{Destination}
 use Rattle.u_program.specs.Parts.{StatementParts, BlockParts}
-use Rattle.std.specs.Prelude.{FitsSigned}
 use Rattle.std.specs.Int.{w64}
 
 -- the limits on numbers of parts; None is no limit

@@ -1,7 +1,7 @@
 -- What is read of the words of a line.
 use Rattle.std.specs.Prelude.{ℕ, Bool, true, false, ◌&&◌, cond, ◌==◌, nat_le, List, [], ◌∷◌, codes, Option, Some, None}
 use Rattle.u_name.specs.BlockText.{block_at}
-use Rattle.u_text.specs.Reads.{Reader}
+use Rattle.u_text.specs.Reader.{Reader}
 use Rattle.u_text.specs.Parts.{lead}
 use Rattle.u_text.specs.Then.{both}
 use Rattle.u_text.specs.Number.{number}

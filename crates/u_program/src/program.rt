@@ -179,7 +179,8 @@ impl Block {
 
     /// The block with one more loop, which that region holds.
     pub(crate) fn with_loop(self, held_by: u8) -> Result<Block, AllocFailed<u8>>
-        ensures { IfOk result (λ b. b ≡ block self.name (self.loops ++ (held_by ∷ [])) self.statements) }
+        ensures { IfOk result
+            (λ b. b ≡ block self.name (self.loops ++ (held_by ∷ [])) self.statements) }
     {
         let Block {
             name,
@@ -196,7 +197,8 @@ impl Block {
 
     /// The block with one more statement.
     pub(crate) fn with(self, statement: Statement) -> Result<Block, AllocFailed<Statement>>
-        ensures { IfOk result (λ b. b ≡ block self.name self.loops (self.statements ++ (statement ∷ []))) }
+        ensures { IfOk result
+            (λ b. b ≡ block self.name self.loops (self.statements ++ (statement ∷ []))) }
     {
         let Block {
             name,

@@ -163,7 +163,7 @@ fn arrow(words: &mut Words<'_>) -> Result<(), BadWord>
     }
 }
 
-#[tactic(auto, unfolding(crate::specs::Reading::destination_at), using(u_text::specs::Number::number_bound))]
+#[tactic(auto, unfolding(crate::specs::Reading::destination_at), using(u_text::proofs::NumberLaws::number_bound))]
 fn destination(word: &[u8]) -> Result<Destination, BadWord>
     ensures { MatchResult result
         (λ d. destination_at word.now ≡ Some d)

@@ -29,15 +29,18 @@ use u_text::cut;
 /// 1982, of its structures Arvind and Nikhil 1990; the text is this project's profile.
 #[tactic(auto, using(crate::proofs::Same::read_back))]
 pub fn read(alloc: Global, bytes: &[u8]) -> Result<Program, ReadError>
-    ensures answer { MatchResult result (λ program. IsTextOf bytes.now program) (λ fault. IsReadError bytes.now fault) }
-    ensures back { (p : List BlockParts) → IsTextOf bytes.now p → MatchResult result (λ program. program ≡ p) (λ fault. fault ≡ errors.NoMemory) }
+    ensures answer { MatchResult result (λ program. IsTextOf bytes.now program)
+        (λ fault. IsReadError bytes.now fault) }
+    ensures back { (p : List BlockParts) → IsTextOf bytes.now p
+        → MatchResult result (λ program. program ≡ p) (λ fault. fault ≡ errors.NoMemory) }
 {
     read_lines(alloc, bytes)
 }
 
 /// Reads line by line: the two first lines, and then what may follow them.
 fn read_lines(alloc: Global, bytes: &[u8]) -> Result<Program, ReadError>
-    ensures { MatchResult result (λ program. IsTextOf bytes.now program) (λ fault. IsReadError bytes.now fault) }
+    ensures { MatchResult result (λ program. IsTextOf bytes.now program)
+        (λ fault. IsReadError bytes.now fault) }
 {
     let Some((first, after_first)) = cut(bytes, b'\n') else {
         return Err(ReadError::Truncated);

@@ -10,7 +10,7 @@ use crate::program::{Block, Constant, Destination, Kind, Program, Statement};
 use std::alloc::AllocError;
 use u_text::{push_behind, push_long, push_number, push_signed, push_spaced};
 
-#[tactic(auto, using(u_text::specs::Appending::extends_same, u_text::specs::Appending::extends_behind, std::proofs::Common::append_assoc))]
+#[tactic(auto, using(u_text::proofs::AppendingLaws::extends_same, u_text::proofs::AppendingLaws::extends_behind, std::proofs::Common::append_assoc))]
 fn push_constant(out: &mut Vec<u8>, constant: &Constant) -> Result<(), AllocError>
     ensures ok { OnOk result (out.new.items ≡ out.old.items ++ (32 ∷ constant_word constant.now)) }
     ensures err { OnErr result (Extends out.old.items out.new.items) }
@@ -29,9 +29,10 @@ fn push_constant(out: &mut Vec<u8>, constant: &Constant) -> Result<(), AllocErro
     }
 }
 
-#[tactic(auto, using(u_text::specs::Appending::extends_same, u_text::specs::Appending::extends_behind, std::proofs::Common::append_assoc))]
+#[tactic(auto, using(u_text::proofs::AppendingLaws::extends_same, u_text::proofs::AppendingLaws::extends_behind, std::proofs::Common::append_assoc))]
 fn push_kind(out: &mut Vec<u8>, kind: &Kind) -> Result<(), AllocError>
-    ensures ok { OnOk result (out.new.items ≡ out.old.items ++ spaced (kind_word kind.now ∷ argument_words kind.now)) }
+    ensures ok { OnOk result
+        (out.new.items ≡ out.old.items ++ spaced (kind_word kind.now ∷ argument_words kind.now)) }
     ensures err { OnErr result (Extends out.old.items out.new.items) }
 {
     push_spaced(out, kind_word(kind))?;
@@ -43,7 +44,7 @@ fn push_kind(out: &mut Vec<u8>, kind: &Kind) -> Result<(), AllocError>
     }
 }
 
-#[tactic(auto, using(u_text::specs::Appending::extends_same, u_text::specs::Appending::extends_behind, std::proofs::Common::append_assoc))]
+#[tactic(auto, using(u_text::proofs::AppendingLaws::extends_same, u_text::proofs::AppendingLaws::extends_behind, std::proofs::Common::append_assoc))]
 fn push_destination(out: &mut Vec<u8>, to: &Destination) -> Result<(), AllocError>
     ensures ok { OnOk result (out.new.items ≡ out.old.items ++ (32 ∷ destination_word to.now)) }
     ensures err { OnErr result (Extends out.old.items out.new.items) }
@@ -52,9 +53,10 @@ fn push_destination(out: &mut Vec<u8>, to: &Destination) -> Result<(), AllocErro
     push_behind(out, b'.', u32::from(to.port))
 }
 
-#[tactic(auto, using(u_text::specs::Appending::extends_by, u_text::specs::Appending::extends_behind, crate::proofs::Written::list_more))]
+#[tactic(auto, using(u_text::proofs::AppendingLaws::extends_by, u_text::proofs::AppendingLaws::extends_behind, crate::proofs::Written::list_more))]
 fn push_list(out: &mut Vec<u8>, to: &[Destination]) -> Result<(), AllocError>
-    ensures ok { OnOk result (out.new.items ≡ out.old.items ++ spaced (map destination_word to.now)) }
+    ensures ok { OnOk result
+        (out.new.items ≡ out.old.items ++ spaced (map destination_word to.now)) }
     ensures err { OnErr result (Extends out.old.items out.new.items) }
 {
     for destination in to {
@@ -64,9 +66,11 @@ fn push_list(out: &mut Vec<u8>, to: &[Destination]) -> Result<(), AllocError>
 }
 
 /// Appends the list of a `switch` for false, behind its slash.
-#[tactic(auto, using(u_text::specs::Appending::extends_same, u_text::specs::Appending::extends_behind, std::proofs::Common::append_assoc))]
+#[tactic(auto, using(u_text::proofs::AppendingLaws::extends_same, u_text::proofs::AppendingLaws::extends_behind, std::proofs::Common::append_assoc))]
 fn push_otherwise(out: &mut Vec<u8>, kind: &Kind, to: &[Destination]) -> Result<(), AllocError>
-    ensures ok { OnOk result (out.new.items ≡ out.old.items ++ spaced (otherwise_words (has_otherwise kind.now) to.now)) }
+    ensures ok { OnOk result
+        (out.new.items ≡ out.old.items
+        ++ spaced (otherwise_words (has_otherwise kind.now) to.now)) }
     ensures err { OnErr result (Extends out.old.items out.new.items) }
 {
     if !has_otherwise(kind) {
@@ -78,14 +82,15 @@ fn push_otherwise(out: &mut Vec<u8>, kind: &Kind, to: &[Destination]) -> Result<
 }
 
 /// Appends what stands behind a statement's region.
-#[tactic(auto, using(u_text::specs::Appending::extends_behind, crate::proofs::Written::tail_text))]
+#[tactic(auto, using(u_text::proofs::AppendingLaws::extends_behind, crate::proofs::Written::tail_text))]
 fn push_tail(
     out: &mut Vec<u8>,
     kind: &Kind,
     to: &[Destination],
     otherwise: &[Destination],
 ) -> Result<(), AllocError>
-    ensures ok { OnOk result (out.new.items ≡ out.old.items ++ spaced (tail_words kind.now to.now otherwise.now)) }
+    ensures ok { OnOk result
+        (out.new.items ≡ out.old.items ++ spaced (tail_words kind.now to.now otherwise.now)) }
     ensures err { OnErr result (Extends out.old.items out.new.items) }
 {
     push_kind(out, kind)?;
@@ -95,9 +100,10 @@ fn push_tail(
     Ok(())
 }
 
-#[tactic(auto, using(u_text::specs::Appending::extends_same, u_text::specs::Appending::extends_behind, crate::proofs::Written::statement_text))]
+#[tactic(auto, using(u_text::proofs::AppendingLaws::extends_same, u_text::proofs::AppendingLaws::extends_behind, crate::proofs::Written::statement_text))]
 fn push_statement(out: &mut Vec<u8>, number: u64, statement: &Statement) -> Result<(), AllocError>
-    ensures ok { OnOk result (out.new.items ≡ out.old.items ++ (statement_line number statement.now ++ (10 ∷ []))) }
+    ensures ok { OnOk result
+        (out.new.items ≡ out.old.items ++ (statement_line number statement.now ++ (10 ∷ []))) }
     ensures err { OnErr result (Extends out.old.items out.new.items) }
 {
     push_long(out, number)?;
@@ -112,9 +118,10 @@ fn push_statement(out: &mut Vec<u8>, number: u64, statement: &Statement) -> Resu
     Ok(())
 }
 
-#[tactic(auto, using(u_text::specs::Appending::extends_by, u_text::specs::Appending::extends_behind, crate::proofs::Written::statements_more))]
+#[tactic(auto, using(u_text::proofs::AppendingLaws::extends_by, u_text::proofs::AppendingLaws::extends_behind, crate::proofs::Written::statements_more))]
 fn push_statements(out: &mut Vec<u8>, statements: &[Statement]) -> Result<(), AllocError>
-    ensures ok { OnOk result (out.new.items ≡ out.old.items ++ ended (statement_lines 1 statements.now)) }
+    ensures ok { OnOk result
+        (out.new.items ≡ out.old.items ++ ended (statement_lines 1 statements.now)) }
     ensures err { OnErr result (Extends out.old.items out.new.items) }
 {
     for (i, statement) in statements.iter().enumerate() {
@@ -123,9 +130,10 @@ fn push_statements(out: &mut Vec<u8>, statements: &[Statement]) -> Result<(), Al
     Ok(())
 }
 
-#[tactic(auto, using(u_text::specs::Appending::extends_same, u_text::specs::Appending::extends_behind, crate::proofs::Written::loop_text))]
+#[tactic(auto, using(u_text::proofs::AppendingLaws::extends_same, u_text::proofs::AppendingLaws::extends_behind, crate::proofs::Written::loop_text))]
 fn push_loop(out: &mut Vec<u8>, number: u64, held_by: u8) -> Result<(), AllocError>
-    ensures ok { OnOk result (out.new.items ≡ out.old.items ++ (loop_line number held_by ++ (10 ∷ []))) }
+    ensures ok { OnOk result
+        (out.new.items ≡ out.old.items ++ (loop_line number held_by ++ (10 ∷ []))) }
     ensures err { OnErr result (Extends out.old.items out.new.items) }
 {
     out.extend_from_slice(b"loop ")?;
@@ -135,7 +143,7 @@ fn push_loop(out: &mut Vec<u8>, number: u64, held_by: u8) -> Result<(), AllocErr
     Ok(())
 }
 
-#[tactic(auto, using(u_text::specs::Appending::extends_by, u_text::specs::Appending::extends_behind, crate::proofs::Written::loops_more))]
+#[tactic(auto, using(u_text::proofs::AppendingLaws::extends_by, u_text::proofs::AppendingLaws::extends_behind, crate::proofs::Written::loops_more))]
 fn push_loops(out: &mut Vec<u8>, loops: &[u8]) -> Result<(), AllocError>
     ensures ok { OnOk result (out.new.items ≡ out.old.items ++ ended (loop_lines 1 loops.now)) }
     ensures err { OnErr result (Extends out.old.items out.new.items) }
@@ -146,7 +154,7 @@ fn push_loops(out: &mut Vec<u8>, loops: &[u8]) -> Result<(), AllocError>
     Ok(())
 }
 
-#[tactic(auto, using(u_text::specs::Appending::extends_same, u_text::specs::Appending::extends_behind, crate::proofs::Written::begun_text))]
+#[tactic(auto, using(u_text::proofs::AppendingLaws::extends_same, u_text::proofs::AppendingLaws::extends_behind, crate::proofs::Written::begun_text))]
 fn push_block_line(out: &mut Vec<u8>, name: &[u8]) -> Result<(), AllocError>
     ensures ok { OnOk result (out.new.items ≡ out.old.items ++ (block_line name.now ++ (10 ∷ []))) }
     ensures err { OnErr result (Extends out.old.items out.new.items) }
@@ -157,7 +165,7 @@ fn push_block_line(out: &mut Vec<u8>, name: &[u8]) -> Result<(), AllocError>
     Ok(())
 }
 
-#[tactic(auto, using(u_text::specs::Appending::extends_behind, crate::proofs::Written::block_text))]
+#[tactic(auto, using(u_text::proofs::AppendingLaws::extends_behind, crate::proofs::Written::block_text))]
 fn push_block(out: &mut Vec<u8>, block: &Block) -> Result<(), AllocError>
     ensures ok { OnOk result (out.new.items ≡ out.old.items ++ ended (block_lines block.now)) }
     ensures err { OnErr result (Extends out.old.items out.new.items) }
@@ -168,7 +176,7 @@ fn push_block(out: &mut Vec<u8>, block: &Block) -> Result<(), AllocError>
     Ok(())
 }
 
-#[tactic(auto, using(u_text::specs::Appending::extends_by, u_text::specs::Appending::extends_behind, crate::proofs::Written::blocks_more))]
+#[tactic(auto, using(u_text::proofs::AppendingLaws::extends_by, u_text::proofs::AppendingLaws::extends_behind, crate::proofs::Written::blocks_more))]
 fn push_blocks(out: &mut Vec<u8>, blocks: &[Block]) -> Result<(), AllocError>
     ensures ok { OnOk result (out.new.items ≡ out.old.items ++ ended (blocks_lines blocks.now)) }
     ensures err { OnErr result (Extends out.old.items out.new.items) }
@@ -183,7 +191,7 @@ impl Program {
     /// Appends the program's text. `read` of that text gives an equal program, and a program that
     /// was read is written as the bytes that it was read from. On an error `out` begins with what
     /// it had, and a part of the text may stand behind it.
-    #[tactic(auto, using(u_text::specs::Appending::extends_same, u_text::specs::Appending::extends_behind, crate::proofs::Written::whole_text))]
+    #[tactic(auto, using(u_text::proofs::AppendingLaws::extends_same, u_text::proofs::AppendingLaws::extends_behind, crate::proofs::Written::whole_text))]
     pub fn write_text(&self, out: &mut Vec<u8>) -> Result<(), AllocError>
         ensures ok { OnOk result (out.new.items ≡ out.old.items ++ program_text self.now) }
         ensures err { OnErr result (Extends out.old.items out.new.items) }

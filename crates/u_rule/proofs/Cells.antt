@@ -1,24 +1,16 @@
 -- Which cell two values name.
-use Rattle.std.proofs.Common.{◌≡◌, ◌↔◌, ◌∙◌, sym, ap, refl, subst, ℕ, Bool, true, false, ◌&&◌, IsTrue, [], ◌∷◌, Ok, Err}
-use Rattle.std.specs.Prelude.{Result, ◌==◌, if◌then◌else◌, unsigned_abs}
+use Rattle.std.proofs.Common.{◌≡◌, ◌↔◌, ◌∙◌, sym, ap, ℕ, Bool, true, false, ◌&&◌, IsTrue, Ok, Err}
+use Rattle.std.specs.Prelude.{Result, if◌then◌else◌}
 use Rattle.std.specs.Ordering.{eq_by_cmp, is_eq}
-use Rattle.std.specs.Cmp.{tied_itself}
-use Rattle.std.specs.declared.cmp.Ordering.TheVariants.{Less, Equal, Greater}
-use Rattle.std.proofs.Common.{Ordering}
+use Rattle.std.specs.Cmp.{tied_itself, Equal-is}
 use Rattle.u_name.specs.Name.{Activity}
-use Rattle.u_name.specs.NameOrder.{name_cmp, name_cmp_total}
+use Rattle.u_name.specs.NameOrder.{name_cmp, name_cmp_total, name_cmp_ties}
 use Rattle.u_name.specs.Cell.{CellOf, cell_of}
-use Rattle.u_name.proofs.ExactOrders.{name_cmp_ties}
 use Rattle.u_value.specs.declared.fault_kind.FaultKind.{FaultKind}
-
-tie_of : (r : Ordering) → IsTrue (is_eq r) → r ≡ Equal
-tie_of Less h = cc
-tie_of Equal h = refl
-tie_of Greater h = cc
 
 pub same_name : (a b : Activity) → IsTrue (eq_by_cmp name_cmp a b) ↔ (a ≡ b)
 same_name a b =
-    ((λ h. name_cmp_ties a b (tie_of (name_cmp a b) h)), λ e. ap (λ (x : Activity). eq_by_cmp name_cmp a x) (sym e) ∙ ap is_eq (tied_itself name_cmp_total a))
+    ((λ h. name_cmp_ties a b ((Equal-is (name_cmp a b)).0 h)), λ e. ap (λ (x : Activity). eq_by_cmp name_cmp a x) (sym e) ∙ ap is_eq (tied_itself name_cmp_total a))
 
 pub one_cell : (n : Activity) (i : ℕ) (c : CellOf) → (cell_of n i ≡ c) ↔ ((n ≡ c.name) × (i ≡ c.index))
 one_cell n i c =

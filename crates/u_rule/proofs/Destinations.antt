@@ -1,7 +1,6 @@
 -- The destinations of a statement of a program are in their ranges.
-use Rattle.std.specs.Prelude.{◌≡◌, ℕ, List, [], ◌∷◌}
+use Rattle.std.specs.Prelude.{◌≡◌, ℕ, List, [], ◌∷◌, false}
 use Rattle.std.specs.List.{AllByRecursion}
-use Rattle.std.specs.Prelude.{false}
 use Rattle.u_value.specs.declared.value.Value.TheVariants as values
 use Rattle.u_program.specs.Limits.{Ascending, IsDestination, IsStatement, the_limits, rank}
 use Rattle.u_program.specs.Parts.{StatementParts}

@@ -14,7 +14,8 @@ use Rattle.u_program.specs.Parts.{StatementParts, BlockParts}
 use Rattle.u_program.specs.declared.program.Destination.{Destination}
 use Rattle.u_program.specs.declared.program.Kind.{Kind}
 use Rattle.u_program.specs.declared.program.Kind.TheVariants.{Binary, Select, Switch, Enter, Next, Last, Leave, Apply, Store, Fetch}
-use Rattle.u_check.specs.Rules.{ports_of, is_apply, is_end, is_of_loop, crosses, sends, main_name, names_block, block_named, statement_at, held_by, IsChecked}
+use Rattle.u_check.specs.Kinds.{ports_of, is_apply, is_end, is_of_loop, crosses, is_store}
+use Rattle.u_check.specs.Rules.{sends, main_name, names_block, block_named, statement_at, held_by, IsChecked}
 use Rattle.u_check.proofs.Blocks.{named_member, named_some}
 use Rattle.u_check.proofs.Facts.{Target, Returned, main_block, in_to, in_otherwise, held_is_loop, begin_first, enter_held, apply_returned, lies_in_loop, end_outside, target_exists, target_of_enter, target_of_leave, target_region}
 use Rattle.u_system.proofs.Member.{Contains-nil, Contains-cons_cases}
@@ -22,11 +23,11 @@ use Rattle.u_rule.specs.Parts.{TokenParts, token, ValueList}
 use Rattle.u_rule.specs.Fits.{statement_in, statement_of, holder_in, holder_of, fits, fits_at, IsPlaced, IsFitting, AllFit}
 use Rattle.u_rule.specs.Rule.{is_firing_of, beside, reached, refusal_of, list_of, result_of, first_of, delivered, handed_on, begun, called, back_named, back_of, brought_back, finished, ended, given, fault_of}
 use Rattle.u_name.specs.Cell.{CellOf}
-use Rattle.u_rule.specs.Structures.{cell_named, has_its_write, wrote, is_store, stored, stored_in}
+use Rattle.u_rule.specs.Structures.{cell_named, has_its_write, wrote, stored, stored_in}
 use Rattle.u_check.specs.Jobs.{JobParts}
 use Rattle.u_rule.specs.declared.firing.Firing.{Firing}
 use Rattle.u_rule.specs.declared.firing.Written.{Written}
-use Rattle.u_rule.specs.Made.{IsReachable, IsEndable}
+use Rattle.u_rule.specs.HandingOn.{IsReachable, IsEndable}
 use Rattle.u_rule.specs.declared.entry.Entry.{Entry}
 use Rattle.u_rule.specs.declared.entry.Entry.TheVariants as entries
 use Rattle.u_rule.proofs.Linkage.{mapped}

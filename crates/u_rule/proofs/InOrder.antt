@@ -18,16 +18,17 @@ use Rattle.u_program.specs.Limits.{Ascending, IsDestination, IsStatement, rank, 
 use Rattle.u_program.specs.Parts.{StatementParts, BlockParts}
 use Rattle.u_program.specs.declared.program.Kind.{Kind}
 use Rattle.u_program.specs.declared.program.Destination.{Destination}
-use Rattle.u_check.specs.Rules.{is_apply, is_end, names_block}
+use Rattle.u_check.specs.Kinds.{is_apply, is_end, is_store}
+use Rattle.u_check.specs.Rules.{names_block}
 use Rattle.std.proofs.lemmas.List.Elements.{Contains-append_cases}
 use Rattle.u_name.specs.Cell.{CellOf}
-use Rattle.u_system.specs.Rising.{Rises}
+use Rattle.u_sets.specs.Rising.{Rises}
 use Rattle.u_system.proofs.Member.{Contains-nil, Contains-cons_cases}
 use Rattle.u_rule.specs.Parts.{token, ValueList}
 use Rattle.u_rule.specs.Fits.{statement_of}
 use Rattle.u_rule.specs.Rule.{sent, beside, reached, refusal_of, list_of, result_of, first_of, delivered, handed_on, called, back_of, brought_back, finished, ended, given, tokens_from, fault_of}
-use Rattle.u_rule.specs.Structures.{cell_named, read_from, write_read, wrote, is_store, stored, stored_in}
-use Rattle.u_rule.specs.Made.{IsReachable}
+use Rattle.u_rule.specs.Structures.{cell_named, read_from, write_read, wrote, stored, stored_in}
+use Rattle.u_rule.specs.HandingOn.{IsReachable}
 use Rattle.u_rule.proofs.Linkage.{mapped, reached_beside}
 use Rattle.u_rule.proofs.Destinations.{list_ascends}
 use Rattle.u_rule.specs.EntryOrder.{entry_cmp, write_of}

@@ -10,7 +10,7 @@ use Rattle.u_program.specs.declared.program.Destination.{Destination}
 use Rattle.u_system.proofs.Member.{Contains-nil, Contains-head, Contains-tail, Contains-cons_cases}
 use Rattle.u_rule.specs.declared.entry.Entry.{Entry}
 use Rattle.u_rule.specs.Rule.{sent, beside, reached, refusal_of, handed_on, fault_of}
-use Rattle.u_rule.specs.Made.{IsReachable}
+use Rattle.u_rule.specs.HandingOn.{IsReachable}
 
 -- each entry of those that are sent is sent to a destination
 pub mapped : (to : ℕ → Activity) (v : Value) (ds : List Destination) (x : Entry) → Contains (map (sent to v) ds) x → (e : Destination) × Contains ds e × (sent to v e ≡ x)

@@ -6,7 +6,7 @@ use Rattle.std.specs.Ordering.{ordering_then, nat_cmp}
 use Rattle.u_name.specs.NameOrder.{name_cmp}
 use Rattle.u_name.specs.Cell.{cell_cmp}
 use Rattle.u_value.specs.Values.{value_cmp}
-use Rattle.u_value.proofs.Orders.{derived_value_cmp, derived_fault_kind_cmp}
+use Rattle.u_value.specs.ExactOrders.{derived_value_cmp, derived_fault_kind_cmp}
 use Rattle.u_rule.specs.Parts.{TokenParts, ValueList}
 use Rattle.u_rule.specs.ValuesOrder.{values_order}
 use Rattle.u_rule.specs.Orders.{token_cmp, write_cmp, fault_cmp, entry_order, values_cmp, written_cmp, firing_order}

@@ -5,7 +5,8 @@ use Rattle.std.specs.Cmp.Lexicographic.{bytes_decides}
 use Rattle.std.proofs.lemmas.Bool.{false≢true, and_parts, eqb-true}
 use Rattle.u_name.specs.Context.{Tree, Top, InLoop, InCall}
 use Rattle.u_program.specs.Parts.{StatementParts, BlockParts}
-use Rattle.u_check.specs.Rules.{is_apply, main_name, same_name, names_block, block_named, held_by}
+use Rattle.u_check.specs.Kinds.{is_apply}
+use Rattle.u_check.specs.Rules.{main_name, same_name, names_block, block_named, held_by}
 use Rattle.u_check.proofs.Blocks.{named_member}
 use Rattle.u_rule.specs.Fits.{statement_in, statement_of, holder_in, holder_of, calling_region, has_passing, fits}
 

@@ -3,7 +3,8 @@ use Rattle.std.specs.Prelude.{◌≡◌, ℕ, Bool, true, false, ◌&&◌, ◌==
 use Rattle.u_name.specs.Context.{Tree, Top, InLoop, InCall, IsBetween}
 use Rattle.u_name.specs.Name.{Activity}
 use Rattle.u_program.specs.Parts.{StatementParts, BlockParts}
-use Rattle.u_check.specs.Rules.{ports_of, is_apply, held_by, main_name, same_name, names_block, block_named, statement_at}
+use Rattle.u_check.specs.Kinds.{ports_of, is_apply}
+use Rattle.u_check.specs.Rules.{held_by, main_name, same_name, names_block, block_named, statement_at}
 use Rattle.u_rule.specs.Parts.{TokenParts}
 use Rattle.u_rule.specs.declared.entry.Entry.{Entry}
 use Rattle.u_rule.specs.declared.entry.Entry.TheVariants as entries

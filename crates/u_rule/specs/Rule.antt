@@ -15,12 +15,13 @@ use Rattle.u_program.specs.declared.program.Kind.{Kind}
 use Rattle.u_program.specs.declared.program.Kind.TheVariants.{Const, Unary, Binary, Select, Switch, Enter, Next, Last, Leave, Apply, Alloc, Fetch}
 use Rattle.u_program.specs.declared.program.Destination.{Destination}
 use Rattle.u_program.specs.Parts.{StatementParts, BlockParts}
-use Rattle.u_check.specs.Rules.{ports_of, is_end, is_apply, main_name, names_block}
+use Rattle.u_check.specs.Kinds.{ports_of, is_end, is_apply, is_store}
+use Rattle.u_check.specs.Rules.{main_name, names_block}
 use Rattle.u_check.specs.Jobs.{JobParts}
 use Rattle.u_system.specs.Firing.{System}
 use Rattle.u_rule.specs.Parts.{ValueList, token}
 use Rattle.u_rule.specs.Fits.{statement_of, fits_at}
-use Rattle.u_rule.specs.Structures.{cell_named, has_its_write, write_read, allocated, fetched, is_store, stored}
+use Rattle.u_rule.specs.Structures.{cell_named, has_its_write, write_read, allocated, fetched, stored}
 use Rattle.u_rule.specs.declared.entry.Entry.{Entry}
 use Rattle.u_rule.specs.declared.entry.Entry.TheVariants as entries
 use Rattle.u_rule.specs.declared.firing.Firing.{Firing}

@@ -1,5 +1,5 @@
 -- Structures of cells: which cell two values name, and what statements do with structures.
-use Rattle.std.specs.Prelude.{ℕ, ℤ, pos, unsigned_abs, int_le, int_lt, Bool, true, false, ◌&&◌, if◌then◌else◌, is_ok, is_some, is_none, List, [], ◌∷◌, Option, Some, None, Result, Ok, Err}
+use Rattle.std.specs.Prelude.{ℕ, ℤ, pos, unsigned_abs, int_le, int_lt, Bool, false, ◌&&◌, if◌then◌else◌, is_ok, is_some, is_none, List, [], ◌∷◌, Option, Some, None, Result, Ok, Err}
 use Rattle.u_name.specs.Name.{Activity}
 use Rattle.u_name.specs.Cell.{CellOf, cell_of}
 use Rattle.u_value.specs.Pointer.{pointer}
@@ -8,7 +8,7 @@ use Rattle.u_value.specs.declared.value.Value.TheVariants as values
 use Rattle.u_value.specs.declared.fault_kind.FaultKind.{FaultKind}
 use Rattle.u_value.specs.declared.fault_kind.FaultKind.TheVariants as faults
 use Rattle.u_program.specs.declared.program.Kind.{Kind}
-use Rattle.u_program.specs.declared.program.Kind.TheVariants.{Store, Fetch}
+use Rattle.u_program.specs.declared.program.Kind.TheVariants.{Fetch}
 use Rattle.u_rule.specs.Parts.{ValueList}
 use Rattle.u_rule.specs.declared.entry.Entry.{Entry}
 use Rattle.u_rule.specs.declared.entry.Entry.TheVariants as entries
@@ -58,11 +58,6 @@ value_read None = Err faults.Bounds
 abbrev pub fetched : Result CellOf FaultKind → Option Written → Result Value FaultKind
 fetched (Ok cell) write = value_read write
 fetched (Err kind) write = Err kind
-
--- whether it is `store`
-abbrev pub is_store : Kind → Bool
-is_store Store = true
-is_store k = false
 
 -- what `store` gives: the write of the third value into the cell, or the fault why there is no cell
 abbrev pub stored_in : Activity → Result CellOf FaultKind → ValueList → List Entry

@@ -5,10 +5,10 @@
 ghost use Rattle.std.specs.Prelude.{◌≡◌, IfSome};
 ghost use Rattle.std.specs.Option.{option_copied};
 ghost use Rattle.u_program.specs.Limits.{IsBlockOf, IsStatement, the_limits};
-ghost use Rattle.u_check.specs.Rules.{block_named, names_block, is_apply};
+ghost use Rattle.u_check.specs.Rules.{block_named, names_block};
 ghost use Rattle.u_rule.specs.Fits.{statement_of, holder_of, calling_region, fits};
 
-use u_check::held_by;
+use u_check::{held_by, is_apply};
 use u_name::{BlockName, Context, Node};
 use u_program::{Block, Kind, Program, Statement};
 
@@ -51,13 +51,6 @@ fn holder_of(program: &Program, block: &BlockName, number: u8) -> Option<u8>
 {
     let block = block_of(program, block)?;
     held_by(block.loops(), number)
-}
-
-/// Whether it is `apply`.
-pub(crate) fn is_apply(kind: &Kind) -> bool
-    ensures { result ≡ is_apply kind.now }
-{
-    matches!(kind, Kind::Apply(_))
 }
 
 /// The region of a statement, where the program has it and it is an `apply`.

@@ -8,19 +8,18 @@ ghost use Rattle.std.specs.Prelude.{◌≡◌, ◌++◌, ◌∷◌, [], map, tru
 ghost use Rattle.std.specs.List.{AllByRecursion};
 ghost use Rattle.u_name.specs.Context.{IsBetween};
 ghost use Rattle.u_program.specs.Limits.{IsDestination, IsStatement, IsKind, the_limits};
-ghost use Rattle.u_check.specs.Rules.{is_end};
-ghost use Rattle.u_rule.specs.Made.{outcome_of, IsReachable, IsRefusal, IsEndable};
+ghost use Rattle.u_check.specs.Kinds.{is_end};
+ghost use Rattle.u_rule.specs.HandingOn.{outcome_of, IsReachable, IsRefusal, IsEndable};
 ghost use Rattle.u_rule.specs.Fits.{statement_of};
 ghost use Rattle.u_rule.specs.Structures.{cell_named, allocated, fetched, stored};
 ghost use Rattle.u_rule.specs.Rule.{first_of, result_of, value_of, list_of, sent, beside, reached, refusal_of, handed_on, begun, called, back_of, finished, ended, given, fault_of};
 
 use crate::entry::Entry;
 use crate::firing::Firing;
-use crate::fits::{is_apply, names_block, statement_of};
+use crate::fits::{names_block, statement_of};
 use crate::parts::{Fault, Token};
-use crate::structures::{cell_named, is_store, wrote};
+use crate::structures::{cell_named, wrote};
 use std::alloc::{AllocError, Global};
-use u_check::is_end;
 use u_name::{BlockName, Name, NameError, Node};
 use u_program::{Constant, Destination, Kind, Program, Statement};
 use u_value::{FaultKind, Reference, Value, apply1, apply2, select};
@@ -72,7 +71,8 @@ fn allocated(activity: &Name, values: &[Value]) -> Result<Made, AllocError>
 
 /// What `fetch` makes: the value of the firing's write, where its first values name a cell.
 fn fetched(firing: &Firing) -> Result<Made, AllocError>
-    ensures { IfOk result (λ m. fetched (cell_named firing.now.values) firing.now.write ≡ outcome_of m) }
+    ensures { IfOk result
+        (λ m. fetched (cell_named firing.now.values) firing.now.write ≡ outcome_of m) }
 {
     match (cell_named(firing.values.as_slice()), &firing.write) {
         (Err(kind), _) => Ok(Made::Fault(kind)),
@@ -84,7 +84,9 @@ fn fetched(firing: &Firing) -> Result<Made, AllocError>
 /// What a statement of that kind makes of the values at its ports and of the write that it reads.
 #[tactic(auto, unfolding(crate::specs::Rule::result_of))]
 fn made_by(kind: &Kind, firing: &Firing) -> Result<Made, AllocError>
-    ensures { IfOk result (λ m. result_of kind.now firing.now.activity firing.now.values firing.now.write ≡ outcome_of m) }
+    ensures { IfOk result
+        (λ m. result_of kind.now firing.now.activity firing.now.values firing.now.write
+        ≡ outcome_of m) }
 {
     match (kind, firing.values.as_slice()) {
         (Kind::Const(constant), _) => Ok(Made::Value(value_of(constant))),
@@ -142,7 +144,8 @@ fn send(
     to: &[Destination],
 ) -> Result<(), AllocError>
     requires { AllByRecursion IsDestination to.now }
-    ensures { OnOk result (given.new.items ≡ given.old.items ++ map (sent (beside activity.now) value.now) to.now) }
+    ensures { OnOk result
+        (given.new.items ≡ given.old.items ++ map (sent (beside activity.now) value.now) to.now) }
 {
     for destination in to {
         let name = activity
@@ -172,7 +175,9 @@ fn tokens_beside(
 fn reached(alloc: Global, kind: &Kind, activity: &Name) -> Result<Name, NameError>
     requires reaches { IsReachable kind.now activity.now }
     requires limits { IsKind kind.now }
-    ensures { MatchResult result (λ n. (n ≡ reached kind.now activity.now activity.now.statement) × (refusal_of kind.now activity.now ≡ None)) (λ e. IsRefusal kind.now activity.now e) }
+    ensures { MatchResult result
+        (λ n. (n ≡ reached kind.now activity.now activity.now.statement)
+        × (refusal_of kind.now activity.now ≡ None)) (λ e. IsRefusal kind.now activity.now e) }
 {
     let statement = activity.statement();
     match kind {
@@ -215,7 +220,11 @@ fn handed_on(
 ) -> Result<Vec<Entry>, AllocError>
     requires reaches { IsReachable statement.now.kind firing.now.activity }
     requires limits { IsStatement the_limits statement.now }
-    ensures { IfOk result (λ v. v.items ≡ handed_on statement.now.kind firing.now.activity (list_of statement.now.kind statement.now firing.now.values) (result_of statement.now.kind firing.now.activity firing.now.values firing.now.write)) }
+    ensures { IfOk result
+        (λ v. v.items
+        ≡ handed_on statement.now.kind firing.now.activity
+        (list_of statement.now.kind statement.now firing.now.values)
+        (result_of statement.now.kind firing.now.activity firing.now.values firing.now.write)) }
 {
     let activity = &firing.activity;
     match made_by(statement.kind(), firing)? {
@@ -279,7 +288,8 @@ fn finished(
     value: Value,
 ) -> Result<Vec<Entry>, AllocError>
     requires { IsEndable program.now activity.now.context }
-    ensures { IfOk result (λ v. v.items ≡ finished program.now activity.now activity.now.context value) }
+    ensures { IfOk result
+        (λ v. v.items ≡ finished program.now activity.now activity.now.context value) }
 {
     match activity.context().node() {
         Node::Root => alone(alloc, Entry::Answer(value)),
@@ -336,20 +346,18 @@ pub(crate) fn given(
 ) -> Result<Vec<Entry>, AllocError>
     requires limits { IsStatement the_limits statement.now }
     requires reaches { IsReachable statement.now.kind firing.now.activity }
-    requires ends { is_end statement.now.kind ≡ true → IsEndable program.now firing.now.activity.context }
-    ensures { IfOk result (λ v. v.items ≡ given program.now statement.now firing.now.activity firing.now.values firing.now.write) }
+    requires ends { is_end statement.now.kind ≡ true
+        → IsEndable program.now firing.now.activity.context }
+    ensures { IfOk result
+        (λ v. v.items
+        ≡ given program.now statement.now firing.now.activity firing.now.values firing.now.write) }
 {
-    let kind = statement.kind();
     let activity = &firing.activity;
     let values = firing.values.as_slice();
-    if is_apply(kind) {
-        return called(alloc, program, activity, values);
+    match statement.kind() {
+        Kind::Apply(_) => called(alloc, program, activity, values),
+        Kind::End => ended(alloc, program, activity, values),
+        Kind::Store => stored(alloc, activity, values),
+        _ => handed_on(alloc, statement, firing),
     }
-    if is_end(kind) {
-        return ended(alloc, program, activity, values);
-    }
-    if is_store(kind) {
-        return stored(alloc, activity, values);
-    }
-    handed_on(alloc, statement, firing)
 }

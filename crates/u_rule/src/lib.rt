@@ -10,6 +10,7 @@
 #![tactic(auto)]
 
 mod entry;
+mod exact;
 mod firing;
 mod fits;
 mod giving;
@@ -23,5 +24,5 @@ pub use entry::Entry;
 pub use firing::{Firing, Written};
 pub use parts::{Fault, Token, Write};
 pub use rule::{RuleError, gives, is_firing, needs, start};
-pub use structures::names_cell;
+pub use structures::{cell_at, names_cell};
 pub use values::Values;

@@ -9,7 +9,7 @@ ghost use Rattle.std.specs.Option.{option_copied};
 ghost use Rattle.u_program.specs.Limits.{IsStatement, the_limits};
 ghost use Rattle.u_rule.specs.declared.rule.RuleError.TheVariants as errors;
 ghost use Rattle.u_rule.specs.EntryOrder.{entry_cmp};
-ghost use Rattle.u_system.specs.Rising.{Rises};
+ghost use Rattle.u_sets.specs.Rising.{Rises};
 ghost use Rattle.u_rule.specs.Fits.{statement_of, fits_at, IsFitting, AllFit};
 ghost use Rattle.u_rule.specs.Rule.{tokens_from, start_of, needs_of, gives_of, is_firing_of, has_its_values};
 
@@ -27,7 +27,8 @@ use u_value::Value;
 
 /// The statement that an activity executes, where the program has it.
 fn executed<'a>(program: &'a Program, activity: &Name) -> Option<&'a Statement>
-    ensures statement { option_copied result ≡ statement_of program.now activity.now.block activity.now.statement }
+    ensures statement { option_copied result
+        ≡ statement_of program.now activity.now.block activity.now.statement }
     ensures limits { IfSome result (λ s. IsStatement the_limits s.now) }
 {
     statement_of(program, activity.block(), activity.statement())
@@ -120,7 +121,8 @@ pub fn start(job: &Job) -> Entry
 /// `NotAFiring` exactly where it is no firing of the job. `NoMemory` where there is no memory.
 #[tactic(auto, unfolding(crate::specs::Rule::gives_of, crate::specs::Rule::is_firing_of), using(crate::proofs::Follow::leaves_loop, crate::proofs::Follow::ends_call))]
 pub fn gives(alloc: Global, job: &Job, firing: &Firing) -> Result<Vec<Entry>, RuleError>
-    ensures ok { IfOk result (λ v. IsTrue (is_firing_of job.now firing.now) × (v.items ≡ gives_of job.now firing.now)) }
+    ensures ok { IfOk result
+        (λ v. IsTrue (is_firing_of job.now firing.now) × (v.items ≡ gives_of job.now firing.now)) }
     ensures order { IfOk result (λ v. Rises entry_cmp v.items) }
     ensures fitting { IfOk result (λ v. AllFit job.now.program v.items) }
     ensures refused { result ≡ Err errors.NotAFiring ↔ (is_firing_of job.now firing.now ≡ false) }
@@ -140,7 +142,8 @@ pub fn gives(alloc: Global, job: &Job, firing: &Firing) -> Result<Vec<Entry>, Ru
 /// Adds the tokens that have these values at the activity's ports, from that port on.
 fn add_tokens(tokens: &mut Vec<Entry>, activity: &Name, values: &[Value]) -> Result<(), AllocError>
     requires { length values.now ≤ 3 }
-    ensures { OnOk result (tokens.new.items ≡ tokens.old.items ++ tokens_from activity.now 1 values.now) }
+    ensures { OnOk result
+        (tokens.new.items ≡ tokens.old.items ++ tokens_from activity.now 1 values.now) }
 {
     let mut port = 1;
     for value in values {
@@ -158,7 +161,8 @@ fn add_tokens(tokens: &mut Vec<Entry>, activity: &Name, values: &[Value]) -> Res
 /// `NotAFiring` exactly where it is no firing of the job. `NoMemory` where there is no memory.
 #[tactic(auto, unfolding(crate::specs::Rule::needs_of), using(crate::proofs::InOrder::needs_rise))]
 pub fn needs(alloc: Global, job: &Job, firing: &Firing) -> Result<Vec<Entry>, RuleError>
-    ensures ok { IfOk result (λ v. IsTrue (is_firing_of job.now firing.now) × (v.items ≡ needs_of firing.now)) }
+    ensures ok { IfOk result
+        (λ v. IsTrue (is_firing_of job.now firing.now) × (v.items ≡ needs_of firing.now)) }
     ensures order { IfOk result (λ v. Rises entry_cmp v.items) }
     ensures refused { result ≡ Err errors.NotAFiring ↔ (is_firing_of job.now firing.now ≡ false) }
 {

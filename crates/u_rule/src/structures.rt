@@ -3,9 +3,9 @@
 //! They are the I-structures of Arvind and Nikhil (1990): a structure is made without values, each of
 //! its cells is written by a `store`, and a `fetch` fires once its cell has a write. That a cell with
 //! several writes is read once for each of them, and the greatest length, is this project's profile.
-ghost use Rattle.std.specs.Prelude.{◌≡◌, ◌↔◌, ◌≤◌, [], ◌∷◌, ◌++◌, IsTrue, IfOk, OnOk, MatchResult, Ok, Err};
-ghost use Rattle.u_name.specs.Cell.{cell_of};
-ghost use Rattle.u_rule.specs.Structures.{is_index, cell_named, reads_cell, has_its_write, wrote, write_read, is_store};
+ghost use Rattle.std.specs.Prelude.{◌≡◌, ◌↔◌, ◌≤◌, [], ◌∷◌, ◌++◌, IsTrue, IfOk, OnOk, MatchResult, Ok, Err, Some};
+ghost use Rattle.u_name.specs.Cell.{CellOf, cell_of};
+ghost use Rattle.u_rule.specs.Structures.{is_index, cell_named, reads_cell, has_its_write, wrote, write_read};
 
 use crate::entry::Entry;
 use crate::firing::Firing;
@@ -14,13 +14,6 @@ use std::alloc::AllocError;
 use u_name::{Cell, Name};
 use u_program::Kind;
 use u_value::{FaultKind, Reference, Value};
-
-/// Whether it is `store`.
-pub(crate) fn is_store(kind: &Kind) -> bool
-    ensures { result ≡ is_store kind.now }
-{
-    matches!(kind, Kind::Store)
-}
 
 /// Whether the index is that of a cell of a structure of that length.
 fn is_index(index: i64, length: u32) -> bool
@@ -35,7 +28,8 @@ fn is_index(index: i64, length: u32) -> bool
 /// `Kind` where they are no structure and number. Else `Bounds` where the index is below 0 or not
 /// below the structure's length.
 pub(crate) fn cell_named(values: &[Value]) -> Result<(&Reference, u32), FaultKind>
-    ensures cell { MatchResult result (λ t. cell_named values.now ≡ Ok (cell_of t.0.now.name t.1)) (λ k. cell_named values.now ≡ Err k) }
+    ensures cell { MatchResult result (λ t. cell_named values.now ≡ Ok (cell_of t.0.now.name t.1))
+        (λ k. cell_named values.now ≡ Err k) }
     ensures bound { IfOk result (λ t. t.1 ≤ 999999) }
 {
     match values {
@@ -91,7 +85,8 @@ pub(crate) fn wrote(
 /// Adds the write that the firing read, where it has one.
 #[tactic(auto, using(crate::proofs::Lists::nothing_more))]
 pub(crate) fn add_write(entries: &mut Vec<Entry>, firing: &Firing) -> Result<(), AllocError>
-    ensures { OnOk result (entries.new.items ≡ entries.old.items ++ write_read firing.now.values firing.now.write) }
+    ensures { OnOk result
+        (entries.new.items ≡ entries.old.items ++ write_read firing.now.values firing.now.write) }
 {
     let Some(write) = &firing.write else {
         return Ok(());
@@ -101,6 +96,27 @@ pub(crate) fn add_write(entries: &mut Vec<Entry>, firing: &Firing) -> Result<(),
     };
     entries.push(wrote(structure, index, &write.writer, &write.value)?)?;
     Ok(())
+}
+
+/// The cell that a structure and an index name, where they name one.
+///
+/// # Errors
+/// `AllocError` where there is no memory.
+pub fn cell_at(structure: &Value, index: &Value) -> Result<Option<Cell>, AllocError>
+    ensures { IfOk result (λ o. (c : CellOf) → (o ≡ Some c)
+        ↔ (cell_named (structure.now ∷ index.now ∷ []) ≡ Ok c)) }
+{
+    let Value::Ref(structure) = structure else {
+        return Ok(None);
+    };
+    let Value::Int(index) = index else {
+        return Ok(None);
+    };
+    if !is_index(*index, structure.length()) {
+        return Ok(None);
+    }
+    let name = structure.name().copy()?;
+    Ok(Some(Cell::new(name, *index as u32)))
 }
 
 /// Whether it is a cell of the structure.

@@ -74,7 +74,7 @@ impl Entry {
     ///
     /// # Errors
     /// `AllocError` where there is no memory.
-    #[tactic(auto, using(u_text::specs::Appending::extends_same))]
+    #[tactic(auto, using(u_text::proofs::AppendingLaws::extends_same))]
     pub fn write_text(&self, out: &mut Vec<u8>) -> Result<(), AllocError>
         ensures ok { OnOk result (out.new.items ≡ out.old.items ++ entry_text self.now) }
         ensures err { OnErr result (Extends out.old.items out.new.items) }

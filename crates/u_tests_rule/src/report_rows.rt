@@ -1,18 +1,18 @@
 //! Histories with their reports, byte by byte.
 use crate::worked_entries::Line;
 use crate::worked_entries::Line::{Answer, Fault, Token, Write};
-use u_history::State;
+use u_history::Ending;
 use u_value::FaultKind;
 
 /// The state of a run, how many firings and parked firings there are, the entries of its history,
 /// and the report.
-pub type Report = (State, usize, usize, &'static [Line], &'static str);
+pub type Report = (Ending, usize, usize, &'static [Line], &'static str);
 
 /// A history for each verdict, and histories whose cells and ports clash, or do not.
 pub const REPORT_ROWS: &[Report] = &[
     // nothing
     (
-        State::Paused,
+        Ending::Paused,
         0,
         1,
         &[],
@@ -20,7 +20,7 @@ pub const REPORT_ROWS: &[Report] = &[
     ),
     // one answer, put in twice
     (
-        State::Quiet,
+        Ending::Quiet,
         3,
         0,
         &[Answer("8"), Answer("8")],
@@ -28,7 +28,7 @@ pub const REPORT_ROWS: &[Report] = &[
     ),
     // a fault goes before the answer
     (
-        State::Quiet,
+        Ending::Quiet,
         2,
         0,
         &[Answer("8"), Fault("-.main.2.1", FaultKind::Overflow)],
@@ -44,7 +44,7 @@ verdict faulted
     ),
     // two answers clash
     (
-        State::Quiet,
+        Ending::Quiet,
         2,
         0,
         &[Answer("20"), Answer("-30")],
@@ -52,7 +52,7 @@ verdict faulted
     ),
     // two writes of one cell, and the tokens and answers that reads of it give
     (
-        State::Quiet,
+        Ending::Quiet,
         12,
         0,
         &[
@@ -81,7 +81,7 @@ verdict clashed
     ),
     // two writers of equal values clash, and go before the answer and the fault
     (
-        State::Quiet,
+        Ending::Quiet,
         4,
         0,
         &[
@@ -105,7 +105,7 @@ verdict clashed
     ),
     // two writers, one of which writes two values
     (
-        State::Quiet,
+        Ending::Quiet,
         4,
         0,
         &[
@@ -127,7 +127,7 @@ verdict clashed
     ),
     // one write, put in twice, and a write of another cell
     (
-        State::Quiet,
+        Ending::Quiet,
         4,
         0,
         &[
@@ -140,7 +140,7 @@ verdict clashed
     ),
     // three values at one port, and a token at the next
     (
-        State::Quiet,
+        Ending::Quiet,
         4,
         0,
         &[
@@ -163,7 +163,7 @@ verdict clashed
     ),
     // one value at each of two ports
     (
-        State::Paused,
+        Ending::Paused,
         4,
         0,
         &[Token("-.main.6.1", 1, "20"), Token("-.main.6.1", 2, "10")],

@@ -1,6 +1,6 @@
 use Rattle.std.proofs.Common.{take, Contains}
 use Rattle.std.specs.List.{AllZip}
-use Rattle.u_history.specs.Says.{lent}
+use Rattle.u_history.specs.Outcomes.{lent}
 use Rattle.u_history.specs.Clashes.{HasPairsOf}
 use Rattle.u_history.proofs.clash.all_with_pairs.Given as goal
 

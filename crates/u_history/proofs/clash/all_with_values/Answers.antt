@@ -1,5 +1,5 @@
 use Rattle.std.proofs.Common.{Contains}
-use Rattle.u_history.specs.Says.{lent}
+use Rattle.u_history.specs.Outcomes.{lent}
 use Rattle.u_history.specs.Clashes.{HasValuesOf}
 use Rattle.u_history.proofs.Grouped.{row_more}
 use Rattle.u_history.proofs.clash.all_with_values.Goals as goal

@@ -1,7 +1,7 @@
 use Rattle.std.proofs.Common.{Contains, List, subst}
 use Rattle.std.specs.List.{AllZip}
 use Rattle.u_name.specs.Cell.{CellOf}
-use Rattle.u_history.specs.Says.{lent}
+use Rattle.u_history.specs.Outcomes.{lent}
 use Rattle.u_history.specs.Clashes.{HasPairsOf}
 use Rattle.u_history.proofs.Clashing.{cells_grouped}
 use Rattle.u_history.proofs.clash.cell_clashes.Goals as goal

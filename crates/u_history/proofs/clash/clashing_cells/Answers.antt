@@ -1,8 +1,8 @@
 use Rattle.std.proofs.Common.{[], Contains, arith}
-use Rattle.u_system.proofs.Scan.{scan_more, scan_all}
+use Rattle.u_sets.proofs.Gathering.{scan_more, scan_all}
 use Rattle.u_name.specs.Cell.{CellOf, cell_cmp}
 use Rattle.u_rule.specs.declared.entry.Entry.{Entry}
-use Rattle.u_history.specs.Says.{lent, HasTwo, PairIn}
+use Rattle.u_history.specs.Outcomes.{lent, HasTwo, PairIn}
 use Rattle.u_history.specs.Places.{IsClashing, IsWriteOf}
 use Rattle.u_history.proofs.Listed.{lent_below, lent_end}
 use Rattle.u_history.proofs.Clashing.{step_place, listed_places, cell_of_clash, clash_of_cell}

@@ -1,9 +1,9 @@
 use Rattle.std.proofs.Common.{◌↔◌, ◌⊎◌, take, Contains, []}
-use Rattle.u_system.specs.Rising.{Rises}
-use Rattle.u_system.specs.Firing.{SomeOf}
+use Rattle.u_sets.specs.Rising.{Rises}
+use Rattle.u_sets.specs.Members.{SomeOf}
 use Rattle.u_name.specs.Cell.{CellOf, cell_cmp}
 use Rattle.u_rule.specs.declared.entry.Entry.{Entry}
-use Rattle.u_history.specs.Says.{lent}
+use Rattle.u_history.specs.Outcomes.{lent}
 use Rattle.u_history.specs.Places.{IsClashing, IsWriteOf}
 use Rattle.u_history.proofs.clash.clashing_cells.Given as goal
 

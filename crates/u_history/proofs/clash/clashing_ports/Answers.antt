@@ -1,9 +1,9 @@
 use Rattle.std.proofs.Common.{[], Contains, arith}
-use Rattle.u_system.proofs.Scan.{scan_more, scan_all}
+use Rattle.u_sets.proofs.Gathering.{scan_more, scan_all}
 use Rattle.u_history.specs.declared.clash.Port.{Port}
 use Rattle.u_history.specs.Clashes.{port_order}
 use Rattle.u_rule.specs.declared.entry.Entry.{Entry}
-use Rattle.u_history.specs.Says.{lent, HasTwo, ValueAt}
+use Rattle.u_history.specs.Outcomes.{lent, HasTwo, ValueAt}
 use Rattle.u_history.specs.Places.{IsClashing, IsTokenAt}
 use Rattle.u_history.proofs.Listed.{lent_below, lent_end}
 use Rattle.u_history.proofs.Clashing.{step_place, listed_places, port_of_clash, clash_of_port}

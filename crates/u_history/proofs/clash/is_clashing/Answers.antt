@@ -1,5 +1,5 @@
 use Rattle.std.proofs.Common.{inl, inr, refl}
-use Rattle.u_history.specs.Says.{lent}
+use Rattle.u_history.specs.Outcomes.{lent}
 use Rattle.u_history.proofs.Neighbours.{clash_if, clash_only}
 use Rattle.u_history.proofs.Listed.{lent_below, lent_after}
 use Rattle.u_history.proofs.clash.is_clashing.Goals as goal

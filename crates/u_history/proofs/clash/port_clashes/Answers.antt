@@ -1,7 +1,7 @@
 use Rattle.std.proofs.Common.{Contains, List, subst}
 use Rattle.std.specs.List.{AllZip}
 use Rattle.u_history.specs.declared.clash.Port.{Port}
-use Rattle.u_history.specs.Says.{lent}
+use Rattle.u_history.specs.Outcomes.{lent}
 use Rattle.u_history.specs.Clashes.{HasValuesOf}
 use Rattle.u_history.proofs.Clashing.{ports_grouped}
 use Rattle.u_history.proofs.clash.port_clashes.Goals as goal

@@ -5,7 +5,7 @@ use Rattle.u_name.specs.Name.{Activity}
 use Rattle.u_rule.specs.EntryOrder.{write_of, written}
 use Rattle.u_rule.specs.declared.firing.Written.{Written}
 use Rattle.u_rule.specs.declared.entry.Entry.TheVariants as kinds
-use Rattle.u_history.proofs.Exact.{one_pair}
+use Rattle.u_history.proofs.OneValue.{one_pair}
 use Rattle.u_history.proofs.Listed.{added}
 use Rattle.u_history.proofs.lookup.add_pair.Goals as goal
 

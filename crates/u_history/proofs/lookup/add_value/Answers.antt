@@ -3,7 +3,7 @@ use Rattle.u_value.specs.declared.value.Value.{Value}
 use Rattle.u_name.specs.Name.{Activity}
 use Rattle.u_rule.specs.Parts.{token}
 use Rattle.u_rule.specs.declared.entry.Entry.TheVariants as kinds
-use Rattle.u_history.proofs.Exact.{one_value}
+use Rattle.u_history.proofs.OneValue.{one_value}
 use Rattle.u_history.proofs.Listed.{added}
 use Rattle.u_history.proofs.lookup.add_value.Goals as goal
 

@@ -1,13 +1,13 @@
-use Rattle.u_system.specs.Rising.{Rises}
+use Rattle.u_sets.specs.Rising.{Rises}
 use Rattle.std.proofs.Common.{◌≡◌, List, [], arith, refl, sym, subst}
-use Rattle.u_system.proofs.Scan.{scan_more, scan_all}
+use Rattle.u_sets.proofs.Gathering.{scan_more, scan_all}
 use Rattle.u_value.specs.declared.value.Value.{Value}
 use Rattle.u_rule.specs.Parts.{token}
 use Rattle.u_rule.specs.declared.entry.Entry.{Entry}
 use Rattle.u_rule.specs.declared.entry.Entry.TheVariants as kinds
 use Rattle.u_history.specs.declared.place.Place.TheVariants as places
 use Rattle.u_history.specs.Orders.{value_order}
-use Rattle.u_history.specs.Says.{lent}
+use Rattle.u_history.specs.Outcomes.{lent}
 use Rattle.u_history.specs.Places.{IsAt}
 use Rattle.u_history.proofs.Listed.{listed, step_item, lent_below, lent_end}
 use Rattle.u_history.proofs.Spans.{none_before, listed_until}

@@ -1,11 +1,11 @@
 use Rattle.std.proofs.Common.{◌≡◌, ◌↔◌, ◌⊎◌, take, Contains, []}
-use Rattle.u_system.specs.Rising.{Rises}
-use Rattle.u_system.specs.Firing.{SomeOf}
+use Rattle.u_sets.specs.Rising.{Rises}
+use Rattle.u_sets.specs.Members.{SomeOf}
 use Rattle.u_value.specs.declared.value.Value.{Value}
 use Rattle.u_rule.specs.declared.entry.Entry.{Entry}
 use Rattle.u_rule.specs.declared.entry.Entry.TheVariants as kinds
 use Rattle.u_history.specs.Orders.{value_order}
-use Rattle.u_history.specs.Says.{lent}
+use Rattle.u_history.specs.Outcomes.{lent}
 use Rattle.u_history.proofs.outcome.answers.Given as goal
 
 abbrev pub invariant-loop-index : goal.invariant-loop-index

@@ -1,10 +1,10 @@
 use Rattle.std.proofs.Common.{◌≡◌, [], arith}
-use Rattle.u_system.proofs.Scan.{scan_more, scan_all}
+use Rattle.u_sets.proofs.Gathering.{scan_more, scan_all}
 use Rattle.u_rule.specs.declared.parts.Fault.{Fault}
 use Rattle.u_rule.specs.declared.entry.Entry.{Entry}
 use Rattle.u_rule.specs.declared.entry.Entry.TheVariants as kinds
 use Rattle.u_history.specs.Orders.{fault_order}
-use Rattle.u_history.specs.Says.{lent}
+use Rattle.u_history.specs.Outcomes.{lent}
 use Rattle.u_history.proofs.Listed.{listed, step_item, lent_below, lent_end}
 use Rattle.u_history.proofs.outcome.faults.Goals as goal
 

@@ -1,6 +1,6 @@
 use Rattle.std.proofs.Common.{ℕ, ◌≤◌, ◌<◌, ◌-◌, length, get_or}
 use Rattle.u_rule.specs.declared.entry.Entry.{Entry}
-use Rattle.u_history.specs.Says.{lent}
+use Rattle.u_history.specs.Outcomes.{lent}
 use Rattle.u_history.specs.Places.{IsBefore}
 use Rattle.u_history.proofs.place.first_at.Given as goal
 

@@ -1,7 +1,6 @@
-use Rattle.std.proofs.Common.{[]}
+use Rattle.std.proofs.Common.{[], ◌∷◌, Some}
 use Rattle.u_rule.specs.EntryOrder.{firing}
-use Rattle.std.proofs.Common.{◌∷◌, Some}
-use Rattle.u_system.proofs.Scan.{scan_all}
+use Rattle.u_sets.proofs.Gathering.{scan_all}
 use Rattle.u_match.specs.Joins.{IsReading}
 use Rattle.u_match.proofs.Steps.{round, renamed}
 use Rattle.u_match.proofs.joins.add_readings.Goals as goal

@@ -1,8 +1,8 @@
 use Rattle.std.proofs.Common.{subst, List}
 use Rattle.u_rule.specs.declared.firing.Written.{Written}
-use Rattle.u_system.specs.Firing.{SomeOf}
+use Rattle.u_sets.specs.Members.{SomeOf, Gains}
 use Rattle.u_match.specs.Joins.{IsReading, ReadsCell}
-use Rattle.u_match.proofs.Steps.{Gains, nothing, no_cell, of_cell}
+use Rattle.u_match.proofs.Steps.{nothing, no_cell, of_cell}
 use Rattle.u_match.proofs.joins.add_reads.Goals as goal
 
 pub returns-in-None : goal.returns-in-None

@@ -1,6 +1,6 @@
 use Rattle.std.proofs.Common.{[]}
-use Rattle.u_system.specs.Firing.{SomeOf}
-use Rattle.u_system.proofs.Scan.{scan_all}
+use Rattle.u_sets.specs.Members.{SomeOf}
+use Rattle.u_sets.proofs.Gathering.{scan_all}
 use Rattle.u_match.specs.Joins.{JoinsOne}
 use Rattle.u_match.proofs.Steps.{round, from_nothing}
 use Rattle.u_match.proofs.joins.join_firsts.Goals as goal

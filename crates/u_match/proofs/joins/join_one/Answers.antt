@@ -1,6 +1,6 @@
 use Rattle.std.proofs.Common.{◌∷◌, [], None}
 use Rattle.u_rule.specs.EntryOrder.{firing}
-use Rattle.u_system.specs.Firing.{SomeOf}
+use Rattle.u_sets.specs.Members.{SomeOf}
 use Rattle.u_match.specs.Joins.{IsOne, JoinsTwo}
 use Rattle.u_match.proofs.Steps.{both, renamed}
 use Rattle.u_match.proofs.joins.join_one.Goals as goal

@@ -1,4 +1,4 @@
-use Rattle.u_system.proofs.Scan.{scan_all}
+use Rattle.u_sets.proofs.Gathering.{scan_all}
 use Rattle.u_match.specs.Joins.{JoinsTwo}
 use Rattle.u_match.proofs.Steps.{round}
 use Rattle.u_match.proofs.joins.join_seconds.Goals as goal

@@ -1,7 +1,7 @@
 use Rattle.std.proofs.Common.{take, ◌⊎◌, ◌↔◌}
 use Rattle.std.specs.Prelude.{Contains}
 use Rattle.u_rule.specs.declared.firing.Firing.{Firing}
-use Rattle.u_system.specs.Firing.{SomeOf}
+use Rattle.u_sets.specs.Members.{SomeOf}
 use Rattle.u_match.specs.Joins.{JoinsTwo}
 use Rattle.u_match.proofs.joins.join_seconds.Given as goal
 

@@ -1,7 +1,6 @@
-use Rattle.std.proofs.Common.{[]}
+use Rattle.std.proofs.Common.{[], ◌∷◌, None}
 use Rattle.u_rule.specs.EntryOrder.{firing}
-use Rattle.std.proofs.Common.{◌∷◌, None}
-use Rattle.u_system.proofs.Scan.{scan_all}
+use Rattle.u_sets.proofs.Gathering.{scan_all}
 use Rattle.u_match.specs.Joins.{IsThree}
 use Rattle.u_match.proofs.Steps.{round, renamed}
 use Rattle.u_match.proofs.joins.join_thirds.Goals as goal

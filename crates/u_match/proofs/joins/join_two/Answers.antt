@@ -1,7 +1,7 @@
 use Rattle.std.proofs.Common.{◌⊎◌, ◌∷◌, [], None}
 use Rattle.u_rule.specs.declared.firing.Firing.{Firing}
 use Rattle.u_rule.specs.EntryOrder.{firing}
-use Rattle.u_system.specs.Firing.{SomeOf}
+use Rattle.u_sets.specs.Members.{SomeOf}
 use Rattle.u_match.specs.Joins.{IsTwo, IsThree, ReadsCell}
 use Rattle.u_match.proofs.Steps.{both, renamed}
 use Rattle.u_match.proofs.joins.join_two.Goals as goal

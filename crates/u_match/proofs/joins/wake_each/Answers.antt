@@ -1,8 +1,7 @@
-use Rattle.std.proofs.Common.{[]}
+use Rattle.std.proofs.Common.{[], ◌∷◌, Some}
 use Rattle.u_rule.specs.EntryOrder.{firing, written}
-use Rattle.std.proofs.Common.{◌∷◌, Some}
-use Rattle.u_system.specs.Firing.{SomeOf}
-use Rattle.u_system.proofs.Scan.{scan_all}
+use Rattle.u_sets.specs.Members.{SomeOf}
+use Rattle.u_sets.proofs.Gathering.{scan_all}
 use Rattle.u_match.specs.Joins.{IsWoken}
 use Rattle.u_match.proofs.Steps.{round, renamed, from_nothing}
 use Rattle.u_match.proofs.joins.wake_each.Goals as goal

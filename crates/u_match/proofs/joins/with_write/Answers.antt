@@ -1,6 +1,6 @@
 use Rattle.std.proofs.Common.{subst, List, Contains, ◌↔◌}
 use Rattle.u_rule.specs.declared.firing.Firing.{Firing}
-use Rattle.u_system.specs.Firing.{SomeOf}
+use Rattle.u_sets.specs.Members.{SomeOf}
 use Rattle.u_match.specs.declared.keys.Read.{Read}
 use Rattle.u_match.specs.Joins.{IsWoken}
 use Rattle.u_match.proofs.joins.with_write.Goals as goal

@@ -1,7 +1,7 @@
 use Rattle.std.proofs.Common.{take}
 use Rattle.std.specs.Prelude.{Contains}
 use Rattle.u_value.specs.declared.value.Value.{Value}
-use Rattle.u_match.specs.Under.{KeepsAll}
+use Rattle.u_match.specs.KeyedLists.{KeepsAll}
 use Rattle.u_match.specs.Keys.{cell_eq, Notes}
 use Rattle.u_match.proofs.notes.note_indices.Given as goal
 

@@ -1,8 +1,8 @@
 use Rattle.std.proofs.Common.{◌≡◌, ◌⊎◌, [], Contains}
 use Rattle.u_rule.specs.declared.entry.Entry.{Entry}
 use Rattle.u_rule.specs.declared.firing.Firing.{Firing}
-use Rattle.u_system.specs.Firing.{SomeOf}
-use Rattle.u_system.proofs.Scan.{scan_all}
+use Rattle.u_sets.specs.Members.{SomeOf}
+use Rattle.u_sets.proofs.Gathering.{scan_all}
 use Rattle.u_match.specs.Waking.{IsWokenBy}
 use Rattle.u_match.proofs.Steps.{round, from_nothing}
 use Rattle.u_match.proofs.Wakes.{among}

@@ -3,8 +3,8 @@ use Rattle.std.specs.Prelude.{Contains}
 use Rattle.u_rule.specs.declared.entry.Entry.{Entry}
 use Rattle.u_rule.specs.declared.firing.Firing.{Firing}
 use Rattle.u_rule.specs.EntryOrder.{firing_cmp}
-use Rattle.u_system.specs.Firing.{SomeOf}
-use Rattle.u_system.specs.Rising.{Rises}
+use Rattle.u_sets.specs.Members.{SomeOf}
+use Rattle.u_sets.specs.Rising.{Rises}
 use Rattle.u_match.specs.Waking.{IsWokenBy}
 use Rattle.u_match.proofs.woken.woken_of.Given as goal
 

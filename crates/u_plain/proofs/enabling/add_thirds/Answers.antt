@@ -1,7 +1,7 @@
 use Rattle.std.proofs.Common.{◌⊎◌, ◌↔◌, inl, inr, Contains, subst}
 use Rattle.u_rule.specs.declared.entry.Entry.{Entry}
 use Rattle.u_rule.specs.declared.firing.Firing.{Firing}
-use Rattle.u_system.proofs.Scan.{scan_more, scan_all}
+use Rattle.u_sets.proofs.Gathering.{scan_more, scan_all}
 use Rattle.u_plain.specs.Tries.{FitsThree}
 use Rattle.u_plain.proofs.enabling.add_thirds.Goals as goal
 use Rattle.u_plain.proofs.enabling.add_thirds.Goals.{In_ok-add}

@@ -1,7 +1,7 @@
 use Rattle.std.proofs.Common.{take, ◌⊎◌, ◌↔◌, Contains}
 use Rattle.u_rule.specs.declared.entry.Entry.{Entry}
 use Rattle.u_rule.specs.declared.firing.Firing.{Firing}
-use Rattle.u_system.specs.Firing.{SomeOf}
+use Rattle.u_sets.specs.Members.{SomeOf}
 use Rattle.u_plain.specs.Tries.{FitsThree}
 use Rattle.u_plain.proofs.enabling.add_triples.Given as goal
 

@@ -1,7 +1,7 @@
 use Rattle.std.proofs.Common.{◌⊎◌, ◌↔◌, inl, inr, [], Contains, subst}
 use Rattle.u_rule.specs.declared.entry.Entry.{Entry}
 use Rattle.u_rule.specs.declared.firing.Firing.{Firing}
-use Rattle.u_system.proofs.Scan.{scan_more, scan_all}
+use Rattle.u_sets.proofs.Gathering.{scan_more, scan_all}
 use Rattle.u_system.proofs.Member.{Contains-nil}
 use Rattle.u_plain.specs.Tries.{FitsFirst}
 use Rattle.u_plain.proofs.Found.{enabled_fits}

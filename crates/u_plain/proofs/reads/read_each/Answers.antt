@@ -2,7 +2,7 @@ use Rattle.std.proofs.Common.{◌⊎◌, ◌↔◌, inl, inr, Contains, subst}
 use Rattle.u_rule.specs.declared.entry.Entry.{Entry}
 use Rattle.u_rule.specs.declared.firing.Firing.{Firing}
 use Rattle.u_plain.specs.Joins.{OfRead}
-use Rattle.u_system.proofs.Scan.{scan_more, scan_all}
+use Rattle.u_sets.proofs.Gathering.{scan_more, scan_all}
 use Rattle.u_plain.proofs.reads.read_each.Goals as goal
 use Rattle.u_plain.proofs.reads.read_each.Goals.{In_ok-add}
 

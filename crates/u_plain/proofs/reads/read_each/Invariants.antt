@@ -2,7 +2,7 @@ use Rattle.std.proofs.Common.{take, ◌⊎◌, ◌↔◌}
 use Rattle.std.specs.Prelude.{Contains}
 use Rattle.u_rule.specs.declared.firing.Firing.{Firing}
 use Rattle.u_plain.specs.Joins.{OfRead}
-use Rattle.u_system.specs.Firing.{SomeOf}
+use Rattle.u_sets.specs.Members.{SomeOf}
 use Rattle.u_plain.proofs.reads.read_each.Given as goal
 
 abbrev pub invariant-loop-from : goal.invariant-loop-from

@@ -1,6 +1,6 @@
 use Rattle.std.proofs.Common.{Contains, inl, inr, subst, sym, refl}
 use Rattle.u_rule.specs.declared.firing.Firing.{Firing}
-use Rattle.u_system.specs.Rising.{IsWith}
+use Rattle.u_sets.specs.Members.{IsWith}
 use Rattle.u_plain.proofs.scan.add_new.Goals as goal
 use Rattle.u_plain.proofs.scan.add_new.Goals.{In_ok-place_in}
 

@@ -3,8 +3,8 @@ use Rattle.u_rule.specs.EntryOrder.{entry_cmp}
 use Rattle.u_rule.specs.declared.entry.Entry.{Entry}
 use Rattle.u_rule.specs.declared.firing.Firing.{Firing}
 use Rattle.u_plain.specs.Joins.{Joins}
-use Rattle.u_system.specs.Rising.{Rises}
-use Rattle.u_system.proofs.Scan.{scan_more, scan_all}
+use Rattle.u_sets.specs.Rising.{Rises}
+use Rattle.u_sets.proofs.Gathering.{scan_more, scan_all}
 use Rattle.u_system.proofs.Member.{Contains-nil}
 use Rattle.u_plain.proofs.Neighbours.{rises_from}
 use Rattle.u_plain.proofs.ScanLaws.{step_adds, enabled_is_joined}

@@ -2,7 +2,7 @@ use Rattle.std.proofs.Common.{take, ◌⊎◌, ◌↔◌, []}
 use Rattle.std.specs.Prelude.{Contains}
 use Rattle.u_rule.specs.declared.firing.Firing.{Firing}
 use Rattle.u_plain.specs.Joins.{Joins}
-use Rattle.u_system.specs.Firing.{SomeOf}
+use Rattle.u_sets.specs.Members.{SomeOf}
 use Rattle.u_plain.proofs.scan.enabled_firings.Given as goal
 
 abbrev pub invariant-loop-i : goal.invariant-loop-i

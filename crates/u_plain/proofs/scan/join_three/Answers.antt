@@ -2,8 +2,8 @@ use Rattle.std.proofs.Common.{◌⊎◌, ◌↔◌, Contains, subst}
 use Rattle.u_rule.specs.declared.entry.Entry.{Entry}
 use Rattle.u_rule.specs.declared.firing.Firing.{Firing}
 use Rattle.u_plain.specs.Joins.{OfThree}
-use Rattle.u_system.specs.Firing.{SomeOf}
-use Rattle.u_system.proofs.Scan.{scan_more, scan_all}
+use Rattle.u_sets.specs.Members.{SomeOf}
+use Rattle.u_sets.proofs.Gathering.{scan_more, scan_all}
 use Rattle.u_plain.proofs.scan.join_three.Goals as goal
 
 pub loop-middle-preserved : goal.loop-middle-preserved

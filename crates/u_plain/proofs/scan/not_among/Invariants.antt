@@ -1,7 +1,7 @@
 use Rattle.std.proofs.Common.{take, ◌⊎◌}
 use Rattle.std.specs.Prelude.{Contains}
 use Rattle.u_rule.specs.declared.firing.Firing.{Firing}
-use Rattle.u_system.specs.Rising.{Rises}
+use Rattle.u_sets.specs.Rising.{Rises}
 use Rattle.u_rule.specs.EntryOrder.{firing_cmp}
 use Rattle.u_plain.proofs.scan.not_among.Given as goal
 

@@ -1,7 +1,8 @@
 use Rattle.std.proofs.Common.{subst, List}
 use Rattle.u_rule.specs.EntryOrder.{entry_cmp}
 use Rattle.u_rule.specs.declared.entry.Entry.{Entry}
-use Rattle.u_system.specs.Rising.{Rises, IsUnion}
+use Rattle.u_sets.specs.Rising.{Rises}
+use Rattle.u_sets.specs.Members.{IsUnion}
 use Rattle.u_history.proofs.Unions.{copied}
 use Rattle.u_history.proofs.history.History.copy.Goals as goal
 

@@ -1,5 +1,5 @@
 use Rattle.std.proofs.Common.{sym, ◌∙◌}
-use Rattle.u_history.proofs.Sets.{shown_all}
+use Rattle.u_sets.proofs.Shown.{shown_all}
 use Rattle.u_history.proofs.history.History.entries.Goals as goal
 
 pub returns-clause-all : goal.returns-clause-all

@@ -1,5 +1,5 @@
 use Rattle.std.proofs.Common.{subst, List}
-use Rattle.u_system.specs.Rising.{IsUnion}
+use Rattle.u_sets.specs.Members.{IsUnion}
 use Rattle.u_rule.specs.declared.entry.Entry.{Entry}
 use Rattle.u_history.proofs.history.History.merge.Goals as goal
 

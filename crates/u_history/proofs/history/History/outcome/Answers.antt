@@ -1,8 +1,8 @@
 use Rattle.std.proofs.Common.{List, Contains, subst, sym, ap, ◌∙◌, map}
 use Rattle.u_rule.specs.EntryOrder.{entry_cmp}
 use Rattle.u_rule.specs.declared.entry.Entry.{Entry}
-use Rattle.u_system.specs.Rising.{Rises}
-use Rattle.u_history.specs.Says.{lent, IsOutcome}
+use Rattle.u_sets.specs.Rising.{Rises}
+use Rattle.u_history.specs.Outcomes.{lent, IsOutcome}
 use Rattle.u_history.specs.Clashes.{cell_pairs, port_values}
 use Rattle.u_history.proofs.Listed.{along}
 use Rattle.u_history.specs.declared.outcome.Outcome.{Outcome}

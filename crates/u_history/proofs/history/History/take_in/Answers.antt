@@ -1,7 +1,7 @@
 use Rattle.std.proofs.Common.{◌∙◌, sym, subst, List}
-use Rattle.u_system.specs.Rising.{IsUnion}
+use Rattle.u_sets.specs.Members.{IsUnion}
 use Rattle.u_rule.specs.declared.entry.Entry.{Entry}
-use Rattle.u_history.proofs.Sets.{shown_all}
+use Rattle.u_sets.proofs.Shown.{shown_all}
 use Rattle.u_history.proofs.Unions.{taken_more}
 use Rattle.u_history.proofs.history.History.take_in.Goals as goal
 

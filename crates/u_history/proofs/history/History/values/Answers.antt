@@ -1,13 +1,12 @@
 use Rattle.std.proofs.Common.{◌∙◌, ap, List, Contains, subst, sym}
-use Rattle.u_system.specs.Rising.{Rises}
+use Rattle.u_sets.specs.Rising.{Rises, IsListOf}
 use Rattle.u_rule.specs.EntryOrder.{entry_cmp}
-use Rattle.u_system.specs.Rising.{IsListOf}
 use Rattle.u_value.specs.declared.value.Value.{Value}
 use Rattle.u_rule.specs.Parts.{token}
 use Rattle.u_rule.specs.declared.entry.Entry.{Entry}
 use Rattle.u_rule.specs.declared.entry.Entry.TheVariants as kinds
 use Rattle.u_history.specs.Orders.{value_order}
-use Rattle.u_history.specs.Says.{lent}
+use Rattle.u_history.specs.Outcomes.{lent}
 use Rattle.u_history.proofs.Listed.{along}
 use Rattle.u_history.proofs.history.History.values.Goals as goal
 

@@ -2,7 +2,7 @@ use Rattle.std.proofs.Common.{◌∙◌, ◌++◌, ap, sym, List, map}
 use Rattle.u_text.specs.Spaced.{ended}
 use Rattle.u_rule.specs.EntryText.{entry_text}
 use Rattle.u_rule.specs.declared.entry.Entry.{Entry}
-use Rattle.u_history.proofs.Sets.{shown_all}
+use Rattle.u_sets.proofs.Shown.{shown_all}
 use Rattle.u_history.proofs.Lines.{text_more}
 use Rattle.u_history.specs.Text.{history_text}
 use Rattle.u_history.proofs.history.History.write_text.Goals as goal

@@ -1,6 +1,6 @@
 use Rattle.std.proofs.Common.{subst}
 use Rattle.u_rule.specs.declared.entry.Entry.{Entry}
-use Rattle.u_system.specs.Rising.{IsWith}
+use Rattle.u_sets.specs.Members.{IsWith}
 use Rattle.u_match.proofs.Wakes.{over}
 use Rattle.u_match.proofs.matcher.Matcher.enter.Goals as goal
 use Rattle.u_match.proofs.matcher.Matcher.enter.Goals.{In_ok-insert}

@@ -3,7 +3,7 @@ use Rattle.std.specs.Prelude.{IsSome}
 use Rattle.std.specs.HashMap.{get}
 use Rattle.std.proofs.lemmas.List.Elements.{Contains-append_left}
 use Rattle.u_system.proofs.Member.{Contains-nil}
-use Rattle.u_match.specs.Under.{items_of}
+use Rattle.u_match.specs.KeyedLists.{items_of}
 use Rattle.u_match.proofs.Puts.{keeps}
 use Rattle.u_match.proofs.table.Table.put.Goals as goal
 

@@ -3,7 +3,7 @@ use Rattle.std.specs.Prelude.{◌≡◌, ℕ, List, map}
 use Rattle.std.specs.Borrow.{Bor}
 use Rattle.std.specs.Ordering.{ordering_then, nat_cmp}
 use Rattle.std.specs.declared.cmp.Ordering.{Ordering}
-use Rattle.u_system.specs.Rising.{IsListOf}
+use Rattle.u_sets.specs.Rising.{IsListOf}
 use Rattle.u_name.specs.Name.{Activity}
 use Rattle.u_name.specs.NameOrder.{name_cmp}
 use Rattle.u_name.specs.Cell.{CellOf, cell_cmp}

@@ -1,0 +1,71 @@
+-- What the checker and the firing rule ask of a statement's kind.
+use Rattle.std.specs.Prelude.{ℕ, Bool, true, false}
+use Rattle.u_program.specs.declared.program.Kind.{Kind}
+use Rattle.u_program.specs.declared.program.Kind.TheVariants.{Begin, Const, Pass, Unary, Binary, Select, Switch, Enter, Next, Last, Leave, Apply, Back, Alloc, Store, Fetch, End}
+
+-- how many ports a statement of that kind has
+abbrev pub ports_of : Kind → ℕ
+ports_of Begin = 1
+ports_of (Const c) = 1
+ports_of Pass = 1
+ports_of (Unary o) = 1
+ports_of (Binary o) = 2
+ports_of Select = 3
+ports_of Switch = 2
+ports_of (Enter l) = 1
+ports_of Next = 1
+ports_of Last = 1
+ports_of Leave = 1
+ports_of (Apply n) = 2
+ports_of Back = 1
+ports_of Alloc = 1
+ports_of Store = 3
+ports_of Fetch = 2
+ports_of End = 1
+
+abbrev pub is_begin : Kind → Bool
+is_begin Begin = true
+is_begin k = false
+
+abbrev pub is_back : Kind → Bool
+is_back Back = true
+is_back k = false
+
+abbrev pub is_last : Kind → Bool
+is_last Last = true
+is_last k = false
+
+abbrev pub is_leave : Kind → Bool
+is_leave Leave = true
+is_leave k = false
+
+abbrev pub is_apply : Kind → Bool
+is_apply (Apply n) = true
+is_apply k = false
+
+abbrev pub is_end : Kind → Bool
+is_end End = true
+is_end k = false
+
+-- whether its value comes from outside: from a call of its block, or from a call that it made
+abbrev pub comes_from_outside : Kind → Bool
+comes_from_outside Begin = true
+comes_from_outside Back = true
+comes_from_outside k = false
+
+abbrev pub is_store : Kind → Bool
+is_store Store = true
+is_store k = false
+
+-- whether it stands in a loop alone
+abbrev pub is_of_loop : Kind → Bool
+is_of_loop Next = true
+is_of_loop Last = true
+is_of_loop Leave = true
+is_of_loop k = false
+
+-- whether it sends from one region into another
+abbrev pub crosses : Kind → Bool
+crosses (Enter l) = true
+crosses Leave = true
+crosses k = false
