@@ -1,19 +1,21 @@
 -- A new machine.
-use Rattle.std.proofs.Common.{◌≡◌, ◌↔◌, ◌⊎◌, inl, inr, sym, subst, arith, ℕ, List, [], ◌∷◌, Some, None, refl}
-use Rattle.std.specs.Prelude.{Contains, IsTrue}
+use Rattle.std.proofs.Common.{◌≡◌, ◌↔◌, ◌⊎◌, inl, inr, sym, subst, arith, ℕ, [], ◌∷◌, None}
+use Rattle.std.specs.Prelude.{Contains}
 use Rattle.u_check.specs.Jobs.{JobParts}
 use Rattle.u_rule.specs.Rule.{system_of}
-use Rattle.u_rule.specs.EntryOrder.{entry_cmp, entry_cmp_total, EntryList, FiringList, firing_cmp}
+use Rattle.u_rule.specs.EntryOrder.{entry_cmp, EntryList, FiringList}
+use Rattle.u_rule.specs.ExactOrders.{entry_cmp_total}
 use Rattle.u_rule.specs.declared.entry.Entry.{Entry}
 use Rattle.u_rule.specs.declared.firing.Firing.{Firing}
-use Rattle.u_system.specs.Rising.{Rises, IsWith}
+use Rattle.u_sets.specs.Rising.{Rises}
+use Rattle.u_sets.specs.Members.{IsWith}
 use Rattle.u_system.specs.Firing.{Same, Held, Enabled, Cl}
 use Rattle.u_system.proofs.Member.{Contains-nil, Contains-head, Contains-cons_cases}
-use Rattle.u_system.proofs.Places.{one_list}
+use Rattle.u_sets.proofs.Places.{one_list}
 use Rattle.u_system.proofs.Held.{Held-start, Held-nil}
 use Rattle.u_system.proofs.Closure.{Derivation-nil, Cl-start}
-use Rattle.u_machine.specs.States.{state, IsMachine}
-use Rattle.u_machine.specs.Kept.{IsLogged, IsMatched, IsSorted}
+use Rattle.u_machine.specs.State.{state, IsSound}
+use Rattle.u_machine.specs.Invariant.{IsLogged, IsMatched, IsSorted}
 use Rattle.u_machine.proofs.Once.{enabled_with}
 use Rattle.u_machine.proofs.Needed.{needs_some}
 
@@ -28,7 +30,7 @@ only_one h e r w = one_list entry_cmp entry_cmp_total h (e ∷ []) r ((λ y m. a
     back x m = elim (Contains-cons_cases e x [] m) [ inl p ↦ (w x).1 (inr p) | inr n ↦ absurd (Contains-nil x n) ]
 
 module _ (job : JobParts) (limit : ℕ) where
-  fresh : IsMachine (state job limit [] [] ((system_of job).start ∷ []))
+  fresh : IsSound (state job limit [] [] ((system_of job).start ∷ []))
   fresh = record {
     firings = λ f t. absurd (Contains-nil f t);
     derivation = Derivation-nil (system_of job);

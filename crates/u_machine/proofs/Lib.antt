@@ -10,6 +10,6 @@ pub mod Needed
 pub mod Fresh
 pub mod Runs
 pub mod Counting
-pub mod Taking
+pub mod TakenLists
 pub mod Replies
 pub mod Obeying

@@ -1,5 +1,5 @@
 -- Each firing of a job needs a token.
-use Rattle.std.proofs.Common.{◌≡◌, ◌<◌, ◌≤◌, ◌⊎◌, ◌∙◌, inl, inr, refl, arith, Bool, true, false, ◌&&◌, IsTrue, ℕ, List, [], ◌∷◌, ◌++◌, length, Option, Some, None}
+use Rattle.std.proofs.Common.{◌≡◌, ◌≤◌, refl, arith, Bool, true, false, ◌&&◌, IsTrue, ℕ, List, [], ◌∷◌, ◌++◌, length, Option, Some, None}
 use Rattle.std.specs.Prelude.{Contains, ◌==◌}
 use Rattle.std.proofs.lemmas.Bool.Decides.{nat_tests}
 use Rattle.u_name.specs.Name.{Activity}
@@ -7,7 +7,7 @@ use Rattle.u_program.specs.declared.program.Kind.{Kind}
 use Rattle.u_program.specs.declared.program.Kind.TheVariants.{Begin}
 use Rattle.u_program.specs.Parts.{StatementParts, BlockParts}
 use Rattle.u_check.specs.Jobs.{JobParts}
-use Rattle.u_check.specs.Rules.{ports_of}
+use Rattle.u_check.specs.Kinds.{ports_of}
 use Rattle.u_rule.specs.Parts.{token, ValueList}
 use Rattle.u_rule.specs.Rule.{is_firing_of, is_firing_at, needs_of, tokens_from, system_of}
 use Rattle.u_rule.specs.Fits.{statement_of, fits_at}

@@ -1,14 +1,14 @@
 -- How a machine goes on over a list of calls.
-use Rattle.std.proofs.Common.{◌≡◌, ◌⊎◌, inl, inr, refl, sym, ◌∙◌, subst, List, [], ◌∷◌, ◌++◌, append_assoc, append-nil, Ok, Err, ap, take, length, ℕ}
+use Rattle.std.proofs.Common.{inl, inr, refl, sym, ◌∙◌, subst, List, [], ◌∷◌, ◌++◌, append_assoc, append-nil, Ok, Err, ap, take, ℕ}
 use Rattle.std.specs.Prelude.{Contains, Result, OnOk}
 use Rattle.std.proofs.lemmas.List.Elements.{Contains-append_left, Contains-push}
 use Rattle.std.specs.declared.alloc.AllocError.{AllocError}
 use Rattle.u_rule.specs.declared.firing.Firing.{Firing}
-use Rattle.u_rule.specs.EntryOrder.{entry_cmp, entry_cmp_total}
+use Rattle.u_rule.specs.EntryOrder.{entry_cmp}
+use Rattle.u_rule.specs.ExactOrders.{entry_cmp_total}
 use Rattle.u_rule.specs.Rule.{system_of}
 use Rattle.u_system.specs.Firing.{Same, Cl}
-use Rattle.u_system.specs.Rising.{Rises}
-use Rattle.u_system.proofs.Places.{one_list}
+use Rattle.u_sets.proofs.Places.{one_list}
 use Rattle.u_system.proofs.Closure.{Cl-mono}
 use Rattle.u_machine.specs.declared.commands.Command.{Command}
 use Rattle.u_machine.specs.declared.commands.Command.TheVariants as calls
@@ -26,10 +26,12 @@ use Rattle.u_machine.specs.declared.answer.TakeRefusal.{TakeRefusal}
 use Rattle.u_machine.specs.declared.answer.TakeRefusal.TheVariants as untaken
 use Rattle.u_machine.specs.declared.answer.ListRefusal.{ListRefusal}
 use Rattle.u_machine.specs.declared.answer.ListRefusal.TheVariants as unlisted
-use Rattle.u_machine.specs.States.{State, Taken, IsMachine, IsSettled, Applies, Takes, Fires, FireAnswer, TakeAnswer, RunAnswer}
+use Rattle.u_machine.specs.State.{State, Taken, IsSound, IsMachine, IsSettled}
+use Rattle.u_machine.specs.Headline.{IsClosure, KeepsItsPromise, Agree}
+use Rattle.u_machine.specs.Calls.{Applies, Takes, TakesOrNot, Fires, FireAnswer, TakeAnswer, RunAnswer}
 use Rattle.u_machine.specs.Taking.{TakesAll, TakeAllAnswer}
-use Rattle.u_machine.specs.Obeying.{SettleAnswer, Does, Obeys, IsMet, AreMet, Extends, IsClosure}
-use Rattle.u_machine.proofs.States.{settled_is_Cl}
+use Rattle.u_machine.specs.Obeying.{SettleAnswer, Does, Obeys, IsMet, AreMet, Extends}
+use Rattle.u_machine.proofs.States.{settled_is_Cl, quiet_whole}
 
 pub extends_refl : (m : State) → Extends m m
 extends_refl m = record { job = refl; limit = refl; taken = λ f t. t; log = ([], sym (append-nil m.log)); history = λ e k. k }
@@ -50,6 +52,10 @@ module _ (old new : State) where
   takes_extends : (f : Firing) → Takes old f new → Extends old new
   takes_extends f p = record { job = p.job; limit = p.limit; taken = λ g t. (p.taken g).1 (inl t); log = p.log; history = p.history }
 
+  takes_or_not_extends : (f : Firing) → TakesOrNot old f new → Extends old new
+  takes_or_not_extends f (inl p) = applies_extends p
+  takes_or_not_extends f (inr t) = takes_extends f t
+
   takes_all_extends : (fs : List Firing) → TakesAll old fs new → Extends old new
   takes_all_extends fs p = record { job = p.job; limit = p.limit; taken = λ g t. (p.taken g).1 (inl t); log = p.log; history = p.history }
 
@@ -57,33 +63,35 @@ module _ (old new : State) where
   fires_extends gs p = record { job = p.job; limit = p.limit; taken = λ g t. (p.taken g).1 (inl t); log = p.log; history = p.history }
 
   fire_extends : (pick : ℕ) (r : Result Step Refusal) → FireAnswer old pick r new → Extends old new
-  fire_extends pick (Ok step.Quiet) a = applies_extends a.1
-  fire_extends pick (Ok (step.Fired place)) (f, p, room, t, st, at) = takes_extends f t
-  fire_extends pick (Err refusals.Full) a = applies_extends a.2
-  fire_extends pick (Err refusals.NoMemory) (inl p) = applies_extends p
-  fire_extends pick (Err refusals.NoMemory) (inr (f, p, t)) = takes_extends f t
+  fire_extends pick (Ok step.Quiet) a = applies_extends a.1.applies
+  fire_extends pick (Ok (step.Fired place)) (f, may, t, st, at) = takes_extends f t
+  fire_extends pick (Err refusals.Full) a = applies_extends a.2.applies
+  fire_extends pick (Err refusals.NoMemory) (inl u) = applies_extends u.applies
+  fire_extends pick (Err refusals.NoMemory) (inr (f, may, t)) = takes_or_not_extends f t
 
   take_extends : (f : Firing) (r : Result Took TakeRefusal) → TakeAnswer old f r new → Extends old new
-  take_extends f (Ok took.Known) a = applies_extends a.1
+  take_extends f (Ok took.Known) a = applies_extends a.1.applies
   take_extends f (Ok took.Taken) a = takes_extends f a.1
   take_extends f (Ok took.Parked) a = takes_extends f a.1
-  take_extends f (Err untaken.NotAFiring) a = applies_extends a.1
-  take_extends f (Err untaken.Full) a = applies_extends a.3
-  take_extends f (Err untaken.NoMemory) (inl p) = applies_extends p
-  take_extends f (Err untaken.NoMemory) (inr t) = takes_extends f t
+  take_extends f (Err untaken.NotAFiring) a = applies_extends a.1.applies
+  take_extends f (Err untaken.Full) a = applies_extends a.3.applies
+  take_extends f (Err untaken.NoMemory) (inl u) = applies_extends u.applies
+  take_extends f (Err untaken.NoMemory) (inr (new, t)) = takes_or_not_extends f t
 
   take_all_extends : (fs : List Firing) (r : Result (Unit {0}) ListRefusal) → TakeAllAnswer old fs r new → Extends old new
   take_all_extends fs (Ok u) a = takes_all_extends fs a.2
-  take_all_extends fs (Err (unlisted.NotAFiring place)) a = applies_extends a.1
-  take_all_extends fs (Err unlisted.Full) a = applies_extends a.2
-  take_all_extends fs (Err unlisted.NoMemory) (k, l, t) = takes_all_extends (take k fs) t
+  take_all_extends fs (Err (unlisted.NotAFiring place)) a = applies_extends a.1.applies
+  take_all_extends fs (Err unlisted.Full) a = applies_extends a.2.applies
+  take_all_extends fs (Err unlisted.NoMemory) (inl u) = applies_extends u.applies
+  take_all_extends fs (Err unlisted.NoMemory) (inr (all, inl s)) = applies_extends s.applies
+  take_all_extends fs (Err unlisted.NoMemory) (inr (all, inr (fit, (k, l, t)))) = takes_all_extends (take k fs) t
 
   settle_extends : (r : Result (Unit {0}) AllocError) → SettleAnswer old r new → Extends old new
   settle_extends (Ok u) a = applies_extends a.0
   settle_extends (Err e) a = applies_extends a
 
   run_extends : (budget : ℕ) (r : Result Ran Refusal) → RunAnswer old budget r new → Extends old new
-  run_extends budget (Ok ran.Quiet) (gs, r, few, st, none) = fires_extends gs r.fires
+  run_extends budget (Ok ran.Quiet) (gs, r, few, st, none, whole) = fires_extends gs r.fires
   run_extends budget (Ok ran.Paused) (gs, r, few, st, some) = fires_extends gs r.fires
   run_extends budget (Err refusals.Full) (gs, r, few, st, some, full) = fires_extends gs r.fires
   run_extends budget (Err refusals.NoMemory) (gs, r, few) = fires_extends gs r
@@ -97,23 +105,23 @@ module _ (old new : State) where
   does_extends (calls.Run budget) reply (r, e, a) = run_extends budget r a
 
   fire_settled : (pick : ℕ) (r : Result Step Refusal) → FireAnswer old pick r new → IsMet (replies.Fire r) → IsSettled new
-  fire_settled pick (Ok step.Quiet) a m = a.2
-  fire_settled pick (Ok (step.Fired place)) (f, p, room, t, st, at) m = st
-  fire_settled pick (Err refusals.Full) a m = a.3
+  fire_settled pick (Ok step.Quiet) a m = a.1.settled
+  fire_settled pick (Ok (step.Fired place)) (f, may, t, st, at) m = st
+  fire_settled pick (Err refusals.Full) a m = a.2.settled
   fire_settled pick (Err refusals.NoMemory) a m = absurd m
 
   take_settled : (f : Firing) (r : Result Took TakeRefusal) → TakeAnswer old f r new → IsMet (replies.Take r) → IsSettled new
-  take_settled f (Ok took.Known) a m = a.2
+  take_settled f (Ok took.Known) a m = a.1.settled
   take_settled f (Ok took.Taken) a m = a.3
   take_settled f (Ok took.Parked) a m = a.3
-  take_settled f (Err untaken.NotAFiring) a m = a.2
-  take_settled f (Err untaken.Full) a m = a.4
+  take_settled f (Err untaken.NotAFiring) a m = a.1.settled
+  take_settled f (Err untaken.Full) a m = a.3.settled
   take_settled f (Err untaken.NoMemory) a m = absurd m
 
   take_all_settled : (fs : List Firing) (r : Result (Unit {0}) ListRefusal) → TakeAllAnswer old fs r new → IsMet (replies.TakeAll r) → IsSettled new
   take_all_settled fs (Ok u) a m = a.3
-  take_all_settled fs (Err (unlisted.NotAFiring place)) a m = a.2
-  take_all_settled fs (Err unlisted.Full) a m = a.3
+  take_all_settled fs (Err (unlisted.NotAFiring place)) a m = a.1.settled
+  take_all_settled fs (Err unlisted.Full) a m = a.2.settled
   take_all_settled fs (Err unlisted.NoMemory) a m = absurd m
 
   settle_settled : (r : Result (Unit {0}) AllocError) → SettleAnswer old r new → IsMet (replies.Settle r) → IsSettled new
@@ -121,7 +129,7 @@ module _ (old new : State) where
   settle_settled (Err e) a m = absurd m
 
   run_settled : (budget : ℕ) (r : Result Ran Refusal) → RunAnswer old budget r new → IsMet (replies.Run r) → IsSettled new
-  run_settled budget (Ok ran.Quiet) (gs, r, few, st, none) m = st
+  run_settled budget (Ok ran.Quiet) (gs, r, few, st, none, whole) m = st
   run_settled budget (Ok ran.Paused) (gs, r, few, st, some) m = st
   run_settled budget (Err refusals.Full) (gs, r, few, st, some, full) m = st
   run_settled budget (Err refusals.NoMemory) a m = absurd m
@@ -150,15 +158,19 @@ met_before rs r all x m = all x (Contains-append_left rs (r ∷ []) x m)
 pub met_last : (rs : List Reply) (r : Reply) → AreMet (rs ++ r ∷ []) → IsMet r
 met_last rs r all = all r (Contains-push rs r)
 
-pub is_closure : (m : State) → IsMachine m → IsSettled m → IsClosure m
+pub is_closure : (m : State) → IsSound m → IsSettled m → IsClosure m
 is_closure m is st = (settled_is_Cl m is st).0
 
+-- the promise of one machine
+pub keeps_its_promise : (m : State) → IsMachine m → KeepsItsPromise m
+keeps_its_promise m is = record { run = is.sound.derivation; closure = is_closure m is.sound; whole = quiet_whole m is.sound }
+
 -- two settled machines of one job that took the same have the same history
-pub same_history : (a b : State) → IsMachine a → IsMachine b → Rises entry_cmp a.history → Rises entry_cmp b.history → IsSettled a → IsSettled b → b.job ≡ a.job → Same (Taken b) (Taken a) → b.history ≡ a.history
-same_history a b is_a is_b rises_a rises_b st_a st_b job same = one_list entry_cmp entry_cmp_total b.history a.history rises_b rises_a (λ e. ((λ k. (ca e).1 (Cl-mono (system_of a.job) (Taken b) (Taken a) (λ f. (same f).0) e ((cb e).0 k))), λ k. (cb e).1 (Cl-mono (system_of a.job) (Taken a) (Taken b) (λ f. (same f).1) e ((ca e).0 k))))
+pub agree : (a b : State) → IsMachine a → IsMachine b → Agree a b
+agree a b is_a is_b st_a st_b job same = one_list entry_cmp entry_cmp_total b.history a.history is_b.history_rises is_a.history_rises (λ e. ((λ k. (ca e).1 (Cl-mono (system_of a.job) (Taken b) (Taken a) (λ f. (same f).0) e ((cb e).0 k))), λ k. (cb e).1 (Cl-mono (system_of a.job) (Taken a) (Taken b) (λ f. (same f).1) e ((ca e).0 k))))
   where
     ca : IsClosure a
-    ca = is_closure a is_a st_a
+    ca = is_closure a is_a.sound st_a
 
     cb : Same (Contains b.history) (Cl (system_of a.job) (Taken b))
-    cb = rw job at (is_closure b is_b st_b)
+    cb = rw job at (is_closure b is_b.sound st_b)

@@ -1,13 +1,12 @@
 -- Lists without repeats, and which needs of a firing an entry meets.
-use Rattle.std.proofs.Common.{◌≡◌, List, [], ◌∷◌, ◌++◌, ◌⊎◌, inl, inr, subst, sym, drop, zero, suc, ℕ}
+use Rattle.std.proofs.Common.{◌≡◌, List, [], ◌∷◌, ◌++◌, ◌⊎◌, inl, inr, subst, sym}
 use Rattle.std.specs.Prelude.{Contains}
 use Rattle.std.proofs.lemmas.List.Elements.{Contains-append_cases}
 use Rattle.std.specs.declared.cmp.Ordering.{Ordering}
-use Rattle.std.specs.declared.cmp.Ordering.TheVariants.{Less}
 use Rattle.std.specs.Cmp.{IsTotalOrder}
 use Rattle.u_system.specs.Firing.{System, Enabled, Distinct}
-use Rattle.u_system.specs.Rising.{Rises}
-use Rattle.u_system.proofs.Places.{irreflexive}
+use Rattle.u_sets.specs.Rising.{Rises}
+use Rattle.u_sets.proofs.Places.{irreflexive}
 use Rattle.u_system.proofs.Member.{Contains-nil, Contains-head, Contains-tail, Contains-cons_cases}
 
 pub Distinct-join : {X : Type 0} (xs ys : List X) → Distinct xs → Distinct ys → ((x : X) → Contains xs x → Contains ys x → ⊥) → Distinct (xs ++ ys)

@@ -10,7 +10,7 @@ use Rattle.u_system.proofs.Held.{Enabled-mono}
 use Rattle.u_system.proofs.Closure.{Cl-mono}
 use Rattle.u_system.proofs.Plain.{EachPlace-nil, EachPlace-push}
 use Rattle.u_system.proofs.PlainFrom.{Plain-from_nothing}
-use Rattle.u_system.specs.Rising.{Rises}
+use Rattle.u_sets.specs.Rising.{Rises}
 use Rattle.u_rule.specs.declared.firing.Firing.{Firing}
 use Rattle.u_machine.specs.declared.answer.Step.TheVariants as step
 use Rattle.u_machine.specs.declared.answer.Ran.{Ran}
@@ -20,8 +20,9 @@ use Rattle.u_machine.specs.declared.answer.Refusal.TheVariants.{Full, NoMemory}
 use Rattle.u_rule.specs.Rule.{system_of}
 use Rattle.u_rule.specs.EntryOrder.{firing_cmp}
 use Rattle.u_machine.proofs.Lists.{slice_get_Contains, nil_of_length}
-use Rattle.u_machine.proofs.States.{settled_is_Cl, quiet_whole, ready_after, nothing_after}
-use Rattle.u_machine.specs.States.{State, Taken, Applies, Takes, IsReady, AreReady, IsPick, IsSettled, IsMachine, NothingReady, FireAnswer, Fires, Runs, RunAnswer, firing_le}
+use Rattle.u_machine.proofs.States.{settled_is_Cl, ready_after, nothing_after}
+use Rattle.u_machine.specs.State.{State, Taken, IsReady, AreReady, IsPick, IsSound, NothingReady}
+use Rattle.u_machine.specs.Calls.{Applies, Takes, FireAnswer, Fires, Runs, RunAnswer, firing_le}
 
 -- the first of a list that rises is its least
 pub first_least : (xs : List Firing) (f g : Firing) → Rises firing_cmp xs → slice_get xs 0 ≡ Some f → Contains xs g → firing_le f g
@@ -154,17 +155,19 @@ Runs-push old m n gs f r p t in_log = record {
 -- where a call of `fire` fails the run ends there
 pub run_fails : (old m n : State) (budget : ℕ) (gs : List Firing) (e : Refusal) → Runs old gs m → length gs < budget → FireAnswer m 0 (Err e) n → RunAnswer old budget (Err e) n
 run_fails old m n budget gs Full r l a =
-    (gs, Runs-applies old m n gs r a.2, l, a.3, (a.0.0, ready_after m n a.2 a.0.0 a.0.1), let x = a.2.count in let y = a.2.limit in omega (arith, a.1))
-run_fails old m n budget gs NoMemory r l (inl p) = (gs, Fires-applies old m n gs r.fires p, omega arith)
-run_fails old m n budget gs NoMemory r l (inr (f, p, t)) =
-    (gs ++ f ∷ [], Fires-push old m n gs f r.fires p t, let z = length-append gs (f ∷ []) in omega arith)
+    let p = a.2.applies in
+    (gs, Runs-applies old m n gs r p, l, a.2.settled, (a.0.0, ready_after m n p a.0.0 a.0.1), let x = p.count in let y = p.limit in omega (arith, a.1))
+run_fails old m n budget gs NoMemory r l (inl u) = (gs, Fires-applies old m n gs r.fires u.applies, omega arith)
+run_fails old m n budget gs NoMemory r l (inr (f, may, inl p)) = (gs, Fires-applies old m n gs r.fires p, omega arith)
+run_fails old m n budget gs NoMemory r l (inr (f, may, inr t)) =
+    (gs ++ f ∷ [], Fires-push old m n gs f r.fires may.0 t, let z = length-append gs (f ∷ []) in omega arith)
 
-pub run_quiet : (old m n : State) (gs : List Firing) (budget : ℕ) → Runs old gs m → length gs < budget → FireAnswer m 0 (Ok step.Quiet) n → (xs : List Firing) × Runs old xs n × (length xs ≤ budget) × IsSettled n × NothingReady n
-run_quiet old m n gs budget r l a = (gs, Runs-applies old m n gs r a.1, omega arith, a.2, nothing_after m n a.1 a.0)
+pub run_quiet : (old m n : State) (gs : List Firing) (budget : ℕ) → Runs old gs m → length gs < budget → FireAnswer m 0 (Ok step.Quiet) n → RunAnswer old budget (Ok ran.Quiet) n
+run_quiet old m n gs budget r l a = (gs, Runs-applies old m n gs r a.1.applies, omega arith, a.1.settled, nothing_after m n a.1.applies a.0, a.2)
 
 pub run_fired : (old m n : State) (gs : List Firing) (place : ℕ) → Runs old gs m → FireAnswer m 0 (Ok (step.Fired place)) n → (xs : List Firing) × Runs old xs n × (length xs ≡ length gs + 1)
-run_fired old m n gs place r (f, p, room, t, st, at) =
-    (gs ++ f ∷ [], Runs-push old m n gs f r p t (slice_get_Contains n.log place f at), let z = length-append gs (f ∷ []) in omega arith)
+run_fired old m n gs place r (f, may, t, st, at) =
+    (gs ++ f ∷ [], Runs-push old m n gs f r may.0 t (slice_get_Contains n.log place f at), let z = length-append gs (f ∷ []) in omega arith)
 
 pub some_ready : (m : State) (fs : List Firing) → AreReady m fs → 0 < length fs → (f : Firing) × IsReady m f
 some_ready m [] r l = absurd (omega arith)
@@ -205,14 +208,14 @@ pub record IsPlainRun (old : State) (budget : ℕ) (new : State) : Type 0 where
   pub plain : Plain (system_of old.job) firing_le budget new.log
   pub held : Same (Contains new.history) (Held (system_of old.job) new.log)
 
-pub run_done : (old new : State) (budget : ℕ) (end : Ran) → RunAnswer old budget (Ok end) new → old.log ≡ [] → old.parked ≡ [] → IsMachine new → IsPlainRun old budget new × (end ≡ ran.Quiet → Same (Held (system_of old.job) new.log) (Whole (system_of old.job)))
-run_done old new budget ran.Quiet (gs, r, few, st, none) log parked is =
+pub run_done : (old new : State) (budget : ℕ) (end : Ran) → RunAnswer old budget (Ok end) new → old.log ≡ [] → old.parked ≡ [] → IsSound new → IsPlainRun old budget new × (end ≡ ran.Quiet → Same (Held (system_of old.job) new.log) (Whole (system_of old.job)))
+run_done old new budget ran.Quiet (gs, r, few, st, none, all) log parked is =
     let q = run_plain old new budget gs r log parked few (inr none) in
     let h = settled_is_Cl new is st in
     (record { job = r.fires.job; parked = q.1; plain = q.2; held = rw (← r.fires.job) h.1 }, λ _ e. ((λ k. (whole e).0 ((h.1 e).1 (rw r.fires.job k))), λ w. rw r.fires.job at ((h.1 e).0 ((whole e).1 w))))
   where
     whole : Same (Contains new.history) (Whole (system_of old.job))
-    whole = rw (← r.fires.job) (quiet_whole new is st none).1
+    whole = rw (← r.fires.job) all.1
 run_done old new budget ran.Paused (gs, r, few, st, ready) log parked is =
     let q = run_plain old new budget gs r log parked (omega (arith, few)) (inl few) in
     let h = settled_is_Cl new is st in

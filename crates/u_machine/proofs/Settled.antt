@@ -1,10 +1,10 @@
 -- When a machine is settled, and what is ready then.
-use Rattle.std.proofs.Common.{◌≡◌, ◌<◌, ◌≤◌, ◌⊎◌, inl, inr, sym, refl, ◌∙◌, length, take, drop, arith, Some, None, [], ℕ, ◌++◌, get_or, subst, ap, ◌+◌, zero, suc, ◌∷◌, length-take, Bool, true, false}
+use Rattle.std.proofs.Common.{◌≡◌, ◌<◌, ◌≤◌, ◌⊎◌, inl, inr, refl, length, take, arith, [], ℕ, get_or, ap, zero, suc, ◌∷◌, length-take, Bool, true, false}
 use Rattle.std.specs.Prelude.{Contains}
 use Rattle.std.proofs.lemmas.List.{take_all, drop_more}
 use Rattle.std.proofs.lemmas.List.Elements.{Contains-get_or, Contains-append_left, Contains-append_right, Contains-append_cases}
-use Rattle.u_system.specs.Firing.{Enabled, Cl, Held, Same}
-use Rattle.u_system.specs.Rising.{Rises}
+use Rattle.u_system.specs.Firing.{Enabled, Cl, Same}
+use Rattle.u_sets.specs.Rising.{Rises}
 use Rattle.u_system.proofs.Apart.{Distinct-apart}
 use Rattle.u_system.proofs.Held.{Enabled-mono}
 use Rattle.u_system.proofs.Member.{Contains-nil, Contains-head}
@@ -13,9 +13,10 @@ use Rattle.u_rule.specs.declared.firing.Firing.{Firing}
 use Rattle.u_rule.specs.Rule.{system_of}
 use Rattle.u_rule.specs.EntryOrder.{firing_cmp, FiringList, EntryList}
 use Rattle.u_machine.proofs.Lists.{Contains-taken}
-use Rattle.u_machine.specs.declared.inside.Inside.{Inside}
-use Rattle.u_machine.specs.States.{IsSettled, IsReady, AreReady, Taken}
-use Rattle.u_machine.specs.Kept.{IsKept, IsLogged, IsSorted, state_of, left_of}
+use Rattle.u_machine.specs.declared.parts.Parts.{Parts}
+use Rattle.u_machine.specs.State.{IsSettled, AreReady, Taken}
+use Rattle.u_machine.specs.Calls.{Applies, Settles, StaysUnsettled}
+use Rattle.u_machine.specs.Invariant.{Invariant, IsLogged, IsSorted, state_of, left_of}
 use Rattle.u_check.specs.Jobs.{JobParts}
 use Rattle.u_machine.proofs.Blank.{blank_firing}
 use Rattle.u_machine.proofs.States.{settled_is_Cl, over_history}
@@ -26,7 +27,7 @@ le_split zero (suc n) l = inr (omega arith)
 le_split (suc m) zero l = absurd (omega (arith, l))
 le_split (suc m) (suc n) l = elim (le_split m n (omega (arith, l))) [ inl e ↦ inl (ap suc e) | inr k ↦ inr (omega (arith, k)) ]
 
-module _ (p : Inside) (k : IsKept p) where
+module _ (p : Parts) (k : Invariant p) where
   -- what the matcher has, the history has
   pub in_history : (e : Entry) → Contains p.matcher e → Contains p.history e
   in_history e m = (k.matched.all e).1 (inl m)
@@ -80,8 +81,20 @@ module _ (p : Inside) (k : IsKept p) where
           st.none f (k.logged.begun f (rw (drop_more p.log.items p.done blank_firing l) (Contains-head f _)))
           (enabled_in f (k.sorted.logged f (Contains-get_or p.log.items p.done blank_firing l)))
 
+-- what `settle` leaves
+module _ (p q : Parts) (kp : Invariant p) (ap_pq : Applies (state_of p) (state_of q)) where
+  pub settles : {X : Type 0} → Invariant q → q.done ≡ length q.log.items → (p.done ≡ length p.log.items → X × (q ≡ p)) → Settles (state_of p) (state_of q)
+  settles kq done still = record {
+    applies = ap_pq;
+    settled = settled_there q kq done;
+    still = λ st. ap state_of (still (settled_back p kp st)).1;
+  }
+
+  pub stays_unsettled : (IsSettled (state_of p) → ⊥) → StaysUnsettled (state_of p) (state_of q)
+  stays_unsettled un = record { applies = ap_pq; unsettled = un }
+
 -- a firing that is sorted out and was taken is parked, and isn't in the log
-module _ (p : Inside) (k : IsKept p) (f : Firing) (rest : FiringList) (next : left_of p ≡ f ∷ rest) where
+module _ (p : Parts) (k : Invariant p) (f : Firing) (rest : FiringList) (next : left_of p ≡ f ∷ rest) where
   waits_first : Contains (left_of p) f
   waits_first = rw next (Contains-head f rest)
 
@@ -100,7 +113,7 @@ module _ (p : Inside) (k : IsKept p) (f : Firing) (rest : FiringList) (next : le
   not_idle e = Contains-nil f (rw e at waits_first)
 
 -- fewer firings were applied than may be taken
-pub below_limit : (p : Inside) → IsKept p → p.done < length p.log.items → p.done < p.limit
+pub below_limit : (p : Parts) → Invariant p → p.done < length p.log.items → p.done < p.limit
 below_limit p k l =
     let f = get_or p.log.items p.done blank_firing in
     let m = k.logged.begun f (rw (drop_more p.log.items p.done blank_firing l) (Contains-head f _)) in

@@ -1,17 +1,19 @@
 -- The steps by which a machine goes on, on what its matcher has and on what is ready.
-use Rattle.std.proofs.Common.{◌≡◌, ◌++◌, List, [], ◌∷◌, ◌⊎◌, inl, inr, subst, sym, ap, ◌∙◌, refl, Some, None, Option}
+use Rattle.std.proofs.Common.{◌≡◌, ◌++◌, [], ◌∷◌, ◌⊎◌, inl, inr, subst, sym, ap, ◌∙◌, Some, None, Option}
 use Rattle.std.specs.Prelude.{Contains, ◌↔◌}
 use Rattle.std.proofs.lemmas.List.Elements.{Contains-append_left, Contains-push, Contains-push_cases}
 use Rattle.u_system.proofs.Member.{Contains-nil, Contains-head, Contains-cons_cases, Contains-tail}
-use Rattle.u_system.specs.Firing.{Enabled, Distinct}
-use Rattle.u_system.specs.Rising.{IsWith, IsWithout, Rises}
+use Rattle.u_system.specs.Firing.{Enabled}
+use Rattle.u_sets.specs.Rising.{Rises}
+use Rattle.u_sets.specs.Members.{IsWith, IsWithout}
 use Rattle.u_system.proofs.Held.{Enabled-mono}
 use Rattle.u_check.specs.Jobs.{JobParts}
 use Rattle.u_rule.specs.declared.entry.Entry.{Entry}
 use Rattle.u_rule.specs.declared.firing.Firing.{Firing}
 use Rattle.u_rule.specs.Rule.{system_of}
-use Rattle.u_rule.specs.EntryOrder.{FiringList, EntryList, firing_cmp, firing_cmp_total}
-use Rattle.u_machine.specs.Kept.{IsMatched, IsSorted, IsIdle}
+use Rattle.u_rule.specs.EntryOrder.{FiringList, EntryList, firing_cmp}
+use Rattle.u_rule.specs.ExactOrders.{firing_cmp_total}
+use Rattle.u_machine.specs.Invariant.{IsMatched, IsSorted}
 use Rattle.u_machine.proofs.Once.{enabled_with, Distinct-from_Rises}
 
 some_same : (a b : Entry) → Some a ≡ Some b → a ≡ b

@@ -1,25 +1,22 @@
 -- How a state goes on.
-use Rattle.std.proofs.Common.{◌≡◌, ℕ, ◌+◌, ◌<◌, List, [], ◌∷◌, ◌++◌, ◌⊎◌, inl, inr, subst, sym, refl, length, take, get_or, arith, append-nil, append_assoc, ◌∙◌}
-use Rattle.std.specs.Prelude.{Contains, ◌↔◌, IsTrue}
-use Rattle.std.proofs.lemmas.List.{take_more, take_all}
-use Rattle.std.proofs.lemmas.List.{take-append-le}
-use Rattle.std.proofs.Common.{length-append}
-use Rattle.std.proofs.lemmas.List.Elements.{Contains-get_or, Contains-append_left, Contains-append_right, Contains-append_cases, Contains-push, Contains-push_cases}
-use Rattle.u_system.proofs.Apart.{Distinct-put_in}
+use Rattle.std.proofs.Common.{◌≡◌, ℕ, ◌<◌, List, [], ◌++◌, ◌⊎◌, inl, inr, subst, sym, refl, length, arith, append-nil, append_assoc, ◌∙◌}
+use Rattle.std.specs.Prelude.{Contains, ◌↔◌, Result, Ok, Err}
+use Rattle.std.proofs.lemmas.List.Elements.{Contains-append_left, Contains-append_cases}
 use Rattle.u_system.specs.Firing.{Held, Enabled, Cl, Whole, Same, Closed}
-use Rattle.u_system.proofs.Held.{Held-push, Held-append_left, Enabled-mono}
-use Rattle.u_system.proofs.Closure.{Cl-mono, Derivation-push, Settled-is_Cl, Quiet-whole}
+use Rattle.u_system.proofs.Held.{Enabled-mono}
+use Rattle.u_system.proofs.Closure.{Cl-mono, Settled-is_Cl, Quiet-whole}
 use Rattle.u_rule.specs.declared.entry.Entry.{Entry}
 use Rattle.u_rule.specs.declared.firing.Firing.{Firing}
-use Rattle.std.specs.Prelude.{Result, Ok, Err}
 use Rattle.std.specs.Result.{IsErrAnd}
 use Rattle.u_machine.specs.declared.answer.Refusal.{Refusal}
 use Rattle.u_machine.specs.declared.answer.Refusal.TheVariants.{NoMemory}
 use Rattle.u_machine.specs.declared.answer.Step.{Step}
 use Rattle.u_rule.specs.Rule.{system_of}
-use Rattle.u_system.specs.Rising.{Rises}
+use Rattle.u_sets.specs.Rising.{Rises}
 use Rattle.u_rule.specs.EntryOrder.{firing_cmp}
-use Rattle.u_machine.specs.States.{NothingReady, IsReady, AreReady, IsPick, FireAnswer, IsWhole, Takes, count_of, State, state, Taken, IsMachine, IsSettled, Applies}
+use Rattle.u_machine.specs.State.{NothingReady, IsReady, AreReady, count_of, State, state, Taken, IsSound, IsSettled}
+use Rattle.u_machine.specs.Headline.{IsWhole}
+use Rattle.u_machine.specs.Calls.{FireAnswer, Takes, Applies}
 
 -- the history gains entries, and nothing else changes
 pub Applies-history : (m : State) (h : List Entry) → ((x : Entry) → Contains m.history x → Contains h x) → Applies m (state m.job m.limit m.log m.parked h)
@@ -46,7 +43,7 @@ applies_trans a b c p q = record {
     joined = rw (q.log.1, p.log.1) (append_assoc a.log p.log.0 q.log.0)
 
 -- a settled machine holds the closure of its taken set
-pub settled_is_Cl : (m : State) → IsMachine m → IsSettled m → Same (Contains m.history) (Cl (system_of m.job) (Taken m)) × Same (Contains m.history) (Held (system_of m.job) m.log)
+pub settled_is_Cl : (m : State) → IsSound m → IsSettled m → Same (Contains m.history) (Cl (system_of m.job) (Taken m)) × Same (Contains m.history) (Held (system_of m.job) m.log)
 settled_is_Cl m is st = ((λ e. ((λ k. (held e).0 (st.held e k)), (λ k. is.has e ((held e).1 k)))), (λ e. (st.held e, is.has e)))
   where
     all : (f : Firing) → Taken m f → Enabled (system_of m.job) (Held (system_of m.job) m.log) f → Contains m.log f
@@ -88,7 +85,7 @@ module _ (a b : State) (f : Firing) (p : Applies a b) (new : Taken b f → ⊥) 
   room_before h = let x = p.count in let y = p.limit in omega arith
 
 -- what is ready on a settled machine
-module _ (m : State) (is : IsMachine m) (st : IsSettled m) where
+module _ (m : State) (is : IsSound m) (st : IsSettled m) where
   pub ready_of : (f : Firing) → Enabled (system_of m.job) (Contains m.history) f × (Contains m.log f → ⊥) → IsReady m f
   ready_of f (en, new) = (
     Enabled-mono (system_of m.job) (Contains m.history) (Cl (system_of m.job) (Taken m)) (λ e. ((settled_is_Cl m is st).0 e).0) f en,
@@ -154,6 +151,6 @@ module _ (a b : State) (p : Applies a b) where
 pub nothing_ready : (m : State) (fs : List Firing) → AreReady m fs → length fs ≡ 0 → NothingReady m
 nothing_ready m fs r e f en = elim (r.1 f en) [ inl k ↦ absurd (let l = k.1 in omega arith) | inr t ↦ t ]
 
-pub fire_no_memory : (old new : State) (pick : ℕ) (r : Result Step Refusal) → IsErrAnd r (λ e. e ≡ NoMemory) → Applies old new ⊎ ((f : Firing) × IsPick old pick f × Takes old f new) → FireAnswer old pick r new
+pub fire_no_memory : (old new : State) (pick : ℕ) (r : Result Step Refusal) → IsErrAnd r (λ e. e ≡ NoMemory) → FireAnswer old pick (Err NoMemory) new → FireAnswer old pick r new
 fire_no_memory old new pick (Ok t) h w = absurd h
 fire_no_memory old new pick (Err e) h w = subst (λ (x : Refusal). FireAnswer old pick (Err x) new) (sym h) w

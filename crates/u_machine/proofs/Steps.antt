@@ -1,22 +1,25 @@
 -- The steps by which a machine goes on, on its log.
-use Rattle.std.proofs.Common.{◌≡◌, ℕ, ◌+◌, ◌<◌, ◌≤◌, List, [], ◌∷◌, ◌++◌, ◌⊎◌, inl, inr, subst, sym, refl, length, take, drop, get_or, arith, append-nil, append_assoc, ap, ◌∙◌, length-append}
+use Rattle.std.proofs.Common.{◌≡◌, ℕ, ◌+◌, ◌<◌, [], ◌∷◌, ◌++◌, ◌⊎◌, inl, inr, subst, sym, refl, length, take, drop, get_or, arith, append-nil, ap, ◌∙◌, length-append}
 use Rattle.std.specs.Prelude.{Contains, ◌↔◌, IsTrue}
-use Rattle.std.proofs.lemmas.List.{take_more, take_all, drop_more, take-append-le, take-append-drop, drop-append-le}
-use Rattle.std.proofs.lemmas.List.Elements.{Contains-get_or, Contains-append_left, Contains-append_right, Contains-append_cases, Contains-push, Contains-push_cases}
+use Rattle.std.proofs.lemmas.List.{take_more, drop_more, take-append-le, take-append-drop, drop-append-le}
+use Rattle.std.proofs.lemmas.List.Elements.{Contains-append_left, Contains-append_right, Contains-append_cases, Contains-push, Contains-push_cases}
 use Rattle.u_system.proofs.Apart.{Distinct-push, Distinct-left, Distinct-apart}
-use Rattle.u_system.proofs.Member.{Contains-nil, Contains-head, Contains-cons_cases, Contains-tail}
-use Rattle.u_system.specs.Firing.{Held, Enabled, Cl, Derivation, Distinct, Same}
-use Rattle.u_system.specs.Rising.{IsWith, IsWithout, Rises}
+use Rattle.u_system.proofs.Member.{Contains-head, Contains-tail}
+use Rattle.u_system.specs.Firing.{Held, Enabled, Cl, Distinct}
+use Rattle.u_sets.specs.Rising.{Rises}
+use Rattle.u_sets.specs.Members.{IsWith, IsWithout}
 use Rattle.u_system.proofs.Held.{Held-push, Held-append_left, Enabled-mono}
 use Rattle.u_system.proofs.Closure.{Cl-held, Cl-mono, Derivation-push}
 use Rattle.u_check.specs.Jobs.{JobParts}
 use Rattle.u_rule.specs.declared.entry.Entry.{Entry}
 use Rattle.u_rule.specs.declared.firing.Firing.{Firing}
 use Rattle.u_rule.specs.Rule.{system_of}
-use Rattle.u_rule.specs.EntryOrder.{FiringList, EntryList, firing_cmp, firing_cmp_total}
-use Rattle.u_machine.specs.States.{state, IsMachine, Applies, Takes}
-use Rattle.u_machine.specs.Kept.{IsLogged}
-use Rattle.u_machine.proofs.Lists.{Contains-taken, Contains-dropped, slice_get_at}
+use Rattle.u_rule.specs.EntryOrder.{FiringList, EntryList, firing_cmp}
+use Rattle.u_rule.specs.ExactOrders.{firing_cmp_total}
+use Rattle.u_machine.specs.State.{state}
+use Rattle.u_machine.specs.Calls.{Applies, Takes}
+use Rattle.u_machine.specs.Invariant.{IsLogged}
+use Rattle.u_machine.proofs.Lists.{slice_get_at}
 use Rattle.u_machine.proofs.Once.{Distinct-join, Distinct-right, Distinct-from_Rises}
 
 module _ (job : JobParts) (limit : ℕ) (log : FiringList) (done : ℕ) (taken parked : FiringList) (history : EntryList) (l : IsLogged job limit log done taken parked history) where

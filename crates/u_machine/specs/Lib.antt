@@ -1,4 +1,6 @@
-pub mod States
-pub mod Kept
+pub mod State
+pub mod Headline
+pub mod Calls
 pub mod Taking
 pub mod Obeying
+pub mod Invariant

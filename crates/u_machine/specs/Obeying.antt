@@ -1,10 +1,8 @@
 -- What a machine does on a list of calls.
 use Rattle.std.specs.Prelude.{◌≡◌, List, [], ◌∷◌, ◌++◌, Result, Ok, Err, Contains}
 use Rattle.std.specs.declared.alloc.AllocError.{AllocError}
-use Rattle.u_system.specs.Firing.{Same, Cl}
 use Rattle.u_rule.specs.declared.firing.Firing.{Firing}
 use Rattle.u_rule.specs.declared.entry.Entry.{Entry}
-use Rattle.u_rule.specs.Rule.{system_of}
 use Rattle.u_machine.specs.declared.commands.Command.{Command}
 use Rattle.u_machine.specs.declared.commands.Command.TheVariants as calls
 use Rattle.u_machine.specs.declared.commands.Reply.{Reply}
@@ -18,7 +16,8 @@ use Rattle.u_machine.specs.declared.answer.ListRefusal.{ListRefusal}
 use Rattle.u_machine.specs.declared.answer.Refusal.TheVariants as refusals
 use Rattle.u_machine.specs.declared.answer.TakeRefusal.TheVariants as untaken
 use Rattle.u_machine.specs.declared.answer.ListRefusal.TheVariants as unlisted
-use Rattle.u_machine.specs.States.{State, Taken, IsMachine, IsSettled, Applies, FireAnswer, TakeAnswer, RunAnswer}
+use Rattle.u_machine.specs.State.{State, Taken, IsMachine, IsSettled}
+use Rattle.u_machine.specs.Calls.{Applies, FireAnswer, TakeAnswer, RunAnswer}
 use Rattle.u_machine.specs.Taking.{TakeAllAnswer}
 
 -- what was begun is applied, or some of it where there is no memory
@@ -58,7 +57,3 @@ pub record Extends (old new : State) : Type 0 where
   pub taken : (f : Firing) → Taken old f → Taken new f
   pub log : (rest : List Firing) × (new.log ≡ old.log ++ rest)
   pub history : (e : Entry) → Contains old.history e → Contains new.history e
-
--- the history is the closure of what was taken
-abbrev pub IsClosure : State → Type 0
-IsClosure m = Same (Contains m.history) (Cl (system_of m.job) (Taken m))

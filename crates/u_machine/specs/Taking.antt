@@ -7,7 +7,8 @@ use Rattle.u_check.specs.Jobs.{JobParts}
 use Rattle.u_rule.specs.Rule.{system_of}
 use Rattle.u_machine.specs.declared.answer.ListRefusal.{ListRefusal}
 use Rattle.u_machine.specs.declared.answer.ListRefusal.TheVariants.{NotAFiring, Full, NoMemory}
-use Rattle.u_machine.specs.States.{State, Taken, Applies, IsSettled, count_of}
+use Rattle.u_machine.specs.State.{State, Taken, IsSettled, count_of}
+use Rattle.u_machine.specs.Calls.{Settles, StaysUnsettled}
 
 -- each of the list is a firing of the job
 abbrev pub AreFirings : JobParts → List Firing → Type 0
@@ -44,10 +45,22 @@ pub record GainsNew (m : State) (f : Firing) (old new : List Firing) : Type 0 wh
   pub within : (g : Firing) → Contains new g → Contains old g ⊎ ((f ≡ g) × (Taken m f → ⊥))
   pub there : Taken m f ⊎ Contains new f
 
+-- the new ones of the list fit
+abbrev pub Fits : State → List Firing → Type 0
+Fits m fs = (news : List Firing) × AreNew m fs news × (count_of m + length news ≤ m.limit)
+
+-- the new ones of the list are more than may be taken
+abbrev pub IsTooLong : State → List Firing → Type 0
+IsTooLong m fs = (news : List Firing) × AreNew m fs news × (m.limit < count_of m + length news)
+
+-- the first ones of the list are taken
+abbrev pub TakesSome : State → List Firing → State → Type 0
+TakesSome old fs new = (k : ℕ) × (k ≤ length fs) × TakesAll old (take k fs) new
+
+-- all of the list are taken; or one of them is no firing of the job; or they are too many; or there is
+-- no memory, for what an earlier call began, or to count the new ones, or to take them
 abbrev pub TakeAllAnswer : State → List Firing → Result (Unit {0}) ListRefusal → State → Type 0
-TakeAllAnswer old fs (Ok u) new =
-    AreFirings old.job fs × ((news : List Firing) × AreNew old fs news × (count_of old + length news ≤ old.limit)) × TakesAll old fs new × IsSettled new
-TakeAllAnswer old fs (Err (NotAFiring place)) new = IsFirstOther old.job fs place × Applies old new × IsSettled new
-TakeAllAnswer old fs (Err Full) new =
-    AreFirings old.job fs × ((news : List Firing) × AreNew old fs news × (old.limit < count_of old + length news)) × Applies old new × IsSettled new
-TakeAllAnswer old fs (Err NoMemory) new = (k : ℕ) × (k ≤ length fs) × TakesAll old (take k fs) new
+TakeAllAnswer old fs (Ok u) new = AreFirings old.job fs × Fits old fs × TakesAll old fs new × IsSettled new
+TakeAllAnswer old fs (Err (NotAFiring place)) new = IsFirstOther old.job fs place × Settles old new
+TakeAllAnswer old fs (Err Full) new = AreFirings old.job fs × IsTooLong old fs × Settles old new
+TakeAllAnswer old fs (Err NoMemory) new = StaysUnsettled old new ⊎ (AreFirings old.job fs × (Settles old new ⊎ (Fits old fs × TakesSome old fs new)))

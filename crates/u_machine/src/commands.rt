@@ -1,11 +1,12 @@
 //! Lists of calls of one machine, and what holds after each list.
 ghost use Rattle.std.specs.Prelude.{◌≡◌, IfOk, OnErr};
-ghost use Rattle.u_machine.specs.States.{IsMachine, IsSettled};
-ghost use Rattle.u_machine.specs.Obeying.{Does, Obeys, AreMet, IsClosure, Extends};
+ghost use Rattle.u_machine.specs.State.{IsMachine, IsSettled};
+ghost use Rattle.u_machine.specs.Headline.{KeepsItsPromise};
+ghost use Rattle.u_machine.specs.Obeying.{Does, Obeys, AreMet, Extends};
 
 use crate::answer::{ListRefusal, Ran, Refusal, Step, TakeRefusal, Took};
-use crate::entering::push_into_room;
 use crate::machine::Machine;
+use crate::room::push_into_room;
 use std::alloc::{AllocError, Global};
 use u_rule::Firing;
 
@@ -40,7 +41,7 @@ pub enum Reply {
 }
 
 impl<'a> Machine<'a> {
-    /// Makes the call, and hands on its answer.
+    /// Makes the call, and returns its answer.
     pub fn obey(&mut self, command: &Command) -> Reply
         ensures { Does self.old command.now result self.new }
     {
@@ -53,7 +54,7 @@ impl<'a> Machine<'a> {
         }
     }
 
-    /// Makes the calls of the list one after another, and answers what each of them answered.
+    /// Makes the calls of the list one after another, and returns what each of them answered.
     ///
     /// # Errors
     /// `AllocError` where there is no memory for the answers; then no call is made.
@@ -65,8 +66,9 @@ impl<'a> Machine<'a> {
         ensures obeys { IfOk result (λ rs. Obeys self.old commands.now rs.items self.new) }
         ensures extends { Extends self.old self.new }
         ensures machine { IsMachine self.new }
-        ensures settled { IfOk result (λ rs. IsSettled self.old → AreMet rs.items → IsSettled self.new) }
-        ensures closure { IsSettled self.new → IsClosure self.new }
+        ensures settled { IfOk result
+            (λ rs. IsSettled self.old → AreMet rs.items → IsSettled self.new) }
+        ensures promise { KeepsItsPromise self.new }
         ensures err { OnErr result (self.new ≡ self.old) }
     {
         self.holds();

@@ -2,12 +2,13 @@
 #![tactic(auto)]
 
 mod answer;
-mod batches;
-mod calls;
+mod applying;
 mod commands;
-mod entering;
-mod inside;
+mod firing;
 mod machine;
+mod parts;
+mod room;
+mod taking;
 
 pub use answer::{ListRefusal, Ran, Refusal, Step, TakeRefusal, Took};
 pub use commands::{Command, Reply};

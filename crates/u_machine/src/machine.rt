@@ -7,40 +7,39 @@
 //! the job.
 ghost use Rattle.std.specs.Prelude.{◌≡◌, ◌↔◌, [], ◌∷◌, IfOk, IsOk, IsTrue, OnOk};
 ghost use Rattle.u_rule.specs.Rule.{system_of};
-ghost use Rattle.u_rule.specs.EntryOrder.{entry_cmp, firing_cmp};
-ghost use Rattle.u_machine.specs.States.{state, IsMachine, IsSettled, IsWhole, FireAnswer, RunAnswer, TakeAnswer, Applies, Taken};
+ghost use Rattle.u_machine.specs.State.{state, IsMachine, IsSettled, Taken};
+ghost use Rattle.u_machine.specs.Headline.{KeepsItsPromise, Agree};
+ghost use Rattle.u_machine.specs.Calls.{FireAnswer, RunAnswer, TakeAnswer, Applies};
 ghost use Rattle.u_machine.specs.Taking.{TakeAllAnswer};
-ghost use Rattle.u_system.specs.Firing.{Same};
-ghost use Rattle.u_system.specs.Rising.{Rises};
 
 use crate::answer::{ListRefusal, Ran, Refusal, Step, TakeRefusal, Took};
-use crate::inside::Inside;
+use crate::parts::Parts;
 use std::alloc::{AllocError, Global};
 use std::marker::Model;
 use u_check::Job;
 use u_history::History;
 use u_rule::Firing;
-use u_system::OrderedSet;
+use u_sets::OrderedSet;
 
 /// A job with its taken firings and its history.
 ///
 /// The applied firings stand in the order in which they were applied.
 #[derive(Drop)]
 pub struct Machine<'a> {
-    inside: Inside<'a>,
+    parts: Parts<'a>,
 }
 
 impl<'a> Model for Machine<'a> {
-    ghost use Rattle.u_machine.specs.States.{State, state_code};
-    ghost use Rattle.u_machine.specs.Kept.{state_of, IsKept};
+    ghost use Rattle.u_machine.specs.State.{State, state_code};
+    ghost use Rattle.u_machine.specs.Invariant.{state_of, Invariant};
 
     ghost Value = { State };
 
     ghost coded = { state_code };
 
-    ghost view = { λ m. state_of m.inside };
+    ghost view = { λ m. state_of m.parts };
 
-    ghost invariant = { λ m. IsKept m.inside };
+    ghost invariant = { λ m. Invariant m.parts };
 }
 
 impl<'a> Machine<'a> {
@@ -50,10 +49,11 @@ impl<'a> Machine<'a> {
     /// # Errors
     /// `AllocError` where there is no memory.
     pub fn new(alloc: Global, job: &'a Job, limit: usize) -> Result<Machine<'a>, AllocError>
-        ensures { IfOk result (λ m. m ≡ state job.now limit [] [] ((system_of job.now).start ∷ [])) }
+        ensures { IfOk result
+            (λ m. m ≡ state job.now limit [] [] ((system_of job.now).start ∷ [])) }
     {
-        let inside = Inside::new(alloc, job, limit)?;
-        Ok(Machine { inside })
+        let parts = Parts::new(alloc, job, limit)?;
+        Ok(Machine { parts })
     }
 
     /// Goes on where an earlier call found no memory, until all that was begun is applied.
@@ -65,7 +65,7 @@ impl<'a> Machine<'a> {
         ensures ok { OnOk result (IsSettled self.new) }
         ensures still { IsSettled self.old → IsOk result × (self.new ≡ self.old) }
     {
-        self.inside.settle()?;
+        self.parts.settle()?;
         Ok(())
     }
 
@@ -73,32 +73,33 @@ impl<'a> Machine<'a> {
     pub fn is_settled(&self) -> bool
         ensures { IsTrue result ↔ IsSettled self.now }
     {
-        self.inside.is_settled()
+        self.parts.is_settled()
     }
 
     /// Whether the firing was taken, so that it is not to be taken again.
     pub fn knows(&self, firing: &Firing) -> bool
         ensures { IsTrue result ↔ Taken self.now firing.now }
     {
-        self.inside.knows(firing)
+        self.parts.knows(firing)
     }
 
-    /// What holds of each machine: its applied firings are a derivation without repeats, and its history,
-    /// in order, has all that they hold and lies in the closure of what was taken. It does nothing, and
-    /// callers cite its clauses.
+    /// The headline of one machine, which holds after all calls: the applied firings are one run of the
+    /// job; once the machine is settled, its history is the closure of the firings that it took; and
+    /// where nothing is ready then, it has all that any run reaches. It does nothing, and callers cite
+    /// its clauses.
     pub fn holds(&self)
         ensures is { IsMachine self.now }
-        ensures rises { Rises entry_cmp self.now.history }
-        ensures parked { Rises firing_cmp self.now.parked }
+        ensures promise { KeepsItsPromise self.now }
     {
-        let _entries = self.inside.history.len();
-        let _parked = self.inside.parked.len();
+        // The contracts of `len` say that both rise.
+        let _entries = self.parts.history.len();
+        let _parked = self.parts.parked.len();
     }
 
     /// What holds of two machines of one job that took the same firings, in whatever orders: once both
     /// are settled, they have the same history. It does nothing, and callers cite its clause.
     pub fn agrees_with(&self, other: &Machine<'_>)
-        ensures { IsSettled self.now → IsSettled other.now → other.now.job ≡ self.now.job → Same (Taken other.now) (Taken self.now) → other.now.history ≡ self.now.history }
+        ensures { Agree self.now other.now }
     {
         self.holds();
         other.holds();
@@ -108,21 +109,21 @@ impl<'a> Machine<'a> {
     pub fn history(&self) -> &History
         ensures { result.now ≡ self.now.history }
     {
-        &self.inside.history
+        &self.parts.history
     }
 
     /// The applied firings, in the order in which they were applied.
     pub fn applied(&self) -> &[Firing]
         ensures { result.now ≡ self.now.log }
     {
-        &self.inside.log[..self.inside.done]
+        &self.parts.log[..self.parts.done]
     }
 
     /// The firings that were taken and not applied, in order.
     pub fn parked(&self) -> &OrderedSet<Firing>
         ensures { result.now ≡ self.now.parked }
     {
-        &self.inside.parked
+        &self.parts.parked
     }
 
     /// Applies one ready firing, and then each parked one that is enabled by it. The ready firings stand
@@ -134,10 +135,9 @@ impl<'a> Machine<'a> {
     /// applied. `NoMemory` where there is no memory; then either no firing was taken, or the picked one
     /// was and something that it began is not yet applied, which the next call sees to.
     pub fn fire(&mut self, pick: usize) -> Result<Step, Refusal>
-        ensures answer { FireAnswer self.old pick result self.new }
-        ensures whole { IfOk result (λ r. r ≡ Step.Quiet → IsWhole self.new) }
+        ensures { FireAnswer self.old pick result self.new }
     {
-        let fired = self.inside.fire(pick)?;
+        let fired = self.parts.fire(pick)?;
         Ok(fired)
     }
 
@@ -152,7 +152,7 @@ impl<'a> Machine<'a> {
     pub fn take(&mut self, firing: &Firing) -> Result<Took, TakeRefusal>
         ensures { TakeAnswer self.old firing.now result self.new }
     {
-        let took = self.inside.take(firing)?;
+        let took = self.parts.take(firing)?;
         Ok(took)
     }
 
@@ -165,7 +165,7 @@ impl<'a> Machine<'a> {
     pub fn run(&mut self, budget: usize) -> Result<Ran, Refusal>
         ensures { RunAnswer self.old budget result self.new }
     {
-        let ran = self.inside.run(budget)?;
+        let ran = self.parts.run(budget)?;
         Ok(ran)
     }
 
@@ -179,7 +179,7 @@ impl<'a> Machine<'a> {
     pub fn take_all(&mut self, firings: &[Firing]) -> Result<(), ListRefusal>
         ensures { TakeAllAnswer self.old firings.now result self.new }
     {
-        self.inside.take_all(firings)?;
+        self.parts.take_all(firings)?;
         Ok(())
     }
 }

@@ -1,13 +1,11 @@
-use Rattle.std.proofs.Common.{◌≡◌, ◌∙◌, ◌≤◌, ◌+◌, subst, sym, arith, length, length-append, List, [], ◌∷◌, ◌++◌, take, ap}
+use Rattle.std.proofs.Common.{◌≡◌, ◌∙◌, ◌+◌, sym, arith, length, length-append, [], ◌∷◌, ◌++◌, take, ap}
 use Rattle.std.proofs.lemmas.List.{take_more}
 use Rattle.u_machine.specs.declared.commands.Command.{Command}
-use Rattle.u_machine.specs.declared.commands.Reply.{Reply}
-use Rattle.u_machine.specs.Obeying.{Does, Obeys, AreMet}
-use Rattle.u_machine.proofs.Obeying.{obeys_push, extends_trans, does_extends, does_settled, met_last, is_closure}
+use Rattle.u_machine.proofs.Obeying.{obeys_push, extends_trans, does_extends, does_settled, met_last, keeps_its_promise}
 use Rattle.u_machine.proofs.machine.Machine.obey_all.Goals as goal
 
-pub returns-in_err-reserve-clause-closure : goal.returns-in_err-reserve-clause-closure
-returns-in_err-reserve-clause-closure c = is_closure c.args.self.now c.holds.ensures.is
+pub returns-in_err-reserve-clause-promise : goal.returns-in_err-reserve-clause-promise
+returns-in_err-reserve-clause-promise c = c.holds.ensures.promise
 
 pub loop-command-preserved : goal.loop-command-preserved
 loop-command-preserved c =
@@ -27,5 +25,5 @@ loop-command-preserved c =
       room = let k = c.push_into_room.ensures.capacity in let r = i.room in omega (arith, k, r);
     }
 
-pub returns-clause-closure : goal.returns-clause-closure
-returns-clause-closure c = is_closure c.loop-command.self c.loop-command.invariant.machine
+pub returns-clause-promise : goal.returns-clause-promise
+returns-clause-promise c = keeps_its_promise c.loop-command.self c.loop-command.invariant.machine

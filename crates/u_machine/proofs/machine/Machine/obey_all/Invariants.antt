@@ -1,6 +1,6 @@
 use Rattle.std.proofs.Common.{◌≡◌, ◌≤◌, take, length}
 use Rattle.std.specs.Prelude.{vec_capacity}
-use Rattle.u_machine.specs.States.{IsMachine, IsSettled}
+use Rattle.u_machine.specs.State.{IsMachine, IsSettled}
 use Rattle.u_machine.specs.Obeying.{Obeys, Extends, AreMet}
 use Rattle.u_machine.proofs.machine.Machine.obey_all.Given as goal
 

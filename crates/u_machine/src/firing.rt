@@ -1,0 +1,80 @@
+//! How ready firings are fired: the third of three things that a machine does with its parts, each of
+//! which has a file of its own.
+ghost use Rattle.std.specs.Prelude.{◌≡◌, ◌<◌, IfOk, IsTrue, IsFalse, length, slice_get, Some};
+ghost use Rattle.u_rule.specs.declared.firing.Firing.{Firing};
+ghost use Rattle.u_machine.specs.State.{NothingReady, IsReady};
+ghost use Rattle.u_machine.specs.Calls.{FireAnswer, RunAnswer};
+ghost use Rattle.u_machine.specs.Invariant.{state_of, Invariant};
+
+use crate::answer::{Ran, Refusal, Step};
+use crate::parts::Parts;
+use std::alloc::AllocError;
+use u_rule::Firing;
+
+impl<'a> Parts<'a> {
+    /// A copy of the ready firing at that place.
+    #[tactic(auto, using(crate::proofs::Lists::some_at))]
+    fn ready_at(&self, place: usize) -> Result<Firing, AllocError>
+        requires { place < length self.now.ready }
+        ensures { IfOk result (λ f. slice_get self.now.ready place ≡ Some f) }
+    {
+        match self.ready.nth(place) {
+            Some(firing) => firing.copy(self.alloc),
+            None => unreachable!(),
+        }
+    }
+
+    /// Applies one ready firing, and what becomes enabled by it and was taken.
+    pub(crate) fn fire(&mut self, pick: usize) -> Result<Step, Refusal>
+        requires { Invariant self.old }
+        ensures kept { Invariant self.new }
+        ensures answer { FireAnswer (state_of self.old) pick result (state_of self.new) }
+    {
+        self.settle()?;
+        let count = self.ready.len();
+        if count == 0 {
+            return Ok(Step::Quiet);
+        }
+        if self.is_full() {
+            return Err(Refusal::Full);
+        }
+        let place = self.log.len();
+        let firing = self.ready_at(pick % count)?;
+        self.take_new(&firing)?;
+        self.settle()?;
+        Ok(Step::Fired(place))
+    }
+
+    /// Whether nothing is ready. All that was begun is applied.
+    fn is_quiet(&self) -> bool
+        requires kept { Invariant self.now }
+        requires settled { self.now.done ≡ length self.now.log.items }
+        ensures quiet { IsTrue result → NothingReady (state_of self.now) }
+        ensures ready { IsFalse result → (f : Firing) × IsReady (state_of self.now) f }
+    {
+        if self.ready.len() > 0 {
+            return false;
+        }
+        true
+    }
+
+    /// Fires the least ready firing again and again.
+    pub(crate) fn run(&mut self, budget: usize) -> Result<Ran, Refusal>
+        requires { Invariant self.old }
+        ensures kept { Invariant self.new }
+        ensures answer { RunAnswer (state_of self.old) budget result (state_of self.new) }
+    {
+        for made in 0..budget {
+            let fired = self.fire(0)?;
+            match fired {
+                Step::Quiet => return Ok(Ran::Quiet),
+                Step::Fired(_) => {}
+            }
+        }
+        self.settle()?;
+        if self.is_quiet() {
+            return Ok(Ran::Quiet);
+        }
+        Ok(Ran::Paused)
+    }
+}

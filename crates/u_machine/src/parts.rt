@@ -1,0 +1,96 @@
+//! The parts of a machine.
+//!
+//! What a machine does with them is written in three files: `applying` lets entries enter and firings
+//! be applied, `taking` takes firings, and `firing` fires what is ready.
+ghost use Rattle.std.specs.Prelude.{◌≡◌, ◌↔◌, [], ◌∷◌, IfOk, IsTrue, Contains, length};
+ghost use Rattle.u_rule.specs.Rule.{system_of};
+ghost use Rattle.u_machine.specs.State.{IsSettled, state};
+ghost use Rattle.u_system.specs.Firing.{Same};
+ghost use Rattle.u_machine.specs.Invariant.{state_of, Invariant};
+
+use std::alloc::{AllocError, Global};
+use u_check::Job;
+use u_history::History;
+use u_match::Matcher;
+use u_rule::{Entry, Firing, start};
+use u_sets::{HashedSet, OrderedSet};
+
+/// The parts of a machine.
+#[derive(Drop)]
+pub(crate) struct Parts<'a> {
+    pub(crate) alloc: Global,
+    pub(crate) job: &'a Job,
+    /// The greatest number of taken firings.
+    pub(crate) limit: usize,
+    /// The applied firings, and behind them those that are being applied.
+    pub(crate) log: Vec<Firing>,
+    /// How many firings of the log were applied.
+    pub(crate) done: usize,
+    pub(crate) taken: HashedSet<Firing>,
+    /// The firings that were taken and not applied.
+    pub(crate) parked: OrderedSet<Firing>,
+    /// The firings that are enabled and not taken.
+    pub(crate) ready: OrderedSet<Firing>,
+    /// The matcher's last answer.
+    pub(crate) found: Vec<Firing>,
+    /// How many firings of that answer were sorted out.
+    pub(crate) sorted: usize,
+    pub(crate) history: History,
+    pub(crate) matcher: Matcher,
+    /// The entry of the history that the matcher does not have yet.
+    pub(crate) late: Option<Entry>,
+}
+
+/// The set of these firings.
+fn set_of(alloc: Global, firings: &[Firing]) -> Result<OrderedSet<Firing>, AllocError>
+    ensures { IfOk result (λ s. Same (Contains s) (Contains firings.now)) }
+{
+    let mut set = OrderedSet::new(alloc);
+    for firing in firings {
+        set.insert(firing.copy(alloc)?)?;
+    }
+    Ok(set)
+}
+
+impl<'a> Parts<'a> {
+    /// The parts of a machine that holds the start token alone.
+    pub(crate) fn new(alloc: Global, job: &'a Job, limit: usize) -> Result<Parts<'a>, AllocError>
+        ensures kept { IfOk result Invariant }
+        ensures state { IfOk result
+            (λ p. state_of p ≡ state job.now limit [] [] ((system_of job.now).start ∷ [])) }
+    {
+        let mut history = History::new(alloc);
+        history.insert(start(job))?;
+        let _count = history.len();
+        let mut matcher = Matcher::new(alloc);
+        let found = matcher.enter(job, &start(job))?;
+        let ready = set_of(alloc, &found)?;
+        Ok(Parts {
+            alloc,
+            job,
+            limit,
+            log: Vec::new(alloc),
+            done: 0,
+            taken: HashedSet::new(alloc),
+            parked: OrderedSet::new(alloc),
+            ready,
+            found: Vec::new(alloc),
+            sorted: 0,
+            history,
+            matcher,
+            late: None,
+        })
+    }
+
+    /// Whether all that was begun is applied.
+    pub(crate) fn is_settled(&self) -> bool
+        requires { Invariant self.now }
+        ensures settled { IsTrue result ↔ IsSettled (state_of self.now) }
+        ensures done { IsTrue result ↔ (self.now.done ≡ length self.now.log.items) }
+    {
+        if self.done < self.log.len() {
+            return false;
+        }
+        true
+    }
+}
