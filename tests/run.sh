@@ -1,7 +1,8 @@
 #!/usr/bin/env bash
 # Runs the built program on the cases of tests/cases, and compares standard output, standard error
 # and the exit status with what stands there; runs the examples of README.md, docs/LANGUAGE.md and
-# docs/programs; and compares programs/ with the constants that tests run. The last line is 'N passed, M failed'.
+# docs/programs; and compares programs/ and the example of docs/LIBRARY.md with the code that
+# tests run. The last line is 'N passed, M failed'.
 #
 # The lines of a case:
 #   case: NAME            begins a case
@@ -219,6 +220,16 @@ for file in programs/*.u; do
         echo "FAILED: $file is not the constant ${constant^^} of u_plain"
     fi
 done
+
+# The example of docs/LIBRARY.md is part of a program that the gate runs.
+if sed -n '/^```rust$/,/^```$/p' docs/LIBRARY.md | sed '1d;$d' |
+    cmp -s -- - <(sed -n '/^\/\/\/ How many firings a short sum/,/^\/\/\/ Has the machine .* prints/p' \
+        crates/u_bench/src/main.rt | sed '$d' | sed '$d'); then
+    passed=$((passed + 1))
+else
+    failed=$((failed + 1))
+    echo 'FAILED: the example of docs/LIBRARY.md is not that of u_bench'
+fi
 
 echo "$passed passed, $failed failed"
 [ "$failed" -eq 0 ]

@@ -1,15 +1,15 @@
 //! The program `u`: it reads the words of its command line and FILE, and checks or runs a dataflow program.
 #![tactic(auto)]
 
-ghost use Rattle.u.specs.Orders.{HasFirings};
+ghost use Rattle.u.specs.Requests.{HasFirings};
 
 mod words;
 
 use std::alloc::Global;
 use std::process::ExitCode;
 use std::{fs, io};
-use u_cli::{Fault, STORED_PROGRAM, check_text, read_input, run_text};
-use words::{Order, not_text, parse};
+use u_cli::{CommandError, STORED_PROGRAM, check_text, read_input, run_text};
+use words::{Request, not_text, parse};
 
 /// The argument of the stored run, and how often it may fire.
 const STORED_ARGUMENT: &[u8] = b"4";
@@ -29,42 +29,42 @@ fn main(rt: HostRuntime) -> ExitCode {
     }
 }
 
-/// Does what the command line orders. The answer is the exit status.
-fn answer(rt: &HostRuntime) -> Result<u8, Fault> {
+/// Does what the command line asks for. The answer is the exit status.
+fn answer(rt: &HostRuntime) -> Result<u8, CommandError> {
     let alloc: Global = rt.alloc();
     let words = match arguments(rt) {
         Ok(words) => words,
         Err(Missing::NotText) => {
-            let mistake = not_text(alloc).map_err(|_| Fault::NoMemory)?;
+            let mistake = not_text(alloc).map_err(|_| CommandError::NoMemory)?;
             return show(rt, mistake);
         }
-        Err(Missing::NoMemory) => return Err(Fault::NoMemory),
+        Err(Missing::NoMemory) => return Err(CommandError::NoMemory),
     };
     match parse(alloc, words.as_slice()) {
-        Ok(order) => follow(rt, order),
+        Ok(request) => follow(rt, request),
         Err(error) => show(rt, error),
     }
 }
 
 /// Reads FILE and checks or runs the program in it, or runs the stored one.
-fn follow(rt: &HostRuntime, order: Order<'_>) -> Result<u8, Fault>
-    requires { HasFirings order }
+fn follow(rt: &HostRuntime, request: Request<'_>) -> Result<u8, CommandError>
+    requires { HasFirings request }
 {
     let alloc = rt.alloc();
     let mut out = io::writer(rt);
-    match order {
-        Order::Stored => run_text(
+    match request {
+        Request::Stored => run_text(
             alloc,
             STORED_PROGRAM,
             STORED_ARGUMENT,
             STORED_FIRINGS,
             &mut out,
         ),
-        Order::Check { file } => {
+        Request::Check { file } => {
             let program = read_file(rt, file)?;
             check_text(alloc, program.as_slice(), &mut out)
         }
-        Order::Run {
+        Request::Run {
             file,
             argument,
             firings,
@@ -82,14 +82,14 @@ fn follow(rt: &HostRuntime, order: Order<'_>) -> Result<u8, Fault>
 }
 
 /// All bytes of FILE, or of standard input at the word `stdin`.
-fn read_file(rt: &HostRuntime, file: &str) -> Result<Vec<u8>, Fault> {
+fn read_file(rt: &HostRuntime, file: &str) -> Result<Vec<u8>, CommandError> {
     let alloc = rt.alloc();
     if file == "stdin" {
         return read_input(alloc, rt.stdin());
     }
     match fs::open(rt, file) {
         Ok(opened) => read_input(alloc, opened),
-        Err(_) => Err(Fault::NotReadable),
+        Err(_) => Err(CommandError::NotReadable),
     }
 }
 
@@ -111,14 +111,14 @@ fn arguments(rt: &HostRuntime) -> Result<Vec<String>, Missing> {
 
 /// Prints what `clap` says: help and the version on standard output, with status 0, and a
 /// mistake on standard error, with status 1.
-fn show(rt: &HostRuntime, error: clap::Error) -> Result<u8, Fault> {
+fn show(rt: &HostRuntime, error: clap::Error) -> Result<u8, CommandError> {
     if error.kind() == clap::error::ErrorKind::OutOfMemory {
-        return Err(Fault::NoMemory);
+        return Err(CommandError::NoMemory);
     }
     if error.use_stderr() {
         let _ = error.print(rt);
         return Ok(USAGE);
     }
-    error.print(rt).map_err(|_| Fault::NotWritten)?;
+    error.print(rt).map_err(|_| CommandError::NotWritten)?;
     Ok(0)
 }

@@ -1,7 +1,7 @@
 //! The words of the command line.
 ghost use Rattle.std.specs.Prelude.{◌≡◌, IfOk};
 ghost use Rattle.clap.specs.Words.{found_of};
-ghost use Rattle.u.specs.Orders.{HasFirings, IsCheckOf, IsRunOf, word_of};
+ghost use Rattle.u.specs.Requests.{HasFirings, IsCheckRequest, IsRunRequest, word_of};
 
 use clap::error::ErrorKind;
 use clap::{Arg, ArgAction, ArgMatches, Command, Error, value_parser};
@@ -11,9 +11,9 @@ use u_cli::firings_of;
 /// The word of the command that checks.
 const CHECK: &str = "check";
 
-/// What a command line orders.
+/// What a command line asks for.
 #[derive(Clone, Copy, Debug, PartialEq, Eq, Drop)]
-pub enum Order<'a> {
+pub enum Request<'a> {
     /// There is no word: the stored run.
     Stored,
     /// `check FILE`.
@@ -28,17 +28,17 @@ pub enum Order<'a> {
     },
 }
 
-/// The order in the words of a command line, the first of which is the program's name. The error
+/// The request in the words of a command line, the first of which is the program's name. The error
 /// is a mistake in the words, or a request for help or the version. A run may fire from 1 to
 /// 1000000 times.
-pub fn parse<'a>(alloc: Global, words: &'a [String]) -> Result<Order<'a>, Error>
+pub fn parse<'a>(alloc: Global, words: &'a [String]) -> Result<Request<'a>, Error>
     ensures { IfOk result HasFirings }
 {
     let matches: ArgMatches<'a> = commands(alloc)?.try_get_matches_from(words)?;
     match matches.subcommand() {
-        None => Ok(Order::Stored),
-        Some((name, check)) if name == CHECK => Ok(check_order(check)),
-        Some((_, run)) => run_order(alloc, run),
+        None => Ok(Request::Stored),
+        Some((name, check)) if name == CHECK => Ok(check_request(check)),
+        Some((_, run)) => run_request(alloc, run),
     }
 }
 
@@ -51,21 +51,21 @@ pub fn not_text(alloc: Global) -> Result<Error, AllocError> {
 }
 
 /// The words of `check`.
-fn check_order<'a>(matches: &ArgMatches<'a>) -> Order<'a>
-    ensures { IsCheckOf (found_of matches.now) result }
+fn check_request<'a>(matches: &ArgMatches<'a>) -> Request<'a>
+    ensures { IsCheckRequest (found_of matches.now) result }
 {
     let file = text(matches, "FILE");
-    Order::Check { file }
+    Request::Check { file }
 }
 
 /// The words of `run`. The number of firings is read again, since `clap` takes a sign and
 /// leading zeros.
-fn run_order<'a>(alloc: Global, matches: &ArgMatches<'a>) -> Result<Order<'a>, Error>
-    ensures { IfOk result (λ o. IsRunOf (found_of matches.now) o) }
+fn run_request<'a>(alloc: Global, matches: &ArgMatches<'a>) -> Result<Request<'a>, Error>
+    ensures { IfOk result (λ o. IsRunRequest (found_of matches.now) o) }
 {
     let word = text(matches, "firings");
     match firings_of(word) {
-        Some(firings) => Ok(Order::Run {
+        Some(firings) => Ok(Request::Run {
             file: text(matches, "FILE"),
             argument: text(matches, "ARG"),
             firings,
@@ -102,6 +102,7 @@ fn commands<'a>(alloc: Global) -> Result<Command<'a>, AllocError> {
         .bin_name("u")?
         .version("0.1.0")
         .about("Checks and runs dataflow programs. Without any word it runs a stored program.")
+        .after_help("Example: ./u run programs/double.u 4")
         .disable_help_subcommand(true)
         .subcommand(check(alloc)?)?
         .subcommand(run(alloc, "run")?)
@@ -110,6 +111,7 @@ fn commands<'a>(alloc: Global) -> Result<Command<'a>, AllocError> {
 fn check<'a>(alloc: Global) -> Result<Command<'a>, AllocError> {
     Command::new(alloc, CHECK)
         .about("Checks the program and prints how many blocks and statements it has")
+        .after_help("Example: ./u check programs/double.u")
         .arg(file(alloc))
 }
 
@@ -124,6 +126,7 @@ fn run<'a>(alloc: Global, name: &'a str) -> Result<Command<'a>, AllocError> {
         .value_parser(value_parser!(u32).range(1..=1000000));
     Command::new(alloc, name)
         .about("Runs the program and prints its report")
+        .after_help("Example: ./u run programs/double.u 4 --firings 1000")
         .arg(file(alloc))?
         .arg(argument)?
         .arg(firings)

@@ -2,3 +2,4 @@ pub mod Counts
 pub mod Known
 pub mod Ran
 pub mod Spelling
+pub mod ArgumentLaws

@@ -9,13 +9,14 @@ use Rattle.u_rule.specs.declared.entry.Entry.{Entry}
 use Rattle.u_rule.specs.declared.firing.Firing.{Firing}
 use Rattle.u_machine.specs.declared.answer.Ran.{Ran}
 use Rattle.u_machine.specs.declared.answer.Ran.TheVariants as ran
-use Rattle.u_machine.specs.States.{State, state, Taken, IsMachine, IsSettled, NothingReady, IsReady, RunAnswer}
+use Rattle.u_machine.specs.State.{State, state, Taken, IsMachine, IsSettled, NothingReady, IsReady}
+use Rattle.u_machine.specs.Calls.{RunAnswer}
 use Rattle.u_machine.proofs.States.{settled_is_Cl}
 use Rattle.u_machine.proofs.Runs.{run_done}
-use Rattle.u_history.specs.declared.report.State.TheVariants as states
+use Rattle.u_history.specs.declared.report.Ending.TheVariants as states
 use Rattle.u_history.specs.Report.{IsReportOf}
 use Rattle.u_history.proofs.Reports.{report_same, outcome_same}
-use Rattle.u_cli.specs.Runs.{IsRunOf, IsStatusOf, RunsJob, state_of}
+use Rattle.u_cli.specs.Runs.{IsReportedRun, IsStatusOf, ReportsRunOfJob, state_of}
 
 -- one set, two predicates: one status
 status_same : (H K : Entry → Type 0) → Same H K → (s : _) (n : ℕ) → IsStatusOf H s n → IsStatusOf K s n
@@ -29,10 +30,10 @@ module _ (m : State) (is : IsMachine m) (st : IsSettled m) (alone : m.parked ≡
   logged_taken f c = subst (λ (xs : FiringList). Contains xs f) (sym (ap (λ (xs : FiringList). m.log ++ xs) alone ∙ append-nil m.log)) c
 
   held_closed : (e : Entry) → Held (system_of m.job) m.log e → Cl (system_of m.job) (Taken m) e
-  held_closed e h = let s = settled_is_Cl m is st in (s.0 e).0 ((s.1 e).1 h)
+  held_closed e h = let s = settled_is_Cl m is.sound st in (s.0 e).0 ((s.1 e).1 h)
 
   closed_held : (e : Entry) → Cl (system_of m.job) (Taken m) e → Held (system_of m.job) m.log e
-  closed_held e c = let s = settled_is_Cl m is st in (s.1 e).0 ((s.0 e).1 c)
+  closed_held e c = let s = settled_is_Cl m is.sound st in (s.1 e).0 ((s.0 e).1 c)
 
   none_left : NothingReady m → (f : Firing) → Enabled (system_of m.job) (Held (system_of m.job) m.log) f → Contains m.log f
   none_left n f en = taken_logged f (n f (Enabled-mono (system_of m.job) (Held (system_of m.job) m.log) (Cl (system_of m.job) (Taken m)) held_closed f en))
@@ -41,9 +42,9 @@ module _ (m : State) (is : IsMachine m) (st : IsSettled m) (alone : m.parked ≡
   some_left (f, r) = (f, Enabled-mono (system_of m.job) (Cl (system_of m.job) (Taken m)) (Held (system_of m.job) m.log) closed_held f r.0, λ c. r.1 (logged_taken f c))
 
 module _ (old new : State) (budget : ℕ) (log : old.log ≡ []) (parked : old.parked ≡ []) (is : IsMachine new) where
-  pub ran_run : (end : Ran) (report : List ℕ) (status : ℕ) → RunAnswer old budget (Ok end) new → IsReportOf (Contains new.history) (state_of end) (length new.log) 0 report → IsStatusOf (Contains new.history) (state_of end) status → IsRunOf old.job budget (state_of end) new.log report status
+  pub ran_run : (end : Ran) (report : List ℕ) (status : ℕ) → RunAnswer old budget (Ok end) new → IsReportOf (Contains new.history) (state_of end) (length new.log) 0 report → IsStatusOf (Contains new.history) (state_of end) status → IsReportedRun old.job budget (state_of end) new.log report status
   ran_run ran.Quiet report status a r t =
-      let d = run_done old new budget ran.Quiet a log parked is in
+      let d = run_done old new budget ran.Quiet a log parked is.sound in
       record {
         plain = d.0.plain;
         reported = report_same (Contains new.history) (Held (system_of old.job) new.log) d.0.held states.Quiet (length new.log) 0 report r;
@@ -54,7 +55,7 @@ module _ (old new : State) (budget : ℕ) (log : old.log ≡ []) (parked : old.p
         more = λ e. absurd (cc);
       }
   ran_run ran.Paused report status a r t =
-      let d = run_done old new budget ran.Paused a log parked is in
+      let d = run_done old new budget ran.Paused a log parked is.sound in
       let p = a.1.alone parked in
       record {
         plain = d.0.plain;
@@ -67,11 +68,11 @@ module _ (old new : State) (budget : ℕ) (log : old.log ≡ []) (parked : old.p
       }
 
 -- the same for a machine that was new for this job
-pub ran_job : (job : JobParts) (limit : ℕ) (h : List Entry) (old new : State) (budget : ℕ) (end : Ran) (report : List ℕ) (status : ℕ) → old ≡ state job limit [] [] h → IsMachine new → RunAnswer old budget (Ok end) new → IsReportOf (Contains new.history) (state_of end) (length new.log) 0 report → IsStatusOf (Contains new.history) (state_of end) status → RunsJob job budget report status
+pub ran_job : (job : JobParts) (limit : ℕ) (h : List Entry) (old new : State) (budget : ℕ) (end : Ran) (report : List ℕ) (status : ℕ) → old ≡ state job limit [] [] h → IsMachine new → RunAnswer old budget (Ok end) new → IsReportOf (Contains new.history) (state_of end) (length new.log) 0 report → IsStatusOf (Contains new.history) (state_of end) status → ReportsRunOfJob job budget report status
 ran_job job limit h old new budget end report status e is a r t =
     record {
       state = state_of end;
       fs = new.log;
-      run = subst (λ (j : JobParts). IsRunOf j budget (state_of end) new.log report status) (ap (λ (m : State). m.job) e)
+      run = subst (λ (j : JobParts). IsReportedRun j budget (state_of end) new.log report status) (ap (λ (m : State). m.job) e)
           (ran_run old new budget (ap (λ (m : State). m.log) e) (ap (λ (m : State). m.parked) e) is end report status a r t);
     }

@@ -9,8 +9,8 @@ use Rattle.u_program.specs.Laws.{IsBadLine, IsTooMany, IsTruncated}
 use Rattle.u_check.specs.Rules.{IsChecked, IsFirstBreach}
 use Rattle.u_check.specs.declared.rule.Breach.{Breach}
 use Rattle.u_cli.specs.Outputs.{WritesAll, WritesPrefix}
-use Rattle.u_cli.specs.declared.fault.Fault.{Fault as Refused}
-use Rattle.u_cli.specs.declared.fault.Fault.TheVariants as faults
+use Rattle.u_cli.specs.declared.command_error.CommandError.{CommandError}
+use Rattle.u_cli.specs.declared.command_error.CommandError.TheVariants as faults
 
 -- how many statements all blocks have together
 abbrev pub statements_of : List BlockParts → ℕ
@@ -39,7 +39,7 @@ pub record Checks (bytes line : List ℕ) : Type 0 where
   pub line_is : line ≡ checked_line program
 
 -- why there is no checked program
-abbrev pub CheckRefused : List ℕ → Refused → Type 0
+abbrev pub CheckRefused : List ℕ → CommandError → Type 0
 CheckRefused bytes (faults.LineNotAllowed n) = IsBadLine bytes n
 CheckRefused bytes (faults.TooMany n) = IsTooMany bytes n
 CheckRefused bytes faults.CutShort = IsTruncated bytes
@@ -48,7 +48,7 @@ CheckRefused bytes faults.NoMemory = Unit {0}
 CheckRefused bytes fault = ⊥
 
 -- what stands before and after, for each answer
-abbrev pub CheckTextAnswer : List ℕ → Option (List ℕ) → Result ℕ Refused → Option (List ℕ) → Type 0
+abbrev pub CheckTextAnswer : List ℕ → Option (List ℕ) → Result ℕ CommandError → Option (List ℕ) → Type 0
 CheckTextAnswer bytes old (Ok status) new = (status ≡ 0) × ((line : List ℕ) × Checks bytes line × WritesAll old new line)
 CheckTextAnswer bytes old (Err (faults.LineNotAllowed n)) new = IsBadLine bytes n × Keeps old new
 CheckTextAnswer bytes old (Err (faults.TooMany n)) new = IsTooMany bytes n × Keeps old new
@@ -58,8 +58,8 @@ CheckTextAnswer bytes old (Err faults.NoMemory) new = Keeps old new
 CheckTextAnswer bytes old (Err faults.NotWritten) new = (line : List ℕ) × Checks bytes line × WritesPrefix old new line
 CheckTextAnswer bytes old (Err fault) new = ⊥
 
-abbrev pub fault_of : ReadError → Refused
-fault_of (read_errors.BadLine n) = faults.LineNotAllowed n
-fault_of (read_errors.TooMany n) = faults.TooMany n
-fault_of read_errors.Truncated = faults.CutShort
-fault_of read_errors.NoMemory = faults.NoMemory
+abbrev pub error_of : ReadError → CommandError
+error_of (read_errors.BadLine n) = faults.LineNotAllowed n
+error_of (read_errors.TooMany n) = faults.TooMany n
+error_of read_errors.Truncated = faults.CutShort
+error_of read_errors.NoMemory = faults.NoMemory

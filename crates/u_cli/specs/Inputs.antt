@@ -1,7 +1,7 @@
 -- What was read of a reader.
 use Rattle.std.specs.Prelude.{◌≡◌, ℕ, ◌≤◌, ◌<◌, List, Option, IfSome, length}
-use Rattle.u_cli.specs.declared.fault.Fault.{Fault}
-use Rattle.u_cli.specs.declared.fault.Fault.TheVariants as faults
+use Rattle.u_cli.specs.declared.command_error.CommandError.{CommandError}
+use Rattle.u_cli.specs.declared.command_error.CommandError.TheVariants as faults
 
 unfoldable pub input_limit : ℕ
 input_limit = 67108864
@@ -10,7 +10,7 @@ input_limit = 67108864
 abbrev pub ReadsAll : Option (List ℕ) → List ℕ → Type 0
 ReadsAll known bytes = IfSome known (λ xs. bytes ≡ xs) × (length bytes ≤ input_limit)
 
-abbrev pub ReadFails : Option (List ℕ) → Fault → Type 0
+abbrev pub ReadFails : Option (List ℕ) → CommandError → Type 0
 ReadFails known faults.InputTooLong = IfSome known (λ xs. input_limit < length xs)
 ReadFails known faults.NotReadable = Unit {0}
 ReadFails known faults.NoMemory = Unit {0}

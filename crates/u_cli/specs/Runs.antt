@@ -1,5 +1,5 @@
 -- What `run` answers to the bytes of a program and the word of an argument.
-use Rattle.std.specs.Prelude.{◌≡◌, ℕ, List, Option, Result, Ok, Err, Contains, length}
+use Rattle.std.specs.Prelude.{◌≡◌, ℕ, List, Option, Result, Ok, Err, Contains, length, ℤ}
 use Rattle.std.specs.Io.KnownBytes.{Keeps}
 use Rattle.u_program.specs.Parts.{BlockParts}
 use Rattle.u_program.specs.Answer.{IsTextOf}
@@ -12,21 +12,20 @@ use Rattle.u_rule.specs.Rule.{system_of}
 use Rattle.u_rule.specs.declared.parts.Fault.{Fault}
 use Rattle.u_rule.specs.declared.entry.Entry.{Entry}
 use Rattle.u_rule.specs.declared.firing.Firing.{Firing}
-use Rattle.u_machine.specs.States.{firing_le}
+use Rattle.u_machine.specs.Calls.{firing_le}
 use Rattle.u_machine.specs.declared.answer.Ran.{Ran}
 use Rattle.u_machine.specs.declared.answer.Ran.TheVariants as ran
-use Rattle.u_history.specs.declared.report.State.{State}
-use Rattle.u_history.specs.declared.report.State.TheVariants as states
-use Rattle.u_history.specs.Says.{IsOutcome, CellPairs, PortValues}
+use Rattle.u_history.specs.declared.report.Ending.{Ending}
+use Rattle.u_history.specs.declared.report.Ending.TheVariants as states
+use Rattle.u_history.specs.Outcomes.{IsOutcome, CellPairs, PortValues}
 use Rattle.u_history.specs.Verdicts.{judged}
 use Rattle.u_history.specs.Report.{IsReportOf}
 use Rattle.u_cli.specs.Arguments.{IsArgumentOf}
 use Rattle.u_cli.specs.Outputs.{WritesAll, WritesPrefix}
 use Rattle.u_cli.specs.Statuses.{status_of}
 use Rattle.u_cli.specs.Checks.{BreaksRule}
-use Rattle.std.specs.Prelude.{ℤ}
-use Rattle.u_cli.specs.declared.fault.Fault.{Fault as Refused}
-use Rattle.u_cli.specs.declared.fault.Fault.TheVariants as faults
+use Rattle.u_cli.specs.declared.command_error.CommandError.{CommandError}
+use Rattle.u_cli.specs.declared.command_error.CommandError.TheVariants as faults
 
 -- the bytes are the text of the job's program, which breaks no rule, and the word gives its argument
 pub record IsJobOf (bytes word : List ℕ) (job : JobParts) : Type 0 where
@@ -35,7 +34,7 @@ pub record IsJobOf (bytes word : List ℕ) (job : JobParts) : Type 0 where
   pub argument : IsArgumentOf word job.argument
 
 -- The status is that of the verdict on what is held.
-pub record IsStatusOf (H : Entry → Type 0) (state : State) (status : ℕ) : Type 0 where
+pub record IsStatusOf (H : Entry → Type 0) (state : Ending) (status : ℕ) : Type 0 where
   pub answers : List Value
   pub cells : List CellPairs
   pub ports : List PortValues
@@ -45,7 +44,7 @@ pub record IsStatusOf (H : Entry → Type 0) (state : State) (status : ℕ) : Ty
 
 -- fs is the plain run of the job: each firing the least that is enabled and new, so many at most.
 -- The report and the status are those of what fs holds; no firing is parked.
-pub record IsRunOf (job : JobParts) (firings : ℕ) (state : State) (fs : List Firing) (report : List ℕ) (status : ℕ) : Type 0 where
+pub record IsReportedRun (job : JobParts) (firings : ℕ) (state : Ending) (fs : List Firing) (report : List ℕ) (status : ℕ) : Type 0 where
   pub plain : Plain (system_of job) firing_le firings fs
   pub reported : IsReportOf (Held (system_of job) fs) state (length fs) 0 report
   pub ended : IsStatusOf (Held (system_of job) fs) state status
@@ -57,18 +56,18 @@ pub record IsRunOf (job : JobParts) (firings : ℕ) (state : State) (fs : List F
   pub more : state ≡ states.Paused → (f : Firing) × Enabled (system_of job) (Held (system_of job) fs) f × (Contains fs f → ⊥)
 
 -- some run of the job, with its report and its status
-pub record RunsJob (job : JobParts) (firings : ℕ) (report : List ℕ) (status : ℕ) : Type 0 where
-  pub state : State
+pub record ReportsRunOfJob (job : JobParts) (firings : ℕ) (report : List ℕ) (status : ℕ) : Type 0 where
+  pub state : Ending
   pub fs : List Firing
-  pub run : IsRunOf job firings state fs report status
+  pub run : IsReportedRun job firings state fs report status
 
 -- some run of a job of these texts, with its report and its status
-pub record Runs (bytes word : List ℕ) (firings : ℕ) (report : List ℕ) (status : ℕ) : Type 0 where
+pub record ReportsRun (bytes word : List ℕ) (firings : ℕ) (report : List ℕ) (status : ℕ) : Type 0 where
   pub job : JobParts
   pub is : IsJobOf bytes word job
-  pub run : RunsJob job firings report status
+  pub run : ReportsRunOfJob job firings report status
 
-abbrev pub state_of : Ran → State
+abbrev pub state_of : Ran → Ending
 state_of ran.Quiet = states.Quiet
 state_of ran.Paused = states.Paused
 
@@ -80,19 +79,19 @@ pub record GivesNoArgument (bytes word : List ℕ) : Type 0 where
   pub none : (z : ℤ) → IsArgumentOf word z → ⊥
 
 -- what stands before and after, for each answer
-abbrev pub RunTextAnswer : List ℕ → List ℕ → ℕ → Option (List ℕ) → Result ℕ Refused → Option (List ℕ) → Type 0
-RunTextAnswer bytes word firings old (Ok status) new = (report : List ℕ) × Runs bytes word firings report status × WritesAll old new report
+abbrev pub RunTextAnswer : List ℕ → List ℕ → ℕ → Option (List ℕ) → Result ℕ CommandError → Option (List ℕ) → Type 0
+RunTextAnswer bytes word firings old (Ok status) new = (report : List ℕ) × ReportsRun bytes word firings report status × WritesAll old new report
 RunTextAnswer bytes word firings old (Err (faults.LineNotAllowed n)) new = IsBadLine bytes n × Keeps old new
 RunTextAnswer bytes word firings old (Err (faults.TooMany n)) new = IsTooMany bytes n × Keeps old new
 RunTextAnswer bytes word firings old (Err faults.CutShort) new = IsTruncated bytes × Keeps old new
 RunTextAnswer bytes word firings old (Err (faults.Rule breach)) new = BreaksRule bytes breach × Keeps old new
 RunTextAnswer bytes word firings old (Err faults.ArgumentNotAllowed) new = GivesNoArgument bytes word × Keeps old new
 RunTextAnswer bytes word firings old (Err faults.NoMemory) new = Keeps old new
-RunTextAnswer bytes word firings old (Err faults.NotWritten) new = (report : List ℕ) × (status : ℕ) × Runs bytes word firings report status × WritesPrefix old new report
+RunTextAnswer bytes word firings old (Err faults.NotWritten) new = (report : List ℕ) × (status : ℕ) × ReportsRun bytes word firings report status × WritesPrefix old new report
 RunTextAnswer bytes word firings old (Err fault) new = ⊥
 
 -- why there is no job
-abbrev pub JobRefused : List ℕ → List ℕ → Refused → Type 0
+abbrev pub JobRefused : List ℕ → List ℕ → CommandError → Type 0
 JobRefused bytes word (faults.LineNotAllowed n) = IsBadLine bytes n
 JobRefused bytes word (faults.TooMany n) = IsTooMany bytes n
 JobRefused bytes word faults.CutShort = IsTruncated bytes

@@ -1,25 +1,25 @@
 -- Exit statuses.
 use Rattle.std.specs.Prelude.{ℕ}
-use Rattle.u_history.specs.declared.report.State.{State}
-use Rattle.u_history.specs.declared.report.State.TheVariants.{Quiet, Paused}
+use Rattle.u_history.specs.declared.report.Ending.{Ending}
+use Rattle.u_history.specs.declared.report.Ending.TheVariants.{Quiet, Paused}
 use Rattle.u_history.specs.Verdicts.{Judgement, says_clashed, says_faulted, says_answer, says_none}
-use Rattle.u_cli.specs.declared.fault.Fault.{Fault}
-use Rattle.u_cli.specs.declared.fault.Fault.TheVariants as faults
+use Rattle.u_cli.specs.declared.command_error.CommandError.{CommandError}
+use Rattle.u_cli.specs.declared.command_error.CommandError.TheVariants as faults
 
 -- 2 where a text is refused, 5 where the surroundings fail
-abbrev pub status_of_fault : Fault → ℕ
-status_of_fault (faults.LineNotAllowed n) = 2
-status_of_fault (faults.TooMany n) = 2
-status_of_fault faults.CutShort = 2
-status_of_fault (faults.Rule b) = 2
-status_of_fault faults.ArgumentNotAllowed = 2
-status_of_fault faults.InputTooLong = 2
-status_of_fault faults.NoMemory = 5
-status_of_fault faults.NotReadable = 5
-status_of_fault faults.NotWritten = 5
+abbrev pub status_of_error : CommandError → ℕ
+status_of_error (faults.LineNotAllowed n) = 2
+status_of_error (faults.TooMany n) = 2
+status_of_error faults.CutShort = 2
+status_of_error (faults.Rule b) = 2
+status_of_error faults.ArgumentNotAllowed = 2
+status_of_error faults.InputTooLong = 2
+status_of_error faults.NoMemory = 5
+status_of_error faults.NotReadable = 5
+status_of_error faults.NotWritten = 5
 
 -- 4 where more is ready; else 0 for an answer, and 3 for another verdict
-abbrev pub status_of : State → Judgement → ℕ
+abbrev pub status_of : Ending → Judgement → ℕ
 status_of Paused j = 4
 status_of Quiet (says_answer v) = 0
 status_of Quiet says_clashed = 3

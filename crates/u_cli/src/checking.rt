@@ -1,9 +1,9 @@
 //! The command `check`.
 ghost use Rattle.std.specs.Prelude.{◌≡◌, ◌≤◌, ◌*◌, ◌+◌, ◌++◌, IfOk, IfErr, MatchResult, length};
 ghost use Rattle.u_program.specs.Limits.{IsProgram, the_limits};
-ghost use Rattle.u_cli.specs.Checks.{statements_of, checked_line, IsCheckedOf, CheckRefused, CheckTextAnswer, fault_of};
+ghost use Rattle.u_cli.specs.Checks.{statements_of, checked_line, IsCheckedOf, CheckRefused, CheckTextAnswer, error_of};
 
-use crate::fault::Fault;
+use crate::command_error::CommandError;
 use crate::output::write_whole;
 use std::alloc::{AllocError, Global};
 use std::io::Write;
@@ -12,28 +12,29 @@ use u_program::{Block, Program, ReadError, read};
 use u_text::push_long;
 
 /// The fault that is told of a program's text.
-fn fault_of(error: ReadError) -> Fault
-    ensures { result ≡ fault_of error }
+fn error_of(error: ReadError) -> CommandError
+    ensures { result ≡ error_of error }
 {
     match error {
-        ReadError::BadLine(line) => Fault::LineNotAllowed(line),
-        ReadError::TooMany(line) => Fault::TooMany(line),
-        ReadError::Truncated => Fault::CutShort,
-        ReadError::NoMemory => Fault::NoMemory,
+        ReadError::BadLine(line) => CommandError::LineNotAllowed(line),
+        ReadError::TooMany(line) => CommandError::TooMany(line),
+        ReadError::Truncated => CommandError::CutShort,
+        ReadError::NoMemory => CommandError::NoMemory,
     }
 }
 
 /// The program with this text, where it breaks no rule.
-pub fn checked_of(alloc: Global, bytes: &[u8]) -> Result<Checked, Fault>
-    ensures { MatchResult result (λ p. IsCheckedOf bytes.now p) (λ fault. CheckRefused bytes.now fault) }
+pub fn checked_of(alloc: Global, bytes: &[u8]) -> Result<Checked, CommandError>
+    ensures { MatchResult result (λ p. IsCheckedOf bytes.now p)
+        (λ fault. CheckRefused bytes.now fault) }
 {
     let program = match read(alloc, bytes) {
         Ok(program) => program,
-        Err(error) => return Err(fault_of(error)),
+        Err(error) => return Err(error_of(error)),
     };
     match check(program) {
         Ok(checked) => Ok(checked),
-        Err(refused) => Err(Fault::Rule(refused.breach)),
+        Err(refused) => Err(CommandError::Rule(refused.breach)),
     }
 }
 
@@ -68,13 +69,17 @@ fn checked_line(alloc: Global, program: &Program) -> Result<Vec<u8>, AllocError>
 /// # Errors
 /// A fault of the program's text or of the checker, in that order, or want of memory: nothing is
 /// written. `NotWritten`: a prefix of the line is written.
-pub fn check_text<W: Write>(alloc: Global, program: &[u8], writer: &mut W) -> Result<u8, Fault>
+pub fn check_text<W: Write>(
+    alloc: Global,
+    program: &[u8],
+    writer: &mut W,
+) -> Result<u8, CommandError>
     ensures { CheckTextAnswer program.now (W.contents writer.old) result (W.contents writer.new) }
 {
     let checked = checked_of(alloc, program)?;
     let line = checked_line(alloc, checked.program())?;
     match write_whole(writer, &line) {
         Ok(()) => Ok(0),
-        Err(_) => Err(Fault::NotWritten),
+        Err(_) => Err(CommandError::NotWritten),
     }
 }

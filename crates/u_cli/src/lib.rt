@@ -3,7 +3,7 @@
 
 mod argument;
 mod checking;
-mod fault;
+mod command_error;
 mod input;
 mod number;
 mod output;
@@ -11,7 +11,7 @@ mod run;
 
 pub use argument::argument_of;
 pub use checking::check_text;
-pub use fault::Fault;
+pub use command_error::CommandError;
 pub use input::{INPUT_LIMIT, read_input};
 pub use number::firings_of;
 pub use output::{Unwritten, write_whole};

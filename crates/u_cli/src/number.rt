@@ -9,7 +9,7 @@ const MOST_FIRINGS: u32 = 1_000_000;
 
 /// The number of firings, from 1 to 1000000, that a word of the command line is. It has one
 /// spelling: no sign and no leading zero.
-#[tactic(auto, using(u_text::specs::WholeWords::number_word_complete))]
+#[tactic(auto, using(u_text::proofs::WholeWordsLaws::number_word_complete))]
 pub fn firings_of(word: &str) -> Option<usize>
     ensures some { IfSome result (λ n. IsFirings n × IsFiringsText n word.now) }
     ensures none { IsNone result → (n : ℕ) → IsFirings n → IsFiringsText n word.now → ⊥ }

@@ -20,7 +20,8 @@ fn behind(bytes: &[u8], count: usize) -> &[u8]
 /// before is a prefix of the bytes.
 pub fn write_whole<W: Write>(writer: &mut W, bytes: &[u8]) -> Result<(), Unwritten>
     ensures ok { OnOk result (WritesAll (W.contents writer.old) (W.contents writer.new) bytes.now) }
-    ensures err { OnErr result (WritesPrefix (W.contents writer.old) (W.contents writer.new) bytes.now) }
+    ensures err { OnErr result
+        (WritesPrefix (W.contents writer.old) (W.contents writer.new) bytes.now) }
 {
     let mut rest = bytes;
     while !rest.is_empty() {

@@ -1,28 +1,29 @@
 //! The command `run`.
 ghost use Rattle.std.specs.Prelude.{◌≡◌, ◌≤◌, IfOk, IfErr, MatchResult, IsTrue, List, ℕ, Contains, length};
 ghost use Rattle.u_check.specs.Jobs.{JobParts};
-ghost use Rattle.u_cli.specs.Runs.{IsJobOf, Runs, RunTextAnswer, JobRefused, IsStatusOf, RunsJob, state_of};
-ghost use Rattle.u_cli.specs.declared.fault.Fault.TheVariants as faults;
+ghost use Rattle.u_cli.specs.Runs.{IsJobOf, ReportsRun, RunTextAnswer, JobRefused, IsStatusOf, ReportsRunOfJob, state_of};
+ghost use Rattle.u_cli.specs.declared.command_error.CommandError.TheVariants as faults;
 ghost use Rattle.u_history.specs.Report.{IsReportOf};
 ghost use Rattle.u_cli.specs.Statuses.{status_of};
 ghost use Rattle.u_history.specs.Verdicts.{judgement};
 
 use crate::argument::argument_of;
 use crate::checking::checked_of;
-use crate::fault::Fault;
+use crate::command_error::CommandError;
 use crate::output::write_whole;
 use std::alloc::{AllocError, Global};
 use std::io::Write;
 use u_check::Job;
-use u_history::{History, State, Verdict, report_text};
+use u_history::{Ending, History, Verdict, report_text};
 use u_machine::{Machine, Ran, Refusal};
 
 /// How many firings a machine of the program takes at most.
 pub const FIRING_LIMIT: usize = 1_000_000;
 
 /// The job of the program with this text on the argument that the word gives.
-fn job_of(alloc: Global, bytes: &[u8], word: &[u8]) -> Result<Job, Fault>
-    ensures { MatchResult result (λ job. IsJobOf bytes.now word.now job) (λ fault. JobRefused bytes.now word.now fault) }
+fn job_of(alloc: Global, bytes: &[u8], word: &[u8]) -> Result<Job, CommandError>
+    ensures { MatchResult result (λ job. IsJobOf bytes.now word.now job)
+        (λ fault. JobRefused bytes.now word.now fault) }
 {
     let checked = match checked_of(alloc, bytes) {
         Ok(checked) => checked,
@@ -30,23 +31,23 @@ fn job_of(alloc: Global, bytes: &[u8], word: &[u8]) -> Result<Job, Fault>
     };
     match argument_of(word) {
         Some(argument) => Ok(Job::new(checked, argument)),
-        None => Err(Fault::ArgumentNotAllowed),
+        None => Err(CommandError::ArgumentNotAllowed),
     }
 }
 
 /// The exit status of a report with that state and verdict.
-fn status(state: State, verdict: Verdict<'_>) -> u8
+fn status(state: Ending, verdict: Verdict<'_>) -> u8
     ensures { result ≡ status_of state (judgement verdict.entry) }
 {
     match (state, verdict) {
-        (State::Paused, _) => 4,
-        (State::Quiet, Verdict::Answer(_)) => 0,
-        (State::Quiet, _) => 3,
+        (Ending::Paused, _) => 4,
+        (Ending::Quiet, Verdict::Answer(_)) => 0,
+        (Ending::Quiet, _) => 3,
     }
 }
 
 /// The exit status of a report of that history.
-fn status_of(state: State, history: &History) -> Result<u8, AllocError>
+fn status_of(state: Ending, history: &History) -> Result<u8, AllocError>
     ensures { IfOk result (λ s. IsStatusOf (Contains history.now) state s) }
 {
     let outcome = history.outcome()?;
@@ -55,18 +56,20 @@ fn status_of(state: State, history: &History) -> Result<u8, AllocError>
 }
 
 /// The state that a report names.
-fn state_of(ran: Ran) -> State
+fn state_of(ran: Ran) -> Ending
     ensures { result ≡ state_of ran }
 {
     match ran {
-        Ran::Quiet => State::Quiet,
-        Ran::Paused => State::Paused,
+        Ran::Quiet => Ending::Quiet,
+        Ran::Paused => Ending::Paused,
     }
 }
 
 /// The report of a machine, and the exit status.
-fn told(alloc: Global, machine: &Machine<'_>, state: State) -> Result<(Vec<u8>, u8), AllocError>
-    ensures report { IfOk result (λ p. IsReportOf (Contains machine.now.history) state (length machine.now.log) 0 p.0.items) }
+fn told(alloc: Global, machine: &Machine<'_>, state: Ending) -> Result<(Vec<u8>, u8), AllocError>
+    ensures report { IfOk result
+        (λ p. IsReportOf (Contains machine.now.history) state
+        (length machine.now.log) 0 p.0.items) }
     ensures status { IfOk result (λ p. IsStatusOf (Contains machine.now.history) state p.1) }
 {
     let history = machine.history();
@@ -77,15 +80,15 @@ fn told(alloc: Global, machine: &Machine<'_>, state: State) -> Result<(Vec<u8>, 
 }
 
 /// The report of a new machine of the job after so many firings at most, and the exit status.
-fn run_job(alloc: Global, job: &Job, firings: usize) -> Result<(Vec<u8>, u8), Fault>
+fn run_job(alloc: Global, job: &Job, firings: usize) -> Result<(Vec<u8>, u8), CommandError>
     requires { firings ≤ 1000000 }
-    ensures ok { IfOk result (λ p. RunsJob job.now firings p.0.items p.1) }
+    ensures ok { IfOk result (λ p. ReportsRunOfJob job.now firings p.0.items p.1) }
     ensures memory { IfErr result (λ e. e ≡ faults.NoMemory) }
 {
     let mut machine = Machine::new(alloc, job, FIRING_LIMIT)?;
     let ran = match machine.run(firings) {
         Ok(ran) => ran,
-        Err(Refusal::NoMemory) => return Err(Fault::NoMemory),
+        Err(Refusal::NoMemory) => return Err(CommandError::NoMemory),
         Err(Refusal::Full) => unreachable!(),
     };
     machine.holds();
@@ -106,14 +109,15 @@ pub fn run_text<W: Write>(
     argument: &[u8],
     firings: usize,
     writer: &mut W,
-) -> Result<u8, Fault>
+) -> Result<u8, CommandError>
     requires { firings ≤ 1000000 }
-    ensures { RunTextAnswer program.now argument.now firings (W.contents writer.old) result (W.contents writer.new) }
+    ensures { RunTextAnswer program.now argument.now firings (W.contents writer.old) result
+        (W.contents writer.new) }
 {
     let job = job_of(alloc, program, argument)?;
     let (report, status) = run_job(alloc, &job, firings)?;
     match write_whole(writer, &report) {
         Ok(()) => Ok(status),
-        Err(_) => Err(Fault::NotWritten),
+        Err(_) => Err(CommandError::NotWritten),
     }
 }

@@ -5,7 +5,7 @@ use u_history::History;
 use u_machine::{Machine, Step};
 use u_plain::{are_among, are_firings, are_in, enabled, held, ready_firings, whole};
 use u_rule::{Entry, Firing};
-use u_system::OrderedSet;
+use u_sets::OrderedSet;
 
 /// Whether the scan finds these firings over the history, each of them once.
 fn is_scanned(

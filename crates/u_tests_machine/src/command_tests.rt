@@ -6,7 +6,7 @@ use std::io;
 use std::io::Read;
 use std::test::Fail;
 use u_cli::{
-    FIRING_LIMIT, Fault, INPUT_LIMIT, STORED_PROGRAM, argument_of, check_text, firings_of,
+    CommandError, FIRING_LIMIT, INPUT_LIMIT, STORED_PROGRAM, argument_of, check_text, firings_of,
     read_input, run_text, write_whole,
 };
 use u_plain::examples::DOUBLE;
@@ -56,14 +56,14 @@ fn reports(
     argument: &[u8],
     report: &[u8],
     status: u8,
-) -> Result<bool, Fault> {
+) -> Result<bool, CommandError> {
     let mut out = Vec::new(alloc);
     let ended = run_text(alloc, program, argument, FIRING_LIMIT, &mut out)?;
     Ok(ended == status && out.as_slice() == report)
 }
 
 /// Whether a check of the program writes this line.
-fn checks(alloc: Global, program: &[u8], line: &[u8]) -> Result<bool, Fault> {
+fn checks(alloc: Global, program: &[u8], line: &[u8]) -> Result<bool, CommandError> {
     let mut out = Vec::new(alloc);
     let ended = check_text(alloc, program, &mut out)?;
     Ok(ended == 0 && out.as_slice() == line)
@@ -82,7 +82,7 @@ fn programs_are_run_and_checked(rt: HostRuntime) -> Result<(), Fail> {
 }
 
 /// How many of so many bytes are read.
-fn length_read(alloc: Global, length: u64) -> Result<usize, Fault> {
+fn length_read(alloc: Global, length: u64) -> Result<usize, CommandError> {
     let all = read_input(alloc, io::repeat(b'x').take(length))?;
     Ok(all.len())
 }
@@ -92,14 +92,14 @@ fn an_input_is_read_up_to_its_greatest_length(rt: HostRuntime) {
     let greatest = length_read(rt.alloc(), 67_108_864);
     assert!(rt; matches!(greatest, Ok(INPUT_LIMIT)));
     let greater = length_read(rt.alloc(), 67_108_865);
-    assert!(rt; matches!(greater, Err(Fault::InputTooLong)));
+    assert!(rt; matches!(greater, Err(CommandError::InputTooLong)));
 }
 
 /// Whether an input that fails behind so many bytes is told.
 fn tells_of_reads(alloc: Global, count: usize) -> bool {
     matches!(
         read_input(alloc, Torn { left: count }),
-        Err(Fault::NotReadable)
+        Err(CommandError::NotReadable)
     )
 }
 
@@ -111,8 +111,8 @@ fn tells_of_writes(alloc: Global, count: usize) -> bool {
     let mut plain = Torn { left: count };
     let ran = run_text(alloc, STORED_PROGRAM, b"4", 100, &mut run);
     let checked = check_text(alloc, STORED_PROGRAM, &mut check);
-    matches!(ran, Err(Fault::NotWritten))
-        && matches!(checked, Err(Fault::NotWritten))
+    matches!(ran, Err(CommandError::NotWritten))
+        && matches!(checked, Err(CommandError::NotWritten))
         && write_whole(&mut plain, EIGHT).is_err()
         && run.left == 0
         && check.left == 0
@@ -171,19 +171,23 @@ fn words_are_numbers(rt: HostRuntime) {
 }
 
 /// Faults, as they are printed, with their statuses.
-const FAULTS: &[(Fault, &str, u8)] = &[
-    (Fault::LineNotAllowed(7), "program line 7 not allowed", 2),
-    (Fault::TooMany(3), "program line 3 has too many", 2),
-    (Fault::CutShort, "program cut short", 2),
-    (Fault::ArgumentNotAllowed, "argument not allowed", 2),
-    (Fault::InputTooLong, "input too long", 2),
-    (Fault::NoMemory, "no memory", 5),
-    (Fault::NotReadable, "not readable", 5),
-    (Fault::NotWritten, "not written", 5),
+const FAULTS: &[(CommandError, &str, u8)] = &[
+    (
+        CommandError::LineNotAllowed(7),
+        "program line 7 not allowed",
+        2,
+    ),
+    (CommandError::TooMany(3), "program line 3 has too many", 2),
+    (CommandError::CutShort, "program cut short", 2),
+    (CommandError::ArgumentNotAllowed, "argument not allowed", 2),
+    (CommandError::InputTooLong, "input too long", 2),
+    (CommandError::NoMemory, "no memory", 5),
+    (CommandError::NotReadable, "not readable", 5),
+    (CommandError::NotWritten, "not written", 5),
 ];
 
 /// Whether the fault is printed so.
-fn prints(alloc: Global, fault: &Fault, text: &str) -> Result<bool, AllocError> {
+fn prints(alloc: Global, fault: &CommandError, text: &str) -> Result<bool, AllocError> {
     let printed = format!(in alloc; "{fault}")?;
     Ok(printed.as_str() == text)
 }

@@ -7,7 +7,7 @@ use u_machine::{Machine, Ran, TakeRefusal, Took};
 use u_plain::shuffling::shuffled;
 use u_plain::worked::add_firing;
 use u_rule::Firing;
-use u_system::OrderedSet;
+use u_sets::OrderedSet;
 
 /// How another machine gets the firings.
 #[derive(Clone, Copy)]

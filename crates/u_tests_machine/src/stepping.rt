@@ -8,7 +8,7 @@ use u_machine::{Machine, Step, TakeRefusal, Took};
 use u_plain::worked::add_firing;
 use u_plain::{are_among, are_firings, is_enabled, ready_firings};
 use u_rule::{Entry, Firing};
-use u_system::OrderedSet;
+use u_sets::OrderedSet;
 
 /// Adds copies of the firings that the machine took.
 fn add_taken(

@@ -1,4 +1,4 @@
-use Rattle.u_cli.specs.Arguments.{argument_none}
+use Rattle.u_cli.proofs.ArgumentLaws.{argument_none}
 use Rattle.u_cli.proofs.argument.argument_of.Goals as goal
 
 pub returns-in-None : goal.returns-in-None

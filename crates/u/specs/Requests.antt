@@ -1,13 +1,13 @@
--- The orders of a command line.
+-- The asks for of a command line.
 use Rattle.std.specs.Prelude.{◌≡◌, ℕ, List, [], Option, Some, None, codes}
 use Rattle.clap.specs.Words.{first_value}
 use Rattle.clap.specs.declared.parser.matches.Found.{Found}
-use Rattle.u.specs.declared.words.Order.{Order}
-use Rattle.u.specs.declared.words.Order.TheVariants.{Stored, Check, Run}
+use Rattle.u.specs.declared.words.Request.{Request}
+use Rattle.u.specs.declared.words.Request.TheVariants.{Stored, Check, Run}
 use Rattle.u_cli.specs.Firings.{IsFirings, IsFiringsText}
 
 -- a run may fire from one to a million times
-abbrev pub HasFirings : Order → Type 0
+abbrev pub HasFirings : Request → Type 0
 HasFirings Stored = Unit {0}
 HasFirings (Check file) = Unit {0}
 HasFirings (Run file argument firings) = IsFirings firings
@@ -21,16 +21,16 @@ abbrev pub word_of : Found → List ℕ → List ℕ
 word_of found name = text_or_none (first_value found name)
 
 -- a check, with the word that was found for it
-abbrev pub IsCheckOf : Found → Order → Type 0
-IsCheckOf found Stored = ⊥
-IsCheckOf found (Check file) = file.now ≡ word_of found (codes "FILE")
-IsCheckOf found (Run file argument firings) = ⊥
+abbrev pub IsCheckRequest : Found → Request → Type 0
+IsCheckRequest found Stored = ⊥
+IsCheckRequest found (Check file) = file.now ≡ word_of found (codes "FILE")
+IsCheckRequest found (Run file argument firings) = ⊥
 
 -- a run, with the words that were found for it
-abbrev pub IsRunOf : Found → Order → Type 0
-IsRunOf found Stored = ⊥
-IsRunOf found (Check file) = ⊥
-IsRunOf found (Run file argument firings) =
+abbrev pub IsRunRequest : Found → Request → Type 0
+IsRunRequest found Stored = ⊥
+IsRunRequest found (Check file) = ⊥
+IsRunRequest found (Run file argument firings) =
     (file.now ≡ word_of found (codes "FILE"))
     × (argument.now ≡ word_of found (codes "ARG"))
     × IsFirings firings

@@ -1,6 +1,6 @@
 //! Why a command gives no whole output.
 ghost use Rattle.std.specs.Prelude.{◌≡◌};
-ghost use Rattle.u_cli.specs.Statuses.{status_of_fault};
+ghost use Rattle.u_cli.specs.Statuses.{status_of_error};
 
 use std::alloc::AllocError;
 use thiserror::Error;
@@ -8,7 +8,7 @@ use u_check::Breach;
 
 /// Why a command gives no whole output. It prints as the text that stands behind `u: `.
 #[derive(Debug, Drop, PartialEq, Eq, Error)]
-pub enum Fault {
+pub enum CommandError {
     /// This line of the program is not allowed; lines count from 1.
     #[error("program line {0} not allowed")]
     LineNotAllowed(usize),
@@ -38,29 +38,29 @@ pub enum Fault {
     NotWritten,
 }
 
-impl From<AllocError> for Fault {
-    ghost use Rattle.u_cli.specs.declared.fault.Fault.TheVariants as faults;
+impl From<AllocError> for CommandError {
+    ghost use Rattle.u_cli.specs.declared.command_error.CommandError.TheVariants as faults;
 
     ghost from_gives = { λ _ e. e ≡ faults.NoMemory };
 
-    fn from(_: AllocError) -> Fault {
-        Fault::NoMemory
+    fn from(_: AllocError) -> CommandError {
+        CommandError::NoMemory
     }
 }
 
-impl Fault {
+impl CommandError {
     /// The exit status: 2 where a text is refused, 5 where the machine's surroundings fail.
     pub fn status(&self) -> u8
-        ensures { result ≡ status_of_fault self.now }
+        ensures { result ≡ status_of_error self.now }
     {
         match self {
-            Fault::LineNotAllowed(_)
-            | Fault::TooMany(_)
-            | Fault::CutShort
-            | Fault::Rule(_)
-            | Fault::ArgumentNotAllowed
-            | Fault::InputTooLong => 2,
-            Fault::NoMemory | Fault::NotReadable | Fault::NotWritten => 5,
+            CommandError::LineNotAllowed(_)
+            | CommandError::TooMany(_)
+            | CommandError::CutShort
+            | CommandError::Rule(_)
+            | CommandError::ArgumentNotAllowed
+            | CommandError::InputTooLong => 2,
+            CommandError::NoMemory | CommandError::NotReadable | CommandError::NotWritten => 5,
         }
     }
 }
