@@ -2,6 +2,7 @@
 use Rattle.std.proofs.Common.{◌≡◌, ◌↔◌, ◌⊎◌, inl, inr, List, [], ◌∷◌, Bool, true, false, cond, ◌||◌, IsTrue, Contains, subst, sym, ◌∙◌, ap, refl, Ordering, not}
 use Rattle.std.specs.Cmp.{IsEquivalence, Equal-is}
 use Rattle.std.specs.List.{list_any}
+use Rattle.std.proofs.lemmas.Bool.{or_cases, or_right}
 use Rattle.std.specs.Ordering.{is_eq}
 use Rattle.u_system.proofs.Member.{Contains-nil, Contains-head, Contains-tail, Contains-cons_cases}
 use Rattle.u_sets.specs.Rising.{IsExact}
@@ -12,18 +13,10 @@ pub exactly : {X : Type 0} (E : X → X → Bool) (R : X → X → Ordering) →
 exactly E R exact ties a b e = exact a b ((Equal-is (R a b)).0 (sym (ties a b) ∙ e))
 
 module _ {X : Type 0} (E : X → X → Bool) (o : IsEquivalence E) (exact : (a b : X) → E a b ≡ true → a ≡ b) where
-  or_true : (a b : Bool) → (a || b) ≡ true → (a ≡ true) ⊎ (b ≡ true)
-  or_true true b h = inl refl
-  or_true false b h = inr h
-
-  true_or : (a b : Bool) → b ≡ true → (a || b) ≡ true
-  true_or true b h = refl
-  true_or false b h = h
-
   pub found : (xs : List X) (x : X) → list_any (E x) xs ≡ true → Contains xs x
   found [] x h = cc
   found (y ∷ ys) x h =
-      elim (or_true (E x y) (list_any (E x) ys) h) [
+      elim (or_cases (E x y) (list_any (E x) ys) h) [
         | inl e ↦ subst (λ (z : X). Contains (y ∷ ys) z) (sym (exact x y e)) (Contains-head y ys)
         | inr k ↦ Contains-tail y x ys (found ys x k)
       ]
@@ -36,7 +29,7 @@ module _ {X : Type 0} (E : X → X → Bool) (o : IsEquivalence E) (exact : (a b
   finds (y ∷ ys) x m =
       elim (Contains-cons_cases y x ys m) [
         | inl e ↦ ap (λ t. t || list_any (E x) ys) (itself x y (sym e))
-        | inr k ↦ true_or (E x y) (list_any (E x) ys) (finds ys x k)
+        | inr k ↦ or_right (E x y) (list_any (E x) ys) (finds ys x k)
       ]
 
   -- whether x was not there

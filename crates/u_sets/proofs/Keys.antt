@@ -2,7 +2,8 @@
 use Rattle.std.proofs.Common.{◌≡◌, ◌↔◌, ◌⊎◌, inl, inr, List, [], ◌∷◌, Bool, true, false, cond, ◌||◌, IsTrue, Contains, subst, sym, ◌∙◌, ap, refl, Ordering, not}
 use Rattle.std.specs.Cmp.{IsTotalOrder, tied_itself, Equal-is}
 use Rattle.std.specs.List.{list_any}
-use Rattle.std.specs.Ordering.{is_eq, match_ordering, ordering_reverse}
+use Rattle.std.proofs.lemmas.Bool.{or_cases, or_right}
+use Rattle.std.specs.Ordering.{is_eq, match_ordering}
 use Rattle.std.specs.BTreeMap.{is_at}
 use Rattle.std.specs.BTreeSet.{insert_key}
 use Rattle.std.specs.Set.{remove_key}
@@ -10,20 +11,13 @@ use Rattle.std.specs.declared.cmp.Ordering.TheVariants.{Less, Equal, Greater}
 use Rattle.u_system.proofs.Member.{Contains-nil, Contains-head, Contains-tail, Contains-cons_cases}
 use Rattle.u_sets.specs.Rising.{Rises, IsExact}
 use Rattle.u_sets.specs.Members.{IsWith, IsWithout}
+use Rattle.u_sets.proofs.Sorted.{turn_greater}
 
 module _ {X : Type 0} (R : X → X → Ordering) (o : IsTotalOrder R) (exact : IsExact R) where
-  or_true : (a b : Bool) → (a || b) ≡ true → (a ≡ true) ⊎ (b ≡ true)
-  or_true true b h = inl refl
-  or_true false b h = inr h
-
-  true_or : (a b : Bool) → b ≡ true → (a || b) ≡ true
-  true_or true b h = refl
-  true_or false b h = h
-
   pub found : (xs : List X) (x : X) → list_any (is_at (R x)) xs ≡ true → Contains xs x
   found [] x h = cc
   found (y ∷ ys) x h =
-      elim (or_true (is_at (R x) y) (list_any (is_at (R x)) ys) h) [
+      elim (or_cases (is_at (R x) y) (list_any (is_at (R x)) ys) h) [
         | inl e ↦ subst (λ (z : X). Contains (y ∷ ys) z) (sym (exact x y ((Equal-is (R x y)).0 e))) (Contains-head y ys)
         | inr k ↦ Contains-tail y x ys (found ys x k)
       ]
@@ -33,7 +27,7 @@ module _ {X : Type 0} (R : X → X → Ordering) (o : IsTotalOrder R) (exact : I
   finds (y ∷ ys) x m =
       elim (Contains-cons_cases y x ys m) [
         | inl e ↦ ap (λ t. is_eq t || list_any (is_at (R x)) ys) (subst (λ (z : X). R x z ≡ Equal) (sym e) (tied_itself o x))
-        | inr k ↦ true_or (is_at (R x) y) (list_any (is_at (R x)) ys) (finds ys x k)
+        | inr k ↦ or_right (is_at (R x) y) (list_any (is_at (R x)) ys) (finds ys x k)
       ]
 
   -- the set with x besides
@@ -61,9 +55,6 @@ module _ {X : Type 0} (R : X → X → Ordering) (o : IsTotalOrder R) (exact : I
               ]
           back (inr e) = Contains-tail y z (insert_key R ys x) ((rest z).1 (inr e))
 
-  turn : (x y : X) → R x y ≡ Greater → R y x ≡ Less
-  turn x y e = o.antisymm y x ∙ ap ordering_reverse e
-
   pub rises_still : (xs : List X) (x : X) → Rises R xs → Rises R (insert_key R xs x)
   rises_still [] x r = ((λ y m. absurd (Contains-nil y m)), tt)
   rises_still (y ∷ ys) x r = at (rises_still ys x r.1) (R x y) refl
@@ -73,7 +64,7 @@ module _ {X : Type 0} (R : X → X → Ordering) (o : IsTotalOrder R) (exact : I
           ((λ z m. elim (Contains-cons_cases y z ys m) [ inl p ↦ subst (λ (w : X). R x w ≡ Less) p e | inr n ↦ o.trans x y z e (r.0 z n) ]), r)
       at still Equal e = r
       at still Greater e =
-          ((λ z m. elim ((inserts ys x z).0 m) [ inl n ↦ r.0 z n | inr p ↦ subst (λ (w : X). R y w ≡ Less) p (turn x y e) ]), still)
+          ((λ z m. elim ((inserts ys x z).0 m) [ inl n ↦ r.0 z n | inr p ↦ subst (λ (w : X). R y w ≡ Less) p (turn_greater R o y x e) ]), still)
 
   -- whether x was not there
   pub was_new : (xs : List X) (x : X) (b : Bool) → b ≡ not (list_any (is_at (R x)) xs) → IsTrue b ↔ (Contains xs x → ⊥)

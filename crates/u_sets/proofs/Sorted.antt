@@ -12,7 +12,7 @@ use Rattle.u_sets.specs.Rising.{Ascending}
 use Rattle.u_system.proofs.Member.{Contains-cons_cases}
 
 module _ {X : Type 0} (R : X → X → Ordering) (o : IsTotalOrder R) where
-  turn_greater : (x y : X) → R y x ≡ Greater → R x y ≡ Less
+  pub turn_greater : (x y : X) → R y x ≡ Greater → R x y ≡ Less
   turn_greater x y e = o.antisymm x y ∙ ap ordering_reverse e
 
   up_at : (xs : List X) (k : ℕ) (d : X) → suc k < length xs → Ascending (λ a b. R a b ≡ Less) xs → R (get_or xs k d) (get_or xs (suc k) d) ≡ Less

@@ -21,8 +21,9 @@ module _ {E F : Type 0} (s : System E F) where
       (elim (Contains-push_cases fs g f m) [ inl a ↦ q f a | inr e ↦ subst (λ (x : F). Enabled s (Held s fs) x) e en ]))
 
 -- `Clash`, as two values at one port; `Cells`, as two pairs of one cell.
+-- `alone`: no firing that is enabled over a run's history gives an entry that clashes with the start.
 -- `origin`: where two firings that are enabled over one history give entries that clash, that history has a clash or a cell with two pairs.
-module _ {E F : Type 0} (s : System E F) (Clash Cells : E → E → Type 0) (turned : (a b : E) → Clash a b → Clash b a) (never : Clash s.start s.start → ⊥) (alone : (f : F) (e : E) → Contains (s.gives f) e → Clash e s.start → ⊥) (origin : (fs : List F) → Derivation s fs → (f g : F) → Enabled s (Held s fs) f → Enabled s (Held s fs) g → (a b : E) → Contains (s.gives f) a → Contains (s.gives g) b → Clash a b → Both Clash (Held s fs) ⊎ Both Cells (Held s fs)) where
+module _ {E F : Type 0} (s : System E F) (Clash Cells : E → E → Type 0) (turned : (a b : E) → Clash a b → Clash b a) (never : Clash s.start s.start → ⊥) (alone : (fs : List F) → Derivation s fs → (f : F) → Enabled s (Held s fs) f → (e : E) → Contains (s.gives f) e → Clash e s.start → ⊥) (origin : (fs : List F) → Derivation s fs → (f g : F) → Enabled s (Held s fs) f → Enabled s (Held s fs) g → (a b : E) → Contains (s.gives f) a → Contains (s.gives g) b → Clash a b → Both Clash (Held s fs) ⊎ Both Cells (Held s fs)) where
   wider : (R : E → E → Type 0) (fs : List F) (f : F) → Both R (Held s fs) → Both R (Held s (fs ++ f ∷ []))
   wider R fs f (a, b, h, k, r) = (a, b, Held-append_left s fs (f ∷ []) a h, Held-append_left s fs (f ∷ []) b k, r)
 
@@ -36,7 +37,7 @@ module _ {E F : Type 0} (s : System E F) (Clash Cells : E → E → Type 0) (tur
 
     -- a clash of what f gives and what was held
     one_new : (a b : E) → Contains (s.gives f) a → Held s fs b → Clash a b → Both Cells (Held s (fs ++ f ∷ []))
-    one_new a b g (inl e) c = absurd (alone f a g (subst (λ (x : E). Clash a x) e c))
+    one_new a b g (inl e) c = absurd (alone fs d f en a g (subst (λ (x : E). Clash a x) e c))
     one_new a b g (inr (h, m, k)) c = settled (origin fs d f h en (Derivation-enabled s fs d h m) a b g k c)
 
     pushed : Both Clash (Held s (fs ++ f ∷ [])) → Both Cells (Held s (fs ++ f ∷ []))

@@ -2,6 +2,7 @@
 use Rattle.std.proofs.Common.{◌≡◌, ℕ, zero, suc, List, [], ◌∷◌, ◌++◌, ◌⊎◌, inl, inr, refl, sym, take, Some, append_assoc, append-nil, subst}
 use Rattle.std.specs.Prelude.{Contains, slice_get, ◌↔◌}
 use Rattle.std.proofs.lemmas.List.Elements.{Contains-append_left, Contains-append_right, Contains-append_cases}
+use Rattle.std.proofs.lemmas.Option.{same_Some}
 use Rattle.u_system.specs.Firing.{System, Held, Enabled, Derivation, Follows}
 use Rattle.u_system.proofs.Member.{Contains-nil, Contains-head, Contains-cons_cases}
 
@@ -65,10 +66,7 @@ module _ {E F : Type 0} (s : System E F) where
   -- place by place, and one after another
   pub Follows-at : (done fs : List F) → Follows s done fs → (k : ℕ) (f : F) → slice_get fs k ≡ Some f → Enabled s (Held s (done ++ take k fs)) f
   Follows-at done [] d k f e = absurd (cc)
-  Follows-at done (g ∷ fs) d zero f e = rw append-nil (subst (λ x. Enabled s (Held s done) x) (some_inj g f e) d.0)
-    where
-      some_inj : (a b : F) → Some a ≡ Some b → a ≡ b
-      some_inj a b p = cc
+  Follows-at done (g ∷ fs) d zero f e = rw append-nil (subst (λ x. Enabled s (Held s done) x) (same_Some g f e) d.0)
   Follows-at done (g ∷ fs) d (suc k) f e = rw append_assoc at (Follows-at (done ++ g ∷ []) fs d.1 k f e)
 
   pub Follows-from_at : (done fs : List F) → ((k : ℕ) (f : F) → slice_get fs k ≡ Some f → Enabled s (Held s (done ++ take k fs)) f) → Follows s done fs

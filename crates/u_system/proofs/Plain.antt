@@ -1,6 +1,7 @@
 -- Facts about each place of a list, and what follows from `Plain`.
 use Rattle.std.proofs.Common.{◌≡◌, ℕ, zero, suc, ◌<◌, List, [], ◌∷◌, ◌++◌, inl, inr, refl, subst, take, length, Some, append_assoc, append-nil, arith}
 use Rattle.std.specs.Prelude.{slice_get}
+use Rattle.std.proofs.lemmas.Option.{same_Some}
 use Rattle.u_system.specs.Firing.{System, Held, Derivation, Distinct, EachPlace, IsNext, Plain, Whole, Same}
 use Rattle.u_system.proofs.Apart.{Distinct-push}
 use Rattle.u_system.proofs.Closure.{Quiet-whole}
@@ -14,10 +15,7 @@ module _ {F : Type 0} (P : List F → F → Type 0) where
   After-at : (done fs : List F) → After done fs → (k : ℕ) (f : F) → slice_get fs k ≡ Some f → P (done ++ take k fs) f
   unfolding After
   After-at done [] d k f e = absurd (cc)
-  After-at done (g ∷ fs) d zero f e = rw append-nil (subst (λ (x : F). P done x) (inj g f e) d.0)
-    where
-      inj : (a b : F) → Some a ≡ Some b → a ≡ b
-      inj a b p = cc
+  After-at done (g ∷ fs) d zero f e = rw append-nil (subst (λ (x : F). P done x) (same_Some g f e) d.0)
   After-at done (g ∷ fs) d (suc k) f e = rw append_assoc at (After-at (done ++ g ∷ []) fs d.1 k f e)
 
   After-from : (done fs : List F) → ((k : ℕ) (f : F) → slice_get fs k ≡ Some f → P (done ++ take k fs) f) → After done fs
