@@ -3,7 +3,7 @@ use Rattle.std.specs.Prelude.{◌≡◌, ℕ, zero, suc, ◌+◌, ◌≤◌, Lis
 use Rattle.std.proofs.Common.{sym, ◌∙◌, ap, subst, inl, inr, append_assoc, arith}
 use Rattle.std.proofs.lemmas.List.{append-nil}
 use Rattle.std.specs.Fmt.{decimal}
-use Rattle.u_text.proofs.ReaderLaws.{Reads}
+use Rattle.u_text.proofs.ReaderLaws.{Reads, heads}
 use Rattle.u_text.specs.Reader.{Reader}
 use Rattle.u_text.proofs.PartsLaws.{NoByte, empty_Reads, lead_Reads}
 use Rattle.u_text.specs.Parts.{empty}
@@ -46,14 +46,11 @@ name_at = mapped name_of whole_at
 byte_Reads : (c : ℕ) → Reads (λ (z : Unit {0}). c ∷ []) IsUnit NoByte (byte c)
 byte_Reads c = lead_Reads c (empty_Reads tt)
 
-head_same : (c d : ℕ) (t u : List ℕ) → c ∷ t ≡ d ∷ u → d ≡ c
-head_same c d t u e = cc
-
 no_dot_in_block : (c : ℕ) (t u : List ℕ) → IsBlockByte c → 46 ∷ t ≡ c ∷ u → ⊥
-no_dot_in_block c t u m e = let f : is_block_byte 46 ≡ true = subst IsBlockByte (head_same 46 c t u e) m in cc
+no_dot_in_block c t u m e = let f : is_block_byte 46 ≡ true = subst IsBlockByte (sym (heads 46 c t u e)) m in cc
 
 no_other_digit : (o c : ℕ) (t u : List ℕ) → o ≤ 47 → IsDigit c → o ∷ t ≡ c ∷ u → ⊥
-no_other_digit o c t u low m e = let f = head_same o c t u e in omega (arith, m.0)
+no_other_digit o c t u low m e = let f = heads o c t u e in omega (arith, m.0)
 
 abbrev initiation_Reads : Reads decimal (IsUpTo 4294967295) IsDigit (number 4294967295)
 initiation_Reads = number_Reads 4294967295 (omega arith) (omega arith)
@@ -166,7 +163,7 @@ of_depth_again n (suc d) v = refl
 opens_Reads : (n : ℕ) → Reads opens_text (λ d. d ≤ n) NoByte (opens_at n)
 opens_Reads zero = mapped_Reads (byte_Reads 45) {f = λ _. 0} {g = λ _. tt} (record { there = λ x v. omega arith; spelled = λ x v. refl; back = λ z v. refl; again = λ z v. omega arith })
 opens_Reads (suc n) =
-    mapped_Reads (choice_Reads 40 (opens_Reads n) (byte_Reads 45) (λ y u v w e. let f = head_same 45 40 u v e in omega arith))
+    mapped_Reads (choice_Reads 40 (opens_Reads n) (byte_Reads 45) (λ y u v w e. let f = heads 45 40 u v e in omega arith))
     {f = to_depth} {g = of_depth}
     (record { there = to_depth_fine n; spelled = to_depth_text n; back = of_depth_fine n; again = of_depth_again n })
 

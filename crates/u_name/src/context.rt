@@ -124,7 +124,9 @@ impl Context {
         requires initiation_in { IsBetween 1 initiation 4294967295 }
         ensures { IfOk result (λ c. c ≡ InLoop outer block number initiation) }
     {
+        // Brings in that the outer context's parts are in their ranges.
         let _ = &outer.node;
+        // Brings in that the block's name is one: 1 to 16 letters, digits and `_`.
         let _ = block.as_bytes();
         let outer = outer.shared(alloc)?;
         Ok(Context {
@@ -153,7 +155,9 @@ impl Context {
         requires initiation_in { IsBetween 1 initiation 4294967295 }
         ensures { IfOk result (λ c. c ≡ InCall outer block statement initiation) }
     {
+        // Brings in that the outer context's parts are in their ranges.
         let _ = &outer.node;
+        // Brings in that the block's name is one: 1 to 16 letters, digits and `_`.
         let _ = block.as_bytes();
         let outer = outer.shared(alloc)?;
         Ok(Context {

@@ -81,7 +81,9 @@ impl Name {
         requires initiation_in { IsBetween 1 initiation 4294967295 }
         ensures { result ≡ activity context block statement initiation }
     {
+        // Brings in that the context is at most 64 deep, and its parts are in their ranges.
         let _ = context.depth();
+        // Brings in that the block's name is one: 1 to 16 letters, digits and `_`.
         let _ = block.as_bytes();
         Name {
             context,
@@ -234,6 +236,7 @@ impl Name {
         if self.context.depth() == 64 {
             return Err(NameError::Deep);
         }
+        // Brings in that the block's name is one: 1 to 16 letters, digits and `_`.
         let _ = block.as_bytes();
         let outer = self.context.copy()?;
         Ok(Name {

@@ -1,6 +1,7 @@
 -- A text is cut into its pieces, and put together from them again.
 use Rattle.std.specs.Prelude.{◌≡◌, ℕ, zero, suc, ◌+◌, ◌≤◌, length, take, drop, true, false, cond, ◌==◌, List, [], ◌∷◌, ◌++◌, refl}
 use Rattle.std.proofs.Common.{sym, ◌∙◌, ap, subst, arith}
+use Rattle.std.proofs.lemmas.Bool.{eq-eqb, ne_eqb}
 use Rattle.std.proofs.lemmas.List.{take-append-drop, take_all}
 use Rattle.u_text.proofs.PartsLaws.{alike, unlike, same_or}
 use Rattle.u_text.specs.Pieces.{PiecesAndRest, onto, pieces}
@@ -18,20 +19,14 @@ pieces_other : (c b : ℕ) (bs : List ℕ) → (b == c) ≡ false → pieces c (
 unfolding pieces
 pieces_other c b bs h = ap (λ t. cond t ([] ∷ (pieces c bs).0, (pieces c bs).1) (onto b (pieces c bs))) h
 
-other : (c b : ℕ) → (b ≡ c → ⊥) → (b == c) ≡ false
-other c b h = elim (same_or b c) [ alike e f ↦ absurd (h e) | unlike e f ↦ f ]
-
-itself : (c : ℕ) → (c == c) ≡ true
-itself c = elim (same_or c c) [ alike e f ↦ f | unlike e f ↦ absurd (e refl) ]
-
 pub pieces_cut : (c : ℕ) (a r : List ℕ) → Free c a → pieces c (a ++ (c ∷ r)) ≡ (a ∷ (pieces c r).0, (pieces c r).1)
-pieces_cut c [] r f = pieces_same c c r (itself c)
-pieces_cut c (b ∷ a) r f = pieces_other c b (a ++ (c ∷ r)) (other c b f.0) ∙ ap (onto b) (pieces_cut c a r f.1)
+pieces_cut c [] r f = pieces_same c c r (eq-eqb c c refl)
+pieces_cut c (b ∷ a) r f = pieces_other c b (a ++ (c ∷ r)) (ne_eqb b c f.0) ∙ ap (onto b) (pieces_cut c a r f.1)
 
 pub pieces_free : (c : ℕ) (a : List ℕ) → Free c a → pieces c a ≡ ([], a)
 unfolding pieces
 pieces_free c [] f = refl
-pieces_free c (b ∷ a) f = pieces_other c b a (other c b f.0) ∙ ap (onto b) (pieces_free c a f.1)
+pieces_free c (b ∷ a) f = pieces_other c b a (ne_eqb b c f.0) ∙ ap (onto b) (pieces_free c a f.1)
 
 -- the text of pieces
 abbrev pub glued : ℕ → List (List ℕ) → List ℕ → List ℕ

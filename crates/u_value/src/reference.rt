@@ -1,12 +1,13 @@
 //! References to structures.
-ghost use Rattle.std.specs.Prelude.{◌≡◌, ◌≤◌, ◌++◌, IfOk, OnOk};
+ghost use Rattle.std.specs.Prelude.{◌≡◌, ◌≤◌, ◌++◌, IfOk, OnOk, OnErr};
+ghost use Rattle.u_text.specs.Appending.{Extends};
 ghost use Rattle.u_value.specs.Values.{pointer_text};
 ghost use Rattle.u_value.specs.Pointer.{pointer, IsPointer};
 
 use std::alloc::AllocError;
 use std::marker::Model;
 use u_name::Name;
-use u_text::push_behind;
+use u_text::{cut_back, push_behind};
 
 /// A structure: the name of the activity that made it, and its length, 0 to 1000000.
 #[derive(PartialEq, Eq, PartialOrd, Ord, Hash, Drop)]
@@ -65,12 +66,27 @@ impl Reference {
     }
 
     /// Appends the text of the reference: `&name#length`.
-    #[tactic(auto, using(crate::proofs::Written::pointer_more))]
+    ///
+    /// # Errors
+    /// `AllocError` where there is no memory. Then `out` is as it was.
+    #[tactic(auto, using(u_text::proofs::AppendingLaws::extends_cut))]
     pub fn write_text(&self, out: &mut Vec<u8>) -> Result<(), AllocError>
-        ensures { OnOk result (out.new.items ≡ out.old.items ++ pointer_text self.now) }
+        ensures ok { OnOk result (out.new.items ≡ out.old.items ++ pointer_text self.now) }
+        ensures err { OnErr result (out.new.items ≡ out.old.items) }
     {
-        out.push(b'&')?;
-        self.name().write_text(out)?;
-        push_behind(out, b'#', self.length())
+        let len = out.len();
+        let written = push_reference(out, self);
+        cut_back(out, len, written)
     }
+}
+
+/// Appends the text of the reference. On an error a part of it may stand there.
+#[tactic(auto, using(crate::proofs::Written::pointer_more, u_text::proofs::AppendingLaws::extends_same, u_text::proofs::AppendingLaws::extends_by, u_text::proofs::AppendingLaws::extends_behind))]
+fn push_reference(out: &mut Vec<u8>, reference: &Reference) -> Result<(), AllocError>
+    ensures ok { OnOk result (out.new.items ≡ out.old.items ++ pointer_text reference.now) }
+    ensures err { OnErr result (Extends out.old.items out.new.items) }
+{
+    out.push(b'&')?;
+    reference.name().write_text(out)?;
+    push_behind(out, b'#', reference.length())
 }

@@ -1,12 +1,13 @@
 //! Values.
-ghost use Rattle.std.specs.Prelude.{◌≡◌, ◌++◌, ◌∷◌, IfOk, OnOk};
+ghost use Rattle.std.specs.Prelude.{◌≡◌, ◌++◌, ◌∷◌, IfOk, OnOk, OnErr};
+ghost use Rattle.u_text.specs.Appending.{Extends};
 ghost use Rattle.u_value.specs.Values.{value_cmp, value_text};
 
 use crate::reference::Reference;
 use std::alloc::AllocError;
 use std::cmp::Ordering;
 use u_name::BlockName;
-use u_text::push_signed;
+use u_text::{cut_back, push_signed};
 
 /// A value, as a token carries one. The kinds come in this order, and then the values by number,
 /// false before true, the bytes of the block's name, and the reference's name and length.
@@ -44,24 +45,40 @@ impl Value {
     }
 
     /// Appends the text of the value: `-7`, `true`, `@block` or `&name#length`.
-    #[tactic(auto, unfolding(crate::specs::Values::value_text))]
+    ///
+    /// # Errors
+    /// `AllocError` where there is no memory. Then `out` is as it was.
+    #[tactic(auto, using(u_text::proofs::AppendingLaws::extends_cut))]
     pub fn write_text(&self, out: &mut Vec<u8>) -> Result<(), AllocError>
-        ensures { OnOk result (out.new.items ≡ out.old.items ++ value_text self.now) }
+        ensures ok { OnOk result (out.new.items ≡ out.old.items ++ value_text self.now) }
+        ensures err { OnErr result (out.new.items ≡ out.old.items) }
     {
-        match self {
-            Value::Int(number) => push_signed(out, *number),
-            Value::Bool(true) => out.extend_from_slice(b"true"),
-            Value::Bool(false) => out.extend_from_slice(b"false"),
-            Value::Proc(block) => push_block(out, block),
-            Value::Ref(reference) => reference.write_text(out),
-        }
+        let len = out.len();
+        let written = push_value(out, self);
+        cut_back(out, len, written)
     }
 }
 
-/// `@block`
-#[tactic(auto, using(crate::proofs::Written::proc_more))]
+/// Appends the text of the value. On an error a part of it may stand there.
+#[tactic(auto, unfolding(crate::specs::Values::value_text), using(u_text::proofs::AppendingLaws::extends_same))]
+fn push_value(out: &mut Vec<u8>, value: &Value) -> Result<(), AllocError>
+    ensures ok { OnOk result (out.new.items ≡ out.old.items ++ value_text value.now) }
+    ensures err { OnErr result (Extends out.old.items out.new.items) }
+{
+    match value {
+        Value::Int(number) => push_signed(out, *number),
+        Value::Bool(true) => out.extend_from_slice(b"true"),
+        Value::Bool(false) => out.extend_from_slice(b"false"),
+        Value::Proc(block) => push_block(out, block),
+        Value::Ref(reference) => reference.write_text(out),
+    }
+}
+
+/// Appends `@block`. On an error a part of it may stand there.
+#[tactic(auto, using(crate::proofs::Written::proc_more, u_text::proofs::AppendingLaws::extends_same, u_text::proofs::AppendingLaws::extends_by))]
 fn push_block(out: &mut Vec<u8>, block: &BlockName) -> Result<(), AllocError>
-    ensures { OnOk result (out.new.items ≡ out.old.items ++ (64 ∷ block.now)) }
+    ensures ok { OnOk result (out.new.items ≡ out.old.items ++ (64 ∷ block.now)) }
+    ensures err { OnErr result (Extends out.old.items out.new.items) }
 {
     out.push(b'@')?;
     out.extend_from_slice(block.as_bytes())
