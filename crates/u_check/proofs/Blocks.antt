@@ -13,7 +13,7 @@ place_of_member xs x (i, l, e) = (i, slice_get_read xs (length xs) i x refl l (s
 pub member_at : {X : Type 0} (xs : List X) (i : ℕ) (x : X) → slice_get xs i ≡ Some x → Contains xs x
 member_at xs i x e = (i, slice_get_within xs i x e, get_or_from_slice_get xs i x x e)
 
-same_itself : (name : List ℕ) → same_name name name ≡ true
+pub same_itself : (name : List ℕ) → same_name name name ≡ true
 same_itself name = (bytes_decides name name).1 refl
 
 or_left : (a b : Bool) → (a || b) ≡ false → a ≡ false

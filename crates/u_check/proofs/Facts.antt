@@ -25,7 +25,6 @@ use Rattle.u_check.proofs.KindTests.{back_kind}
 -- a destination and the statement that it names
 pub record Target (ss : List StatementParts) (d : Destination) : Type 0 where
   pub it : StatementParts
-  pub number : 1 ≤ d.statement
   pub stands : statement_at ss d.statement ≡ Some it
   pub port_from : 1 ≤ d.port
   pub port_to : d.port ≤ ports_of it.kind
@@ -54,21 +53,19 @@ begins_later k s e =
     let n : (suc (suc k) == 1) ≡ false = ne_eqb (suc (suc k)) 1 (λ h. omega arith) in
     not-true (is_begin s.kind) (rw n at e)
 
-has_port_of : (ss : List StatementParts) (d : Destination) (o : Option StatementParts) → statement_at ss d.statement ≡ o → 1 ≤ d.statement → 1 ≤ d.port → has_port o d.port ≡ true → Target ss d
-has_port_of ss d None e a b h = absurd (false≢true h)
-has_port_of ss d (Some t) e a b h = record { it = t; number = a; stands = e; port_from = b; port_to = leb-true d.port (ports_of t.kind) h }
+has_port_of : (ss : List StatementParts) (d : Destination) (o : Option StatementParts) → statement_at ss d.statement ≡ o → 1 ≤ d.port → has_port o d.port ≡ true → Target ss d
+has_port_of ss d None e b h = absurd (false≢true h)
+has_port_of ss d (Some t) e b h = record { it = t; stands = e; port_from = b; port_to = leb-true d.port (ports_of t.kind) h }
 
 target : (ss : List StatementParts) (d : Destination) → reaches ss d ≡ true → Target ss d
 unfolding reaches
 target ss d e =
-    let a = and_parts (nat_le 1 d.statement) (nat_le 1 d.port && has_port (statement_at ss d.statement) d.port) e in
-    let b = and_parts (nat_le 1 d.port) (has_port (statement_at ss d.statement) d.port) a.1 in
-    has_port_of ss d (statement_at ss d.statement) refl (leb-true 1 d.statement a.0) (leb-true 1 d.port b.0) b.1
+    let b = and_parts (nat_le 1 d.port) (has_port (statement_at ss d.statement) d.port) e in
+    has_port_of ss d (statement_at ss d.statement) refl (leb-true 1 d.port b.0) b.1
 
 -- the statement that an `apply` in that region names, which is a `back` in it
 pub record Returned (ss : List StatementParts) (region n : ℕ) : Type 0 where
   pub it : StatementParts
-  pub number : 1 ≤ n
   pub stands : statement_at ss n ≡ Some it
   pub is_a_back : it.kind ≡ Back
   pub in_region : it.region ≡ region
@@ -102,17 +99,16 @@ entered_into : (l : ℕ) (t : StatementParts) → lies_in_entered (Enter l) (Som
 unfolding lies_in_entered
 entered_into l t e = eqb-true l t.region e
 
-returned_from : (ss : List StatementParts) (region n : ℕ) (o : Option StatementParts) → 1 ≤ n → statement_at ss n ≡ o → is_back_in region o ≡ true → Returned ss region n
-returned_from ss region n None l q e = absurd (false≢true e)
-returned_from ss region n (Some t) l q e =
+returned_from : (ss : List StatementParts) (region n : ℕ) (o : Option StatementParts) → statement_at ss n ≡ o → is_back_in region o ≡ true → Returned ss region n
+returned_from ss region n None q e = absurd (false≢true e)
+returned_from ss region n (Some t) q e =
     let a = and_parts (is_back t.kind) (region == t.region) e in
-    record { it = t; number = l; stands = q; is_a_back = back_kind t.kind a.0; in_region = sym (eqb-true region t.region a.1) }
+    record { it = t; stands = q; is_a_back = back_kind t.kind a.0; in_region = sym (eqb-true region t.region a.1) }
 
 returned : (ss : List StatementParts) (region n : ℕ) → names_back ss region (Apply n) ≡ true → Returned ss region n
 unfolding names_back
 returned ss region n e =
-    let a = and_parts (nat_le 1 n) (is_back_in region (statement_at ss n)) e in
-    returned_from ss region n (statement_at ss n) (leb-true 1 n a.0) refl a.1
+    returned_from ss region n (statement_at ss n) refl e
 
 apply_of : (n : ℕ) (k : Kind) → applies_to n k ≡ true → k ≡ Apply n
 apply_of n (Apply m) e = ap (λ (j : ℕ). Apply j) (eqb-true m n e)

@@ -5,6 +5,7 @@ use Rattle.std.proofs.lemmas.Bool.{false≢true}
 use Rattle.std.proofs.lemmas.Option.{slice_get_within}
 use Rattle.u_program.specs.Parts.{StatementParts, BlockParts}
 use Rattle.u_check.specs.declared.rule.Rule.{Rule}
+use Rattle.u_check.proofs.Arcs.{numbered, has_number, breaks_somewhere, breaks_nowhere}
 use Rattle.u_check.specs.Rules.{program_keeps, block_keeps, statement_keeps, StatementBreaks, Breaches, IsFirstOfRule}
 
 -- the place of number i + 1
@@ -17,20 +18,23 @@ one_of xs i x y a b = let e = sym a ∙ sym (at_place xs i) ∙ b in cc
 module _ (p : List BlockParts) (rule : Rule) where
   module _ (b : BlockParts) where
     pub none_below : (m : ℕ) → m < 1 → StatementBreaks p rule b m → ⊥
-    none_below m h w = omega (arith, w.counts)
+    none_below m h w = let k = has_number b.statements m w.it w.stands in omega (arith, k.0)
 
     pub statement_passes : (i : ℕ) (s : StatementParts) → slice_get b.statements i ≡ Some s → statement_keeps rule p b (i + 1) s ≡ true → StatementBreaks p rule b (i + 1) → ⊥
     statement_passes i s at k w =
-        let e = one_of b.statements i s w.it at w.stands in
-        false≢true (sym w.broken ∙ ap (λ (t : StatementParts). statement_keeps rule p b (i + 1) t) (sym e) ∙ k)
+        let e : s ≡ w.it = (let q = sym at ∙ sym (numbered b.statements i) ∙ w.stands in cc) in
+        breaks_nowhere rule p b (i + 1) w.it w.stands (sym (ap (λ (t : StatementParts). statement_keeps rule p b (i + 1) t) e) ∙ k) w.broken
 
     pub statement_breaks : (i : ℕ) (s : StatementParts) → slice_get b.statements i ≡ Some s → statement_keeps rule p b (i + 1) s ≡ false → StatementBreaks p rule b (i + 1)
-    statement_breaks i s at k = record { counts = omega arith; it = s; stands = at_place b.statements i ∙ at; broken = k }
+    statement_breaks i s at k =
+        let there = numbered b.statements i ∙ at in
+        record { it = s; stands = there; broken = breaks_somewhere rule p b (i + 1) s there k }
 
     pub none_at_all : (i : ℕ) → length b.statements ≤ i → ((m : ℕ) → m < i + 1 → StatementBreaks p rule b m → ⊥) → (m : ℕ) → StatementBreaks p rule b m → ⊥
     none_at_all i k before m w =
-        let l = slice_get_within b.statements (m - 1) w.it w.stands in
-        before m (omega (arith, w.counts)) w
+        let n = has_number b.statements m w.it w.stands in
+        let l = slice_get_within b.statements (m - 1) w.it n.1 in
+        before m (omega (arith, n.0)) w
 
   -- a program that keeps the rule as a whole has no breach at place 0
   pub no_block_below : program_keeps rule p ≡ true → (b s : ℕ) → b < 1 → Breaches p rule b s → ⊥

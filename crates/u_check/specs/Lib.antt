@@ -1,4 +1,3 @@
-pub mod Messages
 pub mod Jobs
 pub mod Kinds
 pub mod Rules

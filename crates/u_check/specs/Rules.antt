@@ -21,9 +21,9 @@ same_name a b = pointwise ◌==◌ a b
 abbrev pub block_named : List BlockParts → List ℕ → Option BlockParts
 block_named p name = find (λ (b : BlockParts). same_name b.name name) p
 
--- the statement of that number, which counts from 1
-abbrev pub statement_at : List StatementParts → ℕ → Option StatementParts
-statement_at ss n = slice_get ss (n - 1)
+-- the statement of that number, which counts from 1: none at 0
+unfoldable pub statement_at : List StatementParts → ℕ → Option StatementParts
+statement_at ss n = if n == 0 then None else slice_get ss (n - 1)
 
 -- the region that holds the loop of that number, which counts from 1
 unfoldable pub held_by : List ℕ → ℕ → Option ℕ
@@ -32,6 +32,30 @@ held_by loops n = if n == 0 then None else slice_get loops (n - 1)
 -- where a statement sends, a `switch` on true first
 abbrev pub sends : StatementParts → List Destination
 sends s = s.to ++ s.otherwise
+
+-- An arc of a block: one destination in one list of one statement, named by where it stands.
+pub record Arc : Type 0 where
+  -- the number of the statement that sends, from 1
+  pub statement : ℕ
+  -- whether it stands in the list on which a `switch` sends on false
+  pub on_false : Bool
+  -- its place in the list, from 0
+  pub place : ℕ
+
+abbrev pub arc : ℕ → Bool → ℕ → Arc
+arc statement on_false place = record { statement = statement; on_false = on_false; place = place }
+
+-- the list that an arc stands in
+abbrev pub list_of : StatementParts → Bool → List Destination
+list_of s on_false = if on_false then s.otherwise else s.to
+
+abbrev pub destination_in : Option StatementParts → Arc → Option Destination
+destination_in None a = None
+destination_in (Some s) a = slice_get (list_of s a.on_false) a.place
+
+-- where the arc leads, where the block has it
+abbrev pub destination_of : List StatementParts → Arc → Option Destination
+destination_of ss a = destination_in (statement_at ss a.statement) a
 
 -- whether a block of the list has that name
 abbrev pub names_block : List BlockParts → List ℕ → Bool
@@ -53,9 +77,9 @@ abbrev pub has_port : Option StatementParts → ℕ → Bool
 has_port None port = false
 has_port (Some s) port = nat_le port (ports_of s.kind)
 
--- whether the destination names a statement of the block and a port of it, both from 1
+-- whether the destination names a statement of the block and a port of it, which counts from 1
 unfoldable pub reaches : List StatementParts → Destination → Bool
-reaches ss d = nat_le 1 d.statement && (nat_le 1 d.port && has_port (statement_at ss d.statement) d.port)
+reaches ss d = nat_le 1 d.port && has_port (statement_at ss d.statement) d.port
 
 -- no destination is a `begin` or a `back`
 abbrev pub takes_tokens : Option StatementParts → Bool
@@ -86,7 +110,7 @@ is_back_in region (Some s) = is_back s.kind && region == s.region
 
 -- an `apply` names a `back` of its region
 unfoldable pub names_back : List StatementParts → ℕ → Kind → Bool
-names_back ss region (Apply n) = nat_le 1 n && is_back_in region (statement_at ss n)
+names_back ss region (Apply n) = is_back_in region (statement_at ss n)
 names_back ss region k = true
 
 abbrev pub applies_to : ℕ → Kind → Bool
@@ -146,7 +170,7 @@ itself_keeps EndInOuterRegion p b n s = not (is_end s.kind) || is_outer s
 itself_keeps PortsAreFed p b n s = is_whole b.statements n s.kind
 itself_keeps rule p b n s = true
 
--- what a rule demands of a destination of statement s of block b
+-- what a rule demands of an arc from statement s of block b that leads to the destination
 abbrev pub destination_keeps : Rule → BlockParts → StatementParts → Destination → Bool
 destination_keeps DestinationExists b s d = reaches b.statements d
 destination_keeps BeginAndBackTakeNothing b s d = takes_tokens (statement_at b.statements d.statement)
@@ -156,7 +180,7 @@ destination_keeps LeaveSendsOut b s d = not (is_leave s.kind) || lies_in_some (h
 destination_keeps OwnRegion b s d = crosses s.kind || lies_in s.region (statement_at b.statements d.statement)
 destination_keeps rule b s d = true
 
--- what a rule demands of statement number n of block b
+-- what a rule demands of statement number n of block b and of all its arcs
 unfoldable pub statement_keeps : Rule → List BlockParts → BlockParts → ℕ → StatementParts → Bool
 statement_keeps rule p b n s = itself_keeps rule p b n s && list_all (λ d. destination_keeps rule b s d) (sends s)
 
@@ -193,12 +217,19 @@ pub record BlockBreaks (p : List BlockParts) (rule : Rule) (block statement : �
   pub broken : block_keeps rule p block it ≡ false
   pub no_statement : statement ≡ 0
 
--- the statement of that number, from 1, of block b breaks the rule
+-- an arc from statement number n of block b, which is s, breaks the rule
+pub record ArcBreaks (rule : Rule) (b : BlockParts) (n : ℕ) (s : StatementParts) : Type 0 where
+  pub arc : Arc
+  pub from : arc.statement ≡ n
+  pub to : Destination
+  pub leads : destination_of b.statements arc ≡ Some to
+  pub broken : destination_keeps rule b s to ≡ false
+
+-- the statement of that number, from 1, of block b breaks the rule: itself, or one of its arcs
 pub record StatementBreaks (p : List BlockParts) (rule : Rule) (b : BlockParts) (statement : ℕ) : Type 0 where
-  pub counts : 1 ≤ statement
   pub it : StatementParts
   pub stands : statement_at b.statements statement ≡ Some it
-  pub broken : statement_keeps rule p b statement it ≡ false
+  pub broken : (itself_keeps rule p b statement it ≡ false) ⊎ ArcBreaks rule b statement it
 
 -- a statement of the block of that number, from 1, breaks the rule
 pub record InBlockBreaks (p : List BlockParts) (rule : Rule) (block statement : ℕ) : Type 0 where

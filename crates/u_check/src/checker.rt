@@ -101,11 +101,11 @@ fn first_breach(blocks: &[Block]) -> Option<Breach>
 /// # Errors
 /// The program itself and its first breach. The check takes no memory.
 pub fn check(program: Program) -> Result<Checked, Refused>
-    ensures exact { IsOk result ↔ IsChecked program }
+    ensures exact { IsOk result ↔ IsChecked program.blocks }
     ensures ok { IfOk result (λ c. c ≡ program) }
     ensures back { IfErr result (λ e. e.program ≡ program) }
     ensures first { IfErr result
-        (λ e. IsFirstBreach program e.breach.rule e.breach.block e.breach.statement) }
+        (λ e. IsFirstBreach program.blocks e.breach.rule e.breach.block e.breach.statement) }
 {
     match first_breach(program.blocks()) {
         Some(breach) => Err(Refused { program, breach }),

@@ -1,8 +1,11 @@
 //! Checked programs, and jobs.
 ghost use Rattle.std.specs.Prelude.{◌≡◌};
-ghost use Rattle.u_check.specs.Jobs.{JobParts, job};
+ghost use Rattle.std.specs.Cmp.{partial_equiv_from_equiv, and_equiv, on_equiv, int_eq_equiv};
+ghost use Rattle.std.specs.Cmp.Lexicographic.{on_texts_equal};
+ghost use Rattle.u_check.specs.Jobs.{JobParts, job, is_same_job};
 ghost use Rattle.u_check.specs.Rules.{IsChecked};
 ghost use Rattle.u_program.specs.Limits.{IsProgram, the_limits};
+ghost use Rattle.u_program.specs.Equality.{text_of};
 
 use std::marker::Model;
 use u_program::{Block, Program};
@@ -14,15 +17,14 @@ pub struct Checked {
 }
 
 impl Model for Checked {
-    ghost use Rattle.std.specs.Prelude.{List};
-    ghost use Rattle.u_program.specs.Parts.{BlockParts};
+    ghost use Rattle.u_program.specs.Parts.{ProgramParts};
     ghost use Rattle.u_check.specs.Rules.{IsChecked};
 
-    ghost Value = { List BlockParts };
+    ghost Value = { ProgramParts };
 
     ghost view = { λ c. c.program };
 
-    ghost invariant = { λ c. IsChecked c.program };
+    ghost invariant = { λ c. IsChecked c.program.blocks };
 }
 
 /// A checked program with the argument that it runs on.
@@ -43,7 +45,7 @@ impl Model for Job {
 impl Checked {
     /// A program that breaks no rule.
     pub(crate) fn of(program: Program) -> Checked
-        requires { IsChecked program }
+        requires { IsChecked program.blocks }
         ensures { result ≡ program }
     {
         Checked { program }
@@ -52,7 +54,7 @@ impl Checked {
     /// The program.
     pub fn program(&self) -> &Program
         ensures program { result.now ≡ self.now }
-        ensures checked { IsChecked self.now }
+        ensures checked { IsChecked self.now.blocks }
     {
         &self.program
     }
@@ -69,7 +71,7 @@ impl Job {
     /// The program.
     pub fn program(&self) -> &Program
         ensures program { result.now ≡ self.now.program }
-        ensures checked { IsChecked self.now.program }
+        ensures checked { IsChecked self.now.program.blocks }
     {
         self.checked.program()
     }
@@ -80,4 +82,19 @@ impl Job {
     {
         self.argument
     }
+}
+
+impl PartialEq for Job {
+    ghost eq = { is_same_job };
+
+    ghost laws = { partial_equiv_from_equiv (and_equiv (on_equiv (λ (j : JobParts). j.program) (on_texts_equal text_of)) (on_equiv (λ (j : JobParts). j.argument) int_eq_equiv)) };
+
+    /// Whether the jobs run equal programs on the same argument. Takes no memory.
+    fn eq(&self, other: &Job) -> bool {
+        self.argument == other.argument && *self.program() == *other.program()
+    }
+}
+
+impl Eq for Job {
+    ghost laws = { and_equiv (on_equiv (λ (j : JobParts). j.program) (on_texts_equal text_of)) (on_equiv (λ (j : JobParts). j.argument) int_eq_equiv) };
 }

@@ -1,5 +1,6 @@
 //! Where statements stand: their regions, and the statements that others name.
 ghost use Rattle.std.specs.Prelude.{◌≡◌, ◌-◌, ◌<◌, ◌≤◌};
+ghost use Rattle.std.specs.Option.{option_copied};
 ghost use Rattle.u_check.specs.Rules.{is_outer, has_region, held_by, statement_at, begins_well, has_port, reaches, takes_tokens, lies_in, lies_in_some, lies_in_entered, enters_inward, is_back_in, names_back, applies_to, is_applied, leaves_after_last};
 
 use crate::kinds::{comes_from_outside, is_back, is_begin, is_leave, ports_of};
@@ -56,11 +57,22 @@ pub fn enters_inward(loops: &[u8], region: u8, kind: &Kind) -> bool
     }
 }
 
+/// The statement of that number, which counts from 1: none where there is no such statement.
+#[tactic(auto, unfolding(crate::specs::Rules::statement_at))]
+pub fn statement_at(statements: &[Statement], number: u16) -> Option<&Statement>
+    ensures { option_copied result ≡ statement_at statements.now number }
+{
+    if number == 0 {
+        return None;
+    }
+    statements.get(usize::from(number) - 1)
+}
+
 /// Whether the statement of that number is a `back` in the region.
 fn is_back_in(region: u8, statements: &[Statement], number: u16) -> bool
     ensures { result ≡ is_back_in region (statement_at statements.now number) }
 {
-    match statements.get(usize::from(number).saturating_sub(1)) {
+    match statement_at(statements, number) {
         Some(statement) => is_back(statement.kind()) && region == statement.region(),
         None => false,
     }
@@ -72,7 +84,7 @@ pub fn names_back(statements: &[Statement], region: u8, kind: &Kind) -> bool
     ensures { result ≡ names_back statements.now region kind.now }
 {
     match kind {
-        Kind::Apply(number) => *number >= 1 && is_back_in(region, statements, *number),
+        Kind::Apply(number) => is_back_in(region, statements, *number),
         _ => true,
     }
 }
@@ -99,7 +111,7 @@ pub fn is_applied(statements: &[Statement], number: usize) -> bool
 fn has_port(statements: &[Statement], number: u16, port: u8) -> bool
     ensures { result ≡ has_port (statement_at statements.now number) port }
 {
-    match statements.get(usize::from(number).saturating_sub(1)) {
+    match statement_at(statements, number) {
         Some(statement) => usize::from(port) <= ports_of(statement.kind()),
         None => false,
     }
@@ -110,16 +122,15 @@ fn has_port(statements: &[Statement], number: u16, port: u8) -> bool
 pub fn reaches(statements: &[Statement], destination: &Destination) -> bool
     ensures { result ≡ reaches statements.now destination.now }
 {
-    let number = destination.statement;
     let port = destination.port;
-    number >= 1 && port >= 1 && has_port(statements, number, port)
+    port >= 1 && has_port(statements, destination.statement, port)
 }
 
 /// Whether the destination is no `begin` and no `back`.
 pub fn takes_tokens(statements: &[Statement], destination: &Destination) -> bool
     ensures { result ≡ takes_tokens (statement_at statements.now destination.now.statement) }
 {
-    match statements.get(usize::from(destination.statement).saturating_sub(1)) {
+    match statement_at(statements, destination.statement) {
         Some(statement) => !comes_from_outside(statement.kind()),
         None => true,
     }
@@ -129,7 +140,7 @@ pub fn takes_tokens(statements: &[Statement], destination: &Destination) -> bool
 pub fn lies_in(region: u8, statements: &[Statement], destination: &Destination) -> bool
     ensures { result ≡ lies_in region (statement_at statements.now destination.now.statement) }
 {
-    match statements.get(usize::from(destination.statement).saturating_sub(1)) {
+    match statement_at(statements, destination.statement) {
         Some(statement) => region == statement.region(),
         None => true,
     }
@@ -162,7 +173,7 @@ pub fn leaves_after_last(last: bool, statements: &[Statement], destination: &Des
     ensures { result
         ≡ leaves_after_last last (statement_at statements.now destination.now.statement) }
 {
-    match statements.get(usize::from(destination.statement).saturating_sub(1)) {
+    match statement_at(statements, destination.statement) {
         Some(statement) => {
             let leave = is_leave(statement.kind());
             if last { leave } else { !leave }

@@ -3,6 +3,7 @@ ghost use Rattle.std.specs.Prelude.{◌≡◌};
 ghost use Rattle.u_check.specs.Rules.{number_of};
 
 use std::fmt;
+use thiserror::Error;
 
 /// What the checker demands of a program: this project's profile of the programs that it runs.
 #[derive(Clone, Copy, Debug, PartialEq, Eq)]
@@ -67,8 +68,9 @@ impl Rule {
     }
 }
 
-/// A rule that a program breaks, and where. It prints as `rule 5 block 1 statement 2`.
-#[derive(Clone, Copy, Debug, PartialEq, Eq)]
+/// A rule that a program breaks, and where.
+#[derive(Clone, Copy, Debug, PartialEq, Eq, Error)]
+#[error("rule {rule} block {block} statement {statement}")]
 pub struct Breach {
     /// The rule.
     pub rule: Rule,
@@ -78,19 +80,14 @@ pub struct Breach {
     pub statement: usize,
 }
 
-impl fmt::Display for Breach {
+/// Prints the rule's number.
+impl fmt::Display for Rule {
     ghost use Rattle.std.specs.Prelude.{Some};
-    ghost use Rattle.u_check.specs.Messages.{breach_text};
+    ghost use Rattle.std.specs.Fmt.{decimal};
 
-    ghost output = { λ e. Some (breach_text e) };
+    ghost output = { λ r. Some (decimal (number_of r)) };
 
     fn fmt<W: fmt::Write>(&self, f: &mut fmt::Formatter<W>) -> fmt::Result {
-        write!(
-            f,
-            "rule {} block {} statement {}",
-            self.rule.number(),
-            self.block,
-            self.statement
-        )
+        write!(f, "{}", self.number())
     }
 }

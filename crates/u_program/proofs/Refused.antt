@@ -2,7 +2,7 @@
 use Rattle.std.specs.Prelude.{◌≡◌, ℕ, suc, List, ◌∷◌, length}
 use Rattle.u_text.specs.Pieces.{pieces}
 use Rattle.u_program.specs.Limits.{the_limits}
-use Rattle.u_program.specs.Laws.{Begins}
+use Rattle.u_program.specs.FirstBad.{Begins}
 use Rattle.u_program.specs.Begun.{IsRead}
 use Rattle.u_program.specs.declared.part.LineFault.{LineFault}
 use Rattle.u_program.specs.declared.part.LineFault.TheVariants.{Bad, TooMany, NoMemory}

@@ -1,16 +1,21 @@
 -- Two programs with one text are one, and a program's text is refused for want of memory alone.
-use Rattle.std.specs.Prelude.{◌≡◌, ℕ, suc, ◌+◌, ◌≤◌, List, [], ◌∷◌, ◌++◌, length, Result, Ok, Err, MatchResult, refl}
-use Rattle.std.proofs.Common.{sym, ◌∙◌, ap, arith, append_assoc}
+use Rattle.std.specs.Prelude.{◌≡◌, Bool, true, false, ◌==◌, ◌↔◌, IsTrue, ℕ, suc, ◌+◌, ◌≤◌, List, [], ◌∷◌, ◌++◌, length, Result, Ok, Err, MatchResult, refl}
+use lib.Pointwise.{pointwise}
+use Rattle.std.specs.Cmp.Lexicographic.{same_text}
+use Rattle.std.proofs.Common.{sym, ◌∙◌, ap, subst, arith, append_assoc}
+use Rattle.std.proofs.lemmas.Bool.{false_from_ne_true, true≢false}
+use Rattle.std.proofs.lemmas.Cmp.{nat_list_eq_equiv}
 use Rattle.std.specs.List.{AllByRecursion}
 use Rattle.u_text.specs.Pieces.{pieces}
 use Rattle.u_program.specs.declared.reading.Line.TheVariants.{Block, Loop, Statement}
-use Rattle.u_program.specs.Parts.{StatementParts, BlockParts, block}
+use Rattle.u_program.specs.Parts.{StatementParts, BlockParts, ProgramParts, block, program}
 use Rattle.u_program.specs.Limits.{AreLoops, IsStatement, IsBlockOf, IsProgram, the_limits}
 use Rattle.u_program.specs.Text.{loop_lines, statement_lines, inner_lines, blocks_lines, program_lines, program_text}
-use Rattle.u_program.specs.Laws.{IsFirstBad}
+use Rattle.u_program.specs.FirstBad.{IsFirstBad}
 use Rattle.u_program.specs.declared.read_error.ReadError.{ReadError}
 use Rattle.u_program.specs.declared.read_error.ReadError.TheVariants as errors
 use Rattle.u_program.specs.Answer.{IsTextOf, IsReadError}
+use Rattle.u_program.specs.Equality.{text_of, has_same_text}
 use Rattle.u_program.proofs.Lists.{heads, tails, empty_is}
 use Rattle.u_program.proofs.LineLaws.{line_same}
 use Rattle.u_program.proofs.Next.{NoLoop, blocks_no_statement, behind_no_loop}
@@ -72,10 +77,25 @@ none_bad p bytes n V v e b =
     let f : program_lines p ≡ b.before ++ (b.line ∷ b.others) = sym (ap (λ (t : List (List ℕ) × List ℕ). t.0) (ap (pieces 10) e ∙ pieces-program_text p v)) ∙ b.there in
     b.refused (record { program = p; more = b.others; valid = v; there = f ∙ sym (append_assoc b.before (b.line ∷ []) b.others) })
 
--- what is answered to the text of a program
-pub read_back : (bytes : List ℕ) (p : List BlockParts) (result : Result (List BlockParts) ReadError) → MatchResult result (λ x. IsTextOf bytes x) (λ fault. IsReadError bytes fault) → IsTextOf bytes p → MatchResult result (λ x. x ≡ p) (λ fault. fault ≡ errors.NoMemory)
-read_back bytes p (Ok x) h v = same_program x p h.0 v.0 (sym h.1 ∙ v.1)
-read_back bytes p (Err (errors.BadLine n)) h v = absurd (none_bad p bytes n _ v.0 v.1 h)
-read_back bytes p (Err (errors.TooMany n)) h v = absurd (none_bad p bytes n _ v.0 v.1 h)
-read_back bytes p (Err errors.Truncated) h v = absurd (h.none p v.0 v.1)
+-- what is returned for the text of a program
+pub read_back : (bytes : List ℕ) (p : ProgramParts) (result : Result ProgramParts ReadError) → MatchResult result (λ x. IsTextOf bytes x) (λ fault. IsReadError bytes fault) → IsTextOf bytes p → MatchResult result (λ x. x ≡ p) (λ fault. fault ≡ errors.NoMemory)
+read_back bytes p (Ok x) h v = ap program (same_program x.blocks p.blocks h.0 v.0 (sym h.1 ∙ v.1))
+read_back bytes p (Err (errors.BadLine n)) h v = absurd (none_bad p.blocks bytes n _ v.0 v.1 h)
+read_back bytes p (Err (errors.TooMany n)) h v = absurd (none_bad p.blocks bytes n _ v.0 v.1 h)
+read_back bytes p (Err errors.Truncated) h v = absurd (h.none p.blocks v.0 v.1)
 read_back bytes p (Err errors.NoMemory) h v = refl
+
+-- Where a test tells whether two programs have the same blocks, it tells whether they have one text.
+pub same_by_text : (p q : ProgramParts) (r : Bool) → IsProgram the_limits p.blocks → IsProgram the_limits q.blocks → IsTrue r ↔ (p.blocks ≡ q.blocks) → r ≡ has_same_text p q
+same_by_text p q r v w e = by (has_same_text p q) refl
+  where
+    by : (b : Bool) → has_same_text p q ≡ b → r ≡ has_same_text p q
+    by true h = e.1 (same_program p.blocks q.blocks v w (same_text (text_of p) (text_of q) (sym h))) ∙ sym h
+    by false h = false_from_ne_true r (λ t. true≢false (sym (nat_list_eq_equiv.refl (text_of p)) ∙ ap (λ (b : List BlockParts). pointwise ◌==◌ (text_of p) (program_text b)) (e.0 t) ∙ h)) ∙ sym h
+
+-- Two programs within the limits have one text exactly where they are equal.
+pub equal_exactly : (p q : ProgramParts) → IsProgram the_limits p.blocks → IsProgram the_limits q.blocks → IsTrue (has_same_text p q) ↔ (p ≡ q)
+equal_exactly p q v w = (
+  λ t. ap program (same_program p.blocks q.blocks v w (same_text (text_of p) (text_of q) (sym t))),
+  λ e. subst (λ (x : ProgramParts). has_same_text p x ≡ true) e (nat_list_eq_equiv.refl (text_of p)),
+)

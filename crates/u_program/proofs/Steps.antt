@@ -10,7 +10,7 @@ use Rattle.u_program.specs.declared.reading.Line.TheVariants.{Block, Loop, State
 use Rattle.u_program.specs.Parts.{StatementParts, BlockParts, statement, block}
 use Rattle.u_program.specs.Limits.{Limits, AtMost, AreLoops, IsStatement, IsBlockOf, the_limits, no_limits}
 use Rattle.u_program.specs.Text.{block_line, loop_line, loop_lines, statement_line, statement_lines, block_lines, blocks_lines, header}
-use Rattle.u_program.specs.Laws.{Begins}
+use Rattle.u_program.specs.FirstBad.{Begins}
 use Rattle.u_program.specs.Reading.{line_at}
 use Rattle.u_program.specs.Begun.{IsLine, part_lines, IsPart}
 use Rattle.u_program.proofs.Lists.{tails}

@@ -12,7 +12,7 @@ use Rattle.u_program.specs.declared.reading.Line.TheVariants.{Block, Loop, State
 use Rattle.u_program.specs.Parts.{StatementParts, BlockParts, block}
 use Rattle.u_program.specs.Limits.{Limits, AtMost, AreLoops, IsStatement, IsBlockOf, IsProgram, the_limits, no_limits}
 use Rattle.u_program.specs.Text.{block_line, loop_lines, statement_lines, block_lines, blocks_lines, program_lines, program_text, header}
-use Rattle.u_program.specs.Laws.{Begins, IsFirstBad, IsBadLine, IsTooMany, IsTruncated}
+use Rattle.u_program.specs.FirstBad.{Begins, IsFirstBad, IsBadLine, IsTooMany, IsTruncated}
 use Rattle.u_program.specs.Reading.{line_at}
 use Rattle.u_program.specs.Begun.{part_lines, IsPart, IsRead}
 use Rattle.u_program.proofs.Lists.{heads, tails}

@@ -1,17 +1,17 @@
--- What is answered to the bytes of a text.
+-- What is returned for the bytes of a text.
 use Rattle.std.specs.Prelude.{◌≡◌, List, ℕ}
 use Rattle.u_program.specs.declared.read_error.ReadError.{ReadError}
 use Rattle.u_program.specs.declared.read_error.ReadError.TheVariants.{BadLine, TooMany, Truncated, NoMemory}
 use Rattle.u_program.specs.declared.part.LineFault.{LineFault}
 use Rattle.u_program.specs.declared.part.LineFault.TheVariants as line_faults
-use Rattle.u_program.specs.Parts.{BlockParts}
+use Rattle.u_program.specs.Parts.{ProgramParts}
 use Rattle.u_program.specs.Limits.{IsProgram, the_limits}
 use Rattle.u_program.specs.Text.{program_text}
-use Rattle.u_program.specs.Laws.{IsBadLine, IsTooMany, IsTruncated}
+use Rattle.u_program.specs.FirstBad.{IsBadLine, IsTooMany, IsTruncated}
 
 -- the bytes are the text of this program
-abbrev pub IsTextOf : List ℕ → List BlockParts → Type 0
-IsTextOf bytes program = IsProgram the_limits program × (bytes ≡ program_text program)
+abbrev pub IsTextOf : List ℕ → ProgramParts → Type 0
+IsTextOf bytes p = IsProgram the_limits p.blocks × (bytes ≡ program_text p.blocks)
 
 -- why they are no program's text
 abbrev pub IsReadError : List ℕ → ReadError → Type 0

@@ -1,7 +1,8 @@
+-- Which fault a line has that may not stand behind the lines that were read.
 use Rattle.std.specs.Prelude.{List, ℕ, ◌++◌, ◌∷◌, []}
 use Rattle.u_program.specs.declared.part.LineFault.{LineFault}
 use Rattle.u_program.specs.declared.part.LineFault.TheVariants.{Bad, TooMany, NoMemory}
-use Rattle.u_program.specs.Laws.{Begins}
+use Rattle.u_program.specs.FirstBad.{Begins}
 use Rattle.u_program.specs.Limits.{the_limits, no_limits}
 
 -- why the line may not go on behind these lines

@@ -1,9 +1,10 @@
 pub mod Parts
 pub mod Limits
 pub mod Text
-pub mod Laws
+pub mod FirstBad
 pub mod Reading
 pub mod Refuses
 pub mod Begun
 pub mod Faults
 pub mod Answer
+pub mod Equality

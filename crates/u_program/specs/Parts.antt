@@ -16,8 +16,15 @@ pub record BlockParts : Type 0 where
   pub loops : List ℕ
   pub statements : List StatementParts
 
+-- a program: its blocks, in the order of its text
+pub record ProgramParts : Type 0 where
+  pub blocks : List BlockParts
+
 abbrev pub statement : ℕ → Kind → List Destination → List Destination → StatementParts
 statement region kind to otherwise = record { region = region; kind = kind; to = to; otherwise = otherwise }
 
 abbrev pub block : List ℕ → List ℕ → List StatementParts → BlockParts
 block name loops statements = record { name = name; loops = loops; statements = statements }
+
+abbrev pub program : List BlockParts → ProgramParts
+program blocks = record { blocks = blocks }

@@ -1,3 +1,4 @@
+-- When the reader of a word refuses it.
 use Rattle.std.specs.Prelude.{◌≡◌, Option, None}
 use Rattle.u_program.specs.declared.reading.WordFault.{WordFault}
 use Rattle.u_program.specs.declared.reading.WordFault.TheVariants.{Bad, NoMemory}

@@ -1,6 +1,7 @@
 //! Programs and their texts.
 #![tactic(auto)]
 
+mod equality;
 mod kind_words;
 mod part;
 mod program;

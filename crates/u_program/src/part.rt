@@ -47,9 +47,13 @@ impl Part {
     fn with_block(self, alloc: Global, name: BlockName) -> Result<Part, LineFault>
         requires part { IsPart the_limits self.done.items self.last }
         ensures { MatchResult result
-            (λ new. IsPart the_limits new.done.items new.last × (part_lines new.done.items new.last ≡ part_lines self.done.items self.last ++ (block_line name ∷ [])))
-            (λ fault. IsLineFault fault (header ∷ part_lines self.done.items self.last) (block_line name)) }
+            (λ new. IsPart the_limits new.done.items new.last
+            × (part_lines new.done.items new.last
+            ≡ part_lines self.done.items self.last ++ (block_line name ∷ [])))
+            (λ fault. IsLineFault fault (header ∷ part_lines self.done.items self.last)
+            (block_line name)) }
     {
+        // Brings in that the block's name is one: 1 to 16 letters, digits and `_`.
         let _ = name.as_bytes();
         let Part { mut done, last } = self;
         if last.statements().len() == 0 {
@@ -71,8 +75,11 @@ impl Part {
         requires part { IsPart the_limits self.done.items self.last }
         requires line { IsLine (variants.Loop number held_by) }
         ensures { MatchResult result
-            (λ new. IsPart the_limits new.done.items new.last × (part_lines new.done.items new.last ≡ part_lines self.done.items self.last ++ (loop_line number held_by ∷ [])))
-            (λ fault. IsLineFault fault (header ∷ part_lines self.done.items self.last) (loop_line number held_by)) }
+            (λ new. IsPart the_limits new.done.items new.last
+            × (part_lines new.done.items new.last
+            ≡ part_lines self.done.items self.last ++ (loop_line number held_by ∷ [])))
+            (λ fault. IsLineFault fault (header ∷ part_lines self.done.items self.last)
+            (loop_line number held_by)) }
     {
         let Part { done, last } = self;
         if last.statements().len() != 0 {
@@ -94,8 +101,11 @@ impl Part {
         requires part { IsPart the_limits self.done.items self.last }
         requires line { IsLine (variants.Statement number statement) }
         ensures { MatchResult result
-            (λ new. IsPart the_limits new.done.items new.last × (part_lines new.done.items new.last ≡ part_lines self.done.items self.last ++ (statement_line number statement ∷ [])))
-            (λ fault. IsLineFault fault (header ∷ part_lines self.done.items self.last) (statement_line number statement)) }
+            (λ new. IsPart the_limits new.done.items new.last
+            × (part_lines new.done.items new.last
+            ≡ part_lines self.done.items self.last ++ (statement_line number statement ∷ [])))
+            (λ fault. IsLineFault fault (header ∷ part_lines self.done.items self.last)
+            (statement_line number statement)) }
     {
         let Part { done, last } = self;
         if number as usize != last.statements().len() + 1 {
@@ -116,8 +126,11 @@ impl Part {
     pub fn with_line(self, alloc: Global, text: &[u8]) -> Result<Part, LineFault>
         requires part { IsPart the_limits self.done.items self.last }
         ensures { MatchResult result
-            (λ new. IsPart the_limits new.done.items new.last × (part_lines new.done.items new.last ≡ part_lines self.done.items self.last ++ (text.now ∷ [])))
-            (λ fault. IsLineFault fault (header ∷ part_lines self.done.items self.last) text.now) }
+            (λ new. IsPart the_limits new.done.items new.last
+            × (part_lines new.done.items new.last
+            ≡ part_lines self.done.items self.last ++ (text.now ∷ [])))
+            (λ fault. IsLineFault fault (header ∷ part_lines self.done.items self.last)
+            text.now) }
     {
         let line = match read_line(alloc, text) {
             Ok(line) => line,
@@ -135,7 +148,9 @@ impl Part {
     #[tactic(auto, using(crate::proofs::Whole::first_part))]
     pub fn first(alloc: Global, text: &[u8]) -> Result<Part, LineFault>
         ensures { MatchResult result
-            (λ new. IsPart the_limits new.done.items new.last × (part_lines new.done.items new.last ≡ text.now ∷ []))
+            (λ new. IsPart the_limits new.done.items new.last
+            × (part_lines new.done.items new.last
+            ≡ text.now ∷ []))
             (λ fault. IsLineFault fault (header ∷ []) text.now) }
     {
         let line = match read_line(alloc, text) {
@@ -157,7 +172,7 @@ impl Part {
     /// The program that ends here.
     pub fn finish(self) -> Result<Program, AllocFailed<Block>>
         requires { IsProgram the_limits (self.done.items ++ (self.last ∷ [])) }
-        ensures { IfOk result (λ p. p ≡ self.done.items ++ (self.last ∷ [])) }
+        ensures { IfOk result (λ p. p.blocks ≡ self.done.items ++ (self.last ∷ [])) }
     {
         let Part { mut done, last } = self;
         done.push(last)?;

@@ -1,7 +1,7 @@
 //! Programs: blocks of numbered statements.
 ghost use Rattle.std.specs.Prelude.{◌≡◌, ◌++◌, ◌∷◌, [], length, IfOk};
 ghost use Rattle.u_program.specs.Limits.{IsProgram, the_limits};
-ghost use Rattle.u_program.specs.Parts.{statement, block};
+ghost use Rattle.u_program.specs.Parts.{statement, block, program};
 
 use std::alloc::{AllocFailed, Global};
 use std::marker::Model;
@@ -100,20 +100,19 @@ impl Model for Block {
     ghost view = { λ b. block b.name b.loops.items b.statements.items };
 }
 
-/// A program, as its text says it: a list of blocks.
+/// A program, as its text says it: its blocks.
 #[derive(Drop)]
 pub struct Program {
     blocks: Vec<Block>,
 }
 
 impl Model for Program {
-    ghost use Rattle.std.specs.Prelude.{List};
-    ghost use Rattle.u_program.specs.Parts.{BlockParts};
+    ghost use Rattle.u_program.specs.Parts.{ProgramParts, program};
     ghost use Rattle.u_program.specs.Limits.{IsProgram, the_limits};
 
-    ghost Value = { List BlockParts };
+    ghost Value = { ProgramParts };
 
-    ghost view = { λ p. p.blocks.items };
+    ghost view = { λ p. program p.blocks.items };
 
     ghost invariant = { λ p. IsProgram the_limits p.blocks.items };
 }
@@ -239,15 +238,15 @@ impl Program {
     /// A program of these blocks.
     pub(crate) fn new(blocks: Vec<Block>) -> Program
         requires { IsProgram the_limits blocks.items }
-        ensures { result ≡ blocks.items }
+        ensures { result ≡ program blocks.items }
     {
         Program { blocks }
     }
 
     /// Its blocks, in the order of the text.
     pub fn blocks(&self) -> &[Block]
-        ensures blocks { result.now ≡ self.now }
-        ensures limits { IsProgram the_limits self.now }
+        ensures blocks { result.now ≡ self.now.blocks }
+        ensures limits { IsProgram the_limits self.now.blocks }
     {
         &self.blocks
     }

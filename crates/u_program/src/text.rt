@@ -1,7 +1,7 @@
 //! The text of a program, read.
-ghost use Rattle.std.specs.Prelude.{◌≡◌, List, MatchResult};
+ghost use Rattle.std.specs.Prelude.{◌≡◌, MatchResult};
 ghost use Rattle.u_program.specs.declared.read_error.ReadError.TheVariants as errors;
-ghost use Rattle.u_program.specs.Parts.{BlockParts};
+ghost use Rattle.u_program.specs.Parts.{ProgramParts};
 ghost use Rattle.u_program.specs.Answer.{IsTextOf, IsReadError, fault_at};
 
 use crate::part::{LineFault, Part};
@@ -31,7 +31,7 @@ use u_text::cut;
 pub fn read(alloc: Global, bytes: &[u8]) -> Result<Program, ReadError>
     ensures answer { MatchResult result (λ program. IsTextOf bytes.now program)
         (λ fault. IsReadError bytes.now fault) }
-    ensures back { (p : List BlockParts) → IsTextOf bytes.now p
+    ensures back { (p : ProgramParts) → IsTextOf bytes.now p
         → MatchResult result (λ program. program ≡ p) (λ fault. fault ≡ errors.NoMemory) }
 {
     read_lines(alloc, bytes)

@@ -8,7 +8,7 @@ ghost use Rattle.u_program.specs.Text.{kind_word, constant_word, argument_words,
 use crate::kind_words::{has_otherwise, kind_word};
 use crate::program::{Block, Constant, Destination, Kind, Program, Statement};
 use std::alloc::AllocError;
-use u_text::{push_behind, push_long, push_number, push_signed, push_spaced};
+use u_text::{cut_back, push_behind, push_long, push_number, push_signed, push_spaced};
 
 #[tactic(auto, using(u_text::proofs::AppendingLaws::extends_same, u_text::proofs::AppendingLaws::extends_behind, std::proofs::Common::append_assoc))]
 fn push_constant(out: &mut Vec<u8>, constant: &Constant) -> Result<(), AllocError>
@@ -188,18 +188,33 @@ fn push_blocks(out: &mut Vec<u8>, blocks: &[Block]) -> Result<(), AllocError>
 }
 
 impl Program {
-    /// Appends the program's text. `read` of that text gives an equal program, and a program that
-    /// was read is written as the bytes that it was read from. On an error `out` begins with what
-    /// it had, and a part of the text may stand behind it.
+    /// Appends the program's text. On an error a part of it may stand there.
     #[tactic(auto, using(u_text::proofs::AppendingLaws::extends_same, u_text::proofs::AppendingLaws::extends_behind, crate::proofs::Written::whole_text))]
-    pub fn write_text(&self, out: &mut Vec<u8>) -> Result<(), AllocError>
-        ensures ok { OnOk result (out.new.items ≡ out.old.items ++ program_text self.now) }
+    fn append(&self, out: &mut Vec<u8>) -> Result<(), AllocError>
+        ensures ok { OnOk result (out.new.items ≡ out.old.items ++ program_text self.now.blocks) }
         ensures err { OnErr result (Extends out.old.items out.new.items) }
-        ensures limits { IsProgram the_limits self.now }
     {
         let blocks = self.blocks();
         out.extend_from_slice(b"u-program 1\n")?;
         push_blocks(out, blocks)?;
         Ok(())
+    }
+
+    /// Appends the program's text. `read` of that text gives an equal program, and a program that
+    /// was read is written as the bytes that it was read from.
+    ///
+    /// # Errors
+    /// `AllocError` where there is no memory. Then `out` is as it was.
+    #[tactic(auto, using(u_text::proofs::AppendingLaws::extends_cut))]
+    pub fn write_text(&self, out: &mut Vec<u8>) -> Result<(), AllocError>
+        ensures ok { OnOk result (out.new.items ≡ out.old.items ++ program_text self.now.blocks) }
+        ensures err { OnErr result (out.new.items ≡ out.old.items) }
+        ensures limits { IsProgram the_limits self.now.blocks }
+    {
+        // Brings in that the program lies within its limits.
+        let _ = self.blocks();
+        let len = out.len();
+        let written = self.append(out);
+        cut_back(out, len, written)
     }
 }
