@@ -16,6 +16,7 @@ use Rattle.u_program.specs.declared.program.Kind.{Kind}
 use Rattle.u_program.specs.declared.program.Kind.TheVariants.{Binary, Select, Switch, Enter, Next, Last, Leave, Apply, Store, Fetch}
 use Rattle.u_check.specs.Kinds.{ports_of, is_apply, is_end, is_of_loop, crosses, is_store}
 use Rattle.u_check.specs.Rules.{sends, main_name, names_block, block_named, statement_at, held_by, IsChecked}
+use Rattle.u_check.proofs.Arcs.{numbered}
 use Rattle.u_check.proofs.Blocks.{named_member, named_some}
 use Rattle.u_check.proofs.Facts.{Target, Returned, main_block, in_to, in_otherwise, held_is_loop, begin_first, enter_held, apply_returned, lies_in_loop, end_outside, target_exists, target_of_enter, target_of_leave, target_region}
 use Rattle.u_system.proofs.Member.{Contains-nil, Contains-cons_cases}
@@ -85,7 +86,7 @@ pub record Begun (p : List BlockParts) (name : List ℕ) : Type 0 where
   pub block : BlockParts
   pub first : StatementParts
   pub named : block_named p name ≡ Some block
-  pub stands : slice_get block.statements 0 ≡ Some first
+  pub stands : statement_at block.statements 1 ≡ Some first
   pub region : first.region ≡ 0
 
 module _ (p : List BlockParts) (c : IsChecked p) where
@@ -100,7 +101,7 @@ module _ (p : List BlockParts) (c : IsChecked p) where
       at [] z l = absurd (omega (arith, l, ap length z))
       at (x ∷ xs) z l =
           let e : slice_get b.statements 0 ≡ Some x = rw z refl in
-          record { block = b; first = x; named = q; stands = e; region = (begin_first p c b (named_member p name b q).0 0 x e refl).1 }
+          record { block = b; first = x; named = q; stands = numbered b.statements 0 ∙ e; region = (begin_first p c b (named_member p name b q).0 0 x e refl).1 }
 
   -- of a statement that an activity may execute
   module _ (s : StatementParts) (a : Activity) (e : statement_of p a.block a.statement ≡ Some s) (f : fits_at p s.region a ≡ true) where
@@ -274,7 +275,7 @@ module _ (p : List BlockParts) (c : IsChecked p) where
   start_fits e v z lim = subst (λ (x : Entry). IsFitting p x) (sym z) (started lim v)
 
 -- the activity of a firing fits
-pub firing_fits : (job : JobParts) (f : Firing) (s : StatementParts) → is_firing_of job f ≡ true → statement_of job.program f.activity.block f.activity.statement ≡ Some s → fits_at job.program s.region f.activity ≡ true
+pub firing_fits : (job : JobParts) (f : Firing) (s : StatementParts) → is_firing_of job f ≡ true → statement_of job.program.blocks f.activity.block f.activity.statement ≡ Some s → fits_at job.program.blocks s.region f.activity ≡ true
 unfolding is_firing_of
 firing_fits job f s e q =
-    (and_parts (fits_at job.program s.region f.activity) (length f.values == ports_of s.kind && has_its_write s.kind f.values f.write) (rw q at e)).0
+    (and_parts (fits_at job.program.blocks s.region f.activity) (length f.values == ports_of s.kind && has_its_write s.kind f.values f.write) (rw q at e)).0

@@ -6,5 +6,15 @@ pub mod Follow
 pub mod InOrder
 pub mod Texts
 pub mod Lists
+pub mod FirstByteLaws
+pub mod StepLaws
+pub mod EntryPartLaws
+pub mod EntryReadingLaws
+pub mod EndedLaws
+pub mod FiringReadingLaws
+pub mod FiringPartLaws
+pub mod ResultsInRange
+pub mod GivenInRange
+pub mod InRange
 mod Both
 mod Cells

@@ -1,7 +1,6 @@
--- Lists of entries.
+-- Lists that nothing is added to.
 use Rattle.std.proofs.Common.{◌≡◌, List, [], ◌++◌, sym, append-nil}
-use Rattle.u_rule.specs.declared.entry.Entry.{Entry}
 
 -- nothing is added
-pub nothing_more : (es : List Entry) → es ≡ es ++ []
-nothing_more es = sym (append-nil es)
+pub nothing_more : {X : Type 0} (xs : List X) → xs ≡ xs ++ []
+nothing_more xs = sym (append-nil xs)

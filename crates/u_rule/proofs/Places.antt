@@ -3,11 +3,15 @@ use Rattle.std.proofs.Common.{◌≡◌, ℕ, ◌≤◌, ◌-◌, refl, ap, ◌�
 use Rattle.std.specs.Prelude.{slice_get, Contains, nat_le, if◌then◌else◌}
 use Rattle.std.specs.Cmp.Lexicographic.{bytes_decides}
 use Rattle.std.proofs.lemmas.Bool.{false≢true, and_parts, eqb-true}
+use Rattle.std.specs.List.{AllByRecursion}
+use Rattle.std.proofs.lemmas.List.Elements.{All-from_recursion, All-contains}
 use Rattle.u_name.specs.Context.{Tree, Top, InLoop, InCall}
 use Rattle.u_program.specs.Parts.{StatementParts, BlockParts}
 use Rattle.u_check.specs.Kinds.{is_apply}
-use Rattle.u_check.specs.Rules.{main_name, same_name, names_block, block_named, held_by}
-use Rattle.u_check.proofs.Blocks.{named_member}
+use Rattle.u_check.specs.Rules.{main_name, same_name, names_block, block_named, held_by, statement_at}
+use Rattle.u_program.specs.Limits.{IsStatement, the_limits}
+use Rattle.u_check.proofs.Arcs.{has_number}
+use Rattle.u_check.proofs.Blocks.{named_member, member_at, same_itself}
 use Rattle.u_rule.specs.Fits.{statement_in, statement_of, holder_in, holder_of, calling_region, has_passing, fits}
 
 -- a statement of a program, and its block
@@ -22,10 +26,12 @@ standing p name n s e = found (block_named p name) refl e
   where
     found : (o : Option BlockParts) → block_named p name ≡ o → statement_in o n ≡ Some s → Standing p name n s
     found None q h = cc
-    found (Some b) q h = record { block = b; named = q; member = (named_member p name b q).0; at_place = h }
+    found (Some b) q h = record { block = b; named = q; member = (named_member p name b q).0; at_place = (has_number b.statements n s h).1 }
 
-pub same_itself : (name : List ℕ) → same_name name name ≡ true
-same_itself name = (bytes_decides name name).1 refl
+-- a statement of a list lies within the limits that all of the list do
+pub within_limits : (ss : List StatementParts) (n : ℕ) (s : StatementParts) → AllByRecursion (IsStatement the_limits) ss → statement_at ss n ≡ Some s → IsStatement the_limits s
+within_limits ss n s v e =
+    All-contains (IsStatement the_limits) ss s (All-from_recursion (IsStatement the_limits) ss v) (member_at ss (n - 1) s (has_number ss n s e).1)
 
 -- a context of that loop of the block, entered from a place that fits
 pub record Looping (p : List BlockParts) (u : Tree) (block : List ℕ) (region : ℕ) : Type 0 where

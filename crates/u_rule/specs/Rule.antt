@@ -36,7 +36,7 @@ is_firing_at p None f = false
 is_firing_at p (Some s) f = fits_at p s.region f.activity && has_its_values s f
 
 unfoldable pub is_firing_of : JobParts → Firing → Bool
-is_firing_of job f = is_firing_at job.program (statement_of job.program f.activity.block f.activity.statement) f
+is_firing_of job f = is_firing_at job.program.blocks (statement_of job.program.blocks f.activity.block f.activity.statement) f
 
 -- the tokens of an activity that have these values at its ports, from that port on
 abbrev pub tokens_from : Activity → ℕ → ValueList → List Entry
@@ -174,7 +174,7 @@ given_at p (Some s) f = given p s f.activity f.values f.write
 
 -- a firing gives its value or its write, or the fault why there is none
 unfoldable pub gives_of : JobParts → Firing → List Entry
-gives_of job f = given_at job.program (statement_of job.program f.activity.block f.activity.statement) f
+gives_of job f = given_at job.program.blocks (statement_of job.program.blocks f.activity.block f.activity.statement) f
 
 -- the one start token: the argument, for statement 1 of `main`
 unfoldable pub start_of : JobParts → Entry

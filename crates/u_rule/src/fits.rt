@@ -8,13 +8,13 @@ ghost use Rattle.u_program.specs.Limits.{IsBlockOf, IsStatement, the_limits};
 ghost use Rattle.u_check.specs.Rules.{block_named, names_block};
 ghost use Rattle.u_rule.specs.Fits.{statement_of, holder_of, calling_region, fits};
 
-use u_check::{held_by, is_apply};
+use u_check::{held_by, is_apply, statement_at};
 use u_name::{BlockName, Context, Node};
 use u_program::{Block, Kind, Program, Statement};
 
 /// The block of that name, where the program has it.
 fn block_of<'a>(program: &'a Program, name: &BlockName) -> Option<&'a Block>
-    ensures block { option_copied result ≡ block_named program.now name.now }
+    ensures block { option_copied result ≡ block_named program.now.blocks name.now }
     ensures limits { IfSome result (λ b. IsBlockOf the_limits b.now) }
 {
     program.blocks().iter().find(|block| block.name() == name)
@@ -22,7 +22,7 @@ fn block_of<'a>(program: &'a Program, name: &BlockName) -> Option<&'a Block>
 
 /// Whether the program has a block of that name.
 pub(crate) fn names_block(program: &Program, name: &BlockName) -> bool
-    ensures { result ≡ names_block program.now name.now }
+    ensures { result ≡ names_block program.now.blocks name.now }
 {
     program.blocks().iter().any(|block| block.name() == name)
 }
@@ -33,21 +33,17 @@ pub(crate) fn statement_of<'a>(
     block: &BlockName,
     number: u16,
 ) -> Option<&'a Statement>
-    ensures statement { option_copied result ≡ statement_of program.now block.now number }
+    ensures statement { option_copied result ≡ statement_of program.now.blocks block.now number }
     ensures limits { IfSome result (λ s. IsStatement the_limits s.now) }
 {
-    match block_of(program, block) {
-        None => None,
-        Some(block) => {
-            let place = usize::from(number).saturating_sub(1);
-            block.statements().get(place)
-        }
-    }
+    let block = block_of(program, block)?;
+    let statement = statement_at(block.statements(), number)?;
+    Some(statement)
 }
 
 /// The region that holds that loop of the block, where the program has it.
 fn holder_of(program: &Program, block: &BlockName, number: u8) -> Option<u8>
-    ensures { result ≡ holder_of program.now block.now number }
+    ensures { result ≡ holder_of program.now.blocks block.now number }
 {
     let block = block_of(program, block)?;
     held_by(block.loops(), number)
@@ -55,7 +51,7 @@ fn holder_of(program: &Program, block: &BlockName, number: u8) -> Option<u8>
 
 /// The region of a statement, where the program has it and it is an `apply`.
 fn calling_region(program: &Program, block: &BlockName, number: u16) -> Option<u8>
-    ensures { result ≡ calling_region (statement_of program.now block.now number) }
+    ensures { result ≡ calling_region (statement_of program.now.blocks block.now number) }
 {
     match statement_of(program, block, number) {
         Some(statement) if is_apply(statement.kind()) => Some(statement.region()),
@@ -71,7 +67,7 @@ pub(crate) fn fits(
     region: u8,
     initiation: u32,
 ) -> bool
-    ensures { result ≡ fits program.now context.now block.now region initiation }
+    ensures { result ≡ fits program.now.blocks context.now block.now region initiation }
 {
     match context.node() {
         Node::Root => {

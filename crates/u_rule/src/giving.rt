@@ -259,7 +259,7 @@ fn called(
     activity: &Name,
     values: &[Value],
 ) -> Result<Vec<Entry>, AllocError>
-    ensures { IfOk result (λ v. v.items ≡ called program.now activity.now values.now) }
+    ensures { IfOk result (λ v. v.items ≡ called program.now.blocks activity.now values.now) }
 {
     match values {
         [Value::Proc(block), argument, ..] if names_block(program, block) => {
@@ -271,7 +271,7 @@ fn called(
 
 /// The `back` that a statement names, which is an `apply`.
 fn back_of(program: &Program, block: &BlockName, number: u16) -> Option<u16>
-    ensures back { result ≡ back_of (statement_of program.now block.now number) }
+    ensures back { result ≡ back_of (statement_of program.now.blocks block.now number) }
     ensures limits { IfSome result (λ b. IsBetween 1 b 999) }
 {
     match statement_of(program, block, number)?.kind() {
@@ -287,9 +287,9 @@ fn finished(
     activity: &Name,
     value: Value,
 ) -> Result<Vec<Entry>, AllocError>
-    requires { IsEndable program.now activity.now.context }
+    requires { IsEndable program.now.blocks activity.now.context }
     ensures { IfOk result
-        (λ v. v.items ≡ finished program.now activity.now activity.now.context value) }
+        (λ v. v.items ≡ finished program.now.blocks activity.now activity.now.context value) }
 {
     match activity.context().node() {
         Node::Root => alone(alloc, Entry::Answer(value)),
@@ -315,8 +315,9 @@ fn ended(
     activity: &Name,
     values: &[Value],
 ) -> Result<Vec<Entry>, AllocError>
-    requires { IsEndable program.now activity.now.context }
-    ensures { IfOk result (λ v. v.items ≡ ended program.now activity.now (first_of values.now)) }
+    requires { IsEndable program.now.blocks activity.now.context }
+    ensures { IfOk result
+        (λ v. v.items ≡ ended program.now.blocks activity.now (first_of values.now)) }
 {
     match values {
         [first, ..] => finished(alloc, program, activity, first.copy()?),
@@ -347,10 +348,11 @@ pub(crate) fn given(
     requires limits { IsStatement the_limits statement.now }
     requires reaches { IsReachable statement.now.kind firing.now.activity }
     requires ends { is_end statement.now.kind ≡ true
-        → IsEndable program.now firing.now.activity.context }
+        → IsEndable program.now.blocks firing.now.activity.context }
     ensures { IfOk result
         (λ v. v.items
-        ≡ given program.now statement.now firing.now.activity firing.now.values firing.now.write) }
+        ≡ given program.now.blocks statement.now firing.now.activity firing.now.values
+        firing.now.write) }
 {
     let activity = &firing.activity;
     let values = firing.values.as_slice();

@@ -20,6 +20,7 @@ use crate::giving::given;
 use crate::parts::Token;
 use crate::structures::{add_write, has_its_write};
 use std::alloc::{AllocError, AllocFailed, Global};
+use thiserror::Error;
 use u_check::{Job, ports_of};
 use u_name::{BlockName, Context, Name};
 use u_program::{Program, Statement};
@@ -28,7 +29,7 @@ use u_value::Value;
 /// The statement that an activity executes, where the program has it.
 fn executed<'a>(program: &'a Program, activity: &Name) -> Option<&'a Statement>
     ensures statement { option_copied result
-        ≡ statement_of program.now activity.now.block activity.now.statement }
+        ≡ statement_of program.now.blocks activity.now.block activity.now.statement }
     ensures limits { IfSome result (λ s. IsStatement the_limits s.now) }
 {
     statement_of(program, activity.block(), activity.statement())
@@ -36,7 +37,7 @@ fn executed<'a>(program: &'a Program, activity: &Name) -> Option<&'a Statement>
 
 /// Whether the activity may execute a statement of that region.
 fn fits_at(program: &Program, region: u8, activity: &Name) -> bool
-    ensures { result ≡ fits_at program.now region activity.now }
+    ensures { result ≡ fits_at program.now.blocks region activity.now }
 {
     let initiation = activity.initiation();
     fits(
@@ -75,11 +76,13 @@ pub fn is_firing(job: &Job, firing: &Firing) -> bool
 }
 
 /// Why a list of entries could not be made.
-#[derive(Clone, Copy, Debug, PartialEq, Eq)]
+#[derive(Clone, Copy, Debug, PartialEq, Eq, Error)]
 pub enum RuleError {
     /// It is no firing of the job.
+    #[error("not a firing of this job")]
     NotAFiring,
     /// There is no memory.
+    #[error("no memory")]
     NoMemory,
 }
 
@@ -103,9 +106,10 @@ impl<T: Drop> From<AllocFailed<T>> for RuleError {
 #[tactic(auto, unfolding(crate::specs::Rule::start_of))]
 pub fn start(job: &Job) -> Entry
     ensures start { result ≡ start_of job.now }
-    ensures fitting { IsFitting job.now.program result }
+    ensures fitting { IsFitting job.now.program.blocks result }
 {
     let program = job.program();
+    // Brings in that the program lies within its limits.
     let _ = program.blocks();
     let main = BlockName::new(b"main");
     let activity = Name::new(Context::root(), main, 1, 1);
@@ -124,7 +128,7 @@ pub fn gives(alloc: Global, job: &Job, firing: &Firing) -> Result<Vec<Entry>, Ru
     ensures ok { IfOk result
         (λ v. IsTrue (is_firing_of job.now firing.now) × (v.items ≡ gives_of job.now firing.now)) }
     ensures order { IfOk result (λ v. Rises entry_cmp v.items) }
-    ensures fitting { IfOk result (λ v. AllFit job.now.program v.items) }
+    ensures fitting { IfOk result (λ v. AllFit job.now.program.blocks v.items) }
     ensures refused { result ≡ Err errors.NotAFiring ↔ (is_firing_of job.now firing.now ≡ false) }
 {
     if !is_firing(job, firing) {
@@ -134,6 +138,7 @@ pub fn gives(alloc: Global, job: &Job, firing: &Firing) -> Result<Vec<Entry>, Ru
     let Some(statement) = executed(program, &firing.activity) else {
         return Err(RuleError::NotAFiring);
     };
+    // Brings in that the program lies within its limits.
     let _ = program.blocks();
     let entries = given(alloc, program, statement, firing)?;
     Ok(entries)

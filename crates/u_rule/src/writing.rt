@@ -1,4 +1,4 @@
-//! The texts of entries.
+//! The texts of entries and firings. A writer that is refused memory leaves the bytes as they were.
 ghost use Rattle.std.specs.Prelude.{◌≡◌, ◌++◌, ◌∷◌, OnOk, OnErr};
 ghost use Rattle.std.specs.Fmt.{decimal};
 ghost use Rattle.u_name.specs.NameText.{name_text};
@@ -6,25 +6,30 @@ ghost use Rattle.u_name.specs.Cell.{cell_text};
 ghost use Rattle.u_value.specs.Values.{value_text};
 ghost use Rattle.u_text.specs.Appending.{Extends};
 ghost use Rattle.u_rule.specs.EntryText.{token_text, write_text, fault_text, entry_text};
+ghost use Rattle.u_rule.specs.FiringText.{values_text, written_text, firing_text};
 
 use crate::entry::Entry;
+use crate::firing::{Firing, Written};
 use crate::parts::{Fault, Token, Write};
 use std::alloc::AllocError;
-use u_text::{push_behind, push_spaced};
+use u_text::{cut_back, push_behind, push_spaced};
 use u_value::Value;
 
-/// Appends a space and the text of the value.
-#[tactic(auto, using(std::proofs::Common::append_assoc))]
+/// Appends a space and the text of the value. On an error a part of it may stand there.
+#[tactic(auto, using(u_text::proofs::AppendingLaws::extends_same, u_text::proofs::AppendingLaws::extends_by, u_text::proofs::AppendingLaws::extends_behind, std::proofs::Common::append_assoc))]
 fn push_value(out: &mut Vec<u8>, value: &Value) -> Result<(), AllocError>
-    ensures { OnOk result (out.new.items ≡ out.old.items ++ (32 ∷ value_text value.now)) }
+    ensures ok { OnOk result (out.new.items ≡ out.old.items ++ (32 ∷ value_text value.now)) }
+    ensures err { OnErr result (Extends out.old.items out.new.items) }
 {
     out.push(b' ')?;
     value.write_text(out)
 }
 
-#[tactic(auto, using(crate::proofs::Texts::join4))]
+/// Appends the text of the token. On an error a part of it may stand there.
+#[tactic(auto, using(u_text::proofs::AppendingLaws::extends_same, u_text::proofs::AppendingLaws::extends_by, u_text::proofs::AppendingLaws::extends_behind, crate::proofs::Texts::join4))]
 fn push_token(out: &mut Vec<u8>, token: &Token) -> Result<(), AllocError>
-    ensures { OnOk result (out.new.items ≡ out.old.items ++ token_text token.now) }
+    ensures ok { OnOk result (out.new.items ≡ out.old.items ++ token_text token.now) }
+    ensures err { OnErr result (Extends out.old.items out.new.items) }
 {
     out.extend_from_slice(b"t ")?;
     token.activity().write_text(out)?;
@@ -32,9 +37,11 @@ fn push_token(out: &mut Vec<u8>, token: &Token) -> Result<(), AllocError>
     push_value(out, token.value())
 }
 
-#[tactic(auto, using(crate::proofs::Texts::join5))]
+/// Appends the text of the write. On an error a part of it may stand there.
+#[tactic(auto, using(u_text::proofs::AppendingLaws::extends_same, u_text::proofs::AppendingLaws::extends_by, u_text::proofs::AppendingLaws::extends_behind, crate::proofs::Texts::join5))]
 fn push_write(out: &mut Vec<u8>, write: &Write) -> Result<(), AllocError>
-    ensures { OnOk result (out.new.items ≡ out.old.items ++ write_text write.now) }
+    ensures ok { OnOk result (out.new.items ≡ out.old.items ++ write_text write.now) }
+    ensures err { OnErr result (Extends out.old.items out.new.items) }
 {
     out.extend_from_slice(b"w ")?;
     write.cell.write_text(out)?;
@@ -43,19 +50,22 @@ fn push_write(out: &mut Vec<u8>, write: &Write) -> Result<(), AllocError>
     push_value(out, &write.value)
 }
 
-#[tactic(auto, using(crate::proofs::Texts::join3))]
+/// Appends the text of the fault. On an error a part of it may stand there.
+#[tactic(auto, using(u_text::proofs::AppendingLaws::extends_same, u_text::proofs::AppendingLaws::extends_by, u_text::proofs::AppendingLaws::extends_behind, crate::proofs::Texts::join3))]
 fn push_fault(out: &mut Vec<u8>, fault: &Fault) -> Result<(), AllocError>
-    ensures { OnOk result (out.new.items ≡ out.old.items ++ fault_text fault.now) }
+    ensures ok { OnOk result (out.new.items ≡ out.old.items ++ fault_text fault.now) }
+    ensures err { OnErr result (Extends out.old.items out.new.items) }
 {
     out.extend_from_slice(b"x ")?;
     fault.activity.write_text(out)?;
     push_spaced(out, fault.kind.text().as_bytes())
 }
 
-/// Appends the text of the entry.
-#[tactic(auto, unfolding(crate::specs::EntryText::entry_text), using(std::proofs::Common::append_assoc))]
+/// Appends the text of the entry. On an error a part of it may stand there.
+#[tactic(auto, unfolding(crate::specs::EntryText::entry_text), using(u_text::proofs::AppendingLaws::extends_same, u_text::proofs::AppendingLaws::extends_by, u_text::proofs::AppendingLaws::extends_behind, std::proofs::Common::append_assoc))]
 fn push_entry(out: &mut Vec<u8>, entry: &Entry) -> Result<(), AllocError>
-    ensures { OnOk result (out.new.items ≡ out.old.items ++ entry_text entry.now) }
+    ensures ok { OnOk result (out.new.items ≡ out.old.items ++ entry_text entry.now) }
+    ensures err { OnErr result (Extends out.old.items out.new.items) }
 {
     match entry {
         Entry::Token(token) => push_token(out, token),
@@ -68,19 +78,76 @@ fn push_entry(out: &mut Vec<u8>, entry: &Entry) -> Result<(), AllocError>
     }
 }
 
+/// Appends each value behind a space. On an error a part of them may stand there.
+#[tactic(auto, using(u_text::proofs::AppendingLaws::extends_same, u_text::proofs::AppendingLaws::extends_by, u_text::proofs::AppendingLaws::extends_behind))]
+fn push_values(out: &mut Vec<u8>, values: &[Value]) -> Result<(), AllocError>
+    ensures ok { OnOk result (out.new.items ≡ out.old.items ++ values_text values.now) }
+    ensures err { OnErr result (Extends out.old.items out.new.items) }
+{
+    for value in values {
+        push_value(out, value)?;
+    }
+    Ok(())
+}
+
+/// Appends ` by WRITER VALUE` where there is a write. On an error a part of it may stand there.
+#[tactic(auto, using(u_text::proofs::AppendingLaws::extends_same, u_text::proofs::AppendingLaws::extends_by, u_text::proofs::AppendingLaws::extends_behind, crate::proofs::Texts::join3, crate::proofs::Lists::nothing_more))]
+fn push_written(out: &mut Vec<u8>, write: &Option<Written>) -> Result<(), AllocError>
+    ensures ok { OnOk result (out.new.items ≡ out.old.items ++ written_text write.now) }
+    ensures err { OnErr result (Extends out.old.items out.new.items) }
+{
+    match write {
+        None => Ok(()),
+        Some(write) => {
+            out.extend_from_slice(b" by ")?;
+            write.writer.write_text(out)?;
+            push_value(out, &write.value)
+        }
+    }
+}
+
+/// Appends the text of the firing. On an error a part of it may stand there.
+#[tactic(auto, unfolding(crate::specs::FiringText::firing_text), using(u_text::proofs::AppendingLaws::extends_same, u_text::proofs::AppendingLaws::extends_by, u_text::proofs::AppendingLaws::extends_behind, crate::proofs::Texts::join4))]
+fn push_firing(out: &mut Vec<u8>, firing: &Firing) -> Result<(), AllocError>
+    ensures ok { OnOk result (out.new.items ≡ out.old.items ++ firing_text firing.now) }
+    ensures err { OnErr result (Extends out.old.items out.new.items) }
+{
+    out.extend_from_slice(b"f ")?;
+    firing.activity.write_text(out)?;
+    push_values(out, firing.values.as_slice())?;
+    push_written(out, &firing.write)
+}
+
 impl Entry {
     /// Appends the text of the entry: `t NAME PORT VALUE`, `w CELL WRITER VALUE`, `x NAME KIND` or
-    /// `a VALUE`. On an error `out` begins with what it had.
+    /// `a VALUE`.
     ///
     /// # Errors
-    /// `AllocError` where there is no memory.
-    #[tactic(auto, using(u_text::proofs::AppendingLaws::extends_same))]
+    /// `AllocError` where there is no memory. Then `out` is as it was.
+    #[tactic(auto, using(u_text::proofs::AppendingLaws::extends_cut))]
     pub fn write_text(&self, out: &mut Vec<u8>) -> Result<(), AllocError>
         ensures ok { OnOk result (out.new.items ≡ out.old.items ++ entry_text self.now) }
-        ensures err { OnErr result (Extends out.old.items out.new.items) }
+        ensures err { OnErr result (out.new.items ≡ out.old.items) }
     {
-        let mut text = Vec::new(*out.allocator());
-        push_entry(&mut text, self)?;
-        out.extend_from_slice(&text)
+        let len = out.len();
+        let written = push_entry(out, self);
+        cut_back(out, len, written)
+    }
+}
+
+impl Firing {
+    /// Appends the text of the firing: `f NAME VALUE..`, and behind it ` by WRITER VALUE` where it
+    /// reads a write.
+    ///
+    /// # Errors
+    /// `AllocError` where there is no memory. Then `out` is as it was.
+    #[tactic(auto, using(u_text::proofs::AppendingLaws::extends_cut))]
+    pub fn write_text(&self, out: &mut Vec<u8>) -> Result<(), AllocError>
+        ensures ok { OnOk result (out.new.items ≡ out.old.items ++ firing_text self.now) }
+        ensures err { OnErr result (out.new.items ≡ out.old.items) }
+    {
+        let len = out.len();
+        let written = push_firing(out, self);
+        cut_back(out, len, written)
     }
 }

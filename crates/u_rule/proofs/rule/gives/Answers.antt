@@ -6,10 +6,10 @@ use Rattle.u_rule.proofs.rule.gives.Goals as goal
 pub returns-clause-order : goal.returns-clause-order
 returns-clause-order c =
     let f = firing_fits c.args.job.now c.args.firing.now c.in-Some.statement.now (search rules) (search rules) in
-    let w = leaves_loop c.args.job.now.program c.program-program.ensures.checked c.in-Some.statement.now c.args.firing.now.activity (search rules) f in
-    all_given_rise c.in_ok-entries.entries.items c.args.job.now.program c.in-Some.statement.now c.args.firing.now.activity c.args.firing.now.values c.args.firing.now.write (search rules) (search rules) w
+    let w = leaves_loop c.args.job.now.program.blocks c.program-program.ensures.checked c.in-Some.statement.now c.args.firing.now.activity (search rules) f in
+    all_given_rise c.in_ok-entries.entries.items c.args.job.now.program.blocks c.in-Some.statement.now c.args.firing.now.activity c.args.firing.now.values c.args.firing.now.write (search rules) (search rules) w
 
 pub returns-clause-fitting : goal.returns-clause-fitting
 returns-clause-fitting c =
     let f = firing_fits c.args.job.now c.args.firing.now c.in-Some.statement.now (search rules) (search rules) in
-    all_given_fit c.args.job.now.program c.program-program.ensures.checked c.in_ok-entries.entries.items c.in-Some.statement.now c.args.firing.now.activity c.args.firing.now.values c.args.firing.now.write (search rules) (search rules) (search rules) f
+    all_given_fit c.args.job.now.program.blocks c.program-program.ensures.checked c.in_ok-entries.entries.items c.in-Some.statement.now c.args.firing.now.activity c.args.firing.now.values c.args.firing.now.write (search rules) (search rules) (search rules) f

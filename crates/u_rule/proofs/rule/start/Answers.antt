@@ -5,4 +5,4 @@ use Rattle.u_rule.proofs.rule.start.Goals as goal
 
 pub returns-clause-fitting : goal.returns-clause-fitting
 returns-clause-fitting c =
-    start_fits c.args.job.now.program c.program-program.ensures.checked _ (values.Int c.args.job.now.argument) (search rules) (search rules)
+    start_fits c.args.job.now.program.blocks c.program-program.ensures.checked _ (values.Int c.args.job.now.argument) (search rules) (search rules)

@@ -1,0 +1,184 @@
+-- What a statement gives, where it has values in their ranges, lies in them.
+use Rattle.std.proofs.Common.{◌≡◌, ◌∙◌, refl, sym, subst, arith, eq-eqb, Bool, true, false, ◌==◌, ℕ, ◌-◌, cond, List, [], ◌∷◌, Contains, Option, Some, None, Result, Ok, Err, inl, inr}
+use Rattle.std.proofs.lemmas.Bool.{false≢true}
+use Rattle.std.proofs.lemmas.List.Elements.{All-from_recursion, All-contains}
+use Rattle.u_name.specs.Block.{IsBlock}
+use Rattle.u_name.specs.Context.{Tree, Top, InLoop, InCall, depth, IsBetween, IsContext}
+use Rattle.u_name.specs.Name.{Activity, activity, IsName, loop_context, call_context, left, returned}
+use Rattle.u_name.specs.Cell.{CellOf}
+use Rattle.u_value.specs.Reading.{IsValue}
+use Rattle.u_value.specs.declared.value.Value.{Value}
+use Rattle.u_value.specs.declared.value.Value.TheVariants as values
+use Rattle.u_value.specs.declared.fault_kind.FaultKind.{FaultKind}
+use Rattle.u_value.specs.declared.fault_kind.FaultKind.TheVariants as faults
+use Rattle.u_program.specs.Limits.{IsBlockOf, IsDestination, IsKind, IsProgram, IsStatement, the_limits}
+use Rattle.u_program.specs.Parts.{StatementParts, BlockParts}
+use Rattle.u_program.specs.declared.program.Destination.{Destination}
+use Rattle.u_program.specs.declared.program.Kind.{Kind}
+use Rattle.u_program.specs.declared.program.Kind.TheVariants.{Enter, Next, Last, Leave, Apply}
+use Rattle.u_check.specs.Kinds.{is_apply, is_end, is_store}
+use Rattle.u_check.specs.Rules.{names_block}
+use Rattle.u_check.proofs.Blocks.{member_at}
+use Rattle.u_system.proofs.Member.{Contains-nil, Contains-cons_cases}
+use Rattle.u_rule.specs.Parts.{token, ValueList}
+use Rattle.u_rule.specs.Fits.{statement_of}
+use Rattle.u_rule.specs.Rule.{reached, refusal_of, list_of, result_of, first_of, delivered, handed_on, begun, called, back_named, back_of, brought_back, finished, ended, given, fault_of}
+use Rattle.u_rule.specs.Structures.{cell_named, stored, stored_in, wrote}
+use Rattle.u_rule.specs.EntryReading.{IsEntry}
+use Rattle.u_rule.specs.FiringReading.{AreValues, IsWritten}
+use Rattle.u_rule.specs.declared.entry.Entry.{Entry}
+use Rattle.u_rule.specs.declared.entry.Entry.TheVariants as entries
+use Rattle.u_rule.specs.declared.firing.Written.{Written}
+use Rattle.u_rule.proofs.Destinations.{list_in_range}
+use Rattle.u_rule.proofs.Linkage.{mapped}
+use Rattle.u_rule.proofs.Places.{standing}
+use Rattle.u_rule.proofs.ResultsInRange.{IsMade, IsNamedCell, first_made, cell_in_range, result_made}
+
+-- each entry of the list is in its ranges
+abbrev pub AreEntries : List Entry → Type 0
+AreEntries es = (e : Entry) → Contains es e → IsEntry e
+
+none_in_range : AreEntries []
+none_in_range e m = absurd (Contains-nil e m)
+
+one_in_range : (x : Entry) → IsEntry x → AreEntries (x ∷ [])
+one_in_range x i e m =
+    elim (Contains-cons_cases x e [] m) [ inl q ↦ subst (λ (y : Entry). IsEntry y) q i | inr k ↦ absurd (Contains-nil e k) ]
+
+fault_in_range : (a : Activity) (why : FaultKind) → IsName a → AreEntries (fault_of a why ∷ [])
+fault_in_range a why n = one_in_range (fault_of a why) n
+
+-- a number that is not refused is another than the refused one
+passes : (n m : ℕ) (why : FaultKind) → cond (n == m) (Some why) None ≡ None → n ≡ m → ⊥
+passes n m why = at (n == m) refl
+  where
+    at : (x : Bool) → (n == m) ≡ x → cond x (Some why) None ≡ None → n ≡ m → ⊥
+    at true q h e = cc
+    at false q h e = absurd (false≢true (sym q ∙ eq-eqb n m e))
+
+-- activities that are reached
+
+entered_context : (a : Activity) (l : ℕ) → IsName a → IsBetween 1 l 99 → (depth a.context ≡ 64 → ⊥) → IsContext (loop_context a l)
+entered_context a l n b d =
+    record { shallow = (let s = n.context.shallow in omega (arith, s, d)); in_range = (n.context.in_range, n.block, b, n.initiation) }
+
+called_context : (a : Activity) → IsName a → (depth a.context ≡ 64 → ⊥) → IsContext (call_context a)
+called_context a n d =
+    record { shallow = (let s = n.context.shallow in omega (arith, s, d)); in_range = (n.context.in_range, n.block, n.statement, n.initiation) }
+
+left_name : (a : Activity) (t : ℕ) → IsName a → IsBetween 1 t 999 → IsName (left a t)
+left_name a t n b = at a.context refl n.context
+  where
+    at : (u : Tree) → a.context ≡ u → IsContext u → IsName (left a t)
+    at Top e c = rw e (record { context = c; block = n.block; statement = n.statement; initiation = n.initiation })
+    at (InLoop outer from number turn) e c = rw e (record {
+      context = record { shallow = (let s = c.shallow in omega (arith, s)); in_range = c.in_range.0 };
+      block = c.in_range.1;
+      statement = b;
+      initiation = c.in_range.3;
+    })
+    at (InCall outer from caller turn) e c = rw e (record { context = c; block = n.block; statement = n.statement; initiation = n.initiation })
+
+returned_name : (a : Activity) (t : ℕ) → IsName a → IsBetween 1 t 999 → IsName (returned a t)
+returned_name a t n b = at a.context refl n.context
+  where
+    at : (u : Tree) → a.context ≡ u → IsContext u → IsName (returned a t)
+    at Top e c = rw e (record { context = c; block = n.block; statement = n.statement; initiation = n.initiation })
+    at (InLoop outer from number turn) e c = rw e (record { context = c; block = n.block; statement = n.statement; initiation = n.initiation })
+    at (InCall outer from caller turn) e c = rw e (record {
+      context = record { shallow = (let s = c.shallow in omega (arith, s)); in_range = c.in_range.0 };
+      block = c.in_range.1;
+      statement = b;
+      initiation = c.in_range.3;
+    })
+
+-- what a statement reaches without a refusal
+reached_name : (k : Kind) (a : Activity) (t : ℕ) → IsKind k → IsName a → IsBetween 1 t 999 → refusal_of k a ≡ None → IsName (reached k a t)
+reached_name (Enter l) a t i n b r =
+    let d = passes (depth a.context) 64 faults.Deep r in
+    record { context = entered_context a l n i d; block = n.block; statement = b; initiation = (omega arith, omega arith) }
+reached_name Next a t i n b r =
+    let d = passes a.initiation 4294967295 faults.Initiation r in
+    let j = n.initiation in
+    record { context = n.context; block = n.block; statement = b; initiation = (omega arith, omega (arith, j.1, d)) }
+reached_name Last a t i n b r = record { context = n.context; block = n.block; statement = b; initiation = (omega arith, omega arith) }
+reached_name Leave a t i n b r = left_name a t n b
+reached_name k a t i n b r = record { context = n.context; block = n.block; statement = b; initiation = n.initiation }
+
+-- what is handed on
+
+delivered_in_range : (o : Option FaultKind) (k : Kind) (a : Activity) (to : List Destination) (v : Value) → refusal_of k a ≡ o → IsKind k → IsName a → IsValue v → ((d : Destination) → Contains to d → IsDestination d) → AreEntries (delivered o k a to v)
+delivered_in_range None k a to v r i n f w x m =
+    let q = mapped (reached k a) v to x m in
+    let d = w q.0 q.1 in
+    subst (λ (y : Entry). IsEntry y) q.2 (reached_name k a q.0.statement i n d.statement r, d.port, f)
+delivered_in_range (Some why) k a to v r i n f w x m = fault_in_range a why n x m
+
+handed_in_range : (s : StatementParts) (a : Activity) (vs : ValueList) (r : Result Value FaultKind) → IsStatement the_limits s → IsName a → IsMade r → AreEntries (handed_on s.kind a (list_of s.kind s vs) r)
+handed_in_range s a vs (Ok v) i n f =
+    let to = list_of s.kind s vs in
+    let each = All-from_recursion IsDestination to (list_in_range to s.kind s vs refl i) in
+    delivered_in_range (refusal_of s.kind a) s.kind a to v refl i.kind n f (λ d m. All-contains IsDestination to d each m)
+handed_in_range s a vs (Err why) i n f = fault_in_range a why n
+
+-- calls, and their results
+
+begun_in_range : (a : Activity) (block : List ℕ) (v : Value) → IsName a → IsBlock block → IsValue v → AreEntries (begun a block v)
+begun_in_range a block v n b f = at (depth a.context == 64) refl
+  where
+    at : (x : Bool) → (depth a.context == 64) ≡ x → AreEntries (cond x (fault_of a faults.Deep ∷ []) (entries.Token (token (activity (call_context a) block 1 1) 1 v) ∷ []))
+    at true q = fault_in_range a faults.Deep n
+    at false q =
+        let d : depth a.context ≡ 64 → ⊥ = λ e. false≢true (sym q ∙ eq-eqb (depth a.context) 64 e) in
+        let m : IsName (activity (call_context a) block 1 1) = record { context = called_context a n d; block = b; statement = (omega arith, omega arith); initiation = (omega arith, omega arith) } in
+        one_in_range (entries.Token (token (activity (call_context a) block 1 1) 1 v)) (m, (omega arith, omega arith), f)
+
+called_in_range : (p : List BlockParts) (a : Activity) (vs : ValueList) → IsName a → AreValues vs → AreEntries (called p a vs)
+called_in_range p a (values.Proc block ∷ v ∷ vs) n i = at (names_block p block)
+  where
+    at : (x : Bool) → AreEntries (cond x (begun a block v) (fault_of a faults.Kind ∷ []))
+    at true = begun_in_range a block v n i.0 i.1.0
+    at false = fault_in_range a faults.Kind n
+called_in_range p a vs n i = fault_in_range a faults.Kind n
+
+-- a statement of a program is in its ranges
+pub statement_in_range : (p : List BlockParts) (name : List ℕ) (t : ℕ) (s : StatementParts) → IsProgram the_limits p → statement_of p name t ≡ Some s → IsStatement the_limits s
+statement_in_range p name t s lim e =
+    let w = standing p name t s e in
+    let b = All-contains (IsBlockOf the_limits) p w.block (All-from_recursion (IsBlockOf the_limits) p lim.each) w.member in
+    All-contains (IsStatement the_limits) w.block.statements s (All-from_recursion (IsStatement the_limits) w.block.statements b.each) (member_at w.block.statements (t - 1) s w.at_place)
+
+brought_in_range : (p : List BlockParts) (a : Activity) (v : Value) (block : List ℕ) (caller : ℕ) → IsProgram the_limits p → IsName a → IsValue v → AreEntries (brought_back a v (back_of (statement_of p block caller)))
+brought_in_range p a v block caller lim n f = at (statement_of p block caller) refl
+  where
+    by_kind : (k : Kind) → IsKind k → AreEntries (brought_back a v (back_named k))
+    by_kind (Apply b) i = one_in_range (entries.Token (token (returned a b) 1 v)) (returned_name a b n i, (omega arith, omega arith), f)
+    by_kind k i = none_in_range
+
+    at : (o : Option StatementParts) → statement_of p block caller ≡ o → AreEntries (brought_back a v (back_of o))
+    at None e = none_in_range
+    at (Some s) e = by_kind s.kind (statement_in_range p block caller s lim e).kind
+
+ended_in_range : (p : List BlockParts) (a : Activity) (r : Result Value FaultKind) → IsProgram the_limits p → IsName a → IsMade r → AreEntries (ended p a r)
+ended_in_range p a (Ok v) lim n f = at a.context
+  where
+    at : (u : Tree) → AreEntries (finished p a u v)
+    at Top = one_in_range (entries.Answer v) f
+    at (InLoop outer block number turn) = none_in_range
+    at (InCall outer block caller turn) = brought_in_range p a v block caller lim n f
+ended_in_range p a (Err why) lim n f = fault_in_range a why n
+
+stored_in_range : (a : Activity) (r : Result CellOf FaultKind) (vs : ValueList) → IsName a → IsNamedCell r → AreValues vs → AreEntries (stored_in a r vs)
+stored_in_range a (Ok cell) (structure ∷ index ∷ v ∷ vs) n c i = one_in_range (wrote cell a v) (c.0, c.1, n, i.1.1.0)
+stored_in_range a (Ok cell) vs n c i = fault_in_range a faults.Kind n
+stored_in_range a (Err why) vs n c i = fault_in_range a why n
+
+-- what a statement of a program gives
+pub given_in_range : (p : List BlockParts) (s : StatementParts) (a : Activity) (vs : ValueList) (write : Option Written) → IsProgram the_limits p → IsStatement the_limits s → IsName a → AreValues vs → IsWritten write → AreEntries (given p s a vs write)
+given_in_range p s a vs write lim i n f w = at (is_apply s.kind) (is_end s.kind) (is_store s.kind)
+  where
+    at : (x y z : Bool) → AreEntries (cond x (called p a vs) (cond y (ended p a (first_of vs)) (cond z (stored a vs) (handed_on s.kind a (list_of s.kind s vs) (result_of s.kind a vs write)))))
+    at true y z = called_in_range p a vs n f
+    at false true z = ended_in_range p a (first_of vs) lim n (first_made vs f)
+    at false false true = stored_in_range a (cell_named vs) vs n (cell_in_range vs f) f
+    at false false false = handed_in_range s a vs (result_of s.kind a vs write) i n (result_made s.kind a vs write i.kind n f w)
