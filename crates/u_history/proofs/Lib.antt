@@ -1,7 +1,7 @@
 pub mod Clashing
 pub mod OneValue
 pub mod Grouped
-pub mod Listed
+pub mod Gathered
 pub mod Merges
 pub mod Neighbours
 pub mod Reports

@@ -1,8 +1,9 @@
 -- Reports of sets that are the same.
-use Rattle.std.proofs.Common.{◌≡◌, ℕ, List, length, sym, ◌∙◌}
+use Rattle.std.proofs.Common.{◌≡◌, ℕ, List, length, map, Contains, sym, ap, ◌∙◌}
 use Rattle.std.specs.Cmp.{IsTotalOrder}
 use Rattle.std.proofs.lemmas.Cmp.{nat_cmp_total, on_total, then_total}
 use Rattle.u_system.specs.Firing.{Same}
+use Rattle.u_sets.specs.Rising.{Rises}
 use Rattle.u_sets.proofs.Places.{one_list_of, list_of_same}
 use Rattle.u_value.specs.declared.value.Value.{Value}
 use Rattle.u_value.specs.contracts.value.ValueOrd.TheImpl.Laws as value_laws
@@ -18,8 +19,12 @@ use Rattle.u_rule.specs.declared.entry.Entry.TheVariants as entries
 use Rattle.u_rule.specs.contracts.firing.WrittenOrd.TheImpl.Laws as written_laws
 use Rattle.u_rule.specs.contracts.parts.FaultOrd.TheImpl.Laws as fault_laws
 use Rattle.u_history.specs.declared.report.Ending.{Ending}
+use Rattle.u_history.specs.declared.report.Counts.{Counts}
+use Rattle.u_history.specs.declared.outcome.Outcome.{Outcome}
 use Rattle.u_history.specs.Orders.{value_order, written_order, fault_order}
 use Rattle.u_history.specs.Outcomes.{CellPairs, PortValues, PairIn, ValueAt, HasTwo, IsCellClash, IsPortClash, cell_clash_order, port_clash_order, IsOutcome}
+use Rattle.u_history.specs.Clashes.{cell_pairs, port_values}
+use Rattle.u_history.specs.OutcomeParts.{IsOutcomeOf, report_text_of}
 use Rattle.u_history.specs.Report.{IsReportOf, report_text}
 
 cells_total : IsTotalOrder cell_clash_order
@@ -80,3 +85,16 @@ module _ (H K : Entry → Type 0) (same : Same H K) where
       let d = one_list_of port_clash_order ports_total (IsPortClash H) (IsPortClash K) same_ports r.ports q.ports r.outcome.all_ports q.outcome.all_ports in
       let e = one_list_of fault_order fault_laws.total-law (λ x. H (entries.Fault x)) (λ x. K (entries.Fault x)) (λ x. same (entries.Fault x)) r.faults q.faults r.outcome.all_faults q.outcome.all_faults in
       r.is ∙ (λ i. report_text state firings parked (length (a i)) (b i) (c i) (d i) (e i)) ∙ sym q.is
+
+-- the text of the outcome of a list that rises is the report of what it has
+pub report_is : (es : List Entry) (o : Outcome) (state : Ending) (counts : Counts) (text : List ℕ) → Rises entry_cmp es → counts.entries ≡ length es → IsOutcomeOf (Contains es) o → text ≡ report_text_of state counts o → IsReportOf (Contains es) state counts.firings counts.parked text
+report_is es o state counts text rises count outcome is = record {
+  entries = es;
+  all_entries = record { rises = rises; exact = λ x. ((λ m. m), λ m. m) };
+  answers = o.answers;
+  cells = map cell_pairs o.cell_clashes;
+  ports = map port_values o.port_clashes;
+  faults = o.faults;
+  outcome = outcome;
+  is = is ∙ ap (λ (n : ℕ). report_text state counts.firings counts.parked n o.answers (map cell_pairs o.cell_clashes) (map port_values o.port_clashes) o.faults) count;
+}

@@ -21,15 +21,15 @@ port_order = (port_ord.ghosts).cmp
 
 -- what a clash says
 abbrev pub cell_pairs : CellClash → CellPairs
-cell_pairs k = record { cell = k.cell; pairs = k.pairs.items }
+cell_pairs k = record { cell = k.cell; pairs = k.pairs }
 
 abbrev pub port_values : PortClash → PortValues
-port_values k = record { activity = k.activity; port = k.port; values = k.values.items }
+port_values k = record { activity = k.activity; port = k.port; values = k.values }
 
 -- k is of that cell, and has all its pairs in H, in order
 abbrev pub HasPairsOf : (Entry → Type 0) → CellOf → CellClash → Type 0
-HasPairsOf H c k = (k.cell ≡ c) × IsListOf written_order (PairIn H c) k.pairs.items
+HasPairsOf H c k = (k.cell ≡ c) × IsListOf written_order (PairIn H c) k.pairs
 
 -- k is of that port, and has all its values in H, in order
 abbrev pub HasValuesOf : (Entry → Type 0) → Port → PortClash → Type 0
-HasValuesOf H p k = (port_of k.activity k.port ≡ p) × IsListOf value_order (ValueAt H p.activity p.number) k.values.items
+HasValuesOf H p k = (port_of k.activity k.port ≡ p) × IsListOf value_order (ValueAt H p.activity p.number) k.values

@@ -6,4 +6,5 @@ pub mod Places
 pub mod Clashes
 pub mod Verdicts
 pub mod Report
+pub mod OutcomeParts
 pub mod ExactPorts

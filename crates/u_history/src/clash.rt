@@ -15,6 +15,7 @@ ghost use Rattle.u_history.specs.Places.{AtOnePlace, IsClashing, IsWriteOf, IsTo
 ghost use Rattle.u_history.specs.Clashes.{port_order, cell_pairs, port_values, HasPairsOf, HasValuesOf};
 ghost use Rattle.u_sets.specs.Members.{Gains};
 
+use crate::listed::Listed;
 use crate::lookup::{pairs_in, values_at};
 use crate::place::{entry_at, is_at_port, is_in_cell};
 use std::alloc::{AllocError, Global};
@@ -29,7 +30,7 @@ pub struct CellClash {
     /// The cell.
     pub cell: Cell,
     /// All its pairs, in order.
-    pub pairs: Vec<Written>,
+    pub pairs: Listed<Written>,
 }
 
 /// A port of an activity that has two values or more.
@@ -40,7 +41,7 @@ pub struct PortClash {
     /// Its port, 1 to 3.
     pub port: u8,
     /// All values at the port, in order.
-    pub values: Vec<Value>,
+    pub values: Listed<Value>,
 }
 
 /// A port of an activity. Ports are ordered by activity, and then by number.
@@ -67,7 +68,8 @@ fn at_one_place(left: &Entry, right: &Entry) -> bool
 fn joins_before(entries: &[&Entry], index: usize) -> bool
     requires { index < length entries.now }
     ensures { (d : Entry) → IsTrue result
-        ↔ ((0 < index) × AtOnePlace (get_or (lent entries.now) index d) (get_or (lent entries.now) (index - 1) d)) }
+        ↔ ((0 < index) × AtOnePlace (get_or (lent entries.now) index d)
+        (get_or (lent entries.now) (index - 1) d)) }
 {
     if index == 0 {
         return false;
@@ -79,7 +81,8 @@ fn joins_before(entries: &[&Entry], index: usize) -> bool
 fn joins_after(entries: &[&Entry], index: usize) -> bool
     requires { index < length entries.now }
     ensures { (d : Entry) → IsTrue result
-        ↔ ((index + 1 < length entries.now) × AtOnePlace (get_or (lent entries.now) index d) (get_or (lent entries.now) (index + 1) d)) }
+        ↔ ((index + 1 < length entries.now) × AtOnePlace (get_or (lent entries.now) index d)
+        (get_or (lent entries.now) (index + 1) d)) }
 {
     let next = index + 1;
     if next >= entries.len() {
@@ -177,7 +180,7 @@ fn with_pairs(alloc: Global, entries: &[&Entry], cell: &Cell) -> Result<CellClas
     let pairs = pairs_in(alloc, entries, cell)?;
     Ok(CellClash {
         cell: cell.copy()?,
-        pairs,
+        pairs: Listed::new(pairs),
     })
 }
 
@@ -190,7 +193,7 @@ fn with_values(alloc: Global, entries: &[&Entry], port: &Port) -> Result<PortCla
     Ok(PortClash {
         activity: port.activity.copy()?,
         port: port.number,
-        values,
+        values: Listed::new(values),
     })
 }
 

@@ -1,6 +1,6 @@
 //! Sets of entries.
 ghost use Rattle.std.specs.Prelude.{◌≡◌, ◌↔◌, ◌++◌, [], OnOk, OnErr, IfOk, IfErr, Contains, ◌⊎◌, IsTrue, length, map};
-ghost use Rattle.std.specs.Map.Iter.{ShowsInOrder, deref};
+ghost use Rattle.std.specs.Map.Iter.{deref};
 ghost use Rattle.u_sets.specs.Rising.{Rises, IsListOf};
 ghost use Rattle.u_sets.specs.Members.{IsWith, IsUnion};
 ghost use Rattle.u_rule.specs.EntryOrder.{entry_cmp};
@@ -8,17 +8,17 @@ ghost use Rattle.u_rule.specs.declared.entry.Entry.{Entry};
 ghost use Rattle.u_history.specs.Orders.{value_order, written_order};
 ghost use Rattle.u_text.specs.Appending.{Extends};
 ghost use Rattle.u_history.specs.Text.{history_text};
-ghost use Rattle.u_history.specs.Outcomes.{IsOutcome, PairIn, ValueAt};
-ghost use Rattle.u_history.specs.Clashes.{cell_pairs, port_values};
+ghost use Rattle.u_history.specs.Outcomes.{PairIn, ValueAt};
+ghost use Rattle.u_history.specs.OutcomeParts.{IsOutcomeOf};
 
 use crate::lookup::{pairs_in, values_at};
 use crate::outcome::Outcome;
 use std::alloc::{AllocError, AllocFailed, Global};
-use std::collections::btree_set::Iter;
 use std::marker::Model;
 use u_name::{Cell, Name};
 use u_rule::{Entry, Written};
 use u_sets::OrderedSet;
+use u_text::cut_back;
 use u_value::Value;
 
 /// A set of entries. Contracts see it as the list of its entries, in order.
@@ -85,20 +85,8 @@ impl History {
         self.entries.insert(entry)
     }
 
-    /// The entries, in order.
-    pub fn iter(&self) -> Iter<'_, Entry>
-        ensures rest { result ≡ self.now }
-        ensures runs { ShowsInOrder (deref {X = Entry}) }
-        ensures rises { Rises entry_cmp self.now }
-    {
-        self.entries.iter()
-    }
-
     /// References to the entries, in order.
-    ///
-    /// # Errors
-    /// `AllocError` where there is no memory.
-    pub fn references(&self) -> Result<Vec<&Entry>, AllocError>
+    fn references(&self) -> Result<Vec<&Entry>, AllocError>
         ensures all { IfOk result (λ v. map (deref {X = Entry}) v.items ≡ self.now) }
         ensures rises { Rises entry_cmp self.now }
     {
@@ -144,13 +132,10 @@ impl History {
         pairs_in(self.alloc, &entries, cell)
     }
 
-    /// Appends the text of each entry, in order, with a newline behind it. On an error `out` begins
-    /// with what it had.
-    ///
-    /// # Errors
-    /// `AllocError` where there is no memory.
+    /// Appends the text of each entry, in order, with a newline behind it. On an error a part of it
+    /// may stand there.
     #[tactic(auto, using(u_text::proofs::AppendingLaws::extends_by, u_text::proofs::AppendingLaws::extends_behind))]
-    pub fn write_text(&self, out: &mut Vec<u8>) -> Result<(), AllocError>
+    fn append(&self, out: &mut Vec<u8>) -> Result<(), AllocError>
         ensures ok { OnOk result (out.new.items ≡ out.old.items ++ history_text self.now) }
         ensures err { OnErr result (Extends out.old.items out.new.items) }
     {
@@ -161,15 +146,26 @@ impl History {
         Ok(())
     }
 
+    /// Appends the text of each entry, in order, with a newline behind it.
+    ///
+    /// # Errors
+    /// `AllocError` where there is no memory. Then `out` is as it was.
+    #[tactic(auto, using(u_text::proofs::AppendingLaws::extends_cut))]
+    pub fn write_text(&self, out: &mut Vec<u8>) -> Result<(), AllocError>
+        ensures ok { OnOk result (out.new.items ≡ out.old.items ++ history_text self.now) }
+        ensures err { OnErr result (out.new.items ≡ out.old.items) }
+    {
+        let len = out.len();
+        let written = self.append(out);
+        cut_back(out, len, written)
+    }
+
     /// What the entries say: the answers, the clashes in cells and at ports, and the faults.
     ///
     /// # Errors
     /// `AllocError` where there is no memory.
     pub fn outcome(&self) -> Result<Outcome, AllocError>
-        ensures { IfOk result
-            (λ o. IsOutcome (Contains self.now) o.answers.items
-            (map cell_pairs o.cell_clashes.items)
-            (map port_values o.port_clashes.items) o.faults.items) }
+        ensures { IfOk result (IsOutcomeOf (Contains self.now)) }
     {
         let entries = self.references()?;
         Outcome::of(self.alloc, &entries)

@@ -4,7 +4,9 @@
 mod clash;
 mod exact;
 mod history;
+mod listed;
 mod lookup;
+mod merging;
 mod outcome;
 mod place;
 mod report;
@@ -12,6 +14,7 @@ mod verdict;
 
 pub use clash::{CellClash, PortClash};
 pub use history::History;
+pub use listed::Listed;
 pub use outcome::Outcome;
-pub use report::{Ending, report_text};
+pub use report::{Counts, Ending, report_text};
 pub use verdict::Verdict;

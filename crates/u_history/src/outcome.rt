@@ -1,17 +1,18 @@
 //! What a set of entries says.
-ghost use Rattle.std.specs.Prelude.{◌≡◌, ◌↔◌, ◌⊎◌, OnOk, IfOk, Contains, map};
+ghost use Rattle.std.specs.Prelude.{◌≡◌, ◌↔◌, ◌⊎◌, OnOk, IfOk, Contains};
 ghost use Rattle.u_sets.specs.Rising.{Rises, IsListOf};
 ghost use Rattle.u_rule.specs.EntryOrder.{entry_cmp};
 ghost use Rattle.u_value.specs.declared.value.Value.{Value};
 ghost use Rattle.u_rule.specs.declared.parts.Fault.{Fault};
 ghost use Rattle.u_rule.specs.declared.entry.Entry.TheVariants as kinds;
 ghost use Rattle.u_history.specs.Orders.{value_order, fault_order};
-ghost use Rattle.u_history.specs.Outcomes.{IsOutcome, lent};
-ghost use Rattle.u_history.specs.Clashes.{cell_pairs, port_values};
-ghost use Rattle.u_history.specs.Verdicts.{judged, judgement};
+ghost use Rattle.u_history.specs.Outcomes.{lent};
+ghost use Rattle.u_history.specs.OutcomeParts.{IsOutcomeOf, judged_of};
+ghost use Rattle.u_history.specs.Verdicts.{judgement};
 ghost use Rattle.u_sets.specs.Members.{Gains};
 
 use crate::clash::{CellClash, PortClash, cell_clashes, port_clashes};
+use crate::listed::Listed;
 use crate::place::entry_at;
 use crate::verdict::Verdict;
 use std::alloc::{AllocError, Global};
@@ -23,13 +24,13 @@ use u_value::Value;
 #[derive(Drop)]
 pub struct Outcome {
     /// All answers.
-    pub answers: Vec<Value>,
+    pub answers: Listed<Value>,
     /// The cells that have two pairs of a writer and a value, or more, each with all its pairs, by cell.
-    pub cell_clashes: Vec<CellClash>,
+    pub cell_clashes: Listed<CellClash>,
     /// The ports that have two values or more, each with all its values, by activity and port.
-    pub port_clashes: Vec<PortClash>,
+    pub port_clashes: Listed<PortClash>,
     /// All faults.
-    pub faults: Vec<Fault>,
+    pub faults: Listed<Fault>,
 }
 
 /// Adds the entry, if it is an answer.
@@ -86,25 +87,20 @@ impl Outcome {
     /// What the entries say.
     pub(crate) fn of(alloc: Global, entries: &[&Entry]) -> Result<Outcome, AllocError>
         requires { Rises entry_cmp (lent entries.now) }
-        ensures { IfOk result
-            (λ o. IsOutcome (Contains (lent entries.now)) o.answers.items
-            (map cell_pairs o.cell_clashes.items)
-            (map port_values o.port_clashes.items) o.faults.items) }
+        ensures { IfOk result (IsOutcomeOf (Contains (lent entries.now))) }
     {
         Ok(Outcome {
-            answers: answers(alloc, entries)?,
-            cell_clashes: cell_clashes(alloc, entries)?,
-            port_clashes: port_clashes(alloc, entries)?,
-            faults: faults(alloc, entries)?,
+            answers: Listed::new(answers(alloc, entries)?),
+            cell_clashes: Listed::new(cell_clashes(alloc, entries)?),
+            port_clashes: Listed::new(port_clashes(alloc, entries)?),
+            faults: Listed::new(faults(alloc, entries)?),
         })
     }
 
     /// The verdict: clashed, where something clashes or there is more than one answer; else faulted,
     /// where there is a fault; else the answer, if there is one.
     pub fn verdict(&self) -> Verdict<'_>
-        ensures { judgement result
-            ≡ judged self.now.answers.items (map cell_pairs self.now.cell_clashes.items)
-            (map port_values self.now.port_clashes.items) self.now.faults.items }
+        ensures { judgement result ≡ judged_of self.now }
     {
         if !self.cell_clashes.is_empty()
             || !self.port_clashes.is_empty()

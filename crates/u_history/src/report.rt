@@ -1,12 +1,14 @@
 //! Reports.
-ghost use Rattle.std.specs.Prelude.{◌≡◌, ◌++◌, Contains, OnOk, IfOk, codes, decimal, length, map};
-ghost use Rattle.u_history.specs.Outcomes.{IsOutcome};
+ghost use Rattle.std.specs.Prelude.{◌≡◌, ◌++◌, List, Contains, OnOk, IfOk, codes, decimal, length, map};
+ghost use Rattle.u_sets.specs.Rising.{Rises};
+ghost use Rattle.u_rule.specs.EntryOrder.{entry_cmp};
+ghost use Rattle.u_rule.specs.declared.entry.Entry.{Entry};
 ghost use Rattle.u_history.specs.Clashes.{cell_pairs, port_values};
 ghost use Rattle.u_history.specs.Verdicts.{judgement};
 ghost use Rattle.u_history.specs.Report.{texts, count_line, state_line, answer_line, cell_line, cell_lines, port_line, port_lines, fault_line, verdict_line, counts_text, outcome_text, report_text, IsReportOf};
+ghost use Rattle.u_history.specs.OutcomeParts.{IsOutcomeOf, outcome_text_of, report_text_of};
 
 use crate::clash::{CellClash, PortClash};
-use crate::history::History;
 use crate::outcome::Outcome;
 use crate::verdict::Verdict;
 use itoa::Buffer;
@@ -22,6 +24,17 @@ pub enum Ending {
     Quiet,
     /// The run stopped while something was ready to fire.
     Paused,
+}
+
+/// What a report counts.
+#[derive(Clone, Copy, Debug, PartialEq, Eq)]
+pub struct Counts {
+    /// How many firings were applied.
+    pub firings: usize,
+    /// How many firings are parked.
+    pub parked: usize,
+    /// How many entries the history has.
+    pub entries: usize,
 }
 
 /// Puts the text at the end.
@@ -60,17 +73,14 @@ fn put_state(out: &mut Vec<u8>, state: Ending) -> Result<(), AllocError>
 }
 
 #[tactic(auto, unfolding(crate::specs::Report::counts_text), using(crate::proofs::Texts::join3))]
-fn put_counts(
-    out: &mut Vec<u8>,
-    firings: usize,
-    parked: usize,
-    entries: usize,
-) -> Result<(), AllocError>
-    ensures { OnOk result (out.new.items ≡ out.old.items ++ counts_text firings parked entries) }
+fn put_counts(out: &mut Vec<u8>, counts: Counts) -> Result<(), AllocError>
+    ensures { OnOk result
+        (out.new.items
+        ≡ out.old.items ++ counts_text counts.firings counts.parked counts.entries) }
 {
-    put_count(out, b"firings ", firings)?;
-    put_count(out, b"parked ", parked)?;
-    put_count(out, b"entries ", entries)
+    put_count(out, b"firings ", counts.firings)?;
+    put_count(out, b"parked ", counts.parked)?;
+    put_count(out, b"entries ", counts.entries)
 }
 
 #[tactic(auto, unfolding(crate::specs::Report::answer_line), using(crate::proofs::Texts::join3))]
@@ -156,7 +166,7 @@ fn put_answers(out: &mut Vec<u8>, answers: &[Value]) -> Result<(), AllocError>
 fn put_cell(out: &mut Vec<u8>, clash: &CellClash) -> Result<(), AllocError>
     ensures { OnOk result (out.new.items ≡ out.old.items ++ cell_lines (cell_pairs clash.now)) }
 {
-    put_pairs(out, &clash.cell, &clash.pairs)
+    put_pairs(out, &clash.cell, clash.pairs.as_slice())
 }
 
 fn put_cells(out: &mut Vec<u8>, clashes: &[CellClash]) -> Result<(), AllocError>
@@ -173,7 +183,7 @@ fn put_cells(out: &mut Vec<u8>, clashes: &[CellClash]) -> Result<(), AllocError>
 fn put_port(out: &mut Vec<u8>, clash: &PortClash) -> Result<(), AllocError>
     ensures { OnOk result (out.new.items ≡ out.old.items ++ port_lines (port_values clash.now)) }
 {
-    put_values(out, &clash.activity, clash.port, &clash.values)
+    put_values(out, &clash.activity, clash.port, clash.values.as_slice())
 }
 
 fn put_ports(out: &mut Vec<u8>, clashes: &[PortClash]) -> Result<(), AllocError>
@@ -219,35 +229,49 @@ fn put_verdict(out: &mut Vec<u8>, verdict: Verdict<'_>) -> Result<(), AllocError
 
 #[tactic(auto, unfolding(crate::specs::Report::outcome_text), using(crate::proofs::Texts::join5))]
 fn put_outcome(out: &mut Vec<u8>, outcome: &Outcome) -> Result<(), AllocError>
-    ensures { OnOk result
-        (out.new.items ≡ out.old.items
-        ++ outcome_text outcome.now.answers.items (map cell_pairs outcome.now.cell_clashes.items)
-        (map port_values outcome.now.port_clashes.items) outcome.now.faults.items) }
+    ensures { OnOk result (out.new.items ≡ out.old.items ++ outcome_text_of outcome.now) }
 {
-    put_answers(out, &outcome.answers)?;
-    put_cells(out, &outcome.cell_clashes)?;
-    put_ports(out, &outcome.port_clashes)?;
-    put_faults(out, &outcome.faults)?;
+    put_answers(out, outcome.answers.as_slice())?;
+    put_cells(out, outcome.cell_clashes.as_slice())?;
+    put_ports(out, outcome.port_clashes.as_slice())?;
+    put_faults(out, outcome.faults.as_slice())?;
     put_verdict(out, outcome.verdict())
 }
 
-/// The report of a history: the state; how many firings, parked firings and entries there are; all
-/// answers; all that clashes; all faults; the verdict. Each line ends with a newline, and each kind
-/// of line is in order.
 #[tactic(auto, unfolding(crate::specs::Report::report_text), using(crate::proofs::Texts::join3))]
+fn put_report(
+    out: &mut Vec<u8>,
+    state: Ending,
+    counts: Counts,
+    outcome: &Outcome,
+) -> Result<(), AllocError>
+    ensures { OnOk result
+        (out.new.items ≡ out.old.items ++ report_text_of state counts outcome.now) }
+{
+    put_state(out, state)?;
+    put_counts(out, counts)?;
+    put_outcome(out, outcome)
+}
+
+/// The report of a history with that outcome and so many entries: the state; how many firings, parked
+/// firings and entries there are; all answers; all that clashes; all faults; the verdict. Each line
+/// ends with a newline, and each kind of line is in order.
+///
+/// # Errors
+/// `AllocError` where there is no memory.
 pub fn report_text(
     alloc: Global,
     state: Ending,
-    firings: usize,
-    parked: usize,
-    history: &History,
+    counts: Counts,
+    outcome: &Outcome,
 ) -> Result<Vec<u8>, AllocError>
-    ensures { IfOk result (λ v. IsReportOf (Contains history.now) state firings parked v.items) }
+    ensures text { IfOk result (λ v. v.items ≡ report_text_of state counts outcome.now) }
+    ensures of { (es : List Entry) → Rises entry_cmp es → counts.entries ≡ length es
+        → IsOutcomeOf (Contains es) outcome.now
+        → IfOk result
+        (λ v. IsReportOf (Contains es) state counts.firings counts.parked v.items) }
 {
-    let outcome = history.outcome()?;
     let mut out = Vec::new(alloc);
-    put_state(&mut out, state)?;
-    put_counts(&mut out, firings, parked, history.len())?;
-    put_outcome(&mut out, &outcome)?;
+    put_report(&mut out, state, counts, outcome)?;
     Ok(out)
 }

@@ -2,6 +2,7 @@
 use Rattle.std.proofs.Common.{◌≡◌, ◌↔◌, ◌⊎◌, ◌∙◌, inl, inr, refl, sym, subst, arith, ap, Bool, true, false, ◌&&◌, IsTrue, ℕ, ◌≤◌, List, [], ◌∷◌, length, Contains, Option, Some, None}
 use Rattle.std.specs.Prelude.{is_none, is_some, is_ok, if◌then◌else◌, ◌==◌, Result, Ok, Err}
 use Rattle.std.proofs.lemmas.Bool.Decides.{nat_tests}
+use Rattle.std.proofs.lemmas.Bool.{and_parts, eqb-true}
 use Rattle.u_name.specs.Name.{Activity}
 use Rattle.u_value.specs.declared.value.Value.{Value}
 use Rattle.u_program.specs.declared.program.Kind.{Kind}
@@ -33,28 +34,17 @@ cons_member {X} P x e xs k = (to, back)
     back (inl p) = subst (λ (y : X). Contains (x ∷ xs) y) p (Contains-head x xs)
     back (inr q) = Contains-tail x e xs (k.1 q)
 
-one_member : {X : Type 0} (x e : X) → Contains (x ∷ []) e ↔ (x ≡ e)
+pub one_member : {X : Type 0} (x e : X) → Contains (x ∷ []) e ↔ (x ≡ e)
 one_member {X} x e = (
   (λ m. elim (Contains-cons_cases x e [] m) [ inl p ↦ p | inr n ↦ absurd (Contains-nil e n) ]),
   (λ p. subst (λ (y : X). Contains (x ∷ []) y) p (Contains-head x [])),
 )
 
-two_members : {X : Type 0} (x y e : X) → Contains (x ∷ y ∷ []) e ↔ ((x ≡ e) ⊎ (y ≡ e))
+pub two_members : {X : Type 0} (x y e : X) → Contains (x ∷ y ∷ []) e ↔ ((x ≡ e) ⊎ (y ≡ e))
 two_members x y e = cons_member (y ≡ e) x e (y ∷ []) (one_member y e)
 
-three_members : {X : Type 0} (x y z e : X) → Contains (x ∷ y ∷ z ∷ []) e ↔ ((x ≡ e) ⊎ ((y ≡ e) ⊎ (z ≡ e)))
+pub three_members : {X : Type 0} (x y z e : X) → Contains (x ∷ y ∷ z ∷ []) e ↔ ((x ≡ e) ⊎ ((y ≡ e) ⊎ (z ≡ e)))
 three_members x y z e = cons_member ((y ≡ e) ⊎ (z ≡ e)) x e (y ∷ z ∷ []) (two_members y z e)
-
-and_left : (a b : Bool) → (a && b) ≡ true → a ≡ true
-and_left true b h = refl
-and_left false b h = cc
-
-and_right : (a b : Bool) → (a && b) ≡ true → b ≡ true
-and_right true b h = h
-and_right false b h = cc
-
-same_number : (a b : ℕ) → (a == b) ≡ true → a ≡ b
-same_number a b h = grind (arith, nat_tests)
 
 -- a write exactly where it is wanted
 read_or_none : (b : Bool) (w : Option Written) → (if b then is_some w else is_none w) ≡ true → ((b ≡ true) × ((x : Written) × (w ≡ Some x))) ⊎ (w ≡ None)
@@ -120,17 +110,17 @@ Shape f = Plain f ⊎ Reading f
 shape_at : (p : List BlockParts) (s : Option StatementParts) (f : Firing) → is_firing_at p s f ≡ true → Shape f
 shape_at p None f h = cc
 shape_at p (Some s) f h =
-    let r = and_right (fits_at p s.region f.activity) _ h in
-    let n = same_number (length f.values) (ports_of s.kind) (and_left (length f.values == ports_of s.kind) (has_its_write s.kind f.values f.write) r) in
+    let r = (and_parts (fits_at p s.region f.activity) _ h).1 in
+    let n = eqb-true (length f.values) (ports_of s.kind) (and_parts (length f.values == ports_of s.kind) (has_its_write s.kind f.values f.write) r).0 in
     let few = few_ports s.kind in
-    elim (read_or_none (reads_cell s.kind f.values) f.write (and_right (length f.values == ports_of s.kind) (has_its_write s.kind f.values f.write) r)) [
+    elim (read_or_none (reads_cell s.kind f.values) f.write ((and_parts (length f.values == ports_of s.kind) (has_its_write s.kind f.values f.write) r).1)) [
       | inl (b, (x, e)) ↦ (let k = reads s.kind f.values b in inr (record { by = x; write = e; values = two_of f.values (n ∙ k.0); cell = k.1.0; names = k.1.1 }))
       | inr e ↦ inl (record { write = e; values = listed f.values (omega (arith, n, few.0)) (omega (arith, n, few.1)) })
     ]
 
 pub shape_of : (job : JobParts) (f : Firing) → IsTrue (is_firing_of job f) → Shape f
 unfolding is_firing_of
-shape_of job f h = shape_at job.program (statement_of job.program f.activity.block f.activity.statement) f h
+shape_of job f h = shape_at job.program.blocks (statement_of job.program.blocks f.activity.block f.activity.statement) f h
 
 -- a firing is its activity with its values and its write
 pub rebuilt : (f : Firing) (vs : ValueList) (w : Option Written) → f.write ≡ w → f.values ≡ vs → f ≡ firing f.activity vs w

@@ -4,7 +4,7 @@ use Rattle.u_name.specs.Cell.{CellOf, cell_cmp}
 use Rattle.u_rule.specs.declared.entry.Entry.{Entry}
 use Rattle.u_history.specs.Outcomes.{lent, HasTwo, PairIn}
 use Rattle.u_history.specs.Places.{IsClashing, IsWriteOf}
-use Rattle.u_history.proofs.Listed.{lent_below, lent_end}
+use Rattle.u_history.proofs.Gathered.{lent_below, lent_end}
 use Rattle.u_history.proofs.Clashing.{step_place, listed_places, cell_of_clash, clash_of_cell}
 use Rattle.u_history.proofs.clash.clashing_cells.Goals as goal
 

@@ -5,7 +5,7 @@ use Rattle.u_history.specs.Clashes.{port_order}
 use Rattle.u_rule.specs.declared.entry.Entry.{Entry}
 use Rattle.u_history.specs.Outcomes.{lent, HasTwo, ValueAt}
 use Rattle.u_history.specs.Places.{IsClashing, IsTokenAt}
-use Rattle.u_history.proofs.Listed.{lent_below, lent_end}
+use Rattle.u_history.proofs.Gathered.{lent_below, lent_end}
 use Rattle.u_history.proofs.Clashing.{step_place, listed_places, port_of_clash, clash_of_port}
 use Rattle.u_history.proofs.clash.clashing_ports.Goals as goal
 

@@ -1,7 +1,7 @@
 use Rattle.std.proofs.Common.{inl, inr, refl}
 use Rattle.u_history.specs.Outcomes.{lent}
 use Rattle.u_history.proofs.Neighbours.{clash_if, clash_only}
-use Rattle.u_history.proofs.Listed.{lent_below, lent_after}
+use Rattle.u_history.proofs.Gathered.{lent_below, lent_after}
 use Rattle.u_history.proofs.clash.is_clashing.Goals as goal
 
 pub returns-then-before : goal.returns-then-before

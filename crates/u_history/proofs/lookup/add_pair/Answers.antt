@@ -6,7 +6,7 @@ use Rattle.u_rule.specs.EntryOrder.{write_of, written}
 use Rattle.u_rule.specs.declared.firing.Written.{Written}
 use Rattle.u_rule.specs.declared.entry.Entry.TheVariants as kinds
 use Rattle.u_history.proofs.OneValue.{one_pair}
-use Rattle.u_history.proofs.Listed.{added}
+use Rattle.u_history.proofs.Gathered.{added}
 use Rattle.u_history.proofs.lookup.add_pair.Goals as goal
 
 pub returns-in_ok-place_in-clause-ok : goal.returns-in_ok-place_in-clause-ok

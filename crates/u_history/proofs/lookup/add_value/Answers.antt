@@ -4,7 +4,7 @@ use Rattle.u_name.specs.Name.{Activity}
 use Rattle.u_rule.specs.Parts.{token}
 use Rattle.u_rule.specs.declared.entry.Entry.TheVariants as kinds
 use Rattle.u_history.proofs.OneValue.{one_value}
-use Rattle.u_history.proofs.Listed.{added}
+use Rattle.u_history.proofs.Gathered.{added}
 use Rattle.u_history.proofs.lookup.add_value.Goals as goal
 
 pub returns-in_ok-place_in-clause-ok : goal.returns-in_ok-place_in-clause-ok

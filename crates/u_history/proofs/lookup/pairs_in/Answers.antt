@@ -9,7 +9,7 @@ use Rattle.u_history.specs.declared.place.Place.TheVariants as places
 use Rattle.u_history.specs.Orders.{written_order}
 use Rattle.u_history.specs.Outcomes.{lent}
 use Rattle.u_history.specs.Places.{IsAt}
-use Rattle.u_history.proofs.Listed.{listed, step_item, lent_below, lent_end}
+use Rattle.u_history.proofs.Gathered.{listed, step_item, lent_below, lent_end}
 use Rattle.u_history.proofs.Spans.{none_before, listed_until}
 use Rattle.u_history.proofs.lookup.pairs_in.Goals as goal
 

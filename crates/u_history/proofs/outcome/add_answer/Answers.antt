@@ -1,7 +1,7 @@
 use Rattle.std.proofs.Common.{◌∙◌, ap, sym}
 use Rattle.u_value.specs.declared.value.Value.{Value}
 use Rattle.u_rule.specs.declared.entry.Entry.TheVariants as kinds
-use Rattle.u_history.proofs.Listed.{added}
+use Rattle.u_history.proofs.Gathered.{added}
 use Rattle.u_history.proofs.outcome.add_answer.Goals as goal
 
 pub returns-in_ok-place_in-clause-ok : goal.returns-in_ok-place_in-clause-ok

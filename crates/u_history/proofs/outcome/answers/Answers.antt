@@ -5,7 +5,7 @@ use Rattle.u_rule.specs.declared.entry.Entry.{Entry}
 use Rattle.u_rule.specs.declared.entry.Entry.TheVariants as kinds
 use Rattle.u_history.specs.Orders.{value_order}
 use Rattle.u_history.specs.Outcomes.{lent}
-use Rattle.u_history.proofs.Listed.{listed, step_item, lent_below, lent_end}
+use Rattle.u_history.proofs.Gathered.{listed, step_item, lent_below, lent_end}
 use Rattle.u_history.proofs.outcome.answers.Goals as goal
 
 pub loop-index-preserved : goal.loop-index-preserved

@@ -1,7 +1,7 @@
 use Rattle.std.proofs.Common.{◌+◌, ◌-◌, ◌/◌, arith, subst, sym}
 use Rattle.u_history.specs.Outcomes.{lent}
 use Rattle.u_history.specs.Places.{IsBefore}
-use Rattle.u_history.proofs.Listed.{lent_below, length_lent}
+use Rattle.u_history.proofs.Gathered.{lent_below, length_lent}
 use Rattle.u_history.proofs.Spans.{low_moved, high_moved}
 use Rattle.u_history.proofs.place.first_at.Goals as goal
 

@@ -7,7 +7,7 @@ use Rattle.u_rule.specs.declared.entry.Entry.{Entry}
 use Rattle.u_rule.specs.declared.entry.Entry.TheVariants as kinds
 use Rattle.u_history.specs.Orders.{value_order}
 use Rattle.u_history.specs.Outcomes.{lent}
-use Rattle.u_history.proofs.Listed.{along}
+use Rattle.u_history.proofs.Gathered.{along}
 use Rattle.u_history.proofs.history.History.values.Goals as goal
 
 pub returns : goal.returns

@@ -5,7 +5,7 @@ use Rattle.u_rule.specs.declared.entry.Entry.{Entry}
 use Rattle.u_sets.proofs.Shown.{shown_all}
 use Rattle.u_history.proofs.Lines.{text_more}
 use Rattle.u_history.specs.Text.{history_text}
-use Rattle.u_history.proofs.history.History.write_text.Goals as goal
+use Rattle.u_history.proofs.history.History.append.Goals as goal
 
 pub loop-entry-preserved : goal.loop-entry-preserved
 loop-entry-preserved c = text_more c.loop-entry.yielded c.in-Some.entry c.args.out.now.items c.loop-entry.out.items c.write_text.new.out.items c.push.new.self.items c.loop-entry.invariant c.in_ok-write_text.ensures.ok c.in_ok-push.ensures.items
