@@ -1,7 +1,7 @@
 -- Each firing of a job needs a token.
-use Rattle.std.proofs.Common.{◌≡◌, ◌≤◌, refl, arith, Bool, true, false, ◌&&◌, IsTrue, ℕ, List, [], ◌∷◌, ◌++◌, length, Option, Some, None}
+use Rattle.std.proofs.Common.{◌≡◌, ◌≤◌, arith, true, IsTrue, List, [], ◌∷◌, ◌++◌, length, Option, Some, None}
 use Rattle.std.specs.Prelude.{Contains, ◌==◌}
-use Rattle.std.proofs.lemmas.Bool.Decides.{nat_tests}
+use Rattle.std.proofs.lemmas.Bool.{and_parts, eqb-true}
 use Rattle.u_name.specs.Name.{Activity}
 use Rattle.u_program.specs.declared.program.Kind.{Kind}
 use Rattle.u_program.specs.declared.program.Kind.TheVariants.{Begin}
@@ -17,17 +17,6 @@ use Rattle.u_rule.specs.declared.entry.Entry.TheVariants as entries
 use Rattle.u_rule.specs.declared.firing.Firing.{Firing}
 use Rattle.u_system.proofs.Member.{Contains-head}
 
-and_left : (a b : Bool) → (a && b) ≡ true → a ≡ true
-and_left true b h = refl
-and_left false b h = cc
-
-and_right : (a b : Bool) → (a && b) ≡ true → b ≡ true
-and_right true b h = h
-and_right false b h = cc
-
-same_number : (a b : ℕ) → (a == b) ≡ true → a ≡ b
-same_number a b h = grind (arith, nat_tests)
-
 some_port : (k : Kind) → 1 ≤ ports_of k
 some_port Begin = omega arith
 some_port k = omega arith
@@ -35,8 +24,8 @@ some_port k = omega arith
 some_value : (p : List BlockParts) (s : Option StatementParts) (f : Firing) → is_firing_at p s f ≡ true → 1 ≤ length f.values
 some_value p None f h = cc
 some_value p (Some s) f h =
-    let r = and_right (fits_at p s.region f.activity) _ h in
-    let n = same_number (length f.values) (ports_of s.kind) (and_left (length f.values == ports_of s.kind) (has_its_write s.kind f.values f.write) r) in
+    let r = (and_parts (fits_at p s.region f.activity) _ h).1 in
+    let n = eqb-true (length f.values) (ports_of s.kind) (and_parts (length f.values == ports_of s.kind) (has_its_write s.kind f.values f.write) r).0 in
     let l = some_port s.kind in
     omega (arith, n)
 
@@ -46,4 +35,4 @@ first_token a (v ∷ vs) more l = (entries.Token (token a 1 v), Contains-head _ 
 
 pub needs_some : (job : JobParts) (f : Firing) → IsTrue ((system_of job).is_firing f) → (e : Entry) × Contains ((system_of job).needs f) e
 unfolding is_firing_of needs_of
-needs_some job f h = first_token f.activity f.values (write_read f.values f.write) (some_value job.program (statement_of job.program f.activity.block f.activity.statement) f h)
+needs_some job f h = first_token f.activity f.values (write_read f.values f.write) (some_value job.program.blocks (statement_of job.program.blocks f.activity.block f.activity.statement) f h)

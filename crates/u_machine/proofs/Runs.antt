@@ -22,7 +22,7 @@ use Rattle.u_rule.specs.EntryOrder.{firing_cmp}
 use Rattle.u_machine.proofs.Lists.{slice_get_Contains, nil_of_length}
 use Rattle.u_machine.proofs.States.{settled_is_Cl, ready_after, nothing_after}
 use Rattle.u_machine.specs.State.{State, Taken, IsReady, AreReady, IsPick, IsSound, NothingReady}
-use Rattle.u_machine.specs.Calls.{Applies, Takes, FireAnswer, Fires, Runs, RunAnswer, firing_le}
+use Rattle.u_machine.specs.Calls.{Applies, Takes, FireAnswer, Fires, Runs, RunAnswer, firing_le, IsFresh, IsPlainRun, RunsPlainly}
 
 -- the first of a list that rises is its least
 pub first_least : (xs : List Firing) (f g : Firing) → Rises firing_cmp xs → slice_get xs 0 ≡ Some f → Contains xs g → firing_le f g
@@ -192,22 +192,6 @@ pub fails_with : (old new : State) (budget : ℕ) (x : Refusal) (r : Result Ran 
 fails_with old new budget x (Ok t) h a = absurd h
 fails_with old new budget x (Err e) h a = subst (λ (y : Refusal). RunAnswer old budget (Err y) new) (sym h) a
 
--- never full where the budget is at most the limit
-pub run_not_full : (old new : State) (budget : ℕ) → RunAnswer old budget (Err Full) new → old.log ≡ [] → old.parked ≡ [] → budget ≤ old.limit → ⊥
-run_not_full old new budget (gs, r, below, st, ready, full) log parked l =
-    let x = r.fires.count in
-    let y = r.fires.limit in
-    let z = ap length log in
-    let w = ap length parked in
-    omega (arith, full)
-
--- a new machine that ran: its log is the plain list, it is all that was taken, and the history is what it holds
-pub record IsPlainRun (old : State) (budget : ℕ) (new : State) : Type 0 where
-  pub job : new.job ≡ old.job
-  pub parked : new.parked ≡ []
-  pub plain : Plain (system_of old.job) firing_le budget new.log
-  pub held : Same (Contains new.history) (Held (system_of old.job) new.log)
-
 pub run_done : (old new : State) (budget : ℕ) (end : Ran) → RunAnswer old budget (Ok end) new → old.log ≡ [] → old.parked ≡ [] → IsSound new → IsPlainRun old budget new × (end ≡ ran.Quiet → Same (Held (system_of old.job) new.log) (Whole (system_of old.job)))
 run_done old new budget ran.Quiet (gs, r, few, st, none, all) log parked is =
     let q = run_plain old new budget gs r log parked few (inr none) in
@@ -220,3 +204,14 @@ run_done old new budget ran.Paused (gs, r, few, st, ready) log parked is =
     let q = run_plain old new budget gs r log parked (omega (arith, few)) (inl few) in
     let h = settled_is_Cl new is st in
     (record { job = r.fires.job; parked = q.1; plain = q.2; held = rw (← r.fires.job) h.1 }, λ e. absurd (cc))
+
+-- what a run of a machine leaves that had taken nothing
+pub run_fresh : (old new : State) (budget : ℕ) (r : Result Ran Refusal) → RunAnswer old budget r new → IsSound new → IsFresh old → RunsPlainly old budget r new
+run_fresh old new budget (Ok end) a is f = (run_done old new budget end a f.0 f.1 is).0
+run_fresh old new budget (Err Full) (gs, r, below, st, ready, full) is f =
+    let x = r.fires.count in
+    let y = r.fires.limit in
+    let z = ap length f.0 in
+    let w = ap length f.1 in
+    omega (arith, full)
+run_fresh old new budget (Err NoMemory) a is f = tt

@@ -1,7 +1,7 @@
 -- What each call of a machine answers, and what it leaves.
 use Rattle.std.specs.Prelude.{◌≡◌, ℕ, ◌<◌, ◌≤◌, ◌+◌, List, [], ◌++◌, ◌⊎◌, ◌↔◌, length, IsTrue, false, Contains, Result, Ok, Err, slice_get, Some}
 use Rattle.std.specs.declared.cmp.Ordering.TheVariants.{Less}
-use Rattle.u_system.specs.Firing.{EachPlace, IsNextFrom}
+use Rattle.u_system.specs.Firing.{EachPlace, IsNextFrom, Plain, Held, Same}
 use Rattle.u_rule.specs.declared.entry.Entry.{Entry}
 use Rattle.u_rule.specs.declared.firing.Firing.{Firing}
 use Rattle.u_rule.specs.Rule.{system_of}
@@ -107,3 +107,22 @@ RunAnswer old budget (Ok ran.Quiet) new = (gs : List Firing) × Runs old gs new 
 RunAnswer old budget (Ok ran.Paused) new = (gs : List Firing) × Runs old gs new × (length gs ≡ budget) × IsSettled new × ((f : Firing) × IsReady new f)
 RunAnswer old budget (Err Full) new = (gs : List Firing) × Runs old gs new × (length gs < budget) × IsSettled new × ((f : Firing) × IsReady new f) × (count_of new ≡ new.limit)
 RunAnswer old budget (Err NoMemory) new = (gs : List Firing) × Fires old gs new × (length gs ≤ budget)
+
+-- no firing was taken yet
+abbrev pub IsFresh : State → Type 0
+IsFresh m = (m.log ≡ []) × (m.parked ≡ [])
+
+-- The log is the plain run of the job: each firing the least that is enabled and new, so many at most. It is
+-- all that was taken, and the history is what it holds.
+pub record IsPlainRun (old : State) (budget : ℕ) (new : State) : Type 0 where
+  pub job : new.job ≡ old.job
+  pub parked : new.parked ≡ []
+  pub plain : Plain (system_of old.job) firing_le budget new.log
+  pub held : Same (Contains new.history) (Held (system_of old.job) new.log)
+
+-- what a run of a machine leaves that had taken nothing: the plain run, where it is not refused; and it is not
+-- refused for want of room where the budget is at most the limit
+abbrev pub RunsPlainly : State → ℕ → Result Ran Refusal → State → Type 0
+RunsPlainly old budget (Ok end) new = IsPlainRun old budget new
+RunsPlainly old budget (Err Full) new = old.limit < budget
+RunsPlainly old budget (Err NoMemory) new = Unit {0}

@@ -5,6 +5,7 @@ ghost use Rattle.u_machine.specs.declared.answer.TakeRefusal.TheVariants as take
 ghost use Rattle.u_machine.specs.declared.answer.ListRefusal.TheVariants as lists;
 
 use std::alloc::AllocError;
+use thiserror::Error;
 
 /// What `fire` did.
 #[derive(Clone, Copy, PartialEq, Eq, Debug)]
@@ -25,11 +26,13 @@ pub enum Ran {
 }
 
 /// Why nothing was done.
-#[derive(Clone, Copy, PartialEq, Eq, Debug)]
+#[derive(Clone, Copy, PartialEq, Eq, Debug, Error)]
 pub enum Refusal {
     /// The machine has as many firings as it may.
+    #[error("full")]
     Full,
     /// There is no memory.
+    #[error("no memory")]
     NoMemory,
 }
 
@@ -53,13 +56,16 @@ pub enum Took {
 }
 
 /// Why a firing was not taken.
-#[derive(Clone, Copy, PartialEq, Eq, Debug)]
+#[derive(Clone, Copy, PartialEq, Eq, Debug, Error)]
 pub enum TakeRefusal {
     /// It is no firing of the job.
+    #[error("not a firing of this job")]
     NotAFiring,
     /// The machine has as many firings as it may.
+    #[error("full")]
     Full,
     /// There is no memory.
+    #[error("no memory")]
     NoMemory,
 }
 
@@ -72,13 +78,16 @@ impl From<AllocError> for TakeRefusal {
 }
 
 /// Why a list of firings was not taken.
-#[derive(Clone, Copy, PartialEq, Eq, Debug)]
+#[derive(Clone, Copy, PartialEq, Eq, Debug, Error)]
 pub enum ListRefusal {
     /// The one at this place, counted from 0, is the first that is no firing of the job.
+    #[error("firing {0} not of this job")]
     NotAFiring(usize),
     /// The machine may not have as many firings besides as the list has new ones.
+    #[error("full")]
     Full,
     /// There is no memory.
+    #[error("no memory")]
     NoMemory,
 }
 

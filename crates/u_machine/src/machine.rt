@@ -9,7 +9,7 @@ ghost use Rattle.std.specs.Prelude.{◌≡◌, ◌↔◌, [], ◌∷◌, IfOk, I
 ghost use Rattle.u_rule.specs.Rule.{system_of};
 ghost use Rattle.u_machine.specs.State.{state, IsMachine, IsSettled, Taken};
 ghost use Rattle.u_machine.specs.Headline.{KeepsItsPromise, Agree};
-ghost use Rattle.u_machine.specs.Calls.{FireAnswer, RunAnswer, TakeAnswer, Applies};
+ghost use Rattle.u_machine.specs.Calls.{FireAnswer, RunAnswer, TakeAnswer, Applies, IsFresh, RunsPlainly};
 ghost use Rattle.u_machine.specs.Taking.{TakeAllAnswer};
 
 use crate::answer::{ListRefusal, Ran, Refusal, Step, TakeRefusal, Took};
@@ -105,6 +105,13 @@ impl<'a> Machine<'a> {
         other.holds();
     }
 
+    /// The job that the machine runs.
+    pub fn job(&self) -> &'a Job
+        ensures { result.now ≡ self.now.job }
+    {
+        self.parts.job
+    }
+
     /// The history: each entry that the machine holds.
     pub fn history(&self) -> &History
         ensures { result.now ≡ self.now.history }
@@ -157,16 +164,20 @@ impl<'a> Machine<'a> {
     }
 
     /// Applies the least ready firing again and again, until nothing is ready or it has done so
-    /// `budget` times.
+    /// `budget` times. A machine that had taken nothing before has the plain run of its job then: what
+    /// one machine alone applies, firing the least ready firing each time.
     ///
     /// # Errors
-    /// `Full` where a firing is ready and the machine has taken as many as it may. `NoMemory` where there
-    /// is no memory. What was applied before a refusal stays applied.
+    /// `Full` where a firing is ready and the machine has taken as many as it may; a machine that had
+    /// taken nothing before is never full within a budget of its limit. `NoMemory` where there is no
+    /// memory. What was applied before a refusal stays applied.
     pub fn run(&mut self, budget: usize) -> Result<Ran, Refusal>
-        ensures { RunAnswer self.old budget result self.new }
+        ensures answer { RunAnswer self.old budget result self.new }
+        ensures plain { IsFresh self.old → RunsPlainly self.old budget result self.new }
     {
-        let ran = self.parts.run(budget)?;
-        Ok(ran)
+        let ran = self.parts.run(budget);
+        self.holds();
+        ran
     }
 
     /// Takes the firings of the list one after another, each as `take` does, or none of them.

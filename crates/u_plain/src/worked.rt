@@ -69,19 +69,9 @@ pub fn firing_with(
     Ok(firing)
 }
 
-/// A line for the firing: its activity and its values, and behind `by` the write that it reads.
+/// A line for the firing: its text.
 pub fn put_firing(out: &mut Vec<u8>, firing: &Firing) -> Result<(), AllocError> {
-    firing.activity.write_text(out)?;
-    for value in firing.values.as_slice() {
-        out.push(b' ')?;
-        value.write_text(out)?;
-    }
-    if let Some(write) = &firing.write {
-        out.extend_from_slice(b" by ")?;
-        write.writer.write_text(out)?;
-        out.push(b' ')?;
-        write.value.write_text(out)?;
-    }
+    firing.write_text(out)?;
     out.push(b'\n')?;
     Ok(())
 }

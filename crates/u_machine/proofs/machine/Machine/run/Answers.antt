@@ -1,0 +1,12 @@
+use Rattle.std.proofs.Common.{subst}
+use Rattle.u_machine.specs.State.{State}
+use Rattle.u_machine.specs.Calls.{RunAnswer}
+use Rattle.u_machine.specs.Invariant.{state_of}
+use Rattle.u_machine.proofs.Runs.{run_fresh}
+use Rattle.u_machine.proofs.machine.Machine.run.Goals as goal
+
+pub returns-clause-plain : goal.returns-clause-plain
+returns-clause-plain c = λ fresh.
+    let new = state_of c.run-ran.new.self in
+    let answer = subst (λ (old : State). RunAnswer old c.args.budget c.run-ran.result new) c.self.view_is c.run-ran.ensures.answer in
+    run_fresh c.args.self.now new c.args.budget c.run-ran.result answer c.holds.ensures.is.sound fresh
