@@ -1,0 +1,10 @@
+pub mod DeltaLaws
+pub mod Written
+pub mod InRange
+pub mod LineLaws
+pub mod HeadLaws
+pub mod MessageLaws
+pub mod ReadingLaws
+pub mod FiringTextLaws
+pub mod OneError
+pub mod Same
