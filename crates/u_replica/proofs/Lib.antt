@@ -1,0 +1,10 @@
+pub mod MarkLaws
+pub mod MergeLaws
+pub mod CheckpointWritten
+pub mod CheckpointLaws
+pub mod CountLaws
+pub mod CheckpointSteps
+pub mod CheckpointSame
+pub mod CheckpointCuts
+pub mod RestoreLaws
+pub mod ReplicaLaws

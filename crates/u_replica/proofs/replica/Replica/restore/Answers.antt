@@ -1,0 +1,47 @@
+use Rattle.std.proofs.Common.{sym, subst, Err, Ok}
+use Rattle.u_machine.specs.State.{State}
+use Rattle.u_machine.specs.Taking.{TakeAllAnswer}
+use Rattle.u_replica.specs.Restoring.{IsRestoreError, IsNoRoom}
+use Rattle.u_replica.proofs.RestoreLaws.{untaken_error, untaken_whole, untaken_front, restored, restored_whole, restored_front}
+use Rattle.u_replica.proofs.replica.Replica.restore.Goals as goal
+
+pub returns-in-Err-take_all-clause-answer : goal.returns-in-Err-take_all-clause-answer
+returns-in-Err-take_all-clause-answer c =
+    let a = c.args in
+    let t = subst (λ (m : State). TakeAllAnswer m c.as_slice.result.now (Err c.in-Err-take_all.refusal) c.take_all.new.self) c.in_ok-machine.ensures c.in-Err-take_all.ensures in
+    subst (λ e. IsRestoreError a.job.now a.limit a.bytes.now e) (sym c.untaken.ensures)
+    (untaken_error a.job.now a.limit a.number a.life a.bytes.now c.in-Ok.checkpoint c.as_slice.result.now c.as_slice.ensures c.take_all.new.self c.in-Err-take_all.refusal c.in-Ok.ensures.answer t)
+
+pub returns-in-Err-take_all-clause-whole : goal.returns-in-Err-take_all-clause-whole
+returns-in-Err-take_all-clause-whole c = λ saved m text.
+    let a = c.args in
+    let t = subst (λ (m : State). TakeAllAnswer m c.as_slice.result.now (Err c.in-Err-take_all.refusal) c.take_all.new.self) c.in_ok-machine.ensures c.in-Err-take_all.ensures in
+    subst (λ e. IsNoRoom saved a.limit e) (sym c.untaken.ensures)
+    (untaken_whole a.job.now a.limit a.number a.life a.bytes.now c.in-Ok.checkpoint c.as_slice.result.now c.as_slice.ensures c.take_all.new.self c.in-Err-take_all.refusal c.in-Ok.ensures.back t saved m text)
+
+pub returns-in-Err-take_all-clause-front : goal.returns-in-Err-take_all-clause-front
+returns-in-Err-take_all-clause-front c = λ saved k m l text.
+    let a = c.args in
+    let t = subst (λ (m : State). TakeAllAnswer m c.as_slice.result.now (Err c.in-Err-take_all.refusal) c.take_all.new.self) c.in_ok-machine.ensures c.in-Err-take_all.ensures in
+    subst (λ e. IsNoRoom saved a.limit e) (sym c.untaken.ensures)
+    (untaken_front a.job.now a.limit a.number a.life a.bytes.now c.in-Ok.checkpoint c.as_slice.result.now c.as_slice.ensures c.take_all.new.self c.in-Err-take_all.refusal c.in-Ok.ensures.cut t saved k m l text)
+
+pub returns-clause-answer : goal.returns-clause-answer
+returns-clause-answer c =
+    let a = c.args in
+    let t = subst (λ (m : State). TakeAllAnswer m c.as_slice.result.now (Ok c.in-Ok-take_all.field-0) c.take_all.new.self) c.in_ok-machine.ensures c.in-Ok-take_all.ensures in
+    let n = c.new-2.ensures in
+    rw n (restored a.job.now a.limit a.number a.life a.bytes.now c.in-Ok.checkpoint c.as_slice.result.now c.as_slice.ensures c.take_all.new.self c.in-Ok-take_all.field-0 c.in-Ok.ensures.answer t)
+
+pub returns-clause-whole : goal.returns-clause-whole
+returns-clause-whole c =
+    let a = c.args in
+    let t = subst (λ (m : State). TakeAllAnswer m c.as_slice.result.now (Ok c.in-Ok-take_all.field-0) c.take_all.new.self) c.in_ok-machine.ensures c.in-Ok-take_all.ensures in
+    restored_whole a.job.now a.limit a.number a.life a.bytes.now c.in-Ok.checkpoint c.as_slice.result.now c.as_slice.ensures c.take_all.new.self c.in-Ok-take_all.field-0 c.in-Ok.ensures.back t
+
+pub returns-clause-front : goal.returns-clause-front
+returns-clause-front c =
+    let a = c.args in
+    let t = subst (λ (m : State). TakeAllAnswer m c.as_slice.result.now (Ok c.in-Ok-take_all.field-0) c.take_all.new.self) c.in_ok-machine.ensures c.in-Ok-take_all.ensures in
+    let n = c.new-2.ensures in
+    rw n (restored_front a.job.now a.limit a.number a.life a.bytes.now c.in-Ok.checkpoint c.as_slice.result.now c.as_slice.ensures c.take_all.new.self c.in-Ok-take_all.field-0 c.in-Ok.ensures.cut t)

@@ -1,0 +1,39 @@
+-- What the steps of reading a checkpoint answer.
+use Rattle.std.specs.Prelude.{◌≡◌, ℕ, List, [], Result, MatchResult}
+use Rattle.std.specs.List.{AllByRecursion}
+use Rattle.u_text.specs.Pieces.{PiecesAndRest}
+use Rattle.u_rule.specs.declared.firing.Firing.{Firing}
+use Rattle.u_rule.specs.FiringText.{firing_text}
+use Rattle.u_rule.specs.FiringReading.{IsFiring}
+use Rattle.u_delta.specs.Lines.{IsShort}
+use Rattle.u_replica.specs.declared.checkpoint.Ending.{Ending}
+use Rattle.u_replica.specs.declared.checkpoint.Ending.TheVariants.{Whole, Torn}
+use Rattle.u_replica.specs.declared.checkpoint.Checkpoint.{Checkpoint}
+use Rattle.u_replica.specs.declared.checkpoint.CheckpointError.{CheckpointError}
+use Rattle.u_replica.specs.declared.checkpoint.CheckpointError.TheVariants.{BadLine, TooLong, NoMemory}
+use Rattle.u_replica.specs.CheckpointText.{begun_lines, checkpoint_lines}
+use Rattle.u_replica.specs.Checkpoints.{AreFirings, IsTornIn, IsCheckpointErrorIn}
+
+-- firings of which the lines were read
+pub record AreRead (fs : List Firing) : Type 0 where
+  pub valid : AreFirings fs
+  pub short : AllByRecursion IsShort (begun_lines fs)
+
+-- the line is no firing's, or a growth was refused
+abbrev pub IsNoFiring : List ℕ → ℕ → CheckpointError → Type 0
+IsNoFiring line number (BadLine n) = (n ≡ number) × ((f : Firing) → IsFiring f → line ≡ firing_text f → ⊥)
+IsNoFiring line number (TooLong n) = ⊥
+IsNoFiring line number NoMemory = Unit {0}
+
+-- the lines of the text are those of these firings' checkpoint, and nothing stands behind them
+pub record IsWholeIn (text : PiecesAndRest) (fs : List Firing) : Type 0 where
+  pub valid : AreFirings fs
+  pub lines : text ≡ (checkpoint_lines fs, [])
+
+abbrev pub IsCheckpointIn : PiecesAndRest → Ending → List Firing → Type 0
+IsCheckpointIn text Whole fs = IsWholeIn text fs
+IsCheckpointIn text Torn fs = IsTornIn text fs
+
+-- what is answered for a text that was cut into its lines
+abbrev pub IsAnswer : PiecesAndRest → Result Checkpoint CheckpointError → Type 0
+IsAnswer text result = MatchResult result (λ c. IsCheckpointIn text c.ending c.firings) (λ error. IsCheckpointErrorIn text error)

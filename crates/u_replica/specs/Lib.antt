@@ -1,0 +1,9 @@
+pub mod Marking
+pub mod ReplicaState
+pub mod Receiving
+pub mod Merging
+pub mod CheckpointText
+pub mod Checkpoints
+pub mod CheckpointReading
+pub mod Restoring
+pub mod Obeying

@@ -1,0 +1,139 @@
+//! The text of a checkpoint, read line by line.
+ghost use Rattle.std.specs.Prelude.{◌≡◌, ◌↔◌, ◌∷◌, [], ℕ, ◌<◌, List, length, take, IsTrue, MatchResult};
+ghost use Rattle.u_rule.specs.declared.firing.Firing.{Firing};
+ghost use Rattle.u_rule.specs.FiringReading.{IsFiringOf};
+ghost use Rattle.u_text.specs.Pieces.{pieces};
+ghost use Rattle.u_delta.specs.Lines.{lines_behind};
+ghost use Rattle.u_replica.specs.declared.checkpoint.Ending.TheVariants as endings;
+ghost use Rattle.u_replica.specs.declared.checkpoint.CheckpointError.TheVariants as errors;
+ghost use Rattle.u_replica.specs.CheckpointText.{first_line, count_line, begun_lines};
+ghost use Rattle.u_replica.specs.CheckpointText.{checkpoint_lines, checkpoint_text};
+ghost use Rattle.u_replica.specs.Checkpoints.{AreFirings, IsFrontOf};
+ghost use Rattle.u_replica.specs.Checkpoints.{IsCheckpointOf, IsCheckpointErrorOf};
+ghost use Rattle.u_replica.specs.CheckpointReading.{AreRead, IsNoFiring, IsAnswer};
+
+use crate::checkpoint::{Checkpoint, CheckpointError, Ending};
+use std::alloc::Global;
+use u_delta::{Ahead, Firings, look_ahead};
+use u_rule::{Firing, TextError};
+use u_text::{after_all, long_word};
+
+/// Whether the line is the last one of a checkpoint of so many firings.
+fn is_count_line(line: &[u8], count: u64) -> bool
+    ensures { IsTrue result ↔ (line.now ≡ count_line count) }
+{
+    match after_all(line, b"end ") {
+        Ok(digits) => match long_word(digits, u64::MAX) {
+            Ok(number) => number == count,
+            Err(_) => false,
+        },
+        Err(_) => false,
+    }
+}
+
+/// The firing that stands in line `number`.
+fn firing_in(alloc: Global, line: &[u8], number: usize) -> Result<Firing, CheckpointError>
+    ensures { MatchResult result
+        (λ firing. IsFiringOf line.now firing)
+        (λ error. IsNoFiring line.now number error) }
+{
+    match Firing::read(alloc, line) {
+        Ok(firing) => Ok(firing),
+        Err(TextError::BadText(_)) => Err(CheckpointError::BadLine(number)),
+        Err(TextError::NoMemory) => Err(CheckpointError::NoMemory),
+    }
+}
+
+/// The checkpoint of these firings, of which all lines were read. Nothing may stand behind them.
+fn closed(firings: Vec<Firing>, bytes: &[u8]) -> Result<Checkpoint, CheckpointError>
+    requires { AreRead firings.items }
+    ensures { IsAnswer (lines_behind (checkpoint_lines firings.items) bytes.now) result }
+{
+    let number = firings.len() + 3;
+    if bytes.is_empty() {
+        return Ok(Checkpoint {
+            firings: Firings::new(firings),
+            ending: Ending::Whole,
+        });
+    }
+    match look_ahead(bytes) {
+        Ahead::TooLong => Err(CheckpointError::TooLong(number)),
+        _ => Err(CheckpointError::BadLine(number)),
+    }
+}
+
+/// The checkpoint that goes on with these bytes behind its first line.
+fn read_firings(alloc: Global, bytes: &[u8]) -> Result<Checkpoint, CheckpointError>
+    ensures { IsAnswer (lines_behind (first_line ∷ []) bytes.now) result }
+{
+    let mut firings = Vec::new(alloc);
+    let mut rest = bytes;
+    loop {
+        let number = firings.len() + 2;
+        let (line, others) = match look_ahead(rest) {
+            Ahead::Line(line, others) => (line, others),
+            Ahead::TooLong => return Err(CheckpointError::TooLong(number)),
+            Ahead::Rest => {
+                return Ok(Checkpoint {
+                    firings: Firings::new(firings),
+                    ending: Ending::Torn,
+                });
+            }
+        };
+        if is_count_line(line, firings.len() as u64) {
+            return closed(firings, others);
+        }
+        match firing_in(alloc, line, number) {
+            Ok(firing) => firings.push(firing)?,
+            Err(error) => return Err(error),
+        }
+        rest = others;
+    }
+}
+
+/// The checkpoint whose lines these are.
+fn read_lines(alloc: Global, bytes: &[u8]) -> Result<Checkpoint, CheckpointError>
+    ensures { IsAnswer (pieces 10 bytes.now) result }
+{
+    match look_ahead(bytes) {
+        Ahead::Line(line, rest) => {
+            if line != b"u-history 1".as_slice() {
+                return Err(CheckpointError::BadLine(1));
+            }
+            read_firings(alloc, rest)
+        }
+        Ahead::TooLong => Err(CheckpointError::TooLong(1)),
+        Ahead::Rest => Ok(Checkpoint {
+            firings: Firings::new(Vec::new(alloc)),
+            ending: Ending::Torn,
+        }),
+    }
+}
+
+/// Returns the checkpoint that the bytes are, or that they are the front of.
+///
+/// A checkpoint is the line `u-history 1`, a line for each firing, and the line `end COUNT`, where
+/// `COUNT` is how many firings there are, each with a newline behind it: `write_checkpoint` writes
+/// it, and of that text the firings come back, and the ending is `Whole`. Where the text was cut
+/// anywhere before its last byte, the ending is `Torn`, and the firings are those whose lines are
+/// there with their newline; what stands behind the last newline is dropped, whatever it is. The
+/// front of a checkpoint's text is refused for want of memory alone.
+///
+/// # Errors
+/// Lines are judged from the first one. `TooLong` where a line has more than 32,768 bytes,
+/// whether a newline ends it or not; this is judged before all else of a line. `BadLine` where no
+/// checkpoint has that line, which ends with a newline, behind those before it, and for any byte
+/// behind a whole checkpoint. `NoMemory` where there is no memory.
+pub fn read_checkpoint(alloc: Global, bytes: &[u8]) -> Result<Checkpoint, CheckpointError>
+    ensures answer { MatchResult result (λ c. IsCheckpointOf bytes.now c.ending c.firings)
+        (λ error. IsCheckpointErrorOf bytes.now error) }
+    ensures back { (fs : List Firing) → AreFirings fs → bytes.now ≡ checkpoint_text fs
+        → MatchResult result (λ c. (c.ending ≡ endings.Whole) × (c.firings ≡ fs))
+        (λ error. error ≡ errors.NoMemory) }
+    ensures cut { (fs : List Firing) (k : ℕ) → AreFirings fs → k < length (checkpoint_text fs)
+        → bytes.now ≡ take k (checkpoint_text fs)
+        → MatchResult result (λ c. (c.ending ≡ endings.Torn) × IsFrontOf bytes.now c.firings fs)
+        (λ error. error ≡ errors.NoMemory) }
+{
+    read_lines(alloc, bytes)
+}

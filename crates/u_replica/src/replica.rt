@@ -1,0 +1,327 @@
+//! One replica of a run.
+//!
+//! Replicas run one job. Each takes firings, its own and those of its peers, in any order, so what a
+//! replica holds is fixed by the set of firings that it took. A replica asks a peer for what it lacks
+//! of the peer's log, and its marks say how much it has. Where a replica starts again from a
+//! checkpoint it lives its next life, and what its peers' marks count of an earlier life is void.
+ghost use Rattle.std.specs.Prelude.{◌≡◌, ◌≤◌, IfOk, IsOk, OnOk};
+ghost use Rattle.u_name.specs.Context.{IsBetween};
+ghost use Rattle.u_machine.specs.State.{IsSettled};
+ghost use Rattle.u_machine.specs.Calls.{Applies, FireAnswer, RunAnswer, TakeAnswer, IsFresh, RunsPlainly};
+ghost use Rattle.u_machine.specs.Taking.{TakeAllAnswer};
+ghost use Rattle.u_machine.specs.Obeying.{Does};
+ghost use Rattle.u_delta.specs.Marks.{IsDelta};
+ghost use Rattle.u_replica.specs.Marking.{mark, mark_of};
+ghost use Rattle.u_replica.specs.ReplicaState.{fresh, ask_of, ChangesMachine, HoldsAlways, IsPeer};
+ghost use Rattle.u_replica.specs.Receiving.{ReceiveAnswer};
+ghost use Rattle.u_replica.specs.Merging.{all_of, MergeAnswer};
+ghost use Rattle.u_replica.specs.CheckpointText.{checkpoint_text};
+ghost use Rattle.u_replica.specs.Checkpoints.{AreFirings};
+ghost use Rattle.u_replica.specs.Restoring.{RestoreAnswer, RestoresWhole, RestoresFront};
+
+use crate::answer::{MergeRefusal, RestoreError};
+use crate::checkpoint::{Ending, write_checkpoint};
+use crate::checkpoint_reading::read_checkpoint;
+use crate::marks::Marks;
+use crate::merging::merge;
+use crate::restoring::{unread, untaken};
+use std::alloc::{AllocError, Global};
+use std::marker::Model;
+use u_check::Job;
+use u_delta::{Ask, Delta, Mark, delta};
+use u_machine::{Command, ListRefusal, Machine, Ran, Refusal, Reply, Step, TakeRefusal, Took};
+use u_rule::Firing;
+
+/// A machine with its number among the replicas, its life, and one mark for each peer.
+#[derive(Drop)]
+pub struct Replica<'a> {
+    alloc: Global,
+    machine: Machine<'a>,
+    number: u8,
+    life: u64,
+    marks: Marks,
+}
+
+impl<'a> Model for Replica<'a> {
+    ghost use Rattle.u_replica.specs.ReplicaState.{ReplicaState, replica, replica_code};
+    ghost use Rattle.u_name.specs.Context.{IsBetween};
+    ghost use Rattle.std.specs.Prelude.{◌≤◌};
+
+    ghost Value = { ReplicaState };
+
+    ghost coded = { replica_code };
+
+    ghost view = { λ r. replica r.machine r.number r.life r.marks };
+
+    ghost invariant = { λ r. IsBetween 1 r.number 8 × (1 ≤ r.life) };
+}
+
+impl<'a> Replica<'a> {
+    /// A replica in its first life, which holds the start token alone and knows nothing of its peers.
+    /// `limit` is the greatest number of firings that it takes; `number` is 1 to 8.
+    ///
+    /// # Errors
+    /// `AllocError` where there is no memory.
+    pub fn new(
+        alloc: Global,
+        job: &'a Job,
+        limit: usize,
+        number: u8,
+    ) -> Result<Replica<'a>, AllocError>
+        requires { IsBetween 1 number 8 }
+        ensures { IfOk result (λ r. r ≡ fresh job.now limit number) }
+    {
+        let machine = Machine::new(alloc, job, limit)?;
+        Ok(Replica {
+            alloc,
+            machine,
+            number,
+            life: 1,
+            marks: Marks::new(),
+        })
+    }
+
+    /// The machine: what the replica took and holds.
+    pub fn machine(&self) -> &Machine<'a>
+        ensures { result.now ≡ self.now.machine }
+    {
+        &self.machine
+    }
+
+    /// The replica's number, 1 to 8.
+    pub fn number(&self) -> u8
+        ensures number { result ≡ self.now.number }
+        ensures range { IsBetween 1 result 8 }
+    {
+        self.number
+    }
+
+    /// The replica's life: 1 at first, and one more whenever it starts again.
+    pub fn life(&self) -> u64
+        ensures life { result ≡ self.now.life }
+        ensures born { 1 ≤ result }
+    {
+        self.life
+    }
+
+    /// How much of the peer's log the replica has. `peer` is another replica's number, 1 to 8.
+    pub fn mark(&self, peer: u8) -> Mark
+        requires { IsPeer self.now peer }
+        ensures { result ≡ mark_of self.now.marks peer }
+    {
+        self.marks.of(peer)
+    }
+
+    /// The ask for what the replica lacks of the peer's log. `peer` is another replica's number, 1 to 8.
+    pub fn ask(&self, peer: u8) -> Ask
+        requires { IsPeer self.now peer }
+        ensures { result ≡ ask_of self.now peer }
+    {
+        let mark = self.marks.of(peer);
+        Ask {
+            asker: self.number,
+            asked: peer,
+            life: mark.life,
+            count: mark.count,
+        }
+    }
+
+    /// What holds of each replica, after all calls. It does nothing, and callers cite its clause.
+    pub fn holds(&self)
+        ensures { HoldsAlways self.now }
+    {
+        // Reading the number says that it is below 2^64.
+        let _life = self.life;
+        self.machine.holds();
+        self.marks.holds();
+    }
+
+    /// Goes on where an earlier call found no memory, until all that was begun is applied.
+    ///
+    /// # Errors
+    /// `AllocError` where there is no memory; the entries that have entered stay.
+    pub fn settle(&mut self) -> Result<(), AllocError>
+        ensures applies { Applies self.old.machine self.new.machine }
+        ensures ok { OnOk result (IsSettled self.new.machine) }
+        ensures still { IsSettled self.old.machine → IsOk result × (self.new ≡ self.old) }
+        ensures alone { ChangesMachine self.old self.new }
+    {
+        self.machine.settle()
+    }
+
+    /// Applies one ready firing, and then each parked one that is enabled by it, as the machine's
+    /// `fire`. `Quiet` is returned exactly where nothing is ready; then the history is all that can be
+    /// derived from the job.
+    ///
+    /// # Errors
+    /// `Full` where a firing is ready and the replica has taken as many as it may. `NoMemory` where
+    /// there is no memory; the picked firing may have been taken then.
+    pub fn fire(&mut self, pick: usize) -> Result<Step, Refusal>
+        ensures answer { FireAnswer self.old.machine pick result self.new.machine }
+        ensures alone { ChangesMachine self.old self.new }
+    {
+        self.machine.fire(pick)
+    }
+
+    /// Takes a firing, from wherever it comes, as the machine's `take`. Where it is not enabled it is
+    /// parked until it is.
+    ///
+    /// # Errors
+    /// `NotAFiring` exactly where it is no firing of the job. `Full` where it is new and the replica has
+    /// taken as many as it may. `NoMemory` where there is no memory; it may have been taken then.
+    pub fn take(&mut self, firing: &Firing) -> Result<Took, TakeRefusal>
+        ensures answer { TakeAnswer self.old.machine firing.now result self.new.machine }
+        ensures alone { ChangesMachine self.old self.new }
+    {
+        self.machine.take(firing)
+    }
+
+    /// Takes the firings of the list one after another, or none of them, as the machine's `take_all`.
+    ///
+    /// # Errors
+    /// `NotAFiring` with the place of the first that is no firing of the job. `Full` where the replica
+    /// may not take as many besides as the list has new ones. In both cases nothing is taken.
+    /// `NoMemory` where there is no memory; some of the first ones may have been taken then.
+    pub fn take_all(&mut self, firings: &[Firing]) -> Result<(), ListRefusal>
+        ensures answer { TakeAllAnswer self.old.machine firings.now result self.new.machine }
+        ensures alone { ChangesMachine self.old self.new }
+    {
+        self.machine.take_all(firings)
+    }
+
+    /// Applies the least ready firing again and again, until nothing is ready or it has done so
+    /// `budget` times, as the machine's `run`.
+    ///
+    /// # Errors
+    /// `Full` where a firing is ready and the replica has taken as many as it may. `NoMemory` where
+    /// there is no memory. What was applied before a refusal stays applied.
+    pub fn run(&mut self, budget: usize) -> Result<Ran, Refusal>
+        ensures answer { RunAnswer self.old.machine budget result self.new.machine }
+        ensures plain { IsFresh self.old.machine
+            → RunsPlainly self.old.machine budget result self.new.machine }
+        ensures alone { ChangesMachine self.old self.new }
+    {
+        self.machine.run(budget)
+    }
+
+    /// The part of the replica's log that the asker lacks: what the log has behind the firings that the
+    /// asker has of this life, and the log from its front where the asker knows another life. It brings
+    /// copies of at most 4,096 firings. Who is asked is not looked at.
+    ///
+    /// # Errors
+    /// `AllocError` where there is no memory.
+    pub fn answer(&self, ask: &Ask) -> Result<Delta, AllocError>
+        ensures { IfOk result (λ d. IsDelta self.now.machine.log self.now.number ask.now.asker
+            self.now.life (mark ask.now.life ask.now.count) d) }
+    {
+        delta(
+            self.alloc,
+            self.machine.applied(),
+            self.number,
+            ask.asker,
+            self.life,
+            ask.mark(),
+        )
+    }
+
+    /// Takes the firings of the delta. Then the mark for its sender moves where the delta goes on from
+    /// what the mark counts, or begins a later life: it counts up to the delta's end. A delta whose
+    /// sender is no other replica's number, or that ends behind the log's 1,000,000th firing, moves no
+    /// mark. For whom the delta is meant is not looked at.
+    ///
+    /// # Errors
+    /// As `take_all`; no mark moves then.
+    pub fn receive(&mut self, delta: &Delta) -> Result<(), ListRefusal>
+        ensures { ReceiveAnswer self.old delta.now result self.new }
+    {
+        self.machine.take_all(delta.firings.as_slice())?;
+        self.marks.took(self.number, delta);
+        Ok(())
+    }
+
+    /// Takes all that the other replica took, its applied firings in their order and then its parked
+    /// ones. The replica is then the least upper bound of the two: what it took is the union, and its
+    /// history is the least that has both histories and all that its firings give which are enabled
+    /// over it. No mark moves.
+    ///
+    /// # Errors
+    /// `OtherJob` exactly where the other replica runs another program or runs it on another argument;
+    /// nothing changes then. `Full` where the replica may not take as many besides as the other has new
+    /// ones; nothing is taken then. `NoMemory` where there is no memory; some of the first ones may have
+    /// been taken then.
+    pub fn merge(&mut self, other: &Replica<'_>) -> Result<(), MergeRefusal>
+        ensures answer { MergeAnswer self.old.machine other.now.machine result self.new.machine }
+        ensures alone { ChangesMachine self.old self.new }
+    {
+        merge(self.alloc, &mut self.machine, &other.machine)
+    }
+
+    /// Makes a call of the replica's machine, and returns its answer.
+    pub fn obey_machine(&mut self, command: &Command) -> Reply
+        ensures answer { Does self.old.machine command.now result self.new.machine }
+        ensures alone { ChangesMachine self.old self.new }
+    {
+        self.machine.obey(command)
+    }
+
+    /// The checkpoint of the replica: the text of its applied firings in their order, then of its
+    /// parked ones.
+    ///
+    /// # Errors
+    /// `AllocError` where there is no memory.
+    pub fn save(&self) -> Result<Vec<u8>, AllocError>
+        ensures text { IfOk result
+            (λ bytes. bytes.items ≡ checkpoint_text (all_of self.now.machine)) }
+        ensures valid { AreFirings (all_of self.now.machine) }
+    {
+        let mut bytes = Vec::new(self.alloc);
+        write_checkpoint(self.machine.applied(), self.machine.parked(), &mut bytes)?;
+        Ok(bytes)
+    }
+
+    /// A replica that took the firings of the checkpoint, and how the checkpoint ended: `Whole`, or
+    /// `Torn` where its last lines are missing; then the firings of the complete lines are taken. The
+    /// replica knows nothing of its peers. `number` is 1 to 8, and `life` at least 1; a replica that
+    /// starts again takes its own number and a life that it did not live before.
+    ///
+    /// Of what `save` returned for this job the replica takes what the saved one took, and of a front of
+    /// it the first ones of that; then it is refused for want of room or of memory alone.
+    ///
+    /// # Errors
+    /// `BadLine` and `TooLong` with the first line, counted from 1, that no checkpoint has in its place
+    /// or that has more than 32,768 bytes. `NotAFiring` with the place, counted from 0, of the first
+    /// firing that is none of the job. `Full` where the checkpoint has more firings than `limit`.
+    /// `NoMemory` where there is no memory.
+    pub fn restore(
+        alloc: Global,
+        job: &'a Job,
+        limit: usize,
+        number: u8,
+        life: u64,
+        bytes: &[u8],
+    ) -> Result<(Replica<'a>, Ending), RestoreError>
+        requires number { IsBetween 1 number 8 }
+        requires born { 1 ≤ life }
+        ensures answer { RestoreAnswer job.now limit number life bytes.now result }
+        ensures whole { RestoresWhole job.now limit bytes.now result }
+        ensures front { RestoresFront job.now limit bytes.now result }
+    {
+        let checkpoint = match read_checkpoint(alloc, bytes) {
+            Ok(checkpoint) => checkpoint,
+            Err(error) => return Err(unread(error)),
+        };
+        let mut machine = Machine::new(alloc, job, limit)?;
+        match machine.take_all(checkpoint.firings.as_slice()) {
+            Ok(()) => {}
+            Err(refusal) => return Err(untaken(refusal)),
+        }
+        let replica = Replica {
+            alloc,
+            machine,
+            number,
+            life,
+            marks: Marks::new(),
+        };
+        Ok((replica, checkpoint.ending))
+    }
+}
