@@ -9,6 +9,10 @@
 # take 13 times as long, and the sum of 9998, with 99995 firings, may take a second; what takes less than
 # 20 milliseconds is not compared, since starting the program counts there.
 #
+# Checkpoints: the sums of 998 and of 9998 are run, saved after all their firings and restored from that,
+# the best of three each. Saving may take 13 times as long for ten times the bytes, and restoring the
+# longer one half as long again as running it.
+#
 # Where `rt` is on PATH, it then builds `u_bench` and times firings of a long sum that a machine takes
 # last one first, of which a hundred thousand have to take less than 3 seconds.
 set -u
@@ -105,6 +109,55 @@ if [ "$spent" -ge 1000000 ]; then
     echo 'the sum of 9998 took a second or more' >&2
     failed=1
 fi
+
+# Runs a command three times, and leaves the microseconds that the shortest run took in `spent`. It has to
+# end with status 0.
+timed_command() {
+    local start took turn
+    spent=''
+    for turn in 1 2 3; do
+        start=$(now)
+        "$binary" "$@" >"$temp/out" || {
+            echo "$* ended with status $?" >&2
+            failed=1
+        }
+        took=$(($(now) - start))
+        if [ -z "$spent" ] || [ "$took" -lt "$spent" ]; then spent=$took; fi
+    done
+}
+
+# The seconds of so many microseconds.
+seconds() {
+    printf '%d.%03d' $(($1 / 1000000)) $(($1 / 1000 % 1000))
+}
+
+# Times the sum up to a number: running it, saving it and restoring it from what was saved.
+timed_checkpoint() {
+    local argument=$1 running saving bytes
+    timed_command run "$top/programs/sum.u" "$argument"
+    running=$spent
+    timed_command save "$top/programs/sum.u" "$argument"
+    saving=$spent
+    mv -- "$temp/out" "$temp/checkpoint"
+    bytes=$(stat -c %s -- "$temp/checkpoint")
+    timed_command restore "$top/programs/sum.u" "$argument" "$temp/checkpoint"
+    printf '%12s %10s %8s %8s %8s\n' "$argument" "$bytes" "$(seconds "$running")" \
+        "$(seconds "$saving")" "$(seconds "$spent")"
+    if [ "$argument" = 9998 ] && [ "$spent" -gt $((running * 3 / 2)) ]; then
+        echo "restoring the sum of $argument took more than 1.5 times as long as running it" >&2
+        failed=1
+    fi
+    if [ "$saved_before" -gt 0 ] &&
+        grows_too_much "$saving" "$bytes" "$saved_before" "$bytes_before"; then
+        echo "saving the sum of $argument grew too much" >&2
+        failed=1
+    fi
+    saved_before=$saving bytes_before=$bytes
+}
+
+saved_before=0 bytes_before=0
+printf '%12s %10s %8s %8s %8s\n' 'sum of' bytes run save restore
+for size in 998 9998; do timed_checkpoint "$size"; done
 
 # Each call fires 15 times where it makes two others, and 5 times where it makes none; 5 firings are there
 # without it.

@@ -57,6 +57,23 @@ make_files() {
         printf 'u-program 1\nblock main\n1 0 begin ->\n'
         for k in {2..1000}; do printf '%s 0 add ->\n' "$k"; done
     } >"$temp/statements_1000"
+    make_checkpoints
+}
+
+# Checkpoints of the sum of 3 after five firings, whole, torn and spoilt.
+make_checkpoints() {
+    printf '%s\n' 'u-history 1' 'f -.main.1.1 3' 'f -.main.2.1 3' 'f -.main.3.1 3' 'f -.main.4.1 0' \
+        'f (-.main.L1.1).main.5.1 3' 'end 5' >"$temp/whole"
+    head -c -1 -- "$temp/whole" >"$temp/torn"
+    sed '3s/3$/03/' "$temp/whole" >"$temp/leading_zero"
+    sed 's/^end 5$/end 4/' "$temp/whole" >"$temp/wrong_count"
+    sed '2s/.*/f -.main.99.1 1/' "$temp/whole" >"$temp/other_firing"
+    { head -n 3 -- "$temp/whole"; sed '1,2d;s/^end 5$/end 6/' "$temp/whole"; } >"$temp/firing_twice"
+    { cat -- "$temp/whole"; printf 'x'; } >"$temp/byte_behind"
+    { sed 's/ 3$/ 9999/' "$temp/whole" | head -n 5; echo 'end 4'; } >"$temp/four_of_9999"
+    printf 'u-history 1\nf -.main.17.1 9\nend 1\n' >"$temp/never_enabled"
+    { echo 'u-history 1'; head -c 32769 /dev/zero | tr '\0' x; echo; } >"$temp/long_line"
+    { echo 'u-history 1'; seq -f 'f -.main.17.1 %.0f' 1 1000001; echo 'end 1000001'; } >"$temp/too_many"
 }
 
 begin_case() {

@@ -1,4 +1,5 @@
-//! The program `u`: it reads the words of its command line and FILE, and checks or runs a dataflow program.
+//! The program `u`: it reads the words of its command line and the files that they name, and checks,
+//! runs, saves or restores a dataflow program.
 #![tactic(auto)]
 
 ghost use Rattle.u.specs.Requests.{HasFirings};
@@ -8,7 +9,9 @@ mod words;
 use std::alloc::Global;
 use std::process::ExitCode;
 use std::{fs, io};
-use u_cli::{CommandError, STORED_PROGRAM, check_text, read_input, run_text};
+use u_cli::{
+    CommandError, STORED_PROGRAM, check_text, read_input, restore_text, run_text, save_text,
+};
 use words::{Request, not_text, parse};
 
 /// The argument of the stored run, and how often it may fire.
@@ -46,7 +49,8 @@ fn answer(rt: &HostRuntime) -> Result<u8, CommandError> {
     }
 }
 
-/// Reads FILE and checks or runs the program in it, or runs the stored one.
+/// Reads FILE, and CHECKPOINT where there is one, and does with the program in it what is asked for, or
+/// runs the stored program.
 fn follow(rt: &HostRuntime, request: Request<'_>) -> Result<u8, CommandError>
     requires { HasFirings request }
 {
@@ -78,17 +82,50 @@ fn follow(rt: &HostRuntime, request: Request<'_>) -> Result<u8, CommandError>
                 &mut out,
             )
         }
+        Request::Save {
+            file,
+            argument,
+            firings,
+        } => {
+            let program = read_file(rt, file)?;
+            save_text(
+                alloc,
+                program.as_slice(),
+                argument.as_bytes(),
+                firings,
+                &mut out,
+            )
+        }
+        Request::Restore {
+            file,
+            argument,
+            checkpoint,
+        } => {
+            let program = read_file(rt, file)?;
+            let saved = read_path(rt, checkpoint)?;
+            restore_text(
+                alloc,
+                program.as_slice(),
+                argument.as_bytes(),
+                saved.as_slice(),
+                &mut out,
+            )
+        }
     }
 }
 
 /// All bytes of FILE, or of standard input at the word `stdin`.
 fn read_file(rt: &HostRuntime, file: &str) -> Result<Vec<u8>, CommandError> {
-    let alloc = rt.alloc();
     if file == "stdin" {
-        return read_input(alloc, rt.stdin());
+        return read_input(rt.alloc(), rt.stdin());
     }
-    match fs::open(rt, file) {
-        Ok(opened) => read_input(alloc, opened),
+    read_path(rt, file)
+}
+
+/// All bytes of the file with this path.
+fn read_path(rt: &HostRuntime, path: &str) -> Result<Vec<u8>, CommandError> {
+    match fs::open(rt, path) {
+        Ok(opened) => read_input(rt.alloc(), opened),
         Err(_) => Err(CommandError::NotReadable),
     }
 }

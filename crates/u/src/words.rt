@@ -1,7 +1,8 @@
 //! The words of the command line.
-ghost use Rattle.std.specs.Prelude.{◌≡◌, IfOk};
+ghost use Rattle.std.specs.Prelude.{◌≡◌, IfOk, IfSome, codes};
 ghost use Rattle.clap.specs.Words.{found_of};
-ghost use Rattle.u.specs.Requests.{HasFirings, IsCheckRequest, IsRunRequest, word_of};
+ghost use Rattle.u.specs.Requests.{HasFirings, IsCheckRequest, IsRunRequest, IsSaveRequest, IsRestoreRequest, word_of};
+ghost use Rattle.u_cli.specs.Firings.{IsFirings, IsFiringsText};
 
 use clap::error::ErrorKind;
 use clap::{Arg, ArgAction, ArgMatches, Command, Error, value_parser};
@@ -10,6 +11,12 @@ use u_cli::firings_of;
 
 /// The word of the command that checks.
 const CHECK: &str = "check";
+
+/// The word of the command that saves.
+const SAVE: &str = "save";
+
+/// The word of the command that restores.
+const RESTORE: &str = "restore";
 
 /// What a command line asks for.
 #[derive(Clone, Copy, Debug, PartialEq, Eq, Drop)]
@@ -26,11 +33,23 @@ pub enum Request<'a> {
         argument: &'a str,
         firings: usize,
     },
+    /// `save FILE ARG`: the checkpoint after at most `firings` firings, from 1 to 1000000.
+    Save {
+        file: &'a str,
+        argument: &'a str,
+        firings: usize,
+    },
+    /// `restore FILE ARG CHECKPOINT`.
+    Restore {
+        file: &'a str,
+        argument: &'a str,
+        checkpoint: &'a str,
+    },
 }
 
 /// The request in the words of a command line, the first of which is the program's name. The error
-/// is a mistake in the words, or a request for help or the version. A run may fire from 1 to
-/// 1000000 times.
+/// is a mistake in the words, or a request for help or the version. `run` and `save` may fire from 1
+/// to 1000000 times.
 pub fn parse<'a>(alloc: Global, words: &'a [String]) -> Result<Request<'a>, Error>
     ensures { IfOk result HasFirings }
 {
@@ -38,6 +57,8 @@ pub fn parse<'a>(alloc: Global, words: &'a [String]) -> Result<Request<'a>, Erro
     match matches.subcommand() {
         None => Ok(Request::Stored),
         Some((name, check)) if name == CHECK => Ok(check_request(check)),
+        Some((name, save)) if name == SAVE => save_request(alloc, save),
+        Some((name, restore)) if name == RESTORE => Ok(restore_request(restore)),
         Some((_, run)) => run_request(alloc, run),
     }
 }
@@ -58,28 +79,64 @@ fn check_request<'a>(matches: &ArgMatches<'a>) -> Request<'a>
     Request::Check { file }
 }
 
-/// The words of `run`. The number of firings is read again, since `clap` takes a sign and
-/// leading zeros.
+/// The words of `run`.
 fn run_request<'a>(alloc: Global, matches: &ArgMatches<'a>) -> Result<Request<'a>, Error>
     ensures { IfOk result (λ o. IsRunRequest (found_of matches.now) o) }
 {
-    let word = text(matches, "firings");
-    match firings_of(word) {
+    match firings(matches) {
         Some(firings) => Ok(Request::Run {
             file: text(matches, "FILE"),
             argument: text(matches, "ARG"),
             firings,
         }),
-        None => Err(other_spelling(alloc, word)?),
+        None => Err(other_spelling(alloc, run(alloc, "u run"), matches)?),
     }
 }
 
+/// The words of `save`.
+fn save_request<'a>(alloc: Global, matches: &ArgMatches<'a>) -> Result<Request<'a>, Error>
+    ensures { IfOk result (λ o. IsSaveRequest (found_of matches.now) o) }
+{
+    match firings(matches) {
+        Some(firings) => Ok(Request::Save {
+            file: text(matches, "FILE"),
+            argument: text(matches, "ARG"),
+            firings,
+        }),
+        None => Err(other_spelling(alloc, save(alloc, "u save"), matches)?),
+    }
+}
+
+/// The words of `restore`.
+fn restore_request<'a>(matches: &ArgMatches<'a>) -> Request<'a>
+    ensures { IsRestoreRequest (found_of matches.now) result }
+{
+    Request::Restore {
+        file: text(matches, "FILE"),
+        argument: text(matches, "ARG"),
+        checkpoint: text(matches, "CHECKPOINT"),
+    }
+}
+
+/// The number of firings. The word is read again, since `clap` takes a sign and leading zeros.
+fn firings(matches: &ArgMatches<'_>) -> Option<usize>
+    ensures { IfSome result (λ n. IsFirings n
+        × IsFiringsText n (word_of (found_of matches.now) (codes "firings"))) }
+{
+    firings_of(text(matches, "firings"))
+}
+
 /// The mistake that a number of firings has a sign or a leading zero.
-fn other_spelling(alloc: Global, word: &str) -> Result<Error, AllocError> {
+fn other_spelling(
+    alloc: Global,
+    command: Result<Command<'_>, AllocError>,
+    matches: &ArgMatches<'_>,
+) -> Result<Error, AllocError> {
+    let word = text(matches, "firings");
     let message = format!(in alloc;
         "invalid value '{word}' for '--firings <N>': a number has no sign and no leading zero"
     )?;
-    told(run(alloc, "u run"), message.as_str())
+    told(command, message.as_str())
 }
 
 fn text<'a>(matches: &ArgMatches<'a>, name: &str) -> &'a str
@@ -105,7 +162,9 @@ fn commands<'a>(alloc: Global) -> Result<Command<'a>, AllocError> {
         .after_help("Example: ./u run programs/double.u 4")
         .disable_help_subcommand(true)
         .subcommand(check(alloc)?)?
-        .subcommand(run(alloc, "run")?)
+        .subcommand(run(alloc, "run")?)?
+        .subcommand(save(alloc, SAVE)?)?
+        .subcommand(restore(alloc)?)
 }
 
 fn check<'a>(alloc: Global) -> Result<Command<'a>, AllocError> {
@@ -116,24 +175,49 @@ fn check<'a>(alloc: Global) -> Result<Command<'a>, AllocError> {
 }
 
 fn run<'a>(alloc: Global, name: &'a str) -> Result<Command<'a>, AllocError> {
-    let argument = word(alloc, "ARG").help("The argument, a decimal number: n1 is -1");
-    let firings = Arg::new(alloc, "firings")
+    Command::new(alloc, name)
+        .about("Runs the program and prints its report")
+        .after_help("Example: ./u run programs/double.u 4 --firings 1000")
+        .arg(file(alloc))?
+        .arg(argument(alloc))?
+        .arg(most_firings(alloc))
+}
+
+fn save<'a>(alloc: Global, name: &'a str) -> Result<Command<'a>, AllocError> {
+    Command::new(alloc, name)
+        .about("Runs the program and prints a checkpoint: all that was fired")
+        .after_help("Example: ./u save programs/sum.u 3 --firings 5 > checkpoint")
+        .arg(file(alloc))?
+        .arg(argument(alloc))?
+        .arg(most_firings(alloc))
+}
+
+fn restore<'a>(alloc: Global) -> Result<Command<'a>, AllocError> {
+    let checkpoint = word(alloc, "CHECKPOINT").help("The checkpoint's file");
+    Command::new(alloc, RESTORE)
+        .about("Goes on from a checkpoint, whole or torn, and prints the report")
+        .after_help("Example: ./u restore programs/sum.u 3 checkpoint")
+        .arg(file(alloc))?
+        .arg(argument(alloc))?
+        .arg(checkpoint)
+}
+
+fn file<'a>(alloc: Global) -> Arg<'a> {
+    word(alloc, "FILE").help("The program's file, or the word stdin for standard input")
+}
+
+fn argument<'a>(alloc: Global) -> Arg<'a> {
+    word(alloc, "ARG").help("The argument, a decimal number: n1 is -1")
+}
+
+fn most_firings<'a>(alloc: Global) -> Arg<'a> {
+    Arg::new(alloc, "firings")
         .long("firings")
         .value_name("N")
         .help("The most firings, from 1 to 1000000")
         .action(ArgAction::Set)
         .default_value("100000")
-        .value_parser(value_parser!(u32).range(1..=1000000));
-    Command::new(alloc, name)
-        .about("Runs the program and prints its report")
-        .after_help("Example: ./u run programs/double.u 4 --firings 1000")
-        .arg(file(alloc))?
-        .arg(argument)?
-        .arg(firings)
-}
-
-fn file<'a>(alloc: Global) -> Arg<'a> {
-    word(alloc, "FILE").help("The program's file, or the word stdin for standard input")
+        .value_parser(value_parser!(u32).range(1..=1000000))
 }
 
 fn word<'a>(alloc: Global, name: &'a str) -> Arg<'a> {

@@ -13,10 +13,11 @@ use Rattle.u_machine.specs.State.{State, state, Taken, IsMachine, IsSettled, Not
 use Rattle.u_machine.specs.Calls.{RunAnswer}
 use Rattle.u_machine.proofs.States.{settled_is_Cl}
 use Rattle.u_machine.proofs.Runs.{run_done}
+use Rattle.u_history.specs.declared.report.Ending.{Ending}
 use Rattle.u_history.specs.declared.report.Ending.TheVariants as states
 use Rattle.u_history.specs.Report.{IsReportOf}
 use Rattle.u_history.proofs.Reports.{report_same, outcome_same}
-use Rattle.u_cli.specs.Runs.{IsReportedRun, IsStatusOf, ReportsRunOfJob, state_of}
+use Rattle.u_cli.specs.Runs.{IsReportedRun, IsStatusOf, ReportsMachine, ReportsRunOfJob, state_of}
 
 -- one set, two predicates: one status
 status_same : (H K : Entry → Type 0) → Same H K → (s : _) (n : ℕ) → IsStatusOf H s n → IsStatusOf K s n
@@ -41,26 +42,30 @@ module _ (m : State) (is : IsMachine m) (st : IsSettled m) (alone : m.parked ≡
   some_left : (f : Firing) × IsReady m f → (f : Firing) × Enabled (system_of m.job) (Held (system_of m.job) m.log) f × (Contains m.log f → ⊥)
   some_left (f, r) = (f, Enabled-mono (system_of m.job) (Cl (system_of m.job) (Taken m)) (Held (system_of m.job) m.log) closed_held f r.0, λ c. r.1 (logged_taken f c))
 
+-- where nothing is parked, the count is 0
+none_parked : (new : State) (s : Ending) (report : List ℕ) → new.parked ≡ [] → IsReportOf (Contains new.history) s (length new.log) (length new.parked) report → IsReportOf (Contains new.history) s (length new.log) 0 report
+none_parked new s report e r = subst (λ (fs : FiringList). IsReportOf (Contains new.history) s (length new.log) (length fs) report) e r
+
 module _ (old new : State) (budget : ℕ) (log : old.log ≡ []) (parked : old.parked ≡ []) (is : IsMachine new) where
-  pub ran_run : (end : Ran) (report : List ℕ) (status : ℕ) → RunAnswer old budget (Ok end) new → IsReportOf (Contains new.history) (state_of end) (length new.log) 0 report → IsStatusOf (Contains new.history) (state_of end) status → IsReportedRun old.job budget (state_of end) new.log report status
-  ran_run ran.Quiet report status a r t =
+  pub ran_run : (end : Ran) (report : List ℕ) (status : ℕ) → RunAnswer old budget (Ok end) new → ReportsMachine new (state_of end) report status → IsReportedRun old.job budget (state_of end) new.log report status
+  ran_run ran.Quiet report status a r =
       let d = run_done old new budget ran.Quiet a log parked is.sound in
       record {
         plain = d.0.plain;
-        reported = report_same (Contains new.history) (Held (system_of old.job) new.log) d.0.held states.Quiet (length new.log) 0 report r;
-        ended = status_same (Contains new.history) (Held (system_of old.job) new.log) d.0.held states.Quiet status t;
+        reported = report_same (Contains new.history) (Held (system_of old.job) new.log) d.0.held states.Quiet (length new.log) 0 report (none_parked new states.Quiet report d.0.parked r.reported);
+        ended = status_same (Contains new.history) (Held (system_of old.job) new.log) d.0.held states.Quiet status r.ended;
         whole = λ e. d.1 refl;
         all = λ e. rw d.0.job at (none_left new is a.3 d.0.parked a.4);
         many = λ e. absurd (cc);
         more = λ e. absurd (cc);
       }
-  ran_run ran.Paused report status a r t =
+  ran_run ran.Paused report status a r =
       let d = run_done old new budget ran.Paused a log parked is.sound in
       let p = a.1.alone parked in
       record {
         plain = d.0.plain;
-        reported = report_same (Contains new.history) (Held (system_of old.job) new.log) d.0.held states.Paused (length new.log) 0 report r;
-        ended = status_same (Contains new.history) (Held (system_of old.job) new.log) d.0.held states.Paused status t;
+        reported = report_same (Contains new.history) (Held (system_of old.job) new.log) d.0.held states.Paused (length new.log) 0 report (none_parked new states.Paused report d.0.parked r.reported);
+        ended = status_same (Contains new.history) (Held (system_of old.job) new.log) d.0.held states.Paused status r.ended;
         whole = λ e. absurd (cc);
         all = λ e. absurd (cc);
         many = λ e. ap length (p.0 ∙ ap (λ (xs : FiringList). xs ++ a.0) log) ∙ a.2;
@@ -68,11 +73,11 @@ module _ (old new : State) (budget : ℕ) (log : old.log ≡ []) (parked : old.p
       }
 
 -- the same for a machine that was new for this job
-pub ran_job : (job : JobParts) (limit : ℕ) (h : List Entry) (old new : State) (budget : ℕ) (end : Ran) (report : List ℕ) (status : ℕ) → old ≡ state job limit [] [] h → IsMachine new → RunAnswer old budget (Ok end) new → IsReportOf (Contains new.history) (state_of end) (length new.log) 0 report → IsStatusOf (Contains new.history) (state_of end) status → ReportsRunOfJob job budget report status
-ran_job job limit h old new budget end report status e is a r t =
+pub ran_job : (job : JobParts) (limit : ℕ) (h : List Entry) (old new : State) (budget : ℕ) (end : Ran) (report : List ℕ) (status : ℕ) → old ≡ state job limit [] [] h → IsMachine new → RunAnswer old budget (Ok end) new → ReportsMachine new (state_of end) report status → ReportsRunOfJob job budget report status
+ran_job job limit h old new budget end report status e is a r =
     record {
       state = state_of end;
       fs = new.log;
       run = subst (λ (j : JobParts). IsReportedRun j budget (state_of end) new.log report status) (ap (λ (m : State). m.job) e)
-          (ran_run old new budget (ap (λ (m : State). m.log) e) (ap (λ (m : State). m.parked) e) is end report status a r t);
+          (ran_run old new budget (ap (λ (m : State). m.log) e) (ap (λ (m : State). m.parked) e) is end report status a r);
     }

@@ -1,11 +1,11 @@
--- What `check` answers to the bytes of a program.
+-- What `check` returns for the bytes of a program.
 use Rattle.std.specs.Prelude.{◌≡◌, ℕ, ◌+◌, List, [], ◌∷◌, ◌++◌, Option, Result, Ok, Err, codes, decimal, length}
 use Rattle.std.specs.Io.KnownBytes.{Keeps}
-use Rattle.u_program.specs.Parts.{BlockParts}
+use Rattle.u_program.specs.Parts.{BlockParts, ProgramParts}
 use Rattle.u_program.specs.declared.read_error.ReadError.{ReadError}
 use Rattle.u_program.specs.declared.read_error.ReadError.TheVariants as read_errors
 use Rattle.u_program.specs.Answer.{IsTextOf}
-use Rattle.u_program.specs.Laws.{IsBadLine, IsTooMany, IsTruncated}
+use Rattle.u_program.specs.FirstBad.{IsBadLine, IsTooMany, IsTruncated}
 use Rattle.u_check.specs.Rules.{IsChecked, IsFirstBreach}
 use Rattle.u_check.specs.declared.rule.Breach.{Breach}
 use Rattle.u_cli.specs.Outputs.{WritesAll, WritesPrefix}
@@ -22,21 +22,21 @@ unfoldable pub checked_line : List BlockParts → List ℕ
 checked_line p = codes "checked " ++ (decimal (length p) ++ (codes " " ++ (decimal (statements_of p) ++ (10 ∷ []))))
 
 -- the bytes are the text of the program, which breaks no rule
-pub record IsCheckedOf (bytes : List ℕ) (program : List BlockParts) : Type 0 where
+pub record IsCheckedOf (bytes : List ℕ) (program : ProgramParts) : Type 0 where
   pub text : IsTextOf bytes program
-  pub checked : IsChecked program
+  pub checked : IsChecked program.blocks
 
 -- the program's text is that of a program which breaks the named rule first
 pub record BreaksRule (bytes : List ℕ) (breach : Breach) : Type 0 where
-  pub program : List BlockParts
+  pub program : ProgramParts
   pub text : IsTextOf bytes program
-  pub first : IsFirstBreach program breach.rule breach.block breach.statement
+  pub first : IsFirstBreach program.blocks breach.rule breach.block breach.statement
 
 -- the line of some program with this text, which breaks no rule
 pub record Checks (bytes line : List ℕ) : Type 0 where
-  pub program : List BlockParts
+  pub program : ProgramParts
   pub is : IsCheckedOf bytes program
-  pub line_is : line ≡ checked_line program
+  pub line_is : line ≡ checked_line program.blocks
 
 -- why there is no checked program
 abbrev pub CheckRefused : List ℕ → CommandError → Type 0

@@ -5,3 +5,5 @@ pub mod Arguments
 pub mod Firings
 pub mod Checks
 pub mod Runs
+pub mod Saves
+pub mod Restores

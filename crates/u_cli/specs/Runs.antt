@@ -1,9 +1,9 @@
 -- What `run` answers to the bytes of a program and the word of an argument.
 use Rattle.std.specs.Prelude.{◌≡◌, ℕ, List, Option, Result, Ok, Err, Contains, length, ℤ}
 use Rattle.std.specs.Io.KnownBytes.{Keeps}
-use Rattle.u_program.specs.Parts.{BlockParts}
+use Rattle.u_program.specs.Parts.{ProgramParts}
 use Rattle.u_program.specs.Answer.{IsTextOf}
-use Rattle.u_program.specs.Laws.{IsBadLine, IsTooMany, IsTruncated}
+use Rattle.u_program.specs.FirstBad.{IsBadLine, IsTooMany, IsTruncated}
 use Rattle.u_check.specs.Rules.{IsChecked}
 use Rattle.u_check.specs.Jobs.{JobParts}
 use Rattle.u_system.specs.Firing.{Held, Whole, Same, Enabled, Plain}
@@ -12,6 +12,7 @@ use Rattle.u_rule.specs.Rule.{system_of}
 use Rattle.u_rule.specs.declared.parts.Fault.{Fault}
 use Rattle.u_rule.specs.declared.entry.Entry.{Entry}
 use Rattle.u_rule.specs.declared.firing.Firing.{Firing}
+use Rattle.u_machine.specs.State.{State}
 use Rattle.u_machine.specs.Calls.{firing_le}
 use Rattle.u_machine.specs.declared.answer.Ran.{Ran}
 use Rattle.u_machine.specs.declared.answer.Ran.TheVariants as ran
@@ -30,7 +31,7 @@ use Rattle.u_cli.specs.declared.command_error.CommandError.TheVariants as faults
 -- the bytes are the text of the job's program, which breaks no rule, and the word gives its argument
 pub record IsJobOf (bytes word : List ℕ) (job : JobParts) : Type 0 where
   pub text : IsTextOf bytes job.program
-  pub checked : IsChecked job.program
+  pub checked : IsChecked job.program.blocks
   pub argument : IsArgumentOf word job.argument
 
 -- The status is that of the verdict on what is held.
@@ -41,6 +42,12 @@ pub record IsStatusOf (H : Entry → Type 0) (state : Ending) (status : ℕ) : T
   pub faults : List Fault
   pub outcome : IsOutcome H answers cells ports faults
   pub is : status ≡ status_of state (judged answers cells ports faults)
+
+-- The report and the status of a machine in that state: those of its history, with the counts of its
+-- applied and of its parked firings.
+pub record ReportsMachine (m : State) (state : Ending) (report : List ℕ) (status : ℕ) : Type 0 where
+  pub reported : IsReportOf (Contains m.history) state (length m.log) (length m.parked) report
+  pub ended : IsStatusOf (Contains m.history) state status
 
 -- fs is the plain run of the job: each firing the least that is enabled and new, so many at most.
 -- The report and the status are those of what fs holds; no firing is parked.
@@ -73,9 +80,9 @@ state_of ran.Paused = states.Paused
 
 -- the program breaks no rule, and the word gives no argument
 pub record GivesNoArgument (bytes word : List ℕ) : Type 0 where
-  pub program : List BlockParts
+  pub program : ProgramParts
   pub text : IsTextOf bytes program
-  pub checked : IsChecked program
+  pub checked : IsChecked program.blocks
   pub none : (z : ℤ) → IsArgumentOf word z → ⊥
 
 -- what stands before and after, for each answer

@@ -40,7 +40,7 @@ pub fn checked_of(alloc: Global, bytes: &[u8]) -> Result<Checked, CommandError>
 
 /// How many statements the program has.
 fn statements_of(program: &Program) -> usize
-    ensures { result ≡ statements_of program.now }
+    ensures { result ≡ statements_of program.now.blocks }
 {
     let mut count = 0;
     for block in program.blocks() {
@@ -52,7 +52,7 @@ fn statements_of(program: &Program) -> usize
 /// The line that tells of a program which breaks no rule.
 #[tactic(auto, unfolding(crate::specs::Checks::checked_line), using(crate::proofs::Counts::join5))]
 fn checked_line(alloc: Global, program: &Program) -> Result<Vec<u8>, AllocError>
-    ensures { IfOk result (λ v. v.items ≡ checked_line program.now) }
+    ensures { IfOk result (λ v. v.items ≡ checked_line program.now.blocks) }
 {
     let mut line = Vec::new(alloc);
     line.extend_from_slice(b"checked ")?;

@@ -27,6 +27,18 @@ pub enum CommandError {
     /// The input has more than 67108864 bytes.
     #[error("input too long")]
     InputTooLong,
+    /// This line of the checkpoint is not allowed; lines count from 1.
+    #[error("checkpoint line {0} not allowed")]
+    CheckpointLineNotAllowed(usize),
+    /// This line of the checkpoint has more than 32,768 bytes.
+    #[error("checkpoint line {0} too long")]
+    CheckpointLineTooLong(usize),
+    /// The checkpoint's firing at this place is none of the job; places count from 0.
+    #[error("firing {0} not of this job")]
+    OtherFiring(usize),
+    /// There are more firings than the 1000000 that a replica takes.
+    #[error("full")]
+    Full,
     /// There is no memory.
     #[error("no memory")]
     NoMemory,
@@ -49,7 +61,8 @@ impl From<AllocError> for CommandError {
 }
 
 impl CommandError {
-    /// The exit status: 2 where a text is refused, 5 where the machine's surroundings fail.
+    /// The exit status: 2 where a text is refused, 4 where there is no room for more firings, 5 where
+    /// the machine's surroundings fail.
     pub fn status(&self) -> u8
         ensures { result ≡ status_of_error self.now }
     {
@@ -59,7 +72,11 @@ impl CommandError {
             | CommandError::CutShort
             | CommandError::Rule(_)
             | CommandError::ArgumentNotAllowed
-            | CommandError::InputTooLong => 2,
+            | CommandError::InputTooLong
+            | CommandError::CheckpointLineNotAllowed(_)
+            | CommandError::CheckpointLineTooLong(_)
+            | CommandError::OtherFiring(_) => 2,
+            CommandError::Full => 4,
             CommandError::NoMemory | CommandError::NotReadable | CommandError::NotWritten => 5,
         }
     }

@@ -7,7 +7,9 @@ mod command_error;
 mod input;
 mod number;
 mod output;
+mod restoring;
 mod run;
+mod saving;
 
 pub use argument::argument_of;
 pub use checking::check_text;
@@ -15,7 +17,9 @@ pub use command_error::CommandError;
 pub use input::{INPUT_LIMIT, read_input};
 pub use number::firings_of;
 pub use output::{Unwritten, write_whole};
+pub use restoring::{RESTORED_FIRINGS, restore_text};
 pub use run::{FIRING_LIMIT, run_text};
+pub use saving::save_text;
 
 /// The program that runs where no word is given: it doubles its argument.
 pub const STORED_PROGRAM: &[u8] =

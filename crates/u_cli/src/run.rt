@@ -1,9 +1,10 @@
 //! The command `run`.
-ghost use Rattle.std.specs.Prelude.{◌≡◌, ◌≤◌, IfOk, IfErr, MatchResult, IsTrue, List, ℕ, Contains, length};
+ghost use Rattle.std.specs.Prelude.{◌≡◌, ◌≤◌, IfOk, IfErr, MatchResult, IsTrue, List, ℕ, length};
 ghost use Rattle.u_check.specs.Jobs.{JobParts};
-ghost use Rattle.u_cli.specs.Runs.{IsJobOf, ReportsRun, RunTextAnswer, JobRefused, IsStatusOf, ReportsRunOfJob, state_of};
+ghost use Rattle.u_cli.specs.Runs.{IsJobOf, ReportsRun, RunTextAnswer, JobRefused, ReportsMachine, ReportsRunOfJob, state_of};
 ghost use Rattle.u_cli.specs.declared.command_error.CommandError.TheVariants as faults;
-ghost use Rattle.u_history.specs.Report.{IsReportOf};
+ghost use Rattle.u_sets.specs.Rising.{Rises};
+ghost use Rattle.u_rule.specs.EntryOrder.{entry_cmp};
 ghost use Rattle.u_cli.specs.Statuses.{status_of};
 ghost use Rattle.u_history.specs.Verdicts.{judgement};
 
@@ -14,14 +15,14 @@ use crate::output::write_whole;
 use std::alloc::{AllocError, Global};
 use std::io::Write;
 use u_check::Job;
-use u_history::{Ending, History, Verdict, report_text};
+use u_history::{Counts, Ending, Verdict, report_text};
 use u_machine::{Machine, Ran, Refusal};
 
 /// How many firings a machine of the program takes at most.
 pub const FIRING_LIMIT: usize = 1_000_000;
 
 /// The job of the program with this text on the argument that the word gives.
-fn job_of(alloc: Global, bytes: &[u8], word: &[u8]) -> Result<Job, CommandError>
+pub(crate) fn job_of(alloc: Global, bytes: &[u8], word: &[u8]) -> Result<Job, CommandError>
     ensures { MatchResult result (λ job. IsJobOf bytes.now word.now job)
         (λ fault. JobRefused bytes.now word.now fault) }
 {
@@ -46,17 +47,8 @@ fn status(state: Ending, verdict: Verdict<'_>) -> u8
     }
 }
 
-/// The exit status of a report of that history.
-fn status_of(state: Ending, history: &History) -> Result<u8, AllocError>
-    ensures { IfOk result (λ s. IsStatusOf (Contains history.now) state s) }
-{
-    let outcome = history.outcome()?;
-    let status = status(state, outcome.verdict());
-    Ok(status)
-}
-
 /// The state that a report names.
-fn state_of(ran: Ran) -> Ending
+pub(crate) fn state_of(ran: Ran) -> Ending
     ensures { result ≡ state_of ran }
 {
     match ran {
@@ -65,18 +57,32 @@ fn state_of(ran: Ran) -> Ending
     }
 }
 
-/// The report of a machine, and the exit status.
-fn told(alloc: Global, machine: &Machine<'_>, state: Ending) -> Result<(Vec<u8>, u8), AllocError>
-    ensures report { IfOk result
-        (λ p. IsReportOf (Contains machine.now.history) state
-        (length machine.now.log) 0 p.0.items) }
-    ensures status { IfOk result (λ p. IsStatusOf (Contains machine.now.history) state p.1) }
+/// What a report of the machine counts.
+fn counts(machine: &Machine<'_>) -> Counts
+    ensures firings { result.firings ≡ length machine.now.log }
+    ensures parked { result.parked ≡ length machine.now.parked }
+    ensures entries { result.entries ≡ length machine.now.history }
+    ensures rises { Rises entry_cmp machine.now.history }
 {
     let history = machine.history();
-    let firings = machine.applied().len();
-    let report = report_text(alloc, state, firings, 0, history)?;
-    let status = status_of(state, history)?;
-    Ok((report, status))
+    Counts {
+        firings: machine.applied().len(),
+        parked: machine.parked().len(),
+        entries: history.len(),
+    }
+}
+
+/// The report of a machine, and the exit status.
+pub(crate) fn told(
+    alloc: Global,
+    machine: &Machine<'_>,
+    state: Ending,
+) -> Result<(Vec<u8>, u8), AllocError>
+    ensures { IfOk result (λ p. ReportsMachine machine.now state p.0.items p.1) }
+{
+    let outcome = machine.history().outcome()?;
+    let report = report_text(alloc, state, counts(machine), &outcome)?;
+    Ok((report, status(state, outcome.verdict())))
 }
 
 /// The report of a new machine of the job after so many firings at most, and the exit status.

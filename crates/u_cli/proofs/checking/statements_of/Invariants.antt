@@ -3,4 +3,4 @@ use Rattle.u_cli.specs.Checks.{statements_of}
 use Rattle.u_cli.proofs.checking.statements_of.Given as goal
 
 abbrev pub invariant-loop-block : goal.invariant-loop-block
-invariant-loop-block l = l.count ≡ statements_of (take l.block-index (l.program))
+invariant-loop-block l = l.count ≡ statements_of (take l.block-index l.program.blocks)

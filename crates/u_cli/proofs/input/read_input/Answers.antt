@@ -1,16 +1,18 @@
-use Rattle.std.proofs.Common.{take, length, ◌<◌, ◌+◌, arith, rules}
+use Rattle.std.proofs.Common.{arith, rules, length, ◌<◌}
 use Rattle.u_cli.specs.Inputs.{input_limit}
-use Rattle.u_cli.proofs.Known.{read_end, read_over}
+use Rattle.u_cli.proofs.Known.{read_long, read_short}
 use Rattle.u_cli.proofs.input.read_input.Goals as goal
 
-pub returns-then-count-eq0 : goal.returns-then-count-eq0
+pub returns-in-Ok : goal.returns-in-Ok
 unfolding input_limit
-returns-then-count-eq0 g c =
-    let room : 0 < length c.read.new.buf = search rules in
-    (read_end _ _ _ c.loop.all.items c.read.new.buf c.in-Ok.count c.if-count-eq0.true c.loop.invariant.0 c.in-Ok.ensures.bytes.0 (c.in-Ok.ensures.bytes.1 c.if-count-eq0.true room), c.loop.invariant.1)
+returns-in-Ok g c =
+    let bytes = rw (c.take.ensures.limit, c.take.ensures.inner, c.new-all.ensures.items) at c.in-Ok.ensures.bytes in
+    let many : 67108864 < length c.read_to_end.new.buf.items = search rules in
+    read_long (g.R.Read.remaining c.args.reader) 67108865 c.read_to_end.new.buf.items 67108864 bytes many
 
-pub returns-then-len-count-gt-INPUT_LIMIT : goal.returns-then-len-count-gt-INPUT_LIMIT
+pub returns-in-Ok-2 : goal.returns-in-Ok-2
 unfolding input_limit
-returns-then-len-count-gt-INPUT_LIMIT g c =
-    let l : 67108864 < length c.loop.all.items + length (take c.in-Ok.count c.read.new.buf) = (let a = c.len.ensures in let b = c.loop.all.ok.0 in let d = c.in-Ok.ensures.bound.1 in let e = c.if-len-count-gt-INPUT_LIMIT.true in omega arith) in
-    read_over _ _ _ c.loop.all.items (take c.in-Ok.count c.read.new.buf) 67108864 c.loop.invariant.0 c.in-Ok.ensures.bytes.0 l
+returns-in-Ok-2 g c =
+    let bytes = rw (c.take.ensures.limit, c.take.ensures.inner, c.new-all.ensures.items) at c.in-Ok-2.ensures.bytes in
+    let few : length c.read_to_end.new.buf.items < 67108865 = search rules in
+    (read_short (g.R.Read.remaining c.args.reader) 67108865 c.read_to_end.new.buf.items bytes few, omega (arith, few))
