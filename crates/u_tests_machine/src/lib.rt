@@ -17,6 +17,8 @@ mod machine_tests;
 #[cfg(test)]
 mod machines;
 #[cfg(test)]
+mod queue;
+#[cfg(test)]
 mod stepping;
 #[cfg(test)]
 mod torn;

@@ -1,5 +1,6 @@
 //! The firings of a machine that ran, given to other machines in other orders, with forged ones.
 use crate::calls::firing_of;
+use crate::queue::is_queued;
 use crate::stepping::{steps_agree, taken_of};
 use std::alloc::{AllocError, Global};
 use u_check::Job;
@@ -12,7 +13,8 @@ use u_sets::OrderedSet;
 /// How another machine gets the firings.
 #[derive(Clone, Copy)]
 pub enum Way {
-    /// From last to first: all but the last one that comes are parked.
+    /// From last to first: all but the last one that comes are parked, and are then applied first
+    /// in, first out.
     Backwards,
     /// As a list, twice.
     AsAList,
@@ -39,14 +41,14 @@ fn offered(alloc: Global, machine: &Machine<'_>) -> Result<OrderedSet<Firing>, A
 }
 
 /// Whether both have the same entries.
-fn is_same_history(one: &Machine<'_>, other: &Machine<'_>) -> bool {
+fn is_same_history(one: &Machine<'_>, other: &Machine<'_>) -> Result<bool, AllocError> {
     one.agrees_with(other);
-    for entry in one.history().iter() {
+    for entry in &one.history().entries()? {
         if !other.history().contains(entry) {
-            return false;
+            return Ok(false);
         }
     }
-    one.history().len() == other.history().len()
+    Ok(one.history().len() == other.history().len())
 }
 
 /// Whether it parks the firing.
@@ -119,10 +121,25 @@ fn takes_shuffled(
     Ok(answers == Some([new, new, 2]) && machine.parked().len() == 1)
 }
 
+/// Whether it parks all but the first of the firings, and then applies them first in, first out.
+fn queues(
+    alloc: Global,
+    job: &Job,
+    machine: &mut Machine<'_>,
+    firings: &[Firing],
+) -> Result<bool, AllocError> {
+    if !takes_backwards(machine, firings) {
+        return Ok(false);
+    }
+    let taken = taken_of(alloc, machine)?;
+    is_queued(alloc, job, &taken, machine.applied())
+}
+
 /// Whether the machine that gets the firings of the other one in that way does as it has to, and
 /// ends with the history of that one.
 fn agrees(
     alloc: Global,
+    job: &Job,
     machine: &mut Machine<'_>,
     first: &Machine<'_>,
     list: &OrderedSet<Firing>,
@@ -130,11 +147,11 @@ fn agrees(
     seed: u64,
 ) -> Result<bool, AllocError> {
     let takes = match way {
-        Way::Backwards => takes_backwards(machine, first.applied()),
+        Way::Backwards => queues(alloc, job, machine, first.applied())?,
         Way::AsAList => takes_twice(machine, first.applied()),
         _ => takes_shuffled(alloc, machine, list, seed)?,
     };
-    Ok(takes && is_same_history(first, machine))
+    Ok(takes && is_same_history(first, machine)?)
 }
 
 /// The same of a new machine; and where it gets them in steps, whether each step agrees.
@@ -149,7 +166,7 @@ fn agrees_anew(
     let mut machine = Machine::new(alloc, job, 1000)?;
     match way {
         Way::InSteps(steps) => steps_agree(alloc, job, &mut machine, list, seed, steps),
-        _ => agrees(alloc, &mut machine, first, list, way, seed),
+        _ => agrees(alloc, job, &mut machine, first, list, way, seed),
     }
 }
 

@@ -5,7 +5,7 @@ use crate::worked_entries::Line::{Answer, Token};
 use crate::worked_entries::{Line, cell_of, has_text, history_of};
 use std::alloc::{AllocError, Global};
 use std::test::Fail;
-use u_history::{History, report_text};
+use u_history::{Counts, History, report_text};
 use u_plain::examples::{DOUBLE, TWO_WRITERS, job};
 use u_plain::worked::name_of;
 use u_rule::{RuleError, Written};
@@ -14,7 +14,12 @@ use u_value::Value;
 /// Whether the report is as the row says.
 fn reports(alloc: Global, row: &Report) -> Result<bool, AllocError> {
     let history = history_of(alloc, row.3)?;
-    let text = report_text(alloc, row.0, row.1, row.2, &history)?;
+    let counts = Counts {
+        firings: row.1,
+        parked: row.2,
+        entries: history.len(),
+    };
+    let text = report_text(alloc, row.0, counts, &history.outcome()?)?;
     Ok(text.as_slice() == row.4.as_bytes())
 }
 

@@ -14,7 +14,15 @@ mod matcher_tests;
 #[cfg(test)]
 mod matching_tests;
 #[cfg(test)]
+mod message_rows;
+#[cfg(test)]
+mod message_tests;
+#[cfg(test)]
 mod operator_rows;
+#[cfg(test)]
+mod plain_messages;
+#[cfg(test)]
+mod reading_tests;
 #[cfg(test)]
 mod report_rows;
 #[cfg(test)]

@@ -30,9 +30,9 @@ type Row = (Line, &'static str);
 
 /// The double fires once both of its ports have a token.
 const DOUBLED: &[Row] = &[
-    (Token("-.main.1.1", 1, "4"), "-.main.1.1 4\n"),
+    (Token("-.main.1.1", 1, "4"), "f -.main.1.1 4\n"),
     (Token("-.main.2.1", 1, "4"), ""),
-    (Token("-.main.2.1", 2, "4"), "-.main.2.1 4 4\n"),
+    (Token("-.main.2.1", 2, "4"), "f -.main.2.1 4 4\n"),
 ];
 
 /// A deferred read fires once its cell is written.
@@ -41,20 +41,20 @@ const DEFERRED: &[Row] = &[
     (Token("-.main.9.1", 2, "0"), ""),
     (
         Write("-.main.6.1", 0, "-.main.8.1", "20"),
-        "-.main.9.1 &-.main.6.1#1 0 by -.main.8.1 20\n",
+        "f -.main.9.1 &-.main.6.1#1 0 by -.main.8.1 20\n",
     ),
 ];
 
 /// The last port makes the firing.
 const LAST_PORTS: &[Row] = &[
-    (Token("-.main.5.1", 1, "7"), "-.main.5.1 7\n"),
+    (Token("-.main.5.1", 1, "7"), "f -.main.5.1 7\n"),
     (Token("-.main.6.1", 1, "3"), ""),
-    (Token("-.main.6.1", 2, "4"), "-.main.6.1 3 4\n"),
+    (Token("-.main.6.1", 2, "4"), "f -.main.6.1 3 4\n"),
     (Token("-.main.3.1", 2, "0"), ""),
     (Token("-.main.3.1", 3, "9"), ""),
     (
         Token("-.main.3.1", 1, STRUCTURE),
-        "-.main.3.1 &-.main.2.1#3 0 9\n",
+        "f -.main.3.1 &-.main.2.1#3 0 9\n",
     ),
 ];
 
@@ -64,12 +64,12 @@ const MANY_VALUES: &[Row] = &[
     (Token("-.main.6.1", 1, "3"), ""),
     (
         Token("-.main.6.1", 2, "4"),
-        "-.main.6.1 3 4\n-.main.6.1 5 4\n",
+        "f -.main.6.1 3 4\nf -.main.6.1 5 4\n",
     ),
-    (Token("-.main.6.1", 1, "1"), "-.main.6.1 1 4\n"),
+    (Token("-.main.6.1", 1, "1"), "f -.main.6.1 1 4\n"),
     (
         Token("-.main.6.1", 2, "1"),
-        "-.main.6.1 1 1\n-.main.6.1 3 1\n-.main.6.1 5 1\n",
+        "f -.main.6.1 1 1\nf -.main.6.1 3 1\nf -.main.6.1 5 1\n",
     ),
 ];
 
@@ -82,8 +82,8 @@ const TWO_READS: &[Row] = &[
     (
         Write("-.main.2.1", 2, "-.main.3.1", "20"),
         "\
--.main.4.1 &-.main.2.1#3 2 by -.main.3.1 20
--.main.7.1 &-.main.2.1#3 2 by -.main.3.1 20
+f -.main.4.1 &-.main.2.1#3 2 by -.main.3.1 20
+f -.main.7.1 &-.main.2.1#3 2 by -.main.3.1 20
 ",
     ),
 ];
@@ -96,8 +96,8 @@ const TWO_WRITES: &[Row] = &[
     (
         Token("-.main.4.1", 2, "2"),
         "\
--.main.4.1 &-.main.2.1#3 2 by -.main.3.1 20
--.main.4.1 &-.main.2.1#3 2 by -.main.3.1 21
+f -.main.4.1 &-.main.2.1#3 2 by -.main.3.1 20
+f -.main.4.1 &-.main.2.1#3 2 by -.main.3.1 21
 ",
     ),
     (Token("-.main.4.1", 2, "1"), ""),
@@ -106,10 +106,13 @@ const TWO_WRITES: &[Row] = &[
 /// A read out of bounds does not wait.
 const OUT_OF_BOUNDS: &[Row] = &[
     (Token("-.main.4.1", 1, STRUCTURE), ""),
-    (Token("-.main.4.1", 2, "3"), "-.main.4.1 &-.main.2.1#3 3\n"),
+    (
+        Token("-.main.4.1", 2, "3"),
+        "f -.main.4.1 &-.main.2.1#3 3\n",
+    ),
     (
         Token("-.main.4.1", 2, "true"),
-        "-.main.4.1 &-.main.2.1#3 true\n",
+        "f -.main.4.1 &-.main.2.1#3 true\n",
     ),
     (Write("-.main.2.1", 2, "-.main.3.1", "20"), ""),
 ];
