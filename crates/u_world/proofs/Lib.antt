@@ -1,0 +1,9 @@
+pub mod Places
+pub mod Pairs
+pub mod Honesty
+pub mod Moves
+pub mod Kept
+pub mod Lists
+pub mod Fresh
+pub mod Answered
+pub mod Headlines

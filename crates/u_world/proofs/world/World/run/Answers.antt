@@ -1,0 +1,44 @@
+use Rattle.std.proofs.Common.{sym, subst, Err, Ok}
+use Rattle.u_world.specs.Inside.{state_of}
+use Rattle.u_world.specs.Runs.{RunAnswer}
+use Rattle.u_world.specs.declared.refused.WorldError.{WorldError}
+use Rattle.u_world.proofs.Kept.{event_keeps}
+use Rattle.u_world.proofs.Lists.{happened, steps_more, stops}
+use Rattle.u_world.proofs.Headlines.{keeps_the_headline}
+use Rattle.u_world.proofs.world.World.run.Goals as goal
+
+pub invariant_of-self-in-Err : goal.invariant_of-self-in-Err
+invariant_of-self-in-Err c =
+    event_keeps (state_of c.loop-place.self-inside.inside) c.loop-place.invariant.is c.index-events-place.result (Err c.in-Err.refused) (state_of c.happen.new.self) c.in-Err.ensures
+
+pub returns-in-Err-clause-answer : goal.returns-in-Err-clause-answer
+returns-in-Err-clause-answer c =
+    let w = c.args.self.now in
+    let es = c.args.events.now in
+    let mid = state_of c.loop-place.self-inside.inside in
+    let new = state_of c.happen.new.self in
+    subst (λ (e : WorldError). RunAnswer w es (Err e) new) (sym c.at.ensures)
+    (stops w es c.loop-place.place mid c.index-events-place.result c.in-Err.refused new c.loop-place-test.true c.index-events-place.is c.loop-place.invariant.steps c.in-Err.ensures)
+
+pub returns-in-Err-clause-is : goal.returns-in-Err-clause-is
+returns-in-Err-clause-is c =
+    event_keeps (state_of c.loop-place.self-inside.inside) c.loop-place.invariant.is c.index-events-place.result (Err c.in-Err.refused) (state_of c.happen.new.self) c.in-Err.ensures
+
+pub returns-in-Err-clause-headline : goal.returns-in-Err-clause-headline
+returns-in-Err-clause-headline c =
+    keeps_the_headline (state_of c.happen.new.self)
+    (event_keeps (state_of c.loop-place.self-inside.inside) c.loop-place.invariant.is c.index-events-place.result (Err c.in-Err.refused) (state_of c.happen.new.self) c.in-Err.ensures)
+
+pub loop-place-preserved : goal.loop-place-preserved
+loop-place-preserved c =
+    let w = c.args.self.now in
+    let es = c.args.events.now in
+    let mid = state_of c.loop-place.self-inside.inside in
+    let new = state_of c.happen.new.self in
+    record {
+      steps = steps_more w es c.loop-place.place mid c.index-events-place.result new c.loop-place-test.true c.index-events-place.is c.loop-place.invariant.steps (happened mid c.index-events-place.result c.in-Ok.field-0 new c.in-Ok.ensures);
+      is = event_keeps mid c.loop-place.invariant.is c.index-events-place.result (Ok c.in-Ok.field-0) new c.in-Ok.ensures;
+    }
+
+pub returns-clause-headline : goal.returns-clause-headline
+returns-clause-headline c = keeps_the_headline (state_of c.loop-place.self-inside.inside) c.loop-place.invariant.is

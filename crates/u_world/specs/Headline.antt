@@ -1,0 +1,61 @@
+-- What replicas promise after every list of events, in the words of those who use them.
+--
+-- Replicas of one job fire, take firings, send each other parts of their logs, lose and repeat messages,
+-- merge, save, stop and start again. What one of them holds afterwards is fixed by the set of firings
+-- that it took, in whatever order; it is the history of one run of the job; a merge is the least upper
+-- bound of two replicas; and where a replica finds nothing ready, it holds all that any run reaches, so
+-- its answer or its clashes are those of every other replica that finds nothing ready. The events
+-- are those of `specs/Happenings.antt`, the sets of one machine those of `u_machine/specs/Headline.antt`.
+use Rattle.std.specs.Prelude.{◌≡◌, ℕ, Contains}
+use Rattle.u_system.specs.Firing.{Derivation, Held, Whole, Same}
+use Rattle.u_rule.specs.Rule.{system_of}
+use Rattle.u_rule.specs.declared.entry.Entry.{Entry}
+use Rattle.u_machine.specs.State.{IsSettled, NothingReady}
+use Rattle.u_machine.specs.Headline.{IsClosure, IsWhole, Agree}
+use Rattle.u_replica.specs.ReplicaState.{ReplicaState}
+use Rattle.u_replica.specs.Merging.{IsLeastAbove}
+use Rattle.u_world.specs.WorldState.{WorldState, At}
+use Rattle.u_world.specs.Worlds.{IsHonest}
+
+-- P of each replica of the world that has applied all that it could: each one, where no event was
+-- refused for want of memory
+abbrev pub OfEach : WorldState → (ReplicaState → Type 0) → Type 0
+OfEach w P = (k : ℕ) (r : ReplicaState) → At w.replicas k r → IsSettled r.machine → P r
+
+-- Fixed by the set: the history of each replica is the closure of the set of firings that it took.
+abbrev pub IsFixedByItsSet : WorldState → Type 0
+IsFixedByItsSet w = OfEach w (λ r. IsClosure r.machine)
+
+-- One run: the applied firings are a run of the job, and the history is what that run holds, so each
+-- entry is one that a run of the job reaches.
+pub record IsOfOneRun (r : ReplicaState) : Type 0 where
+  pub run : Derivation (system_of r.machine.job) r.machine.log
+  pub held : Same (Contains r.machine.history) (Held (system_of r.machine.job) r.machine.log)
+  pub reached : (e : Entry) → Contains r.machine.history e → Whole (system_of r.machine.job) e
+
+abbrev pub AreOfOneRun : WorldState → Type 0
+AreOfOneRun w = OfEach w IsOfOneRun
+
+-- Quiet is whole: where nothing is ready the history is that of the whole job.
+abbrev pub QuietIsWhole : WorldState → Type 0
+QuietIsWhole w = OfEach w (λ r. NothingReady r.machine → IsWhole r.machine)
+
+-- Honest marks: what a replica's mark counts of a peer's log, the replica took.
+abbrev pub AreHonest : WorldState → Type 0
+AreHonest w = (k j : ℕ) (r p : ReplicaState) → (k ≡ j → ⊥) → At w.replicas k r → At w.replicas j p → IsHonest r p
+
+-- what holds of the world's replicas after every list of events
+pub record KeepsTheHeadline (w : WorldState) : Type 0 where
+  pub fixed : IsFixedByItsSet w
+  pub one_run : AreOfOneRun w
+  pub whole : QuietIsWhole w
+  pub honest : AreHonest w
+
+-- Equal sets, equal histories: two replicas of one job that took the same firings have the same history,
+-- the very list, in one world or in two.
+abbrev pub AgreeOnSets : WorldState → WorldState → Type 0
+AgreeOnSets v w = (k j : ℕ) (r p : ReplicaState) → At v.replicas k r → At w.replicas j p → Agree r.machine p.machine
+
+-- Least upper bound: after a merge of settled replicas the one holds the least that is above both.
+abbrev pub IsLeastUpperBound : ReplicaState → ReplicaState → ReplicaState → Type 0
+IsLeastUpperBound old other new = IsLeastAbove old.machine other.machine new.machine

@@ -1,0 +1,115 @@
+//! Replicas of one job, and lists of events.
+//!
+//! After every list of events the history of a replica is fixed by the set of firings that it took. It is
+//! the history of one run of the job, a merge is the least upper bound of two replicas, and where a
+//! replica finds nothing ready it holds the history of the whole job.
+ghost use Rattle.std.specs.Prelude.{◌≡◌, IfOk, length};
+ghost use Rattle.u_name.specs.Context.{IsBetween};
+ghost use Rattle.u_world.specs.WorldState.{fresh_world, At, Has};
+ghost use Rattle.u_world.specs.Worlds.{IsWorld};
+ghost use Rattle.u_world.specs.Runs.{RunAnswer};
+ghost use Rattle.u_world.specs.Headline.{KeepsTheHeadline, AgreeOnSets};
+
+use crate::event::Event;
+use crate::inside::Inside;
+use crate::refused::WorldError;
+use std::alloc::{AllocError, Global};
+use std::marker::Model;
+use u_check::Job;
+use u_replica::Replica;
+
+/// One to eight replicas of one job, the messages that they sent, and what each of them saved last.
+#[derive(Drop)]
+pub struct World<'a> {
+    inside: Inside<'a>,
+}
+
+impl<'a> Model for World<'a> {
+    ghost use Rattle.u_world.specs.WorldState.{WorldState, world_code};
+    ghost use Rattle.u_world.specs.Inside.{state_of};
+    ghost use Rattle.u_world.specs.Worlds.{IsWorld};
+
+    ghost Value = { WorldState };
+
+    ghost coded = { world_code };
+
+    ghost view = { λ w. state_of w.inside };
+
+    ghost invariant = { λ w. IsWorld (state_of w.inside) };
+}
+
+impl<'a> World<'a> {
+    /// A world of new replicas, numbered from 1, in which nothing was sent or saved. `count` is 1 to 8;
+    /// `limit` is the greatest number of firings that a replica takes.
+    ///
+    /// # Errors
+    /// `AllocError` where there is no memory.
+    pub fn new(
+        alloc: Global,
+        job: &'a Job,
+        count: u8,
+        limit: usize,
+    ) -> Result<World<'a>, AllocError>
+        requires { IsBetween 1 count 8 }
+        ensures { IfOk result (λ w. w ≡ fresh_world job.now limit count) }
+    {
+        let inside = Inside::new(alloc, job, count, limit)?;
+        Ok(World { inside })
+    }
+
+    /// How many replicas there are, 1 to 8.
+    pub fn count(&self) -> usize
+        ensures { result ≡ length self.now.replicas }
+    {
+        self.inside.replicas.len()
+    }
+
+    /// The replica with that number. `number` is from 1 to how many there are.
+    pub fn replica(&self, number: u8) -> &Replica<'a>
+        requires { Has self.now number }
+        ensures { At self.now.replicas number result.now }
+    {
+        &self.inside.replicas[usize::from(number) - 1]
+    }
+
+    /// What holds of each world, after all events. It does nothing, and callers cite its clauses.
+    pub fn holds(&self)
+        ensures is { IsWorld self.now }
+        ensures headline { KeepsTheHeadline self.now }
+    {
+        let _count = self.inside.replicas.len();
+    }
+
+    /// Two replicas of one job that took the same firings hold the same history, whatever worlds they
+    /// are in. It does nothing, and callers cite its clause.
+    pub fn agrees_with(&self, other: &World<'_>)
+        ensures { AgreeOnSets self.now other.now }
+    {
+        self.holds();
+        other.holds();
+    }
+
+    /// Lets the events happen, one after another.
+    ///
+    /// # Errors
+    /// `BadEvent`, `Full` and `NoMemory` with the place of the first event that does not happen. Those
+    /// before it have happened, and those behind it are not looked at. `BadEvent` where its replica or
+    /// message is not there, where a replica asks or merges itself, takes what is no firing of the job,
+    /// or starts again in its last life. `Full` and `NoMemory` where the replica's call returned so;
+    /// what that call leaves is left, and where a message or a checkpoint could not be kept nothing
+    /// changes.
+    pub fn run(&mut self, events: &[Event]) -> Result<(), WorldError>
+        ensures answer { RunAnswer self.old events.now result self.new }
+        ensures is { IsWorld self.new }
+        ensures headline { KeepsTheHeadline self.new }
+    {
+        self.holds();
+        for (place, event) in events.iter().enumerate() {
+            match self.inside.happen(event) {
+                Ok(()) => {}
+                Err(refused) => return Err(refused.at(place)),
+            }
+        }
+        Ok(())
+    }
+}
