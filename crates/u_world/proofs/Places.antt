@@ -75,3 +75,9 @@ get_push_cases [] y x zero e = inr (refl, some_same y x e)
 get_push_cases [] y x (suc j) e = absurd (cc)
 get_push_cases (z ∷ xs) y x zero e = inl e
 get_push_cases (z ∷ xs) y x (suc j) e = elim (get_push_cases xs y x j e) [ inl a ↦ inl a | inr b ↦ inr (ap suc b.0, b.1) ]
+
+-- an item that was written
+pub get_set : {X : Type 0} (xs : List X) (k : ℕ) (y : X) → k < length xs → slice_get (slice_set xs k y) k ≡ Some y
+get_set [] k y l = absurd (omega (arith, l))
+get_set (z ∷ xs) zero y l = refl
+get_set (z ∷ xs) (suc k) y l = get_set xs k y (omega (arith, l))

@@ -6,7 +6,7 @@
 -- bound of two replicas; and where a replica finds nothing ready, it holds all that any run reaches, so
 -- its answer or its clashes are those of every other replica that finds nothing ready. The events
 -- are those of `specs/Happenings.antt`, the sets of one machine those of `u_machine/specs/Headline.antt`.
-use Rattle.std.specs.Prelude.{◌≡◌, ℕ, Contains}
+use Rattle.std.specs.Prelude.{◌≡◌, ℕ, List, [], ◌∷◌, Contains}
 use Rattle.u_system.specs.Firing.{Derivation, Held, Whole, Same}
 use Rattle.u_rule.specs.Rule.{system_of}
 use Rattle.u_rule.specs.declared.entry.Entry.{Entry}
@@ -14,7 +14,10 @@ use Rattle.u_machine.specs.State.{IsSettled, NothingReady}
 use Rattle.u_machine.specs.Headline.{IsClosure, IsWhole, Agree}
 use Rattle.u_replica.specs.ReplicaState.{ReplicaState}
 use Rattle.u_replica.specs.Merging.{IsLeastAbove}
+use Rattle.u_world.specs.declared.event.Event.{Event}
+use Rattle.u_world.specs.declared.event.Event.TheVariants as events
 use Rattle.u_world.specs.WorldState.{WorldState, At}
+use Rattle.u_world.specs.Happenings.{Step}
 use Rattle.u_world.specs.Worlds.{IsHonest}
 
 -- P of each replica of the world that has applied all that it could: each one, where no event was
@@ -56,6 +59,23 @@ pub record KeepsTheHeadline (w : WorldState) : Type 0 where
 abbrev pub AgreeOnSets : WorldState → WorldState → Type 0
 AgreeOnSets v w = (k j : ℕ) (r p : ReplicaState) → At v.replicas k r → At w.replicas j p → Agree r.machine p.machine
 
--- Least upper bound: after a merge of settled replicas the one holds the least that is above both.
-abbrev pub IsLeastUpperBound : ReplicaState → ReplicaState → ReplicaState → Type 0
-IsLeastUpperBound old other new = IsLeastAbove old.machine other.machine new.machine
+-- Least upper bound: a replica that merges another is then the least that is above both. It took the union
+-- of what the two took, and its history is the least that has both histories and all that its firings
+-- give which are enabled over it.
+pub record MergesInto (k j : ℕ) (old new : WorldState) : Type 0 where
+  pub before : ReplicaState
+  pub other : ReplicaState
+  pub after : ReplicaState
+  pub before_at : At old.replicas k before
+  pub other_at : At old.replicas j other
+  pub after_at : At new.replicas k after
+  pub least : IsLeastAbove before.machine other.machine after.machine
+
+abbrev pub IsLeastUpperBound : WorldState → Event → WorldState → Type 0
+IsLeastUpperBound old (events.Merge k j) new = MergesInto k j old new
+IsLeastUpperBound old e new = Unit {0}
+
+-- and so is each merge within a list of events that happen one after another
+abbrev pub MergesAreLeast : WorldState → List Event → WorldState → Type 0
+MergesAreLeast old [] new = new ≡ old
+MergesAreLeast old (e ∷ es) new = (mid : WorldState) × Step old e mid × IsLeastUpperBound old e mid × MergesAreLeast mid es new

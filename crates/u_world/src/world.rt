@@ -8,7 +8,7 @@ ghost use Rattle.u_name.specs.Context.{IsBetween};
 ghost use Rattle.u_world.specs.WorldState.{fresh_world, At, Has};
 ghost use Rattle.u_world.specs.Worlds.{IsWorld};
 ghost use Rattle.u_world.specs.Runs.{RunAnswer};
-ghost use Rattle.u_world.specs.Headline.{KeepsTheHeadline, AgreeOnSets};
+ghost use Rattle.u_world.specs.Headline.{KeepsTheHeadline, AgreeOnSets, MergesAreLeast};
 
 use crate::event::Event;
 use crate::inside::Inside;
@@ -100,6 +100,7 @@ impl<'a> World<'a> {
     /// changes.
     pub fn run(&mut self, events: &[Event]) -> Result<(), WorldError>
         ensures answer { RunAnswer self.old events.now result self.new }
+        ensures merges { IfOk result (λ u. MergesAreLeast self.old events.now self.new) }
         ensures is { IsWorld self.new }
         ensures headline { KeepsTheHeadline self.new }
     {

@@ -1,10 +1,12 @@
-use Rattle.std.proofs.Common.{sym, subst, Err, Ok}
+use Rattle.std.proofs.Common.{◌≡◌, sym, subst, arith, take, List, Err, Ok}
+use Rattle.std.proofs.lemmas.List.{take_all}
+use Rattle.u_world.specs.declared.event.Event.{Event}
 use Rattle.u_world.specs.Inside.{state_of}
-use Rattle.u_world.specs.Runs.{RunAnswer}
+use Rattle.u_world.specs.Runs.{Steps, RunAnswer}
 use Rattle.u_world.specs.declared.refused.WorldError.{WorldError}
 use Rattle.u_world.proofs.Kept.{event_keeps}
 use Rattle.u_world.proofs.Lists.{happened, steps_more, stops}
-use Rattle.u_world.proofs.Headlines.{keeps_the_headline}
+use Rattle.u_world.proofs.Headlines.{keeps_the_headline, merges_are_least}
 use Rattle.u_world.proofs.world.World.run.Goals as goal
 
 pub invariant_of-self-in-Err : goal.invariant_of-self-in-Err
@@ -42,3 +44,11 @@ loop-place-preserved c =
 
 pub returns-clause-headline : goal.returns-clause-headline
 returns-clause-headline c = keeps_the_headline (state_of c.loop-place.self-inside.inside) c.loop-place.invariant.is
+
+pub returns-clause-merges : goal.returns-clause-merges
+returns-clause-merges c =
+    let w = c.args.self.now in
+    let es = c.args.events.now in
+    let new = state_of c.loop-place.self-inside.inside in
+    let all : take c.loop-place.place es ≡ es = take_all c.loop-place.place es (omega (arith, c.loop-place-test.false)) in
+    merges_are_least w es new (subst (λ (es : List Event). Steps w es new) all c.loop-place.invariant.steps)
