@@ -47,7 +47,7 @@ module _ (job : JobParts) (limit : ℕ) where
   count_is zero = refl
   count_is (suc n) = length-append (fresh_replicas job limit n) (fresh job limit (suc n) ∷ []) ∙ (let e = count_is n in omega (arith, e))
 
-  fresh_at : (n j : ℕ) (r : ReplicaState) → slice_get (fresh_replicas job limit n) j ≡ Some r → r ≡ fresh job limit (suc j)
+  pub fresh_at : (n j : ℕ) (r : ReplicaState) → slice_get (fresh_replicas job limit n) j ≡ Some r → r ≡ fresh job limit (suc j)
   fresh_at zero j r e = absurd (cc)
   fresh_at (suc n) j r e =
       elim (get_push_cases (fresh_replicas job limit n) (fresh job limit (suc n)) r j e) [

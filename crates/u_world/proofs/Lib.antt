@@ -6,4 +6,5 @@ pub mod Kept
 pub mod Lists
 pub mod Fresh
 pub mod Answered
+pub mod Settled
 pub mod Headlines

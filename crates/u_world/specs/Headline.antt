@@ -20,8 +20,12 @@ use Rattle.u_world.specs.WorldState.{WorldState, At}
 use Rattle.u_world.specs.Happenings.{Step}
 use Rattle.u_world.specs.Worlds.{IsHonest}
 
--- P of each replica of the world that has applied all that it could: each one, where no event was
--- refused for want of memory
+-- each replica has applied all that it could: so it is in a new world, and after each list of events of
+-- which none was refused
+abbrev pub AllSettled : WorldState → Type 0
+AllSettled w = (k : ℕ) (r : ReplicaState) → At w.replicas k r → IsSettled r.machine
+
+-- P of each replica of the world that has applied all that it could
 abbrev pub OfEach : WorldState → (ReplicaState → Type 0) → Type 0
 OfEach w P = (k : ℕ) (r : ReplicaState) → At w.replicas k r → IsSettled r.machine → P r
 

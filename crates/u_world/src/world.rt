@@ -8,7 +8,7 @@ ghost use Rattle.u_name.specs.Context.{IsBetween};
 ghost use Rattle.u_world.specs.WorldState.{fresh_world, At, Has};
 ghost use Rattle.u_world.specs.Worlds.{IsWorld};
 ghost use Rattle.u_world.specs.Runs.{RunAnswer};
-ghost use Rattle.u_world.specs.Headline.{KeepsTheHeadline, AgreeOnSets, MergesAreLeast};
+ghost use Rattle.u_world.specs.Headline.{KeepsTheHeadline, AgreeOnSets, AllSettled, MergesAreLeast};
 
 use crate::event::Event;
 use crate::inside::Inside;
@@ -51,7 +51,8 @@ impl<'a> World<'a> {
         limit: usize,
     ) -> Result<World<'a>, AllocError>
         requires { IsBetween 1 count 8 }
-        ensures { IfOk result (λ w. w ≡ fresh_world job.now limit count) }
+        ensures state { IfOk result (λ w. w ≡ fresh_world job.now limit count) }
+        ensures settled { IfOk result AllSettled }
     {
         let inside = Inside::new(alloc, job, count, limit)?;
         Ok(World { inside })
@@ -101,6 +102,7 @@ impl<'a> World<'a> {
     pub fn run(&mut self, events: &[Event]) -> Result<(), WorldError>
         ensures answer { RunAnswer self.old events.now result self.new }
         ensures merges { IfOk result (λ u. MergesAreLeast self.old events.now self.new) }
+        ensures settled { IfOk result (λ u. AllSettled self.old → AllSettled self.new) }
         ensures is { IsWorld self.new }
         ensures headline { KeepsTheHeadline self.new }
     {

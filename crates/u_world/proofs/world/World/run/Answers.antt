@@ -6,6 +6,7 @@ use Rattle.u_world.specs.Runs.{Steps, RunAnswer}
 use Rattle.u_world.specs.declared.refused.WorldError.{WorldError}
 use Rattle.u_world.proofs.Kept.{event_keeps}
 use Rattle.u_world.proofs.Lists.{happened, steps_more, stops}
+use Rattle.u_world.proofs.Settled.{steps_settled}
 use Rattle.u_world.proofs.Headlines.{keeps_the_headline, merges_are_least}
 use Rattle.u_world.proofs.world.World.run.Goals as goal
 
@@ -52,3 +53,11 @@ returns-clause-merges c =
     let new = state_of c.loop-place.self-inside.inside in
     let all : take c.loop-place.place es ≡ es = take_all c.loop-place.place es (omega (arith, c.loop-place-test.false)) in
     merges_are_least w es new (subst (λ (es : List Event). Steps w es new) all c.loop-place.invariant.steps)
+
+pub returns-clause-settled : goal.returns-clause-settled
+returns-clause-settled c = λ settled.
+    let w = c.args.self.now in
+    let es = c.args.events.now in
+    let new = state_of c.loop-place.self-inside.inside in
+    let all : take c.loop-place.place es ≡ es = take_all c.loop-place.place es (omega (arith, c.loop-place-test.false)) in
+    steps_settled w es new settled (subst (λ (es : List Event). Steps w es new) all c.loop-place.invariant.steps)
