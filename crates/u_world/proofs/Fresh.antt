@@ -1,11 +1,16 @@
 -- A world in which nothing has happened is a world.
 use Rattle.std.specs.Prelude.{◌≡◌, ℕ, zero, suc, ◌+◌, ◌-◌, ◌≤◌, List, [], ◌∷◌, ◌++◌, length, Contains, slice_get, Some, refl}
 use Rattle.std.proofs.Common.{sym, ◌∙◌, ap, subst, arith, inl, inr, length-append}
+use Rattle.std.proofs.lemmas.List.{get_or-replicate}
 use Rattle.std.proofs.lemmas.List.Elements.{Contains-push, Contains-append_cases}
 use Rattle.u_system.proofs.Member.{Contains-nil}
 use Rattle.u_name.specs.Context.{IsBetween}
 use Rattle.u_check.specs.Jobs.{JobParts}
 use Rattle.u_machine.specs.State.{IsMachine}
+use Rattle.u_machine.proofs.Fresh.{fresh_log}
+use Rattle.u_machine.proofs.Obeying.{keeps_its_promise}
+use Rattle.u_delta.specs.declared.message.Mark.{Mark}
+use Rattle.u_replica.specs.Marking.{fresh_mark, fresh_marks, AreMarks}
 use Rattle.u_replica.specs.ReplicaState.{ReplicaState, fresh, HoldsAlways}
 use Rattle.u_replica.specs.Restoring.{blank}
 use Rattle.u_world.specs.Inside.{AllHold}
@@ -43,7 +48,7 @@ module _ (job : JobParts) (limit : ℕ) where
       let e : n + 1 ≡ suc n = omega arith in
       ap (fresh_replicas job limit) e ∙ ap (λ k. fresh_replicas job limit n ++ (fresh job limit k ∷ [])) (sym e)
 
-  count_is : (n : ℕ) → length (fresh_replicas job limit n) ≡ n
+  pub count_is : (n : ℕ) → length (fresh_replicas job limit n) ≡ n
   count_is zero = refl
   count_is (suc n) = length-append (fresh_replicas job limit n) (fresh job limit (suc n) ∷ []) ∙ (let e = count_is n in omega (arith, e))
 
@@ -54,6 +59,24 @@ module _ (job : JobParts) (limit : ℕ) where
         | inl a ↦ fresh_at n j r a
         | inr b ↦ b.1 ∙ ap (λ k. fresh job limit (suc k)) (sym (b.0 ∙ count_is n))
       ]
+
+  -- each of them holds
+
+  fresh_machine : IsMachine (blank job limit)
+  fresh_machine = record { sound = (fresh_log job limit).is; history_rises = ((λ y c. absurd (Contains-nil y c)), tt); parked_rises = tt }
+
+  fresh_marked : AreMarks fresh_marks
+  fresh_marked = record { eight = refl; small = λ peer b. let e = ap (λ (m : Mark). m.count) (get_or-replicate 8 (peer - 1) fresh_mark fresh_mark (omega (arith, b.0, b.1))) in omega (arith, e) }
+
+  fresh_holds : (k : ℕ) → IsBetween 1 k 8 → HoldsAlways (fresh job limit k)
+  fresh_holds k b = record {
+    is = record { machine = fresh_machine; number = b; born = omega arith; life = omega arith; marks = fresh_marked };
+    promise = keeps_its_promise (blank job limit) fresh_machine;
+  }
+
+  pub fresh_all_hold : (n : ℕ) → n ≤ 8 → AllHold (fresh_replicas job limit n)
+  fresh_all_hold zero l = hold_nothing
+  fresh_all_hold (suc n) l = hold_more (fresh_replicas job limit n) (fresh job limit (suc n)) (fresh_all_hold n (omega (arith, l))) (fresh_holds (suc n) (omega arith, l))
 
   fresh_there : (n : ℕ) → 1 ≤ n → Contains (fresh_replicas job limit n) (fresh job limit n)
   fresh_there zero l = absurd (omega (arith, l))

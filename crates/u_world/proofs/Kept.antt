@@ -16,7 +16,7 @@ use Rattle.u_machine.specs.Taking.{AreFirings, TakesAll, TakeAllAnswer}
 use Rattle.u_machine.specs.Obeying as machines
 use Rattle.u_machine.specs.declared.commands.Command.TheVariants as calls
 use Rattle.u_machine.specs.declared.commands.Reply.TheVariants as replies
-use Rattle.u_machine.specs.declared.answer.Step.{Step}
+use Rattle.u_machine.specs.declared.answer.Step.{Step as Fired}
 use Rattle.u_machine.specs.declared.answer.Refusal.{Refusal}
 use Rattle.u_machine.specs.declared.answer.Took.{Took}
 use Rattle.u_machine.specs.declared.answer.TakeRefusal.{TakeRefusal}
@@ -38,7 +38,7 @@ use Rattle.u_world.specs.Refusals.{of_fire, of_take, of_merge}
 use Rattle.u_world.specs.Acts.{Answers, Receives, TakesList}
 use Rattle.u_world.specs.WorldState.{WorldState, world, At, Has, Changes, Sends}
 use Rattle.u_world.specs.Worlds.{IsTrueMark, IsHonest, StandsAt, IsTrueDelta, IsSent, IsSentAsk, IsSentDelta, IsSaved, IsWorld}
-use Rattle.u_world.specs.Happenings.{Asks, Replies, Delivers, Saves, StartsAgain, Restarts, Arrives, Happens, EventAnswer, IsDoable}
+use Rattle.u_world.specs.Happenings.{Asks, Replies, Delivers, Saves, StartsAgain, Restarts, Arrives, Happens, EventAnswer, IsDoable, Step}
 use Rattle.u_world.proofs.Places.{at_one, at_between, at_set_cases, pushed_cases}
 use Rattle.u_world.proofs.Honesty.{honest_moved, mark_moves, part_stands, fresh_true}
 use Rattle.u_world.proofs.Moves.{changed, Moves, put_keeps, still_honest, machine_moves}
@@ -52,10 +52,10 @@ module _ (old new : State) where
   takes_extends : (fs : List Firing) → TakesAll old fs new → machines.Extends old new
   takes_extends fs p = record { job = p.job; limit = p.limit; taken = λ g t. (p.taken g).1 (inl t); log = p.log; history = p.history }
 
-  fire_extends : (pick : ℕ) (r : Result Step Refusal) → FireAnswer old pick r new → machines.Extends old new
+  pub fire_extends : (pick : ℕ) (r : Result Fired Refusal) → FireAnswer old pick r new → machines.Extends old new
   fire_extends pick r a = does_extends old new (calls.Fire pick) (replies.Fire r) (r, refl, a)
 
-  take_extends : (f : Firing) (r : Result Took TakeRefusal) → TakeAnswer old f r new → machines.Extends old new
+  pub take_extends : (f : Firing) (r : Result Took TakeRefusal) → TakeAnswer old f r new → machines.Extends old new
   take_extends f r a = does_extends old new (calls.Take f) (replies.Take r) (r, refl, a)
 
   refused_extends : (fs : List Firing) (x : ListRefusal) → TakeAllAnswer old fs (Err x) new → machines.Extends old new
@@ -65,11 +65,11 @@ module _ (old new : State) where
   refused_extends fs unlisted.NoMemory (inr (all, inl s)) = applies_extends s.applies
   refused_extends fs unlisted.NoMemory (inr (all, inr (fit, (k, l, t)))) = takes_extends (take k fs) t
 
-  list_extends : (fs : List Firing) (r : Result (Unit {0}) ListRefusal) → TakeAllAnswer old fs r new → machines.Extends old new
+  pub list_extends : (fs : List Firing) (r : Result (Unit {0}) ListRefusal) → TakeAllAnswer old fs r new → machines.Extends old new
   list_extends fs (Ok u) a = takes_extends fs a.2
   list_extends fs (Err x) a = refused_extends fs x a
 
-  merge_extends : (other : State) (r : Result (Unit {0}) MergeRefusal) → MergeAnswer old other r new → machines.Extends old new
+  pub merge_extends : (other : State) (r : Result (Unit {0}) MergeRefusal) → MergeAnswer old other r new → machines.Extends old new
   merge_extends other (Ok u) a = takes_extends (all_of other) a.1
   merge_extends other (Err unmerged.OtherJob) a = subst (λ m. machines.Extends old m) (sym a.1) (extends_refl old)
   merge_extends other (Err unmerged.Full) a = applies_extends a.2.applies
@@ -292,3 +292,7 @@ module _ (old : WorldState) (is : IsWorld old) where
   pub event_keeps : (e : Event) (result : Result (Unit {0}) Refused) (new : WorldState) → EventAnswer old e result new → IsWorld new
   event_keeps e result new (inl a) = subst IsWorld (sym a.2) is
   event_keeps e result new (inr h) = happens_keeps e result new h.0 h.1
+
+-- each event that happens leaves a world
+pub step_keeps : (old : WorldState) (e : Event) (new : WorldState) → IsWorld old → Step old e new → IsWorld new
+step_keeps old e new is s = event_keeps old is e (Ok tt) new (inr s)

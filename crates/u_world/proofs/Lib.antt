@@ -8,3 +8,9 @@ pub mod Fresh
 pub mod Answered
 pub mod Settled
 pub mod Headlines
+pub mod Drawing
+pub mod Effects
+pub mod Doable
+pub mod Caught
+pub mod Rounded
+pub mod Among

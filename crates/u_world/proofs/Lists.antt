@@ -14,7 +14,7 @@ use Rattle.u_world.proofs.Places.{get_there}
 -- an event that was not refused happened
 pub happened : (old : WorldState) (e : Event) (u : Unit {0}) (new : WorldState) → EventAnswer old e (Ok u) new → Step old e new
 happened old e u new (inl a) = absurd (let q = a.1 in cc)
-happened old e u new (inr h) = h.1
+happened old e u new (inr h) = h
 
 steps_push : (old : WorldState) (es : List Event) (mid : WorldState) (e : Event) (new : WorldState) → Steps old es mid → Step mid e new → Steps old (es ++ (e ∷ [])) new
 steps_push old [] mid e new p q = (new, subst (λ (w : WorldState). Step w e new) p q, refl)

@@ -16,7 +16,7 @@ use Rattle.u_replica.specs.Restoring.{blank}
 use Rattle.u_world.specs.declared.event.Event.{Event}
 use Rattle.u_world.specs.declared.event.Event.TheVariants as events
 use Rattle.u_world.specs.WorldState.{WorldState, At, Changes, fresh_world}
-use Rattle.u_world.specs.Happenings.{Delivers, Arrives, Step}
+use Rattle.u_world.specs.Happenings.{Delivers, Arrives, Happens}
 use Rattle.u_world.specs.Runs.{Steps}
 use Rattle.u_world.specs.Headline.{AllSettled}
 use Rattle.u_world.proofs.Places.{at_set_cases}
@@ -41,23 +41,23 @@ module _ (old new : WorldState) (all : AllSettled old) where
   arrived_settled k bytes (inl a) = same_settled (ap (λ (w : WorldState). w.replicas) a.1)
   arrived_settled k bytes (inr (d, m, c)) = one_settled k _ c (elim c.replicas.how.0 [ inl t ↦ t.3 | inr t ↦ t.1.1.settled ])
 
-  step_settled : (e : Event) → Step old e new → AllSettled new
-  step_settled (events.Fire k pick) c =
+  happens_settled : (e : Event) → Happens e (Ok tt) old new → AllSettled new
+  happens_settled (events.Fire k pick) c =
       let h = c.replicas.how in
       one_settled k _ c (does_settled c.replicas.before.machine c.replicas.after.machine (calls.Fire pick) (replies.Fire (Ok h.0)) (Ok h.0, refl, h.1) tt)
-  step_settled (events.Take k f) c =
+  happens_settled (events.Take k f) c =
       let h = c.replicas.how in
       one_settled k _ c (does_settled c.replicas.before.machine c.replicas.after.machine (calls.Take f) (replies.Take (Ok h.0)) (Ok h.0, refl, h.1) tt)
-  step_settled (events.Ask k j) (r, at, s) = same_settled (ap (λ (w : WorldState). w.replicas) s)
-  step_settled (events.Deliver i) (m, at, d) = delivered_settled m d
-  step_settled (events.Merge k j) (o, at, c) = one_settled k _ c c.replicas.how.1.2
-  step_settled (events.Save k) (r, at, valid, s) = same_settled (ap (λ (w : WorldState). w.replicas) s)
-  step_settled (events.Restart k keep) (saved, at, c) = one_settled k _ c c.replicas.how.1.settled
-  step_settled (events.Bytes k bytes) a = arrived_settled k bytes.items a
+  happens_settled (events.Ask k j) (r, at, s) = same_settled (ap (λ (w : WorldState). w.replicas) s)
+  happens_settled (events.Deliver i) (m, at, d) = delivered_settled m d
+  happens_settled (events.Merge k j) (o, at, c) = one_settled k _ c c.replicas.how.1.2
+  happens_settled (events.Save k) (r, at, valid, s) = same_settled (ap (λ (w : WorldState). w.replicas) s)
+  happens_settled (events.Restart k keep) (saved, at, c) = one_settled k _ c c.replicas.how.1.settled
+  happens_settled (events.Bytes k bytes) a = arrived_settled k bytes.items a
 
 pub steps_settled : (old : WorldState) (es : List Event) (new : WorldState) → AllSettled old → Steps old es new → AllSettled new
 steps_settled old [] new all s = subst AllSettled (sym s) all
-steps_settled old (e ∷ es) new all (mid, s, rest) = steps_settled mid es new (step_settled old mid all e s) rest
+steps_settled old (e ∷ es) new all (mid, s, rest) = steps_settled mid es new (happens_settled old mid all e s.1) rest
 
 -- a machine that has taken nothing
 

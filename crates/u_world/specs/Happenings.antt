@@ -98,6 +98,6 @@ Happens (events.Bytes k bytes) result old new = Arrives k bytes.items result old
 abbrev pub EventAnswer : WorldState → Event → Result (Unit {0}) Refused → WorldState → Type 0
 EventAnswer old e result new = ((IsDoable old e → ⊥) × (result ≡ Err BadEvent) × (new ≡ old)) ⊎ (IsDoable old e × Happens e result old new)
 
--- the event happens
+-- the event can be done, and happens
 abbrev pub Step : WorldState → Event → WorldState → Type 0
-Step old e new = Happens e (Ok tt) old new
+Step old e new = IsDoable old e × Happens e (Ok tt) old new

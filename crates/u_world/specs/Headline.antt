@@ -6,12 +6,13 @@
 -- bound of two replicas; and where a replica finds nothing ready, it holds all that any run reaches, so
 -- its answer or its clashes are those of every other replica that finds nothing ready. The events
 -- are those of `specs/Happenings.antt`, the sets of one machine those of `u_machine/specs/Headline.antt`.
-use Rattle.std.specs.Prelude.{◌≡◌, ℕ, List, [], ◌∷◌, Contains}
+use Rattle.std.specs.Prelude.{◌≡◌, ℕ, List, [], ◌∷◌, length, Contains}
 use Rattle.u_system.specs.Firing.{Derivation, Held, Whole, Same}
 use Rattle.u_rule.specs.Rule.{system_of}
 use Rattle.u_rule.specs.declared.entry.Entry.{Entry}
-use Rattle.u_machine.specs.State.{IsSettled, NothingReady}
+use Rattle.u_machine.specs.State.{Taken, IsSettled, NothingReady}
 use Rattle.u_machine.specs.Headline.{IsClosure, IsWhole, Agree}
+use Rattle.u_replica.specs.Marking.{mark, mark_of}
 use Rattle.u_replica.specs.ReplicaState.{ReplicaState}
 use Rattle.u_replica.specs.Merging.{IsLeastAbove}
 use Rattle.u_world.specs.declared.event.Event.{Event}
@@ -51,12 +52,32 @@ QuietIsWhole w = OfEach w (λ r. NothingReady r.machine → IsWhole r.machine)
 abbrev pub AreHonest : WorldState → Type 0
 AreHonest w = (k j : ℕ) (r p : ReplicaState) → (k ≡ j → ⊥) → At w.replicas k r → At w.replicas j p → IsHonest r p
 
+-- the replica has heard all of the peer: its mark is of the life that the peer lives, and counts its whole log
+abbrev pub HasHeardAll : ReplicaState → ReplicaState → Type 0
+HasHeardAll own peer = mark_of own.marks peer.number ≡ mark peer.life (length peer.machine.log)
+
+-- all that the replica took is applied
+abbrev pub ParksNothing : ReplicaState → Type 0
+ParksNothing r = r.machine.parked ≡ []
+
+-- the two took the same firings; and where both have applied all that they could, they hold the same
+-- history, the very list, so that whatever is written of it is the same bytes
+pub record HoldTheSame (r p : ReplicaState) : Type 0 where
+  pub taken : Same (Taken p.machine) (Taken r.machine)
+  pub history : IsSettled r.machine → IsSettled p.machine → p.machine.history ≡ r.machine.history
+
+-- Exchanged in full: two replicas which have heard all of each other, and neither of which has a firing
+-- parked, hold the same. A mark counts applied firings alone, so a parked one could be unheard of.
+abbrev pub ExchangeInFull : WorldState → Type 0
+ExchangeInFull w = (k j : ℕ) (r p : ReplicaState) → (k ≡ j → ⊥) → At w.replicas k r → At w.replicas j p → HasHeardAll r p → HasHeardAll p r → ParksNothing r → ParksNothing p → HoldTheSame r p
+
 -- what holds of the world's replicas after every list of events
 pub record KeepsTheHeadline (w : WorldState) : Type 0 where
   pub fixed : IsFixedByItsSet w
   pub one_run : AreOfOneRun w
   pub whole : QuietIsWhole w
   pub honest : AreHonest w
+  pub exchanged : ExchangeInFull w
 
 -- Equal sets, equal histories: two replicas of one job that took the same firings have the same history,
 -- the very list, in one world or in two.

@@ -6,3 +6,5 @@ pub mod Runs
 pub mod Worlds
 pub mod Headline
 pub mod Inside
+pub mod Random
+pub mod Rounds

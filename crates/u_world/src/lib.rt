@@ -9,11 +9,13 @@ mod acts;
 mod event;
 mod happening;
 mod inside;
+mod random;
 mod refused;
 mod room;
 mod saved;
 mod world;
 
 pub use event::Event;
+pub use random::random_events;
 pub use refused::WorldError;
 pub use world::World;

@@ -9,6 +9,7 @@ ghost use Rattle.u_world.specs.WorldState.{fresh_world, At, Has};
 ghost use Rattle.u_world.specs.Worlds.{IsWorld};
 ghost use Rattle.u_world.specs.Runs.{RunAnswer};
 ghost use Rattle.u_world.specs.Headline.{KeepsTheHeadline, AgreeOnSets, AllSettled, MergesAreLeast};
+ghost use Rattle.u_world.specs.Rounds.{RoundsCatchUp, RoundsKeepUp};
 
 use crate::event::Event;
 use crate::inside::Inside;
@@ -103,6 +104,8 @@ impl<'a> World<'a> {
         ensures answer { RunAnswer self.old events.now result self.new }
         ensures merges { IfOk result (λ u. MergesAreLeast self.old events.now self.new) }
         ensures settled { IfOk result (λ u. AllSettled self.old → AllSettled self.new) }
+        ensures rounds { RoundsCatchUp self.old events.now self.new }
+        ensures rounds_among { RoundsKeepUp self.old events.now self.new }
         ensures is { IsWorld self.new }
         ensures headline { KeepsTheHeadline self.new }
     {

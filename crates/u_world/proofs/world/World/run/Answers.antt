@@ -8,6 +8,8 @@ use Rattle.u_world.proofs.Kept.{event_keeps}
 use Rattle.u_world.proofs.Lists.{happened, steps_more, stops}
 use Rattle.u_world.proofs.Settled.{steps_settled}
 use Rattle.u_world.proofs.Headlines.{keeps_the_headline, merges_are_least}
+use Rattle.u_world.proofs.Rounded.{rounds_catch_up}
+use Rattle.u_world.proofs.Among.{rounds_keep_up}
 use Rattle.u_world.proofs.world.World.run.Goals as goal
 
 pub invariant_of-self-in-Err : goal.invariant_of-self-in-Err
@@ -61,3 +63,15 @@ returns-clause-settled c = λ settled.
     let new = state_of c.loop-place.self-inside.inside in
     let all : take c.loop-place.place es ≡ es = take_all c.loop-place.place es (omega (arith, c.loop-place-test.false)) in
     steps_settled w es new settled (subst (λ (es : List Event). Steps w es new) all c.loop-place.invariant.steps)
+
+pub returns-clause-rounds : goal.returns-clause-rounds
+returns-clause-rounds c = rounds_catch_up c.args.self.now c.args.events.now (state_of c.loop-place.self-inside.inside) c.holds.ensures.is
+
+pub returns-in-Err-clause-rounds : goal.returns-in-Err-clause-rounds
+returns-in-Err-clause-rounds c = rounds_catch_up c.args.self.now c.args.events.now (state_of c.happen.new.self) c.holds.ensures.is
+
+pub returns-clause-rounds_among : goal.returns-clause-rounds_among
+returns-clause-rounds_among c = rounds_keep_up c.args.self.now c.args.events.now (state_of c.loop-place.self-inside.inside) c.holds.ensures.is
+
+pub returns-in-Err-clause-rounds_among : goal.returns-in-Err-clause-rounds_among
+returns-in-Err-clause-rounds_among c = rounds_keep_up c.args.self.now c.args.events.now (state_of c.happen.new.self) c.holds.ensures.is
