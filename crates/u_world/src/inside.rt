@@ -1,7 +1,7 @@
 //! What a world is made of.
 ghost use Rattle.std.specs.Prelude.{◌≡◌, ◌↔◌, IfOk, IsTrue};
 ghost use Rattle.u_name.specs.Context.{IsBetween};
-ghost use Rattle.u_world.specs.WorldState.{fresh_world, Has};
+ghost use Rattle.u_world.specs.WorldState.{fresh_world, At, Has};
 ghost use Rattle.u_world.specs.Inside.{state_of, AllHold};
 
 use crate::saved::Saved;
@@ -58,5 +58,14 @@ impl<'a> Inside<'a> {
         ensures { IsTrue result ↔ Has (state_of self.now) number }
     {
         1 <= number && usize::from(number) <= self.replicas.len()
+    }
+
+    /// The replica with that number; the others are dropped.
+    pub(crate) fn into_replica(self, number: u8) -> Replica<'a>
+        requires { Has (state_of self) number }
+        ensures { At (state_of self.entry).replicas number result }
+    {
+        let mut replicas = self.replicas;
+        replicas.swap_remove(usize::from(number) - 1)
     }
 }

@@ -74,6 +74,15 @@ impl<'a> World<'a> {
         &self.inside.replicas[usize::from(number) - 1]
     }
 
+    /// The replica with that number, where the others are not needed any more. `number` is from 1 to
+    /// how many there are.
+    pub fn into_replica(self, number: u8) -> Replica<'a>
+        requires { Has self number }
+        ensures { At self.entry.replicas number result }
+    {
+        self.inside.into_replica(number)
+    }
+
     /// What holds of each world, after all events. It does nothing, and callers cite its clauses.
     pub fn holds(&self)
         ensures is { IsWorld self.now }
