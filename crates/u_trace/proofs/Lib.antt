@@ -1,0 +1,9 @@
+pub mod Lists
+pub mod PlaceLaws
+pub mod GiverLaws
+pub mod StoryLaws
+pub mod MarkLaws
+pub mod PickLaws
+pub mod CauseLaws
+pub mod PutLaws
+pub mod Entries

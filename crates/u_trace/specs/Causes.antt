@@ -1,0 +1,15 @@
+-- Which firings give an entry over a history.
+use Rattle.std.specs.Prelude.{◌≡◌, List, Contains}
+use Rattle.u_check.specs.Jobs.{JobParts}
+use Rattle.u_rule.specs.Rule.{system_of}
+use Rattle.u_rule.specs.declared.entry.Entry.{Entry}
+use Rattle.u_rule.specs.declared.firing.Firing.{Firing}
+use Rattle.u_system.specs.Firing.{Enabled}
+
+-- f is a firing of the job whose needs all lie in the history, and it gives e
+abbrev pub IsCause : JobParts → List Entry → Entry → Firing → Type 0
+IsCause job history e f = Enabled (system_of job) (Contains history) f × Contains ((system_of job).gives f) e
+
+-- f is g, and gives e
+abbrev pub IsKept : JobParts → Entry → Firing → Firing → Type 0
+IsKept job e g f = (g ≡ f) × Contains ((system_of job).gives f) e

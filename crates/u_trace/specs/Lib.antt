@@ -1,0 +1,6 @@
+pub mod Causes
+pub mod Stories
+pub mod Answers
+pub mod Places
+pub mod Givers
+pub mod Marks

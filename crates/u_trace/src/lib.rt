@@ -1,0 +1,21 @@
+//! Where an entry came from: the firings that give it over a history, and the applied firings that it
+//! rests on.
+//!
+//! `causes` asks a history: which firings of the job have all that they need there, and give the entry?
+//! There may be several, as where two activities send the same value to one port. `story` asks a
+//! machine: which of its applied firings does the entry need? Of each entry that is needed it takes the
+//! one giver that was applied first, so a story is one run of the job, and the least that this choice
+//! allows. Both questions and the choice of the first giver are this project's.
+#![tactic(auto)]
+
+mod causing;
+mod givers;
+mod marks;
+mod picking;
+mod places;
+mod telling;
+mod trace_error;
+
+pub use causing::causes;
+pub use telling::story;
+pub use trace_error::TraceError;
