@@ -27,6 +27,12 @@ mod plain_replica;
 #[cfg(test)]
 mod plain_world;
 #[cfg(test)]
+mod ready;
+#[cfg(test)]
+mod ready_tests;
+#[cfg(test)]
 mod table;
 #[cfg(test)]
 mod texts;
+#[cfg(test)]
+mod world_list_tests;
