@@ -8,10 +8,10 @@
 #   tests/edits.sh --all        tries every crate
 #
 # The record, tests/edits/record, has a line for each crate whose edits were all refused: its name,
-# and a sum over the kit's version, the sources, specs and proofs of the crate and of all crates below
-# it, and its edits. It holds until one of these changes. A crate that is tried and whose edits are
-# not all refused loses its line. The last line is 'N passed, M failed', over the edits that were
-# tried; those of a crate that is passed over count as passed.
+# and a sum over the logic of the kit (what `rt version` says behind its name), the sources, specs and
+# proofs of the crate and of all crates below it, and its edits. It holds until one of these changes. A
+# crate that is tried and whose edits are not all refused loses its line. The last line is 'N passed, M
+# failed', over the edits that were tried; those of a crate that is passed over count as passed.
 set -u
 export LC_ALL=C
 
@@ -36,11 +36,11 @@ below() {
     done
 }
 
-# What a crate's record is made of, a line each: the version of the kit, the libraries of each crate,
+# What a crate's record is made of, a line each: the logic of the kit, the libraries of each crate,
 # and the sums of the files.
 parts_of() {
     local seen='' name
-    rt version
+    rt version | sed 's/^.* logic /logic /'
     below "$1"
     for name in $(printf '%s\n' $seen | sort); do
         printf '%s: %s\n' "$name" "$(deps_of "$name")"
