@@ -1,0 +1,9 @@
+pub mod Texts
+pub mod Steps
+pub mod PortLaws
+pub mod PlaceLaws
+pub mod Stored
+pub mod WaitingLaws
+pub mod Gathered
+pub mod ReadLaws
+pub mod StillLaws

@@ -1,0 +1,13 @@
+use Rattle.std.proofs.Common.{take, []}
+use Rattle.std.specs.Prelude.{Contains}
+use Rattle.u_sets.specs.Members.{SomeOf, Gains}
+use Rattle.u_sets.specs.Rising.{Rises}
+use Rattle.u_waits.specs.Gathering.{WaitsAt}
+use Rattle.u_waits.specs.Orders.{waiting_order}
+use Rattle.u_waits.proofs.activities.waiting_activities.Given as goal
+
+abbrev pub invariant-loop-entry : goal.invariant-loop-entry
+invariant-loop-entry l = record {
+  rises : Rises waiting_order l.found.items;
+  all : Gains [] (SomeOf (take l.entry-index l.entries) (WaitsAt l.program.blocks (Contains l.entries))) l.found.items;
+}

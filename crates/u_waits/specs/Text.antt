@@ -1,0 +1,35 @@
+-- The lines of what waits.
+use Rattle.std.specs.Prelude.{ℕ, List, [], ◌∷◌, ◌++◌, if◌then◌else◌, codes, map}
+use Rattle.std.specs.Fmt.{decimal}
+use Rattle.u_text.specs.Spaced.{ended}
+use Rattle.u_name.specs.NameText.{name_text}
+use Rattle.u_name.specs.Cell.{cell_text}
+use Rattle.u_waits.specs.Ports.{has_port}
+use Rattle.u_waits.specs.declared.ports.Ports.{Ports}
+use Rattle.u_waits.specs.declared.activities.WaitingActivity.{WaitingActivity}
+use Rattle.u_waits.specs.declared.reads.DeferredRead.{DeferredRead}
+use Rattle.u_waits.specs.declared.answer.Waiting.{Waiting}
+
+-- a space and the number of the port, if it is there
+abbrev pub port_text : Ports → ℕ → List ℕ
+port_text p k = if has_port p k then 32 ∷ decimal k else []
+
+-- the numbers of the ports in ascending order, each behind a space
+abbrev pub ports_text : Ports → List ℕ
+ports_text p = port_text p 1 ++ (port_text p 2 ++ port_text p 3)
+
+-- a word, and behind it the numbers of the ports
+abbrev pub listed : List ℕ → Ports → List ℕ
+listed word p = word ++ ports_text p
+
+-- `waits NAME has PORT.. lacks PORT..`
+unfoldable pub waiting_text : WaitingActivity → List ℕ
+waiting_text w = codes "waits " ++ (name_text w.activity ++ (listed (codes " has") w.has ++ listed (codes " lacks") w.lacks))
+
+-- `reads NAME CELL`
+unfoldable pub read_text : DeferredRead → List ℕ
+read_text r = codes "reads " ++ (name_text r.reader ++ (codes " " ++ cell_text r.cell))
+
+-- a line for each activity that waits, and behind them one for each deferred read
+unfoldable pub waits_text : Waiting → List ℕ
+waits_text w = ended (map waiting_text w.activities.items) ++ ended (map read_text w.reads.items)

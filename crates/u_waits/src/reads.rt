@@ -1,0 +1,171 @@
+//! Reads of cells that have no write.
+ghost use Rattle.std.specs.Prelude.{◌≡◌, ◌↔◌, Contains, IsTrue, OnOk, IfOk};
+ghost use Rattle.u_sets.specs.Rising.{Rises, IsListOf};
+ghost use Rattle.u_sets.specs.Members.{Gains, SomeOf};
+ghost use Rattle.u_rule.specs.EntryOrder.{entry_cmp};
+ghost use Rattle.u_waits.specs.Deferred.{IsDeferred, IsUnwritten};
+ghost use Rattle.u_waits.specs.Orders.{read_order, by_reader};
+ghost use Rattle.u_waits.specs.Gathering.{ReadsOn, ReadsWith, ReadsAt, IsFetchIn};
+
+use crate::places::{Place, entries_at};
+use crate::statements::executed;
+use std::alloc::{AllocError, Global};
+use u_name::{Cell, Name};
+use u_program::{Kind, Program};
+use u_rule::{Entry, Token, cell_at};
+use u_sets::place_in;
+use u_value::Value;
+
+/// A read of a cell that has no write.
+#[derive(PartialEq, Eq, PartialOrd, Ord, Hash, Drop)]
+pub struct DeferredRead {
+    /// The activity that reads: a `fetch`.
+    pub reader: Name,
+    /// The cell.
+    pub cell: Cell,
+}
+
+/// Whether the cell has no write.
+fn is_unwritten(entries: &[Entry], cell: &Cell) -> bool
+    requires { Rises entry_cmp entries.now }
+    ensures { IsTrue result ↔ IsUnwritten (Contains entries.now) cell.now }
+{
+    entries_at(entries, Place::Cell(cell)).is_empty()
+}
+
+/// Adds the read of the cell that the structure and the index name, if they name one and it has no
+/// write.
+fn add_read(
+    entries: &[Entry],
+    reader: &Name,
+    structure: &Value,
+    index: &Value,
+    found: &mut Vec<DeferredRead>,
+) -> Result<(), AllocError>
+    requires entries { Rises entry_cmp entries.now }
+    requires rises { Rises read_order found.old.items }
+    ensures rises { Rises read_order found.new.items }
+    ensures ok { OnOk result
+        (Gains found.old.items
+        (ReadsOn (Contains entries.now) reader.now structure.now index.now) found.new.items) }
+{
+    let named = cell_at(structure, index)?;
+    let cell = match named {
+        None => return Ok(()),
+        Some(cell) => cell,
+    };
+    if !is_unwritten(entries, &cell) {
+        return Ok(());
+    }
+    let reader = reader.copy()?;
+    place_in(found, DeferredRead { reader, cell })?;
+    Ok(())
+}
+
+/// The same with the value of the entry as the index, if it is a token.
+fn add_read_with(
+    entries: &[Entry],
+    reader: &Name,
+    structure: &Value,
+    entry: &Entry,
+    found: &mut Vec<DeferredRead>,
+) -> Result<(), AllocError>
+    requires entries { Rises entry_cmp entries.now }
+    requires rises { Rises read_order found.old.items }
+    ensures rises { Rises read_order found.new.items }
+    ensures ok { OnOk result
+        (Gains found.old.items
+        (ReadsWith (Contains entries.now) reader.now structure.now entry.now) found.new.items) }
+{
+    match entry {
+        Entry::Token(token) => add_read(entries, reader, structure, token.value(), found),
+        _ => Ok(()),
+    }
+}
+
+/// The same with each of the entries.
+fn add_reads_with(
+    entries: &[Entry],
+    reader: &Name,
+    structure: &Value,
+    seconds: &[Entry],
+    found: &mut Vec<DeferredRead>,
+) -> Result<(), AllocError>
+    requires entries { Rises entry_cmp entries.now }
+    requires rises { Rises read_order found.old.items }
+    ensures rises { Rises read_order found.new.items }
+    ensures ok { OnOk result
+        (Gains found.old.items
+        (SomeOf seconds.now (ReadsWith (Contains entries.now) reader.now structure.now))
+        found.new.items) }
+{
+    for entry in seconds {
+        add_read_with(entries, reader, structure, entry, found)?;
+    }
+    Ok(())
+}
+
+/// Whether the activity is one of a `fetch`.
+fn is_fetch(program: &Program, activity: &Name) -> bool
+    ensures { IsTrue result ↔ IsFetchIn program.now.blocks activity.now }
+{
+    match executed(program, activity) {
+        Some(statement) => matches!(statement.kind(), Kind::Fetch),
+        None => false,
+    }
+}
+
+/// Whether the token stands at the first port of a `fetch`, where the structure comes.
+fn is_structure(program: &Program, token: &Token) -> bool
+    ensures { IsTrue result
+        ↔ ((token.now.port ≡ 1) × IsFetchIn program.now.blocks token.now.activity) }
+{
+    token.port() == 1 && is_fetch(program, token.activity())
+}
+
+/// Adds the deferred reads of the entry's value as the structure, if it is a token at the first
+/// port of a `fetch`.
+fn add_reads(
+    program: &Program,
+    entries: &[Entry],
+    entry: &Entry,
+    found: &mut Vec<DeferredRead>,
+) -> Result<(), AllocError>
+    requires entries { Rises entry_cmp entries.now }
+    requires rises { Rises read_order found.old.items }
+    ensures rises { Rises read_order found.new.items }
+    ensures ok { OnOk result
+        (Gains found.old.items (ReadsAt program.now.blocks (Contains entries.now) entry.now)
+        found.new.items) }
+{
+    let Entry::Token(token) = entry else {
+        return Ok(());
+    };
+    if !is_structure(program, token) {
+        return Ok(());
+    }
+    let reader = token.activity();
+    let seconds = entries_at(entries, Place::Port(reader, 2));
+    add_reads_with(entries, reader, token.value(), seconds, found)
+}
+
+/// The deferred reads, in order.
+///
+/// # Errors
+/// `AllocError` where there is no memory.
+pub(crate) fn deferred_reads(
+    alloc: Global,
+    program: &Program,
+    entries: &[Entry],
+) -> Result<Vec<DeferredRead>, AllocError>
+    requires { Rises entry_cmp entries.now }
+    ensures { IfOk result
+        (λ v. IsListOf by_reader
+        (IsDeferred program.now.blocks (Contains entries.now)) v.items) }
+{
+    let mut found = Vec::new(alloc);
+    for entry in entries {
+        add_reads(program, entries, entry, &mut found)?;
+    }
+    Ok(found)
+}
