@@ -1,0 +1,226 @@
+//! What may stand behind the front of a line.
+use crate::words::{destination_of, spaces_of, word_of};
+
+/// A destination: a statement's number and a port.
+pub type To = (u32, u32);
+
+/// What may stand behind a front that begins some allowed line.
+#[derive(Clone, Copy)]
+pub enum Expected<'a> {
+    /// More of the line `u-program 1`.
+    Header,
+    /// The end of that line.
+    HeaderEnd,
+    /// The first word of a line, or more of it.
+    LineStart,
+    /// The name of a block, of which so many bytes stand there. Behind it the line ends, or else an
+    /// arrow stands.
+    Name {
+        /// How many bytes of the name stand there, 0 to 16.
+        used: usize,
+        /// Whether the line ends behind it.
+        is_last: bool,
+    },
+    /// The number of the next loop.
+    LoopNumber,
+    /// The region that holds the loop, of which these bytes stand there.
+    Holder(&'a [u8]),
+    /// A region.
+    Region,
+    /// A space and a kind, or more of the region.
+    RegionEnd,
+    /// A kind, of which these bytes stand there.
+    Kind(&'a [u8]),
+    /// A constant, of which these bytes stand there.
+    Constant(&'a [u8]),
+    /// The number of the loop that is entered, of which these bytes stand there.
+    Entered(&'a [u8]),
+    /// The number of the `back` of an `apply`, of which these bytes stand there.
+    Back(&'a [u8]),
+    /// The arrow, or more of it.
+    Arrow,
+    /// The end of the line, behind the arrow of this kind.
+    NoList(&'a [u8]),
+    /// A destination, or more of one.
+    Destination(List<'a>),
+    /// Behind a whole destination, the arrow or the slash: a space and what goes on, or the end.
+    More(List<'a>),
+}
+
+/// A list of destinations up to a place in it.
+#[derive(Clone, Copy)]
+pub struct List<'a> {
+    /// The destination before the place, if there is one.
+    pub last: Option<To>,
+    /// How many whole destinations stand before the place.
+    pub count: usize,
+    /// Whether a slash has to come before the line's end.
+    pub wants_slash: bool,
+    /// The bytes of the destination that stand before the place.
+    pub begun: &'a [u8],
+}
+
+/// What may stand in a name of which so many bytes are there.
+fn name_expected(word: &[u8], is_last: bool) -> Expected<'_> {
+    Expected::Name {
+        used: word.len(),
+        is_last,
+    }
+}
+
+/// The list whose words begin at that index of the front, up to the front's last word.
+fn list_before(front: &[u8], start: usize, end: usize, wants_slash: bool) -> List<'_> {
+    let mut list = List {
+        last: None,
+        count: 0,
+        wants_slash,
+        begun: b"",
+    };
+    for index in start..end {
+        let Some(word) = word_of(front, index) else {
+            return list;
+        };
+        if word == b"/".as_slice() {
+            list.last = None;
+            list.count = 0;
+            list.wants_slash = false;
+        } else {
+            list.last = destination_of(word);
+            list.count = index - start;
+            list.count += 1;
+        }
+    }
+    list
+}
+
+/// What may stand behind the arrow, whose index is that one, and the front's last word at `at`.
+fn list_expected<'a>(front: &'a [u8], arrow: usize, at: usize, kind: &'a [u8]) -> Expected<'a> {
+    let is_switch = kind == b"switch".as_slice();
+    let word = match word_of(front, at) {
+        Some(word) => word,
+        None => b"",
+    };
+    if at <= arrow {
+        if kind == b"apply".as_slice() || kind == b"store".as_slice() || kind == b"end".as_slice() {
+            return Expected::NoList(kind);
+        }
+        return Expected::More(list_before(front, 0, 0, is_switch));
+    }
+    let before = list_before(front, arrow + 1, at, is_switch);
+    if word == b"/".as_slice() {
+        return Expected::More(list_before(front, 0, 0, false));
+    }
+    if let Some(to) = destination_of(word) {
+        let count = before.count;
+        return Expected::More(List {
+            last: Some(to),
+            count: if count < 16 { count + 1 } else { count },
+            wants_slash: before.wants_slash,
+            begun: b"",
+        });
+    }
+    Expected::Destination(List {
+        last: before.last,
+        count: before.count,
+        wants_slash: before.wants_slash,
+        begun: word,
+    })
+}
+
+/// What may stand at or behind the arrow, whose index is that one.
+fn arrow_expected<'a>(front: &'a [u8], arrow: usize, at: usize, kind: &'a [u8]) -> Expected<'a> {
+    let is_whole = match word_of(front, arrow) {
+        Some(word) => word == b"->".as_slice(),
+        None => false,
+    };
+    if at < arrow || !is_whole {
+        return Expected::Arrow;
+    }
+    list_expected(front, arrow, at, kind)
+}
+
+/// What may stand in the argument of the kind, or behind it.
+fn argument_expected<'a>(front: &'a [u8], at: usize, kind: &'a [u8]) -> Expected<'a> {
+    let word = match word_of(front, 3) {
+        Some(word) => word,
+        None => b"",
+    };
+    if at > 3 {
+        return arrow_expected(front, 4, at, kind);
+    }
+    if kind == b"enter".as_slice() {
+        return Expected::Entered(word);
+    }
+    if kind == b"apply".as_slice() {
+        return Expected::Back(word);
+    }
+    match word.split_first() {
+        Some((b'@', name)) => name_expected(name, false),
+        _ => Expected::Constant(word),
+    }
+}
+
+/// What may stand in a statement's line behind this front, which has a number at least.
+fn statement_expected(front: &[u8]) -> Expected<'_> {
+    let at = spaces_of(front);
+    if at == 0 {
+        return Expected::LineStart;
+    }
+    if at == 1 {
+        return match word_of(front, 1) {
+            Some([]) => Expected::Region,
+            _ => Expected::RegionEnd,
+        };
+    }
+    let kind = match word_of(front, 2) {
+        Some(kind) => kind,
+        None => b"",
+    };
+    if at == 2 {
+        return Expected::Kind(kind);
+    }
+    if kind == b"const".as_slice() || kind == b"enter".as_slice() || kind == b"apply".as_slice() {
+        return argument_expected(front, at, kind);
+    }
+    arrow_expected(front, 3, at, kind)
+}
+
+/// What may stand in a loop's line behind this front.
+fn loop_expected(front: &[u8]) -> Expected<'_> {
+    match spaces_of(front) {
+        0 => Expected::LineStart,
+        1 => Expected::LoopNumber,
+        _ => match word_of(front, 2) {
+            Some(begun) => Expected::Holder(begun),
+            None => Expected::LoopNumber,
+        },
+    }
+}
+
+/// What may stand behind the front of a line that begins a block.
+fn block_expected(front: &[u8]) -> Expected<'_> {
+    if spaces_of(front) == 0 {
+        return Expected::LineStart;
+    }
+    match word_of(front, 1) {
+        Some(name) => name_expected(name, true),
+        None => Expected::LineStart,
+    }
+}
+
+/// What may stand behind the front of a line: of the first line of a program where `is_first`, else
+/// of a line behind it. The front begins some allowed line.
+pub fn expected_behind(is_first: bool, front: &[u8]) -> Expected<'_> {
+    if is_first && front == b"u-program 1".as_slice() {
+        return Expected::HeaderEnd;
+    }
+    if is_first {
+        return Expected::Header;
+    }
+    match front.split_first() {
+        None => Expected::LineStart,
+        Some((b'b', _)) => block_expected(front),
+        Some((b'l', _)) => loop_expected(front),
+        Some(_) => statement_expected(front),
+    }
+}

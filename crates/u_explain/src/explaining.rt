@@ -1,0 +1,79 @@
+//! What is told of a program's text.
+ghost use Rattle.std.specs.Prelude.{◌≡◌, ◌↔◌, IsNone, IsSome, IfOk};
+ghost use Rattle.u_check.specs.Rules.{IsChecked};
+ghost use Rattle.u_program.specs.declared.read_error.ReadError.TheVariants as errors;
+ghost use Rattle.u_explain.specs.Accepted.{IsAccepted};
+
+use crate::lines::{tell_cut_short, tell_line};
+use crate::rules::tell_rule;
+use std::alloc::{AllocError, Global};
+use u_check::{Refused, check};
+use u_program::{Program, ReadError, read};
+
+/// What is told of a program that breaks a rule.
+fn rule_text(alloc: Global, bytes: &[u8], refused: &Refused) -> Result<Vec<u8>, AllocError> {
+    let mut out = Vec::new(alloc);
+    tell_rule(&mut out, bytes, refused.program.blocks(), &refused.breach)?;
+    Ok(out)
+}
+
+/// What is told of a program's text that was read: nothing where it breaks no rule.
+fn program_text(
+    alloc: Global,
+    bytes: &[u8],
+    program: Program,
+) -> Result<Option<Vec<u8>>, AllocError>
+    ensures { IfOk result (λ text. IsNone text ↔ IsChecked program.blocks) }
+{
+    let refused = match check(program) {
+        Ok(_) => return Ok(None),
+        Err(refused) => refused,
+    };
+    match rule_text(alloc, bytes, &refused) {
+        Ok(text) => Ok(Some(text)),
+        Err(error) => Err(error),
+    }
+}
+
+/// What is told of a text that was not read.
+fn error_text(alloc: Global, bytes: &[u8], error: ReadError) -> Result<Vec<u8>, AllocError>
+    ensures { IfOk result (λ _. error ≡ errors.NoMemory → ⊥) }
+{
+    let mut out = Vec::new(alloc);
+    let told = match error {
+        ReadError::BadLine(number) | ReadError::TooMany(number) => {
+            tell_line(&mut out, bytes, number)
+        }
+        ReadError::Truncated => tell_cut_short(&mut out, alloc, bytes),
+        ReadError::NoMemory => return Err(AllocError),
+    };
+    match told {
+        Ok(()) => Ok(out),
+        Err(error) => Err(error),
+    }
+}
+
+/// Why the bytes are no program that the checker takes, for people: some lines of text, each with
+/// its newline. There is nothing to explain, `None`, exactly where the bytes are the text of a
+/// program that breaks no rule.
+///
+/// Of a text that is refused it shows the line with its number and a mark under the byte from which
+/// on no allowed line goes on (`line_left`), and says what was expected there, what stands there,
+/// and the cause. Of a program that breaks a rule it says the rule, the block, the statement's line
+/// with a mark under what breaks it, and the cause; and it shows the other line that is involved,
+/// if there is one.
+///
+/// # Errors
+/// `AllocError` where there is no memory.
+pub fn explain(alloc: Global, bytes: &[u8]) -> Result<Option<Vec<u8>>, AllocError>
+    ensures { IfOk result (λ text. IsNone text ↔ IsAccepted bytes.now) }
+{
+    let error = match read(alloc, bytes) {
+        Ok(program) => return program_text(alloc, bytes, program),
+        Err(error) => error,
+    };
+    match error_text(alloc, bytes, error) {
+        Ok(text) => Ok(Some(text)),
+        Err(error) => Err(error),
+    }
+}

@@ -1,0 +1,264 @@
+//! What is left of a line from the byte on with which no allowed line goes on.
+ghost use Rattle.std.specs.Prelude.{◌≡◌, ◌≤◌, ◌<◌, ◌⊎◌, ◌++◌, ◌∷◌, [], false, List, ℕ, length, codes};
+ghost use Rattle.u_program.specs.Reading.{plain_kinds};
+ghost use Rattle.u_explain.specs.Left.{IsLeft, Among, Behind, Numbered};
+ghost use Rattle.u_explain.specs.Lines.{NameOn, IntOn, ConstantOn, PlainOn, KindOn, FollowOn, ArrowOn, EndOn, BlockOn, LoopOn, StatementOn, RegionOn};
+ghost use Rattle.u_explain.specs.declared.fronts.Follows.TheVariants as variants;
+
+use crate::kind_words::{PLAIN_KINDS, has_otherwise, kind_word, room_of};
+use crate::lists::{after_number, arrow_left, shorter};
+use u_name::front_block;
+use u_program::Kind;
+use u_text::{after, after_all, signed_at};
+
+/// What follows a number.
+#[derive(Clone, Copy)]
+pub enum Follows {
+    /// The end of the line: the number is the region that holds a loop.
+    End,
+    /// An arrow and a list: the number is the loop of an `enter`.
+    List,
+    /// An arrow, and the end of the line: the number is the `back` of an `apply`.
+    Arrow,
+}
+
+/// What is left where the name of a block stands, and an arrow and a list behind it.
+fn procedure_left(bytes: &[u8]) -> &[u8]
+    ensures { IsLeft (NameOn (ArrowOn false 16)) bytes.now result.now }
+{
+    match front_block(bytes) {
+        Ok((_, rest)) => arrow_left(rest, false, 16),
+        Err(rest) => rest,
+    }
+}
+
+/// What is left where a number of 64 bits stands, and an arrow and a list behind it.
+fn int_left(bytes: &[u8]) -> &[u8]
+    ensures { IsLeft (IntOn (ArrowOn false 16)) bytes.now result.now }
+{
+    match signed_at(bytes) {
+        Ok((_, rest)) => arrow_left(rest, false, 16),
+        Err(rest) => rest,
+    }
+}
+
+/// What is left where that word stands, and an arrow and one list or two behind it.
+fn word_left<'a>(bytes: &'a [u8], word: &[u8], slashed: bool, room: u32) -> &'a [u8]
+    ensures { IsLeft (Behind word.now (ArrowOn slashed room)) bytes.now result.now }
+{
+    match after_all(bytes, word) {
+        Ok(rest) => arrow_left(rest, slashed, room),
+        Err(rest) => rest,
+    }
+}
+
+/// What is left where `@` and the name of a block stand, and an arrow and a list behind them.
+fn at_left(bytes: &[u8]) -> &[u8]
+    ensures { IsLeft (Behind (codes "@") (NameOn (ArrowOn false 16))) bytes.now result.now }
+{
+    match after_all(bytes, b"@") {
+        Ok(rest) => procedure_left(rest),
+        Err(rest) => rest,
+    }
+}
+
+/// What is left where a constant stands, and an arrow and a list behind it.
+fn constant_left(bytes: &[u8]) -> &[u8]
+    ensures { IsLeft ConstantOn bytes.now result.now }
+{
+    let on_true = word_left(bytes, b"true", false, 16);
+    let on_false = word_left(bytes, b"false", false, 16);
+    let other = shorter(at_left(bytes), int_left(bytes));
+    let others = shorter(on_false, other);
+    shorter(on_true, others)
+}
+
+/// What is left where that may follow a number.
+fn follow_left(bytes: &[u8], follows: Follows) -> &[u8]
+    ensures { IsLeft (FollowOn follows) bytes.now result.now }
+{
+    match follows {
+        Follows::End => bytes,
+        Follows::List => arrow_left(bytes, false, 16),
+        Follows::Arrow => arrow_left(bytes, false, 0),
+    }
+}
+
+/// What is left where that number stands, and behind it what follows.
+fn number_left(bytes: &[u8], number: u32, follows: Follows) -> &[u8]
+    ensures { IsLeft (Numbered (FollowOn follows) number) bytes.now result.now }
+{
+    match after_number(bytes, number) {
+        Ok(rest) => follow_left(rest, follows),
+        Err(rest) => rest,
+    }
+}
+
+/// What is left where a number stands that is below `high` and not below `low`, and behind it what
+/// follows.
+fn numbers_left(bytes: &[u8], low: u32, high: u32, follows: Follows) -> &[u8]
+    requires { low ≤ high }
+    ensures { IsLeft (Among low high (Numbered (FollowOn follows))) bytes.now result.now }
+{
+    let mut best = bytes;
+    for number in low..high {
+        best = shorter(best, number_left(bytes, number, follows));
+    }
+    best
+}
+
+/// What is left where a kind without an argument stands, and its lists behind it.
+fn plain_left<'a>(bytes: &'a [u8], kinds: &[Kind]) -> &'a [u8]
+    ensures { IsLeft (PlainOn kinds.now) bytes.now result.now }
+{
+    match kinds.split_first() {
+        None => bytes,
+        Some((kind, others)) => {
+            let first = word_left(bytes, kind_word(kind), has_otherwise(kind), room_of(kind));
+            shorter(first, plain_left(bytes, others))
+        }
+    }
+}
+
+/// What is left where a `const` stands with its constant.
+fn const_left(bytes: &[u8]) -> &[u8]
+    ensures { IsLeft (Behind (codes "const ") ConstantOn) bytes.now result.now }
+{
+    match after_all(bytes, b"const ") {
+        Ok(rest) => constant_left(rest),
+        Err(rest) => rest,
+    }
+}
+
+/// What is left where that word stands, and a number from 1 to below `high` with what follows.
+fn numbered_left<'a>(bytes: &'a [u8], word: &[u8], high: u32, follows: Follows) -> &'a [u8]
+    requires { 1 < high }
+    ensures { IsLeft (Behind word.now (Among 1 high (Numbered (FollowOn follows))))
+        bytes.now result.now }
+{
+    match after_all(bytes, word) {
+        Ok(rest) => numbers_left(rest, 1, high, follows),
+        Err(rest) => rest,
+    }
+}
+
+/// What is left where a kind stands with what follows it in its statement's line.
+fn kind_left(bytes: &[u8]) -> &[u8]
+    ensures { IsLeft KindOn bytes.now result.now }
+{
+    let plain = plain_left(bytes, &PLAIN_KINDS);
+    let constant = const_left(bytes);
+    let enter = numbered_left(bytes, b"enter ", 100, Follows::List);
+    let apply = numbered_left(bytes, b"apply ", 1000, Follows::Arrow);
+    let numbered = shorter(enter, apply);
+    let argued = shorter(constant, numbered);
+    shorter(plain, argued)
+}
+
+/// What is left where a space stands, and a kind behind it.
+fn spaced_kind_left(bytes: &[u8]) -> &[u8]
+    ensures { IsLeft (Behind (codes " ") KindOn) bytes.now result.now }
+{
+    match after_all(bytes, b" ") {
+        Ok(rest) => kind_left(rest),
+        Err(rest) => rest,
+    }
+}
+
+/// What is left where that region stands, and a kind behind it.
+fn region_left(bytes: &[u8], region: u32) -> &[u8]
+    ensures { IsLeft (Numbered (Behind (codes " ") KindOn) region) bytes.now result.now }
+{
+    match after_number(bytes, region) {
+        Ok(rest) => spaced_kind_left(rest),
+        Err(rest) => rest,
+    }
+}
+
+/// What is left where a region stands, from 0 to 99, and a kind behind it.
+fn regions_left(bytes: &[u8]) -> &[u8]
+    ensures { IsLeft RegionOn bytes.now result.now }
+{
+    let mut best = bytes;
+    for region in 0..100 {
+        best = shorter(best, region_left(bytes, region));
+    }
+    best
+}
+
+/// What is left where a space stands, and behind it a region and a kind.
+fn spaced_regions_left(bytes: &[u8]) -> &[u8]
+    ensures { IsLeft (Behind (codes " ") RegionOn) bytes.now result.now }
+{
+    match after_all(bytes, b" ") {
+        Ok(rest) => regions_left(rest),
+        Err(rest) => rest,
+    }
+}
+
+/// What is left where a space stands, and behind it the region that holds the loop of that number.
+fn spaced_holder_left(bytes: &[u8], number: u32) -> &[u8]
+    requires { 1 ≤ number }
+    ensures { IsLeft (Behind (codes " ") (Among 0 number (Numbered (FollowOn variants.End))))
+        bytes.now result.now }
+{
+    match after_all(bytes, b" ") {
+        Ok(rest) => numbers_left(rest, 0, number, Follows::End),
+        Err(rest) => rest,
+    }
+}
+
+/// What is left where a loop's number stands, and the region that holds it.
+fn loop_number_left(bytes: &[u8], number: u32) -> &[u8]
+    requires { 1 ≤ number }
+    ensures { IsLeft (Numbered
+        (Behind (codes " ") (Among 0 number (Numbered (FollowOn variants.End)))) number)
+        bytes.now result.now }
+{
+    match after_number(bytes, number) {
+        Ok(rest) => spaced_holder_left(rest, number),
+        Err(rest) => rest,
+    }
+}
+
+/// What is left where a block's name stands alone.
+fn name_left(bytes: &[u8]) -> &[u8]
+    ensures { IsLeft (NameOn EndOn) bytes.now result.now }
+{
+    match front_block(bytes) {
+        Ok((_, rest)) => rest,
+        Err(rest) => rest,
+    }
+}
+
+/// What is left of a line that begins a block: `block NAME`.
+pub fn block_left(line: &[u8]) -> &[u8]
+    ensures { IsLeft BlockOn line.now result.now }
+{
+    match after_all(line, b"block ") {
+        Ok(rest) => name_left(rest),
+        Err(rest) => rest,
+    }
+}
+
+/// What is left of the line of the loop of that number: `loop NUMBER HELD_BY`.
+pub fn loop_left(line: &[u8], number: u32) -> &[u8]
+    requires { 1 ≤ number }
+    ensures { IsLeft (LoopOn number) line.now result.now }
+{
+    match after_all(line, b"loop ") {
+        Ok(rest) => loop_number_left(rest, number),
+        Err(rest) => rest,
+    }
+}
+
+/// What is left of the line of the statement of that number: `NUMBER REGION KIND [ARGUMENT] ->
+/// LIST`.
+pub fn statement_left(line: &[u8], number: u32) -> &[u8]
+    ensures { IsLeft (StatementOn number) line.now result.now }
+{
+    match after_number(line, number) {
+        Ok(rest) => spaced_regions_left(rest),
+        Err(rest) => rest,
+    }
+}

@@ -1,0 +1,106 @@
+//! Places of a program's text, found by its lines.
+ghost use Rattle.std.specs.Prelude.{◌≡◌, ◌<◌, ◌++◌, List, ℕ, suc, length};
+ghost use Rattle.u_text.specs.Pieces.{lines, pieces};
+ghost use Rattle.u_program.specs.FirstBad.{Begins};
+ghost use Rattle.u_program.specs.Limits.{the_limits};
+ghost use Rattle.u_explain.specs.Places.{IsPlace};
+
+use crate::place::Place;
+use u_text::cut;
+
+/// What stands behind some lines.
+#[derive(Clone, Copy)]
+pub struct Behind<'a> {
+    /// The place behind them.
+    pub place: Place,
+    /// The number of the line that stands there, from 1.
+    pub number: usize,
+    /// The bytes from there on.
+    pub rest: &'a [u8],
+}
+
+/// What stands behind so many lines, or behind all that end with a newline where there are fewer.
+pub fn behind_lines(bytes: &[u8], count: usize) -> Behind<'_>
+    requires { count < 18446744073709551615 }
+    ensures { (before others : List (List ℕ)) → lines bytes.now ≡ before ++ others
+        → length before ≡ count → Begins the_limits before
+        → IsPlace before result.place × (result.number ≡ suc (length before))
+        × (pieces 10 result.rest.now ≡ (others, (pieces 10 bytes.now).1)) }
+{
+    let mut place = Place::Header;
+    let mut rest = bytes;
+    for done in 0..count {
+        let Some((line, others)) = cut(rest, b'\n') else {
+            return Behind {
+                place,
+                number: done + 1,
+                rest,
+            };
+        };
+        place = place.behind(line);
+        rest = others;
+    }
+    Behind {
+        place,
+        number: count + 1,
+        rest,
+    }
+}
+
+/// A line of a block.
+#[derive(Clone, Copy)]
+pub enum Part {
+    /// The line that begins it.
+    Block,
+    /// The line of the loop of that number.
+    Loop(usize),
+    /// The line of the statement of that number.
+    Statement(usize),
+}
+
+/// Whether the place stands right behind that line of the block of that number.
+fn is_behind(place: Place, block: usize, part: Part) -> bool {
+    match (place, part) {
+        (
+            Place::Inside {
+                blocks,
+                loops,
+                statements,
+            },
+            Part::Block,
+        ) => blocks as usize == block && loops == 0 && statements == 0,
+        (
+            Place::Inside {
+                blocks,
+                loops,
+                statements,
+            },
+            Part::Loop(number),
+        ) => blocks as usize == block && loops as usize == number && statements == 0,
+        (
+            Place::Inside {
+                blocks,
+                statements,
+                ..
+            },
+            Part::Statement(number),
+        ) => blocks as usize == block && statements as usize == number,
+        _ => false,
+    }
+}
+
+/// The number of that line of a program's text, from 1, and the line.
+pub fn line_of(bytes: &[u8], block: usize, part: Part) -> Option<(usize, &[u8])> {
+    let mut place = Place::Header;
+    let mut number = 0;
+    let mut rest = bytes;
+    while let Some((line, others)) = cut(rest, b'\n') {
+        number += 1;
+        place = place.behind(line);
+        if is_behind(place, block, part) {
+            return Some((number, line));
+        }
+        rest = others;
+    }
+    None
+}
