@@ -1,0 +1,39 @@
+//! Stories, told to new machines.
+use std::alloc::{AllocError, Global};
+use u_machine::Machine;
+use u_rule::{Entry, Firing};
+use u_trace::{TraceError, story};
+
+/// Whether the machine takes the firings as a list, parks none, applies them in their order, and
+/// then holds the entry.
+fn takes(machine: &mut Machine<'_>, firings: &[Firing], entry: &Entry) -> bool {
+    machine.take_all(firings).is_ok()
+        && machine.parked().len() == 0
+        && machine.applied() == firings
+        && machine.history().contains(entry)
+}
+
+/// Whether a new machine of the same job does so.
+fn is_retold(
+    alloc: Global,
+    machine: &Machine<'_>,
+    told: &[Firing],
+    entry: &Entry,
+) -> Result<bool, AllocError> {
+    let mut other = Machine::new(alloc, machine.job(), 1000)?;
+    Ok(takes(&mut other, told, entry))
+}
+
+/// Whether a new machine that takes the story of the entry alone applies all of it, and then holds
+/// the entry.
+pub fn story_holds(
+    alloc: Global,
+    machine: &Machine<'_>,
+    entry: &Entry,
+) -> Result<bool, AllocError> {
+    match story(alloc, machine, entry) {
+        Ok(told) => is_retold(alloc, machine, &told, entry),
+        Err(TraceError::NotHeld) => Ok(false),
+        Err(TraceError::NoMemory) => Err(AllocError),
+    }
+}
