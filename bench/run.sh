@@ -13,6 +13,12 @@
 # the best of three each. Saving may take 13 times as long for ten times the bytes, and restoring the
 # longer one half as long again as running it.
 #
+# Traces: the answer of the sum of 9998 is traced, which may take three times as long as running it; the
+# story has every firing that the answer rests on.
+#
+# Worlds: on the sum of 100, with 1,015 firings, 2, 4 and 8 replicas live through 1,000 and 10,000 random
+# events of one seed. A row says the seconds and the greatest memory.
+#
 # Where `rt` is on PATH, it then builds `u_bench` and times firings of a long sum that a machine takes
 # last one first, of which a hundred thousand have to take less than 3 seconds.
 set -u
@@ -155,9 +161,51 @@ timed_checkpoint() {
     saved_before=$saving bytes_before=$bytes
 }
 
+# Times tracing the answer of the sum up to a number.
+timed_trace() {
+    local argument=$1 running
+    timed_command run "$top/programs/sum.u" "$argument"
+    running=$spent
+    timed_command trace "$top/programs/sum.u" "$argument" "a $((argument * (argument + 1) / 2))"
+    printf '%12s %10s %8s %8s\n' "$argument" "$(sed -n 's/^story //p' "$temp/out")" \
+        "$(seconds "$running")" "$(seconds "$spent")"
+    if [ "$argument" = 9998 ] && [ "$spent" -gt $((running * 3)) ]; then
+        echo "tracing the sum of $argument took more than 3 times as long as running it" >&2
+        failed=1
+    fi
+}
+
+# Times a world of so many replicas of the sum of 100 and so many events.
+timed_world() {
+    local start status memory=-
+    start=$(now)
+    if [ -x /usr/bin/time ]; then
+        /usr/bin/time -q -f %M -o "$temp/memory" "$binary" world "$top/programs/sum.u" 100 \
+            --replicas "$1" --events "$2" >"$temp/out"
+        status=$?
+        memory=$(cat -- "$temp/memory")
+    else
+        "$binary" world "$top/programs/sum.u" 100 --replicas "$1" --events "$2" >"$temp/out"
+        status=$?
+    fi
+    printf '%12s %10s %8s %10s\n' "$1" "$2" "$(seconds $(($(now) - start)))" "$memory"
+    if [ "$status" -ne 0 ] || [ "$(tail -n 1 -- "$temp/out")" != 'verdict answer 5050' ]; then
+        echo "a world of $1 replicas and $2 events ended with status $status" >&2
+        failed=1
+    fi
+}
+
 saved_before=0 bytes_before=0
 printf '%12s %10s %8s %8s %8s\n' 'sum of' bytes run save restore
 for size in 998 9998; do timed_checkpoint "$size"; done
+
+printf '%12s %10s %8s %8s\n' 'sum of' story run trace
+for size in 998 9998; do timed_trace "$size"; done
+
+printf '%12s %10s %8s %10s\n' replicas events seconds KiB
+for events in 1000 10000; do
+    for replicas in 2 4 8; do timed_world "$replicas" "$events"; done
+done
 
 # Each call fires 15 times where it makes two others, and 5 times where it makes none; 5 firings are there
 # without it.

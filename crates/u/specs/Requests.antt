@@ -1,18 +1,21 @@
 -- The asks for of a command line.
-use Rattle.std.specs.Prelude.{◌≡◌, ℕ, List, [], Option, Some, None, codes}
+use Rattle.std.specs.Prelude.{◌≡◌, ℕ, ◌≤◌, List, [], Option, Some, None, codes}
 use Rattle.clap.specs.Words.{first_value}
 use Rattle.clap.specs.declared.parser.matches.Found.{Found}
 use Rattle.u.specs.declared.words.Request.{Request}
-use Rattle.u.specs.declared.words.Request.TheVariants.{Stored, Check, Run, Save, Restore}
-use Rattle.u_cli.specs.Firings.{IsFirings, IsFiringsText}
+use Rattle.u.specs.declared.words.Request.TheVariants.{Stored, Check, Run, Save, Restore, Trace, World}
+use Rattle.u_cli.specs.Numbers.{IsFirings, IsReplicas, IsNumberText}
 
--- what runs or saves may fire from one to a million times
-abbrev pub HasFirings : Request → Type 0
-HasFirings Stored = Unit {0}
-HasFirings (Check file) = Unit {0}
-HasFirings (Run file argument firings) = IsFirings firings
-HasFirings (Save file argument firings) = IsFirings firings
-HasFirings (Restore file argument checkpoint) = Unit {0}
+-- the numbers of a request are in their ranges: what runs or saves may fire from one to a million times,
+-- and a world has one to eight replicas and at most a hundred thousand events
+abbrev pub IsInRange : Request → Type 0
+IsInRange Stored = Unit {0}
+IsInRange (Check file) = Unit {0}
+IsInRange (Run file argument firings) = IsFirings firings
+IsInRange (Save file argument firings) = IsFirings firings
+IsInRange (Restore file argument checkpoint) = Unit {0}
+IsInRange (Trace file argument entry) = Unit {0}
+IsInRange (World file argument replicas seed events) = IsReplicas replicas × (events ≤ 100000)
 
 abbrev pub text_or_none : Option (List ℕ) → List ℕ
 text_or_none None = []
@@ -33,7 +36,7 @@ AreRunWords found file argument firings =
     (file ≡ word_of found (codes "FILE"))
     × (argument ≡ word_of found (codes "ARG"))
     × IsFirings firings
-    × IsFiringsText firings (word_of found (codes "firings"))
+    × IsNumberText firings (word_of found (codes "firings"))
 
 -- a run, with the words that were found for it
 abbrev pub IsRunRequest : Found → Request → Type 0
@@ -52,3 +55,23 @@ IsRestoreRequest found (Restore file argument checkpoint) =
     × (argument.now ≡ word_of found (codes "ARG"))
     × (checkpoint.now ≡ word_of found (codes "CHECKPOINT"))
 IsRestoreRequest found request = ⊥
+
+-- a tracing, with the words that were found for it
+abbrev pub IsTraceRequest : Found → Request → Type 0
+IsTraceRequest found (Trace file argument entry) =
+    (file.now ≡ word_of found (codes "FILE"))
+    × (argument.now ≡ word_of found (codes "ARG"))
+    × (entry.now ≡ word_of found (codes "ENTRY"))
+IsTraceRequest found request = ⊥
+
+-- a world, with the words that were found for it
+abbrev pub IsWorldRequest : Found → Request → Type 0
+IsWorldRequest found (World file argument replicas seed events) =
+    (file.now ≡ word_of found (codes "FILE"))
+    × (argument.now ≡ word_of found (codes "ARG"))
+    × IsReplicas replicas
+    × IsNumberText replicas (word_of found (codes "replicas"))
+    × IsNumberText seed (word_of found (codes "seed"))
+    × (events ≤ 100000)
+    × IsNumberText events (word_of found (codes "events"))
+IsWorldRequest found request = ⊥

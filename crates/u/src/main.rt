@@ -1,23 +1,17 @@
-//! The program `u`: it reads the words of its command line and the files that they name, and checks,
-//! runs, saves or restores a dataflow program.
+//! The program `u`: it reads the words of its command line and the files that they name, and does with
+//! a dataflow program what the words ask for.
 #![tactic(auto)]
 
-ghost use Rattle.u.specs.Requests.{HasFirings};
+ghost use Rattle.u.specs.Requests.{IsInRange};
 
+mod commands;
 mod words;
 
 use std::alloc::Global;
+use std::io;
 use std::process::ExitCode;
-use std::{fs, io};
-use u_cli::{
-    CommandError, STORED_PROGRAM, check_text, read_input, restore_text, run_text, save_text,
-};
+use u_cli::CommandError;
 use words::{Request, not_text, parse};
-
-/// The argument of the stored run, and how often it may fire.
-const STORED_ARGUMENT: &[u8] = b"4";
-
-const STORED_FIRINGS: usize = 100_000;
 
 /// The exit status of a command line that is not allowed.
 const USAGE: u8 = 1;
@@ -45,88 +39,59 @@ fn answer(rt: &HostRuntime) -> Result<u8, CommandError> {
     };
     match parse(alloc, words.as_slice()) {
         Ok(request) => follow(rt, request),
-        Err(error) => show(rt, error),
+        Err(error) => {
+            let unknown = error.kind() == clap::error::ErrorKind::UnknownArgument;
+            let status = show(rt, error)?;
+            if unknown && words.iter().any(|word| is_below_zero(word.as_str())) {
+                let _ = eprintln!(rt; "\n  tip: a number below zero is written with n: n1 is -1");
+            }
+            Ok(status)
+        }
     }
 }
 
-/// Reads FILE, and CHECKPOINT where there is one, and does with the program in it what is asked for, or
-/// runs the stored program.
+/// Whether a word is a minus with a digit behind it.
+fn is_below_zero(word: &str) -> bool {
+    match word.as_bytes() {
+        [b'-', digit, ..] => digit.is_ascii_digit(),
+        _ => false,
+    }
+}
+
+/// Does what is asked for with the files and the words of the request.
 fn follow(rt: &HostRuntime, request: Request<'_>) -> Result<u8, CommandError>
-    requires { HasFirings request }
+    requires { IsInRange request }
 {
-    let alloc = rt.alloc();
-    let mut out = io::writer(rt);
     match request {
-        Request::Stored => run_text(
-            alloc,
-            STORED_PROGRAM,
-            STORED_ARGUMENT,
-            STORED_FIRINGS,
-            &mut out,
-        ),
-        Request::Check { file } => {
-            let program = read_file(rt, file)?;
-            check_text(alloc, program.as_slice(), &mut out)
-        }
+        Request::Stored => commands::stored(rt),
+        Request::Check { file } => commands::check(rt, file),
         Request::Run {
             file,
             argument,
             firings,
-        } => {
-            let program = read_file(rt, file)?;
-            run_text(
-                alloc,
-                program.as_slice(),
-                argument.as_bytes(),
-                firings,
-                &mut out,
-            )
-        }
+        } => commands::run(rt, file, argument, firings),
         Request::Save {
             file,
             argument,
             firings,
-        } => {
-            let program = read_file(rt, file)?;
-            save_text(
-                alloc,
-                program.as_slice(),
-                argument.as_bytes(),
-                firings,
-                &mut out,
-            )
-        }
+        } => commands::save(rt, file, argument, firings),
         Request::Restore {
             file,
             argument,
             checkpoint,
-        } => {
-            let program = read_file(rt, file)?;
-            let saved = read_path(rt, checkpoint)?;
-            restore_text(
-                alloc,
-                program.as_slice(),
-                argument.as_bytes(),
-                saved.as_slice(),
-                &mut out,
-            )
-        }
-    }
-}
-
-/// All bytes of FILE, or of standard input at the word `stdin`.
-fn read_file(rt: &HostRuntime, file: &str) -> Result<Vec<u8>, CommandError> {
-    if file == "stdin" {
-        return read_input(rt.alloc(), rt.stdin());
-    }
-    read_path(rt, file)
-}
-
-/// All bytes of the file with this path.
-fn read_path(rt: &HostRuntime, path: &str) -> Result<Vec<u8>, CommandError> {
-    match fs::open(rt, path) {
-        Ok(opened) => read_input(rt.alloc(), opened),
-        Err(_) => Err(CommandError::NotReadable),
+        } => commands::restore(rt, file, argument, checkpoint),
+        Request::Trace {
+            file,
+            argument,
+            entry,
+        } => commands::trace(rt, file, argument, entry),
+        Request::World {
+            file,
+            argument,
+            replicas,
+            seed,
+            events,
+        } => commands::world(rt, file, argument, replicas, seed, events),
     }
 }
 

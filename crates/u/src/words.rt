@@ -1,13 +1,13 @@
 //! The words of the command line.
 ghost use Rattle.std.specs.Prelude.{◌≡◌, IfOk, IfSome, codes};
 ghost use Rattle.clap.specs.Words.{found_of};
-ghost use Rattle.u.specs.Requests.{HasFirings, IsCheckRequest, IsRunRequest, IsSaveRequest, IsRestoreRequest, word_of};
-ghost use Rattle.u_cli.specs.Firings.{IsFirings, IsFiringsText};
+ghost use Rattle.u.specs.Requests.{IsInRange, IsCheckRequest, IsRunRequest, IsSaveRequest, IsRestoreRequest, IsTraceRequest, IsWorldRequest, word_of};
+ghost use Rattle.u_cli.specs.Numbers.{IsFirings, IsReplicas, IsNumberText};
 
 use clap::error::ErrorKind;
 use clap::{Arg, ArgAction, ArgMatches, Command, Error, value_parser};
 use std::alloc::{AllocError, Global};
-use u_cli::firings_of;
+use u_cli::{firings_of, number_of};
 
 /// The word of the command that checks.
 const CHECK: &str = "check";
@@ -15,8 +15,28 @@ const CHECK: &str = "check";
 /// The word of the command that saves.
 const SAVE: &str = "save";
 
+/// The most random events of a world.
+const MOST_EVENTS: u64 = 100_000;
+
 /// The word of the command that restores.
 const RESTORE: &str = "restore";
+
+/// The word of the command that follows an entry back.
+const TRACE: &str = "trace";
+
+/// The word of the command that lets events happen between replicas.
+const WORLD: &str = "world";
+
+/// What stands below the help of the program: the exit statuses, and an example.
+const STATUSES: &str = "Exit status:
+  0  an answer, or all that was asked for
+  1  the command line is not allowed
+  2  a text is refused
+  3  the run came to its end without one answer, or does not hold the entry
+  4  the run is not at its end: it may fire no more
+  5  memory, reading or writing failed
+
+Example: ./u run programs/double.u 4";
 
 /// What a command line asks for.
 #[derive(Clone, Copy, Debug, PartialEq, Eq, Drop)]
@@ -45,13 +65,27 @@ pub enum Request<'a> {
         argument: &'a str,
         checkpoint: &'a str,
     },
+    /// `trace FILE ARG ENTRY`.
+    Trace {
+        file: &'a str,
+        argument: &'a str,
+        entry: &'a str,
+    },
+    /// `world FILE ARG`: 1 to 8 replicas, and at most 100000 random events.
+    World {
+        file: &'a str,
+        argument: &'a str,
+        replicas: u8,
+        seed: u64,
+        events: usize,
+    },
 }
 
 /// The request in the words of a command line, the first of which is the program's name. The error
-/// is a mistake in the words, or a request for help or the version. `run` and `save` may fire from 1
-/// to 1000000 times.
+/// is a mistake in the words, or a request for help or the version. The numbers of a request are in their
+/// ranges.
 pub fn parse<'a>(alloc: Global, words: &'a [String]) -> Result<Request<'a>, Error>
-    ensures { IfOk result HasFirings }
+    ensures { IfOk result IsInRange }
 {
     let matches: ArgMatches<'a> = commands(alloc)?.try_get_matches_from(words)?;
     match matches.subcommand() {
@@ -59,6 +93,8 @@ pub fn parse<'a>(alloc: Global, words: &'a [String]) -> Result<Request<'a>, Erro
         Some((name, check)) if name == CHECK => Ok(check_request(check)),
         Some((name, save)) if name == SAVE => save_request(alloc, save),
         Some((name, restore)) if name == RESTORE => Ok(restore_request(restore)),
+        Some((name, trace)) if name == TRACE => Ok(trace_request(trace)),
+        Some((name, world)) if name == WORLD => world_request(alloc, world),
         Some((_, run)) => run_request(alloc, run),
     }
 }
@@ -89,7 +125,7 @@ fn run_request<'a>(alloc: Global, matches: &ArgMatches<'a>) -> Result<Request<'a
             argument: text(matches, "ARG"),
             firings,
         }),
-        None => Err(other_spelling(alloc, run(alloc, "u run"), matches)?),
+        None => Err(other_spelling(alloc, run(alloc, "u run"), matches, "firings", "N")?),
     }
 }
 
@@ -103,7 +139,7 @@ fn save_request<'a>(alloc: Global, matches: &ArgMatches<'a>) -> Result<Request<'
             argument: text(matches, "ARG"),
             firings,
         }),
-        None => Err(other_spelling(alloc, save(alloc, "u save"), matches)?),
+        None => Err(other_spelling(alloc, save(alloc, "u save"), matches, "firings", "N")?),
     }
 }
 
@@ -118,23 +154,69 @@ fn restore_request<'a>(matches: &ArgMatches<'a>) -> Request<'a>
     }
 }
 
+/// The words of `trace`.
+fn trace_request<'a>(matches: &ArgMatches<'a>) -> Request<'a>
+    ensures { IsTraceRequest (found_of matches.now) result }
+{
+    Request::Trace {
+        file: text(matches, "FILE"),
+        argument: text(matches, "ARG"),
+        entry: text(matches, "ENTRY"),
+    }
+}
+
+/// The words of `world`.
+fn world_request<'a>(alloc: Global, matches: &ArgMatches<'a>) -> Result<Request<'a>, Error>
+    ensures { IfOk result (λ o. IsWorldRequest (found_of matches.now) o) }
+{
+    let Some(replicas) = replicas(matches) else {
+        return Err(other_spelling(alloc, world(alloc, "u world"), matches, "replicas", "K")?);
+    };
+    let Some(seed) = number_of(text(matches, "seed"), u64::MAX) else {
+        return Err(other_spelling(alloc, world(alloc, "u world"), matches, "seed", "S")?);
+    };
+    let Some(events) = number_of(text(matches, "events"), MOST_EVENTS) else {
+        return Err(other_spelling(alloc, world(alloc, "u world"), matches, "events", "N")?);
+    };
+    Ok(Request::World {
+        file: text(matches, "FILE"),
+        argument: text(matches, "ARG"),
+        replicas,
+        seed,
+        events: events as usize,
+    })
+}
+
+/// The number of replicas, from 1 to 8.
+fn replicas(matches: &ArgMatches<'_>) -> Option<u8>
+    ensures { IfSome result (λ n. IsReplicas n
+        × IsNumberText n (word_of (found_of matches.now) (codes "replicas"))) }
+{
+    match number_of(text(matches, "replicas"), 9) {
+        Some(number) if 1 <= number && number <= 8 => Some(number as u8),
+        _ => None,
+    }
+}
+
 /// The number of firings. The word is read again, since `clap` takes a sign and leading zeros.
 fn firings(matches: &ArgMatches<'_>) -> Option<usize>
     ensures { IfSome result (λ n. IsFirings n
-        × IsFiringsText n (word_of (found_of matches.now) (codes "firings"))) }
+        × IsNumberText n (word_of (found_of matches.now) (codes "firings"))) }
 {
     firings_of(text(matches, "firings"))
 }
 
-/// The mistake that a number of firings has a sign or a leading zero.
+/// The mistake that the number of an option has a sign or a leading zero.
 fn other_spelling(
     alloc: Global,
     command: Result<Command<'_>, AllocError>,
     matches: &ArgMatches<'_>,
+    option: &str,
+    value: &str,
 ) -> Result<Error, AllocError> {
-    let word = text(matches, "firings");
+    let word = text(matches, option);
     let message = format!(in alloc;
-        "invalid value '{word}' for '--firings <N>': a number has no sign and no leading zero"
+        "invalid value '{word}' for '--{option} <{value}>': a number has no sign and no leading zero"
     )?;
     told(command, message.as_str())
 }
@@ -159,12 +241,14 @@ fn commands<'a>(alloc: Global) -> Result<Command<'a>, AllocError> {
         .bin_name("u")?
         .version("0.1.0")
         .about("Checks and runs dataflow programs. Without any word it runs a stored program.")
-        .after_help("Example: ./u run programs/double.u 4")
+        .after_help(STATUSES)
         .disable_help_subcommand(true)
         .subcommand(check(alloc)?)?
         .subcommand(run(alloc, "run")?)?
         .subcommand(save(alloc, SAVE)?)?
-        .subcommand(restore(alloc)?)
+        .subcommand(restore(alloc)?)?
+        .subcommand(trace(alloc)?)?
+        .subcommand(world(alloc, WORLD)?)
 }
 
 fn check<'a>(alloc: Global) -> Result<Command<'a>, AllocError> {
@@ -200,6 +284,61 @@ fn restore<'a>(alloc: Global) -> Result<Command<'a>, AllocError> {
         .arg(file(alloc))?
         .arg(argument(alloc))?
         .arg(checkpoint)
+}
+
+fn trace<'a>(alloc: Global) -> Result<Command<'a>, AllocError> {
+    let entry = word(alloc, "ENTRY").help("The entry's text, one word: 'a 8' is the answer 8");
+    Command::new(alloc, TRACE)
+        .about(
+            "Runs the program and prints which firings give the entry, and how the run came to it",
+        )
+        .after_help("Example: ./u trace programs/double.u 4 'a 8'")
+        .arg(file(alloc))?
+        .arg(argument(alloc))?
+        .arg(entry)
+}
+
+fn world<'a>(alloc: Global, name: &'a str) -> Result<Command<'a>, AllocError> {
+    Command::new(alloc, name)
+        .about(
+            "Lets random events happen between replicas, and prints what they hold and the report",
+        )
+        .after_help("Example: ./u world programs/sum.u 3 --replicas 3 --seed 7 --events 200")
+        .arg(file(alloc))?
+        .arg(argument(alloc))?
+        .arg(number_of_replicas(alloc))?
+        .arg(seed(alloc))?
+        .arg(number_of_events(alloc))
+}
+
+fn number_of_replicas<'a>(alloc: Global) -> Arg<'a> {
+    Arg::new(alloc, "replicas")
+        .long("replicas")
+        .value_name("K")
+        .help("How many replicas, from 1 to 8")
+        .action(ArgAction::Set)
+        .default_value("2")
+        .value_parser(value_parser!(u32).range(1..=8))
+}
+
+fn seed<'a>(alloc: Global) -> Arg<'a> {
+    Arg::new(alloc, "seed")
+        .long("seed")
+        .value_name("S")
+        .help("The seed of the random events, from 0 to 18446744073709551615")
+        .action(ArgAction::Set)
+        .default_value("1")
+        .value_parser(value_parser!(u64))
+}
+
+fn number_of_events<'a>(alloc: Global) -> Arg<'a> {
+    Arg::new(alloc, "events")
+        .long("events")
+        .value_name("N")
+        .help("How many random events, at most 100000")
+        .action(ArgAction::Set)
+        .default_value("100")
+        .value_parser(value_parser!(u32).range(0..=100000))
 }
 
 fn file<'a>(alloc: Global) -> Arg<'a> {

@@ -1,9 +1,9 @@
 -- Known bytes of readers and writers, one call after another.
-use Rattle.std.proofs.Common.{◌≡◌, ◌∙◌, sym, ap, refl, subst, ℕ, List, [], ◌++◌, Option, Some, None, ◌<◌, ◌+◌, length, take, append_assoc, append-nil, arith, length-append}
+use Rattle.std.proofs.Common.{◌≡◌, ◌∙◌, sym, ap, refl, ℕ, List, [], ◌++◌, Option, Some, None, ◌<◌, length, take, append_assoc, append-nil, arith}
 use Rattle.std.specs.Prelude.{IfSome, ◌≤◌}
 use Rattle.std.specs.Option.{option_map}
 use Rattle.std.proofs.lemmas.List.{length-take, take_all}
-use Rattle.std.specs.Io.KnownBytes.{Appends, Keeps, Consumes, IsAtEnd}
+use Rattle.std.specs.Io.KnownBytes.{Appends, Keeps}
 
 pub appends_none : (a : Option (List ℕ)) → Appends a a []
 appends_none None = tt

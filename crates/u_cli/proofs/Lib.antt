@@ -5,3 +5,5 @@ pub mod Spelling
 pub mod ArgumentLaws
 pub mod Saved
 pub mod Restored
+pub mod Gathering
+pub mod Traced

@@ -2,8 +2,10 @@ pub mod Statuses
 pub mod Outputs
 pub mod Inputs
 pub mod Arguments
-pub mod Firings
+pub mod Numbers
 pub mod Checks
 pub mod Runs
 pub mod Saves
 pub mod Restores
+pub mod Worlds
+pub mod Traces

@@ -1,5 +1,5 @@
 -- What a writer holds after an output.
-use Rattle.std.specs.Prelude.{◌≡◌, List, ℕ, ◌++◌, Option}
+use Rattle.std.specs.Prelude.{◌≡◌, List, ℕ, ◌++◌, Option, decimal}
 use Rattle.std.specs.Io.KnownBytes.{Appends}
 
 -- the whole text was written
@@ -12,3 +12,7 @@ pub record WritesPrefix (old new : Option (List ℕ)) (text : List ℕ) : Type 0
   pub rest : List ℕ
   pub is : text ≡ front ++ rest
   pub written : Appends old new front
+
+-- a word, and a number behind it
+abbrev pub numbered : List ℕ → ℕ → List ℕ
+numbered word n = word ++ decimal n

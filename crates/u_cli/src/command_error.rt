@@ -36,7 +36,13 @@ pub enum CommandError {
     /// The checkpoint's firing at this place is none of the job; places count from 0.
     #[error("firing {0} not of this job")]
     OtherFiring(usize),
-    /// There are more firings than the 1000000 that a replica takes.
+    /// The entry is no entry's text. The number is the offset of the first byte with which none goes on.
+    #[error("entry not allowed at byte {0}")]
+    EntryNotAllowed(usize),
+    /// The run does not hold the entry.
+    #[error("entry not held")]
+    EntryNotHeld,
+    /// There are more firings than the replica may take.
     #[error("full")]
     Full,
     /// There is no memory.
@@ -61,7 +67,8 @@ impl From<AllocError> for CommandError {
 }
 
 impl CommandError {
-    /// The exit status: 2 where a text is refused, 4 where there is no room for more firings, 5 where
+    /// The exit status: 2 where a text is refused, 3 where an entry is not held, 4 where there is no
+    /// room for more firings, 5 where
     /// the machine's surroundings fail.
     pub fn status(&self) -> u8
         ensures { result ≡ status_of_error self.now }
@@ -75,7 +82,9 @@ impl CommandError {
             | CommandError::InputTooLong
             | CommandError::CheckpointLineNotAllowed(_)
             | CommandError::CheckpointLineTooLong(_)
-            | CommandError::OtherFiring(_) => 2,
+            | CommandError::OtherFiring(_)
+            | CommandError::EntryNotAllowed(_) => 2,
+            CommandError::EntryNotHeld => 3,
             CommandError::Full => 4,
             CommandError::NoMemory | CommandError::NotReadable | CommandError::NotWritten => 5,
         }

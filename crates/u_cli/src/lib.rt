@@ -10,16 +10,20 @@ mod output;
 mod restoring;
 mod run;
 mod saving;
+mod tracing;
+mod worlds;
 
 pub use argument::argument_of;
 pub use checking::check_text;
 pub use command_error::CommandError;
 pub use input::{INPUT_LIMIT, read_input};
-pub use number::firings_of;
+pub use number::{firings_of, number_of};
 pub use output::{Unwritten, write_whole};
 pub use restoring::{RESTORED_FIRINGS, restore_text};
 pub use run::{FIRING_LIMIT, run_text};
 pub use saving::save_text;
+pub use tracing::trace_text;
+pub use worlds::{WORLD_FIRINGS, world_text};
 
 /// The program that runs where no word is given: it doubles its argument.
 pub const STORED_PROGRAM: &[u8] =

@@ -1,8 +1,10 @@
 //! Output.
-ghost use Rattle.std.specs.Prelude.{◌≡◌, OnOk, OnErr, length, MatchResult, ◌≤◌, drop};
-ghost use Rattle.u_cli.specs.Outputs.{WritesAll, WritesPrefix};
+ghost use Rattle.std.specs.Prelude.{◌≡◌, ◌++◌, IfOk, OnOk, OnErr, length, MatchResult, ◌≤◌, drop};
+ghost use Rattle.u_cli.specs.Outputs.{WritesAll, WritesPrefix, numbered};
 
+use std::alloc::AllocError;
 use std::io::Write;
+use u_text::push_long;
 
 /// The output could not be written.
 #[derive(Debug, Drop)]
@@ -34,4 +36,14 @@ pub fn write_whole<W: Write>(writer: &mut W, bytes: &[u8]) -> Result<(), Unwritt
         Ok(()) => Ok(()),
         Err(_) => Err(Unwritten),
     }
+}
+
+/// Appends the word and the number behind it.
+#[tactic(auto, using(std::proofs::lemmas::List::append_assoc))]
+pub(crate) fn push_numbered(out: &mut Vec<u8>, word: &[u8], number: u64) -> Result<(), AllocError>
+    ensures { IfOk result (λ u. out.new.items ≡ out.old.items ++ numbered word.now number) }
+{
+    out.extend_from_slice(word)?;
+    push_long(out, number)?;
+    Ok(())
 }

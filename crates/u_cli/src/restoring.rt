@@ -37,7 +37,7 @@ fn restored<'a>(
 }
 
 /// The fault that is told of a run that was refused.
-fn fault_of(refusal: Refusal) -> CommandError
+pub(crate) fn fault_of(refusal: Refusal) -> CommandError
     ensures { result ≡ fault_of refusal }
 {
     match refusal {

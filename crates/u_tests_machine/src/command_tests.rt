@@ -7,7 +7,7 @@ use std::io::Read;
 use std::test::Fail;
 use u_cli::{
     CommandError, FIRING_LIMIT, INPUT_LIMIT, STORED_PROGRAM, argument_of, check_text, firings_of,
-    read_input, run_text, write_whole,
+    number_of, read_input, run_text, trace_text, world_text, write_whole,
 };
 use u_plain::examples::DOUBLE;
 
@@ -119,6 +119,18 @@ fn tells_of_writes(alloc: Global, count: usize) -> bool {
         && plain.left == 0
 }
 
+/// Whether a trace and a world are told to fail behind so many bytes, all of which were written.
+fn tells_of_longer_writes(alloc: Global, count: usize) -> bool {
+    let mut trace = Torn { left: count };
+    let mut world = Torn { left: count };
+    let traced = trace_text(alloc, STORED_PROGRAM, b"4", b"a 8", &mut trace);
+    let told = world_text(alloc, STORED_PROGRAM, b"4", 2, 1, 10, &mut world);
+    matches!(traced, Err(CommandError::NotWritten))
+        && matches!(told, Err(CommandError::NotWritten))
+        && trace.left == 0
+        && world.left == 0
+}
+
 #[test]
 fn torn_inputs_and_outputs_are_told(rt: HostRuntime) {
     for count in [0, 1, 4095, 4096, 4097, 10_000] {
@@ -126,6 +138,7 @@ fn torn_inputs_and_outputs_are_told(rt: HostRuntime) {
     }
     for count in [0, 1, 11] {
         assert!(rt; tells_of_writes(rt.alloc(), count), "{count} bytes");
+        assert!(rt; tells_of_longer_writes(rt.alloc(), count), "{count} bytes");
     }
 }
 
@@ -160,6 +173,22 @@ const NUMBERS: &[(&str, Option<usize>)] = &[
     ("1e3", None),
 ];
 
+/// Words for numbers from 0 to a greatest one, with the numbers that they are.
+const NUMBERS_FROM_ZERO: &[(&str, u64, Option<u64>)] = &[
+    ("0", 9, Some(0)),
+    ("9", 9, Some(9)),
+    ("10", 9, None),
+    ("100000", 100_000, Some(100_000)),
+    ("100001", 100_000, None),
+    ("18446744073709551615", u64::MAX, Some(u64::MAX)),
+    ("18446744073709551616", u64::MAX, None),
+    ("", 9, None),
+    ("00", 9, None),
+    ("05", 9, None),
+    ("+5", 9, None),
+    ("5 ", 9, None),
+];
+
 #[test]
 fn words_are_numbers(rt: HostRuntime) {
     for (word, number) in ARGUMENTS {
@@ -167,6 +196,9 @@ fn words_are_numbers(rt: HostRuntime) {
     }
     for (word, number) in NUMBERS {
         assert!(rt; firings_of(word) == *number, "{word}");
+    }
+    for (word, most, number) in NUMBERS_FROM_ZERO {
+        assert!(rt; *most >= 9 && number_of(word, *most) == *number, "{word}");
     }
 }
 
@@ -181,6 +213,13 @@ const FAULTS: &[(CommandError, &str, u8)] = &[
     (CommandError::CutShort, "program cut short", 2),
     (CommandError::ArgumentNotAllowed, "argument not allowed", 2),
     (CommandError::InputTooLong, "input too long", 2),
+    (
+        CommandError::EntryNotAllowed(3),
+        "entry not allowed at byte 3",
+        2,
+    ),
+    (CommandError::EntryNotHeld, "entry not held", 3),
+    (CommandError::Full, "full", 4),
     (CommandError::NoMemory, "no memory", 5),
     (CommandError::NotReadable, "not readable", 5),
     (CommandError::NotWritten, "not written", 5),

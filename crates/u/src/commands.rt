@@ -1,0 +1,128 @@
+//! What each command does: it reads FILE, or standard input at the word `stdin`, and writes to standard
+//! output. Each returns the exit status.
+ghost use Rattle.std.specs.Prelude.{◌≤◌};
+ghost use Rattle.u_cli.specs.Numbers.{IsReplicas};
+
+use std::{fs, io};
+use u_cli::{
+    CommandError, STORED_PROGRAM, check_text, read_input, restore_text, run_text, save_text,
+    trace_text, world_text,
+};
+
+/// The argument of the stored run, and how often it may fire.
+const STORED_ARGUMENT: &[u8] = b"4";
+
+const STORED_FIRINGS: usize = 100_000;
+
+/// Runs the stored program.
+pub fn stored(rt: &HostRuntime) -> Result<u8, CommandError> {
+    let mut out = io::writer(rt);
+    run_text(
+        rt.alloc(),
+        STORED_PROGRAM,
+        STORED_ARGUMENT,
+        STORED_FIRINGS,
+        &mut out,
+    )
+}
+
+/// `check FILE`.
+pub fn check(rt: &HostRuntime, file: &str) -> Result<u8, CommandError> {
+    let program = read_file(rt, file)?;
+    check_text(rt.alloc(), &program, &mut io::writer(rt))
+}
+
+/// `run FILE ARG`, with so many firings at most.
+pub fn run(rt: &HostRuntime, file: &str, argument: &str, firings: usize) -> Result<u8, CommandError>
+    requires { firings ≤ 1000000 }
+{
+    let program = read_file(rt, file)?;
+    let mut out = io::writer(rt);
+    run_text(rt.alloc(), &program, argument.as_bytes(), firings, &mut out)
+}
+
+/// `save FILE ARG`, with so many firings at most.
+pub fn save(
+    rt: &HostRuntime,
+    file: &str,
+    argument: &str,
+    firings: usize,
+) -> Result<u8, CommandError>
+    requires { firings ≤ 1000000 }
+{
+    let program = read_file(rt, file)?;
+    let mut out = io::writer(rt);
+    save_text(rt.alloc(), &program, argument.as_bytes(), firings, &mut out)
+}
+
+/// `restore FILE ARG CHECKPOINT`.
+pub fn restore(
+    rt: &HostRuntime,
+    file: &str,
+    argument: &str,
+    checkpoint: &str,
+) -> Result<u8, CommandError> {
+    let program = read_file(rt, file)?;
+    let saved = read_path(rt, checkpoint)?;
+    let mut out = io::writer(rt);
+    restore_text(rt.alloc(), &program, argument.as_bytes(), &saved, &mut out)
+}
+
+/// `trace FILE ARG ENTRY`.
+pub fn trace(
+    rt: &HostRuntime,
+    file: &str,
+    argument: &str,
+    entry: &str,
+) -> Result<u8, CommandError> {
+    let program = read_file(rt, file)?;
+    let mut out = io::writer(rt);
+    trace_text(
+        rt.alloc(),
+        &program,
+        argument.as_bytes(),
+        entry.as_bytes(),
+        &mut out,
+    )
+}
+
+/// `world FILE ARG`, with 1 to 8 replicas and so many random events of that seed.
+pub fn world(
+    rt: &HostRuntime,
+    file: &str,
+    argument: &str,
+    replicas: u8,
+    seed: u64,
+    events: usize,
+) -> Result<u8, CommandError>
+    requires { IsReplicas replicas }
+{
+    let program = read_file(rt, file)?;
+    let mut out = io::writer(rt);
+    let argument = argument.as_bytes();
+    world_text(
+        rt.alloc(),
+        &program,
+        argument,
+        replicas,
+        seed,
+        events,
+        &mut out,
+    )
+}
+
+/// All bytes of FILE, or of standard input at the word `stdin`.
+fn read_file(rt: &HostRuntime, file: &str) -> Result<Vec<u8>, CommandError> {
+    if file == "stdin" {
+        return read_input(rt.alloc(), rt.stdin());
+    }
+    read_path(rt, file)
+}
+
+/// All bytes of the file with this path.
+fn read_path(rt: &HostRuntime, path: &str) -> Result<Vec<u8>, CommandError> {
+    match fs::open(rt, path) {
+        Ok(opened) => read_input(rt.alloc(), opened),
+        Err(_) => Err(CommandError::NotReadable),
+    }
+}

@@ -1,0 +1,15 @@
+-- Numbers on the command line.
+use Rattle.std.specs.Prelude.{◌≡◌, ℕ, ◌≤◌, List}
+use Rattle.std.specs.Fmt.{decimal}
+
+-- how many firings a run may be given: from one to a million
+abbrev pub IsFirings : ℕ → Type 0
+IsFirings n = (1 ≤ n) × (n ≤ 1000000)
+
+-- the word is the decimal text of the number
+abbrev pub IsNumberText : ℕ → List ℕ → Type 0
+IsNumberText n word = word ≡ decimal n
+
+-- how many replicas a world has
+abbrev pub IsReplicas : ℕ → Type 0
+IsReplicas n = (1 ≤ n) × (n ≤ 8)

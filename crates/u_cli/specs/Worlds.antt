@@ -1,0 +1,121 @@
+-- What `world` answers to the bytes of a program, the word of an argument, how many replicas and events there
+-- are, and the seed of the events.
+use Rattle.std.specs.Prelude.{◌≡◌, ℕ, zero, suc, ◌+◌, ◌-◌, ◌⊎◌, List, [], ◌∷◌, ◌++◌, Option, Result, Ok, Err, codes, length}
+use Rattle.std.specs.Io.KnownBytes.{Keeps}
+use Rattle.u_check.specs.Jobs.{JobParts}
+use Rattle.u_machine.specs.State.{State, IsMachine}
+use Rattle.u_machine.specs.Calls.{RunAnswer}
+use Rattle.u_machine.specs.declared.answer.Ran.{Ran}
+use Rattle.u_machine.specs.declared.answer.Refusal.TheVariants as refusals
+use Rattle.u_replica.specs.ReplicaState.{ReplicaState}
+use Rattle.u_world.specs.declared.event.Event.{Event}
+use Rattle.u_world.specs.declared.event.Event.TheVariants as events
+use Rattle.u_world.specs.declared.refused.WorldError.TheVariants as errors
+use Rattle.u_world.specs.WorldState.{WorldState, At, fresh_world}
+use Rattle.u_world.specs.Runs.{Steps, RunAnswer as EventsAnswer}
+use Rattle.u_world.specs.Random.{random_list}
+use Rattle.u_cli.specs.Outputs.{WritesAll, WritesPrefix, numbered}
+use Rattle.u_cli.specs.Runs.{JobRefused, ReportsMachine, state_of}
+use Rattle.u_cli.specs.Restores.{HasJob}
+use Rattle.u_cli.specs.declared.command_error.CommandError.{CommandError}
+use Rattle.u_cli.specs.declared.command_error.CommandError.TheVariants as faults
+
+-- how many firings a replica of a world takes at most, and how many the first one fires in the end
+unfoldable pub most_held : ℕ
+most_held = 100000
+
+-- `replica K firings N parked P entries E`
+unfoldable pub replica_line : ReplicaState → List ℕ
+replica_line r =
+    numbered (codes "replica ") r.number
+    ++ (numbered (codes " firings ") (length r.machine.log)
+    ++ (numbered (codes " parked ") (length r.machine.parked)
+    ++ (numbered (codes " entries ") (length r.machine.history) ++ (10 ∷ []))))
+
+-- a line for each replica
+abbrev pub replica_lines : List ReplicaState → List ℕ
+replica_lines [] = []
+replica_lines (r ∷ rs) = replica_line r ++ replica_lines rs
+
+-- replica 1 merges so many others, in the order of their numbers
+abbrev pub merges : ℕ → List Event
+merges zero = []
+merges (suc k) = merges k ++ (events.Merge 1 (k + 2) ∷ [])
+
+-- no event of the list is one that cannot be done
+abbrev pub AreDoable : WorldState → List Event → Type 0
+AreDoable w es = (place : ℕ) (new : WorldState) → EventsAnswer w es (Err (errors.BadEvent place)) new → ⊥
+
+-- one of the events finds a replica full, or there is no memory
+abbrev pub EventsRefused : WorldState → List Event → CommandError → Type 0
+EventsRefused w es faults.Full = (place : ℕ) × (new : WorldState) × EventsAnswer w es (Err (errors.Full place)) new
+EventsRefused w es faults.NoMemory = Unit {0}
+EventsRefused w es fault = ⊥
+
+-- a world of n new replicas of the job, after so many random events of that seed
+abbrev pub HappensAtRandom : JobParts → (n seed count : ℕ) → WorldState → Type 0
+HappensAtRandom job n seed count w = Steps (fresh_world job most_held n) (random_list seed n count) w
+
+-- the first replica of a world, once it merged the others
+pub record Gathers (w : WorldState) (first : ReplicaState) : Type 0 where
+  pub gathered : WorldState
+  pub merged : Steps w (merges (length w.replicas - 1)) gathered
+  pub at : At gathered.replicas 1 first
+
+-- the report and the status of a machine that fires what it can, so many at most
+pub record EndsAlone (old : State) (report : List ℕ) (status : ℕ) : Type 0 where
+  pub end : Ran
+  pub machine : State
+  pub is_machine : IsMachine machine
+  pub ran : RunAnswer old most_held (Ok end) machine
+  pub reported : ReportsMachine machine (state_of end) report status
+
+-- it fires until it is full, or there is no memory
+abbrev pub EndRefused : State → CommandError → Type 0
+EndRefused old faults.Full = (new : State) × RunAnswer old most_held (Err refusals.Full) new
+EndRefused old faults.NoMemory = Unit {0}
+EndRefused old fault = ⊥
+
+-- The lines of a world's replicas, and behind them the report and the status of the first one, once it merged
+-- the others and fired what it could.
+pub record TellsEnd (w : WorldState) (written : List ℕ) (status : ℕ) : Type 0 where
+  pub first : ReplicaState
+  pub gathers : Gathers w first
+  pub report : List ℕ
+  pub ends : EndsAlone first.machine report status
+  pub is : written ≡ replica_lines w.replicas ++ report
+
+-- a replica is full as the first one merges the others, or as it fires in the end; or there is no memory
+abbrev pub EndsRefused : WorldState → CommandError → Type 0
+EndsRefused w faults.Full =
+    EventsRefused w (merges (length w.replicas - 1)) faults.Full
+    ⊎ ((first : ReplicaState) × Gathers w first × EndRefused first.machine faults.Full)
+EndsRefused w faults.NoMemory = Unit {0}
+EndsRefused w fault = ⊥
+
+-- what is told of a world of the job after the random events
+pub record TellsWorld (job : JobParts) (n seed count : ℕ) (written : List ℕ) (status : ℕ) : Type 0 where
+  pub after : WorldState
+  pub happened : HappensAtRandom job n seed count after
+  pub tells : TellsEnd after written status
+
+-- a replica is full at a random event, at a merge, or as the first one fires in the end
+abbrev pub HasFullReplica : JobParts → (n seed count : ℕ) → Type 0
+HasFullReplica job n seed count =
+    EventsRefused (fresh_world job most_held n) (random_list seed n count) faults.Full
+    ⊎ ((after : WorldState) × HappensAtRandom job n seed count after × EndsRefused after faults.Full)
+
+-- why nothing is told of a job's world
+abbrev pub WorldRefused : JobParts → (n seed count : ℕ) → CommandError → Type 0
+WorldRefused job n seed count faults.Full = HasFullReplica job n seed count
+WorldRefused job n seed count faults.NoMemory = Unit {0}
+WorldRefused job n seed count fault = ⊥
+
+abbrev pub Tells : List ℕ → List ℕ → (n seed count : ℕ) → List ℕ → ℕ → Type 0
+Tells bytes word n seed count written status = HasJob bytes word (λ job. TellsWorld job n seed count written status)
+
+-- what stands before and after, for each answer; it refuses what `run` refuses, and then a full replica
+abbrev pub WorldTextAnswer : List ℕ → List ℕ → (n seed count : ℕ) → Option (List ℕ) → Result ℕ CommandError → Option (List ℕ) → Type 0
+WorldTextAnswer bytes word n seed count old (Ok status) new = (written : List ℕ) × Tells bytes word n seed count written status × WritesAll old new written
+WorldTextAnswer bytes word n seed count old (Err faults.NotWritten) new = (written : List ℕ) × (status : ℕ) × Tells bytes word n seed count written status × WritesPrefix old new written
+WorldTextAnswer bytes word n seed count old (Err fault) new = (JobRefused bytes word fault ⊎ HasJob bytes word (λ job. WorldRefused job n seed count fault)) × Keeps old new

@@ -1,0 +1,212 @@
+//! The command `world`.
+ghost use Rattle.std.specs.Prelude.{◌≡◌, ◌≤◌, ◌-◌, ◌++◌, IfOk, MatchResult, length};
+ghost use Rattle.u_name.specs.Context.{IsBetween};
+ghost use Rattle.u_world.specs.WorldState.{fresh_world};
+ghost use Rattle.u_world.specs.Runs.{Steps};
+ghost use Rattle.u_world.specs.Random.{random_list};
+ghost use Rattle.u_cli.specs.Worlds.{most_held, replica_line, replica_lines, merges};
+ghost use Rattle.u_cli.specs.Worlds.{AreDoable, EventsRefused, HappensAtRandom, Gathers};
+ghost use Rattle.u_cli.specs.Worlds.{EndsAlone, EndRefused, TellsEnd, EndsRefused};
+ghost use Rattle.u_cli.specs.Worlds.{TellsWorld, WorldRefused, WorldTextAnswer};
+
+use crate::command_error::CommandError;
+use crate::output::{push_numbered, write_whole};
+use crate::restoring::fault_of;
+use crate::run::{job_of, state_of, told};
+use std::alloc::{AllocError, Global};
+use std::io::Write;
+use u_check::Job;
+use u_replica::Replica;
+use u_world::{Event, World, WorldError, random_events};
+
+/// How many firings a replica of a world takes at most, and how many the first one fires in the end.
+pub const WORLD_FIRINGS: usize = 100_000;
+
+/// Lets the events happen. None of them is one that cannot be done.
+fn run_events(world: &mut World<'_>, events: &[Event]) -> Result<(), CommandError>
+    requires { AreDoable world.old events.now }
+    ensures { MatchResult result (λ u. Steps world.old events.now world.new)
+        (λ fault. EventsRefused world.old events.now fault) }
+{
+    match world.run(events) {
+        Ok(()) => Ok(()),
+        Err(WorldError::Full(_)) => Err(CommandError::Full),
+        Err(WorldError::NoMemory(_)) => Err(CommandError::NoMemory),
+        Err(WorldError::BadEvent(_)) => unreachable!(),
+    }
+}
+
+/// A world of so many replicas of the job, after so many random events.
+fn happened<'a>(
+    alloc: Global,
+    job: &'a Job,
+    replicas: u8,
+    seed: u64,
+    events: usize,
+) -> Result<World<'a>, CommandError>
+    requires { IsBetween 1 replicas 8 }
+    ensures { MatchResult result (λ w. HappensAtRandom job.now replicas seed events w)
+        (λ fault. EventsRefused (fresh_world job.now most_held replicas)
+        (random_list seed replicas events) fault) }
+{
+    let mut world = World::new(alloc, job, replicas, WORLD_FIRINGS)?;
+    let events = random_events(alloc, seed, replicas, events)?;
+    match run_events(&mut world, &events) {
+        Ok(()) => Ok(world),
+        Err(fault) => Err(fault),
+    }
+}
+
+/// Appends the line that tells of a replica.
+#[tactic(auto, unfolding(crate::specs::Worlds::replica_line), using(crate::proofs::Gathering::join5))]
+fn push_replica(line: &mut Vec<u8>, number: u8, replica: &Replica<'_>) -> Result<(), AllocError>
+    requires { number ≡ replica.now.number }
+    ensures { IfOk result (λ u. line.new.items ≡ line.old.items ++ replica_line replica.now) }
+{
+    let machine = replica.machine();
+    push_numbered(line, b"replica ", u64::from(number))?;
+    push_numbered(line, b" firings ", machine.applied().len() as u64)?;
+    push_numbered(line, b" parked ", machine.parked().len() as u64)?;
+    push_numbered(line, b" entries ", machine.history().len() as u64)?;
+    line.push(b'\n')?;
+    Ok(())
+}
+
+/// A line for each replica, in the order of their numbers.
+fn replica_lines(alloc: Global, world: &World<'_>) -> Result<Vec<u8>, AllocError>
+    ensures { IfOk result (λ v. v.items ≡ replica_lines world.now.replicas) }
+{
+    world.holds();
+    let mut lines = Vec::new(alloc);
+    for place in 0..world.count() as u8 {
+        push_replica(&mut lines, place + 1, world.replica(place + 1))?;
+    }
+    Ok(lines)
+}
+
+/// The events by which replica 1 merges the others, in the order of their numbers.
+fn merges(alloc: Global, replicas: u8) -> Result<Vec<Event>, AllocError>
+    requires { 1 ≤ replicas }
+    ensures { IfOk result (λ events. events.items ≡ merges (replicas - 1)) }
+{
+    let mut events = Vec::new(alloc);
+    for other in 1..replicas {
+        events.push(Event::Merge {
+            replica: 1,
+            other: other + 1,
+        })?;
+    }
+    Ok(events)
+}
+
+/// Replica 1, once it merged the others.
+fn first_of<'a>(alloc: Global, mut world: World<'a>) -> Result<Replica<'a>, CommandError>
+    ensures { MatchResult result (λ first. Gathers world.entry first)
+        (λ fault. EventsRefused world.entry (merges (length world.entry.replicas - 1)) fault) }
+{
+    world.holds();
+    let events = merges(alloc, world.count() as u8)?;
+    match run_events(&mut world, &events) {
+        Ok(()) => {
+            world.holds();
+            Ok(world.into_replica(1))
+        }
+        Err(fault) => Err(fault),
+    }
+}
+
+/// The report of a replica that fires 100,000 times at most, and the exit status.
+fn ended(alloc: Global, replica: &mut Replica<'_>) -> Result<(Vec<u8>, u8), CommandError>
+    ensures { MatchResult result
+        (λ p. EndsAlone replica.old.machine p.0.items p.1)
+        (λ fault. EndRefused replica.old.machine fault) }
+{
+    let ran = replica.run(WORLD_FIRINGS);
+    replica.holds();
+    let state = match ran {
+        Ok(ran) => state_of(ran),
+        Err(refusal) => return Err(fault_of(refusal)),
+    };
+    let told = told(alloc, replica.machine(), state)?;
+    Ok(told)
+}
+
+/// The lines, and the report behind them.
+fn behind_lines(mut lines: Vec<u8>, report: &[u8]) -> Result<Vec<u8>, AllocError>
+    ensures { IfOk result (λ v. v.items ≡ lines.items ++ report.now) }
+{
+    lines.extend_from_slice(report)?;
+    Ok(lines)
+}
+
+/// What is told of a world in the end, and the exit status.
+fn told_of(alloc: Global, world: World<'_>) -> Result<(Vec<u8>, u8), CommandError>
+    ensures { MatchResult result
+        (λ p. TellsEnd world.entry p.0.items p.1)
+        (λ fault. EndsRefused world.entry fault) }
+{
+    let lines = replica_lines(alloc, &world)?;
+    let mut first = match first_of(alloc, world) {
+        Ok(first) => first,
+        Err(fault) => return Err(fault),
+    };
+    let (report, status) = match ended(alloc, &mut first) {
+        Ok(told) => told,
+        Err(fault) => return Err(fault),
+    };
+    let written = behind_lines(lines, &report)?;
+    Ok((written, status))
+}
+
+/// What is told of a world of the job, and the exit status.
+fn world_job(
+    alloc: Global,
+    job: &Job,
+    replicas: u8,
+    seed: u64,
+    events: usize,
+) -> Result<(Vec<u8>, u8), CommandError>
+    requires { IsBetween 1 replicas 8 }
+    ensures { MatchResult result
+        (λ p. TellsWorld job.now replicas seed events p.0.items p.1)
+        (λ fault. WorldRefused job.now replicas seed events fault) }
+{
+    let world = match happened(alloc, job, replicas, seed, events) {
+        Ok(world) => world,
+        Err(fault) => return Err(fault),
+    };
+    told_of(alloc, world)
+}
+
+/// Lets so many random events happen in a world of so many replicas of the program with this text, on
+/// the argument that the word gives; each replica takes 100,000 firings at most. Writes a line for each
+/// replica, and then the report of replica 1, once it merged the others in the order of their numbers
+/// and fired 100,000 times at most. The same seed gives the same events. `replicas` is 1 to 8, `events`
+/// at most 100,000. Answers the exit status, that of `run_text`.
+///
+/// # Errors
+/// As `run_text`, and `Full` where a replica has no room for a firing that it takes or fires: nothing
+/// is written. `NotWritten`: a prefix is written.
+pub fn world_text<W: Write>(
+    alloc: Global,
+    program: &[u8],
+    argument: &[u8],
+    replicas: u8,
+    seed: u64,
+    events: usize,
+    writer: &mut W,
+) -> Result<u8, CommandError>
+    requires { IsBetween 1 replicas 8 }
+    ensures { WorldTextAnswer program.now argument.now replicas seed events
+        (W.contents writer.old) result (W.contents writer.new) }
+{
+    let job = job_of(alloc, program, argument)?;
+    let (written, status) = match world_job(alloc, &job, replicas, seed, events) {
+        Ok(told) => told,
+        Err(fault) => return Err(fault),
+    };
+    match write_whole(writer, &written) {
+        Ok(()) => Ok(status),
+        Err(_) => Err(CommandError::NotWritten),
+    }
+}
