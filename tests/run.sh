@@ -238,6 +238,22 @@ for file in programs/*.u; do
     fi
 done
 
+# What `explain` says of each program of tests/explain: the line that `check` says, without its `u: `, and
+# behind it what stands beside the program. The exit status is that of `check`.
+for file in tests/explain/*.u; do
+    "$binary" check "$file" >/dev/null 2>"$temp/said"
+    status=$?
+    sed 's/^u: //' "$temp/said" | cat -- - "${file%.u}.out" >"$temp/wanted"
+    "$binary" explain "$file" >"$temp/got" 2>"$temp/err"
+    if [ $? -eq "$status" ] && [ ! -s "$temp/err" ] && cmp -s -- "$temp/wanted" "$temp/got"; then
+        passed=$((passed + 1))
+    else
+        failed=$((failed + 1))
+        echo "FAILED: what is said of $file"
+        diff -- "$temp/wanted" "$temp/got" | sed 's/^/  /'
+    fi
+done
+
 # The example of docs/LIBRARY.md is part of a program that the gate runs.
 if sed -n '/^```rust$/,/^```$/p' docs/LIBRARY.md | sed '1d;$d' |
     cmp -s -- - <(sed -n '/^\/\/\/ How many firings a short sum/,/^\/\/\/ Has the machine .* prints/p' \

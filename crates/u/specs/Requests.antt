@@ -3,18 +3,20 @@ use Rattle.std.specs.Prelude.{◌≡◌, ℕ, ◌≤◌, List, [], Option, Some,
 use Rattle.clap.specs.Words.{first_value}
 use Rattle.clap.specs.declared.parser.matches.Found.{Found}
 use Rattle.u.specs.declared.words.Request.{Request}
-use Rattle.u.specs.declared.words.Request.TheVariants.{Stored, Check, Run, Save, Restore, Trace, World}
+use Rattle.u.specs.declared.words.Request.TheVariants.{Stored, Check, Explain, Run, Save, Restore, Trace, Waits, World}
 use Rattle.u_cli.specs.Numbers.{IsFirings, IsReplicas, IsNumberText}
 
--- the numbers of a request are in their ranges: what runs or saves may fire from one to a million times,
+-- the numbers of a request are in their ranges: what runs may fire from one to a million times,
 -- and a world has one to eight replicas and at most a hundred thousand events
 abbrev pub IsInRange : Request → Type 0
 IsInRange Stored = Unit {0}
 IsInRange (Check file) = Unit {0}
+IsInRange (Explain file) = Unit {0}
 IsInRange (Run file argument firings) = IsFirings firings
 IsInRange (Save file argument firings) = IsFirings firings
 IsInRange (Restore file argument checkpoint) = Unit {0}
 IsInRange (Trace file argument entry) = Unit {0}
+IsInRange (Waits file argument firings) = IsFirings firings
 IsInRange (World file argument replicas seed events) = IsReplicas replicas × (events ≤ 100000)
 
 abbrev pub text_or_none : Option (List ℕ) → List ℕ
@@ -29,6 +31,11 @@ word_of found name = text_or_none (first_value found name)
 abbrev pub IsCheckRequest : Found → Request → Type 0
 IsCheckRequest found (Check file) = file.now ≡ word_of found (codes "FILE")
 IsCheckRequest found request = ⊥
+
+-- an explanation, with the word that was found for it
+abbrev pub IsExplainRequest : Found → Request → Type 0
+IsExplainRequest found (Explain file) = file.now ≡ word_of found (codes "FILE")
+IsExplainRequest found request = ⊥
 
 -- these are the words that were found for FILE, ARG and the number of firings
 abbrev pub AreRunWords : Found → List ℕ → List ℕ → ℕ → Type 0
@@ -63,6 +70,11 @@ IsTraceRequest found (Trace file argument entry) =
     × (argument.now ≡ word_of found (codes "ARG"))
     × (entry.now ≡ word_of found (codes "ENTRY"))
 IsTraceRequest found request = ⊥
+
+-- what waits, with the words that were found for it
+abbrev pub IsWaitsRequest : Found → Request → Type 0
+IsWaitsRequest found (Waits file argument firings) = AreRunWords found file.now argument.now firings
+IsWaitsRequest found request = ⊥
 
 -- a world, with the words that were found for it
 abbrev pub IsWorldRequest : Found → Request → Type 0

@@ -3,10 +3,11 @@
 ghost use Rattle.std.specs.Prelude.{◌≤◌};
 ghost use Rattle.u_cli.specs.Numbers.{IsReplicas};
 
+use std::io::Read;
 use std::{fs, io};
 use u_cli::{
-    CommandError, STORED_PROGRAM, check_text, read_input, restore_text, run_text, save_text,
-    trace_text, world_text,
+    CommandError, STORED_PROGRAM, check_text, explain_text, read_input, restore_text, run_text,
+    save_text, trace_text, waits_text, world_text,
 };
 
 /// The argument of the stored run, and how often it may fire.
@@ -30,6 +31,34 @@ pub fn stored(rt: &HostRuntime) -> Result<u8, CommandError> {
 pub fn check(rt: &HostRuntime, file: &str) -> Result<u8, CommandError> {
     let program = read_file(rt, file)?;
     check_text(rt.alloc(), &program, &mut io::writer(rt))
+}
+
+/// `explain FILE`. Where FILE can't be read, its path and the system's own words for the cause stand
+/// behind `not readable`.
+pub fn explain(rt: &HostRuntime, file: &str) -> Result<u8, CommandError> {
+    match read_file(rt, file) {
+        Ok(program) => explain_text(rt.alloc(), &program, &mut io::writer(rt)),
+        Err(CommandError::NotReadable) if file != "stdin" => not_readable(rt, file),
+        Err(fault) => Err(fault),
+    }
+}
+
+/// Says why the file with this path can't be read.
+fn not_readable(rt: &HostRuntime, path: &str) -> Result<u8, CommandError> {
+    let fault = CommandError::NotReadable;
+    match first_byte(rt, path) {
+        Ok(_) => Err(fault),
+        Err(error) => {
+            let _ = eprintln!(rt; "u: {fault}: {path}: {error}");
+            Ok(fault.status())
+        }
+    }
+}
+
+/// Reads one byte of the file with this path, if it has any.
+fn first_byte(rt: &HostRuntime, path: &str) -> Result<usize, io::Error> {
+    let mut opened = fs::open(rt, path)?;
+    opened.read(&mut [0])
 }
 
 /// `run FILE ARG`, with so many firings at most.
@@ -84,6 +113,20 @@ pub fn trace(
         entry.as_bytes(),
         &mut out,
     )
+}
+
+/// `waits FILE ARG`, after so many firings at most.
+pub fn waits(
+    rt: &HostRuntime,
+    file: &str,
+    argument: &str,
+    firings: usize,
+) -> Result<u8, CommandError>
+    requires { firings ≤ 1000000 }
+{
+    let program = read_file(rt, file)?;
+    let mut out = io::writer(rt);
+    waits_text(rt.alloc(), &program, argument.as_bytes(), firings, &mut out)
 }
 
 /// `world FILE ARG`, with 1 to 8 replicas and so many random events of that seed.

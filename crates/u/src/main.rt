@@ -65,6 +65,7 @@ fn follow(rt: &HostRuntime, request: Request<'_>) -> Result<u8, CommandError>
     match request {
         Request::Stored => commands::stored(rt),
         Request::Check { file } => commands::check(rt, file),
+        Request::Explain { file } => commands::explain(rt, file),
         Request::Run {
             file,
             argument,
@@ -85,6 +86,11 @@ fn follow(rt: &HostRuntime, request: Request<'_>) -> Result<u8, CommandError>
             argument,
             entry,
         } => commands::trace(rt, file, argument, entry),
+        Request::Waits {
+            file,
+            argument,
+            firings,
+        } => commands::waits(rt, file, argument, firings),
         Request::World {
             file,
             argument,

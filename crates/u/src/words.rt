@@ -2,6 +2,7 @@
 ghost use Rattle.std.specs.Prelude.{◌≡◌, IfOk, IfSome, codes};
 ghost use Rattle.clap.specs.Words.{found_of};
 ghost use Rattle.u.specs.Requests.{IsInRange, IsCheckRequest, IsRunRequest, IsSaveRequest, IsRestoreRequest, IsTraceRequest, IsWorldRequest, word_of};
+ghost use Rattle.u.specs.Requests.{IsExplainRequest, IsWaitsRequest};
 ghost use Rattle.u_cli.specs.Numbers.{IsFirings, IsReplicas, IsNumberText};
 
 use clap::error::ErrorKind;
@@ -11,6 +12,12 @@ use u_cli::{firings_of, number_of};
 
 /// The word of the command that checks.
 const CHECK: &str = "check";
+
+/// The word of the command that explains.
+const EXPLAIN: &str = "explain";
+
+/// The word of the command that says what waits.
+const WAITS: &str = "waits";
 
 /// The word of the command that saves.
 const SAVE: &str = "save";
@@ -47,6 +54,10 @@ pub enum Request<'a> {
     Check {
         file: &'a str,
     },
+    /// `explain FILE`.
+    Explain {
+        file: &'a str,
+    },
     /// `run FILE ARG`: at most `firings` firings, from 1 to 1000000.
     Run {
         file: &'a str,
@@ -71,6 +82,12 @@ pub enum Request<'a> {
         argument: &'a str,
         entry: &'a str,
     },
+    /// `waits FILE ARG`: what waits after at most `firings` firings, from 1 to 1000000.
+    Waits {
+        file: &'a str,
+        argument: &'a str,
+        firings: usize,
+    },
     /// `world FILE ARG`: 1 to 8 replicas, and at most 100000 random events.
     World {
         file: &'a str,
@@ -91,9 +108,11 @@ pub fn parse<'a>(alloc: Global, words: &'a [String]) -> Result<Request<'a>, Erro
     match matches.subcommand() {
         None => Ok(Request::Stored),
         Some((name, check)) if name == CHECK => Ok(check_request(check)),
+        Some((name, explain)) if name == EXPLAIN => Ok(explain_request(explain)),
         Some((name, save)) if name == SAVE => save_request(alloc, save),
         Some((name, restore)) if name == RESTORE => Ok(restore_request(restore)),
         Some((name, trace)) if name == TRACE => Ok(trace_request(trace)),
+        Some((name, waits)) if name == WAITS => waits_request(alloc, waits),
         Some((name, world)) if name == WORLD => world_request(alloc, world),
         Some((_, run)) => run_request(alloc, run),
     }
@@ -113,6 +132,15 @@ fn check_request<'a>(matches: &ArgMatches<'a>) -> Request<'a>
 {
     let file = text(matches, "FILE");
     Request::Check { file }
+}
+
+/// The words of `explain`.
+fn explain_request<'a>(matches: &ArgMatches<'a>) -> Request<'a>
+    ensures { IsExplainRequest (found_of matches.now) result }
+{
+    Request::Explain {
+        file: text(matches, "FILE"),
+    }
 }
 
 /// The words of `run`.
@@ -162,6 +190,20 @@ fn trace_request<'a>(matches: &ArgMatches<'a>) -> Request<'a>
         file: text(matches, "FILE"),
         argument: text(matches, "ARG"),
         entry: text(matches, "ENTRY"),
+    }
+}
+
+/// The words of `waits`.
+fn waits_request<'a>(alloc: Global, matches: &ArgMatches<'a>) -> Result<Request<'a>, Error>
+    ensures { IfOk result (λ o. IsWaitsRequest (found_of matches.now) o) }
+{
+    match firings(matches) {
+        Some(firings) => Ok(Request::Waits {
+            file: text(matches, "FILE"),
+            argument: text(matches, "ARG"),
+            firings,
+        }),
+        None => Err(other_spelling(alloc, waits(alloc, "u waits"), matches, "firings", "N")?),
     }
 }
 
@@ -244,10 +286,12 @@ fn commands<'a>(alloc: Global) -> Result<Command<'a>, AllocError> {
         .after_help(STATUSES)
         .disable_help_subcommand(true)
         .subcommand(check(alloc)?)?
+        .subcommand(explain(alloc)?)?
         .subcommand(run(alloc, "run")?)?
         .subcommand(save(alloc, SAVE)?)?
         .subcommand(restore(alloc)?)?
         .subcommand(trace(alloc)?)?
+        .subcommand(waits(alloc, WAITS)?)?
         .subcommand(world(alloc, WORLD)?)
 }
 
@@ -255,6 +299,13 @@ fn check<'a>(alloc: Global) -> Result<Command<'a>, AllocError> {
     Command::new(alloc, CHECK)
         .about("Checks the program and prints how many blocks and statements it has")
         .after_help("Example: ./u check programs/double.u")
+        .arg(file(alloc))
+}
+
+fn explain<'a>(alloc: Global) -> Result<Command<'a>, AllocError> {
+    Command::new(alloc, EXPLAIN)
+        .about("Says where and why the program is refused, in more words than check")
+        .after_help("Example: ./u explain programs/double.u")
         .arg(file(alloc))
 }
 
@@ -296,6 +347,15 @@ fn trace<'a>(alloc: Global) -> Result<Command<'a>, AllocError> {
         .arg(file(alloc))?
         .arg(argument(alloc))?
         .arg(entry)
+}
+
+fn waits<'a>(alloc: Global, name: &'a str) -> Result<Command<'a>, AllocError> {
+    Command::new(alloc, name)
+        .about("Runs the program and prints what waits: for a token, or for the write of a cell")
+        .after_help("Example: ./u waits programs/sum.u 3 --firings 10")
+        .arg(file(alloc))?
+        .arg(argument(alloc))?
+        .arg(most_firings(alloc))
 }
 
 fn world<'a>(alloc: Global, name: &'a str) -> Result<Command<'a>, AllocError> {

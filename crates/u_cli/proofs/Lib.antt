@@ -7,3 +7,4 @@ pub mod Saved
 pub mod Restored
 pub mod Gathering
 pub mod Traced
+pub mod Waited

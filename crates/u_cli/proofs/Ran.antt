@@ -14,10 +14,9 @@ use Rattle.u_machine.specs.Calls.{RunAnswer}
 use Rattle.u_machine.proofs.States.{settled_is_Cl}
 use Rattle.u_machine.proofs.Runs.{run_done}
 use Rattle.u_history.specs.declared.report.Ending.{Ending}
-use Rattle.u_history.specs.declared.report.Ending.TheVariants as states
 use Rattle.u_history.specs.Report.{IsReportOf}
 use Rattle.u_history.proofs.Reports.{report_same, outcome_same}
-use Rattle.u_cli.specs.Runs.{IsReportedRun, IsStatusOf, ReportsMachine, ReportsRunOfJob, state_of}
+use Rattle.u_cli.specs.Runs.{RunsTo, IsReportedRun, IsStatusOf, ReportsMachine, ReportsRunOfJob, state_of}
 
 -- one set, two predicates: one status
 status_same : (H K : Entry → Type 0) → Same H K → (s : _) (n : ℕ) → IsStatusOf H s n → IsStatusOf K s n
@@ -47,29 +46,40 @@ none_parked : (new : State) (s : Ending) (report : List ℕ) → new.parked ≡ 
 none_parked new s report e r = subst (λ (fs : FiringList). IsReportOf (Contains new.history) s (length new.log) (length fs) report) e r
 
 module _ (old new : State) (budget : ℕ) (log : old.log ≡ []) (parked : old.parked ≡ []) (is : IsMachine new) where
-  pub ran_run : (end : Ran) (report : List ℕ) (status : ℕ) → RunAnswer old budget (Ok end) new → ReportsMachine new (state_of end) report status → IsReportedRun old.job budget (state_of end) new.log report status
-  ran_run ran.Quiet report status a r =
-      let d = run_done old new budget ran.Quiet a log parked is.sound in
-      record {
-        plain = d.0.plain;
-        reported = report_same (Contains new.history) (Held (system_of old.job) new.log) d.0.held states.Quiet (length new.log) 0 report (none_parked new states.Quiet report d.0.parked r.reported);
-        ended = status_same (Contains new.history) (Held (system_of old.job) new.log) d.0.held states.Quiet status r.ended;
-        whole = λ e. d.1 refl;
-        all = λ e. rw d.0.job at (none_left new is a.3 d.0.parked a.4);
-        many = λ e. absurd (cc);
-        more = λ e. absurd (cc);
-      }
-  ran_run ran.Paused report status a r =
+  -- the machine's log is the run, and its history is what the log holds
+  pub ran_to : (end : Ran) → RunAnswer old budget (Ok end) new → RunsTo old.job budget (state_of end) new.log × Same (Contains new.history) (Held (system_of old.job) new.log)
+  ran_to ran.Quiet a =
+      let d = run_done old new budget ran.Quiet a log parked is.sound in (
+        record {
+          plain = d.0.plain;
+          whole = λ e. d.1 refl;
+          all = λ e. rw d.0.job at (none_left new is a.3 d.0.parked a.4);
+          many = λ e. absurd (cc);
+          more = λ e. absurd (cc);
+        },
+        d.0.held,
+      )
+  ran_to ran.Paused a =
       let d = run_done old new budget ran.Paused a log parked is.sound in
-      let p = a.1.alone parked in
+      let p = a.1.alone parked in (
+        record {
+          plain = d.0.plain;
+          whole = λ e. absurd (cc);
+          all = λ e. absurd (cc);
+          many = λ e. ap length (p.0 ∙ ap (λ (xs : FiringList). xs ++ a.0) log) ∙ a.2;
+          more = λ e. rw d.0.job at (some_left new is a.3 d.0.parked a.4);
+        },
+        d.0.held,
+      )
+
+  ran_run : (end : Ran) (report : List ℕ) (status : ℕ) → RunAnswer old budget (Ok end) new → ReportsMachine new (state_of end) report status → IsReportedRun old.job budget (state_of end) new.log report status
+  ran_run end report status a r =
+      let d = run_done old new budget end a log parked is.sound in
+      let to = ran_to end a in
       record {
-        plain = d.0.plain;
-        reported = report_same (Contains new.history) (Held (system_of old.job) new.log) d.0.held states.Paused (length new.log) 0 report (none_parked new states.Paused report d.0.parked r.reported);
-        ended = status_same (Contains new.history) (Held (system_of old.job) new.log) d.0.held states.Paused status r.ended;
-        whole = λ e. absurd (cc);
-        all = λ e. absurd (cc);
-        many = λ e. ap length (p.0 ∙ ap (λ (xs : FiringList). xs ++ a.0) log) ∙ a.2;
-        more = λ e. rw d.0.job at (some_left new is a.3 d.0.parked a.4);
+        run = to.0;
+        reported = report_same (Contains new.history) (Held (system_of old.job) new.log) to.1 (state_of end) (length new.log) 0 report (none_parked new (state_of end) report d.0.parked r.reported);
+        ended = status_same (Contains new.history) (Held (system_of old.job) new.log) to.1 (state_of end) status r.ended;
       }
 
 -- the same for a machine that was new for this job

@@ -4,8 +4,10 @@ pub mod Inputs
 pub mod Arguments
 pub mod Numbers
 pub mod Checks
+pub mod Explains
 pub mod Runs
 pub mod Saves
 pub mod Restores
 pub mod Worlds
 pub mod Traces
+pub mod Waits

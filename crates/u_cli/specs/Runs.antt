@@ -49,18 +49,21 @@ pub record ReportsMachine (m : State) (state : Ending) (report : List ℕ) (stat
   pub reported : IsReportOf (Contains m.history) state (length m.log) (length m.parked) report
   pub ended : IsStatusOf (Contains m.history) state status
 
--- fs is the plain run of the job: each firing the least that is enabled and new, so many at most.
--- The report and the status are those of what fs holds; no firing is parked.
-pub record IsReportedRun (job : JobParts) (firings : ℕ) (state : Ending) (fs : List Firing) (report : List ℕ) (status : ℕ) : Type 0 where
+-- fs is the plain run of the job: each firing the least that is enabled and new, so many at most
+pub record RunsTo (job : JobParts) (firings : ℕ) (state : Ending) (fs : List Firing) : Type 0 where
   pub plain : Plain (system_of job) firing_le firings fs
-  pub reported : IsReportOf (Held (system_of job) fs) state (length fs) 0 report
-  pub ended : IsStatusOf (Held (system_of job) fs) state status
-  -- where it says quiet, it is the whole history, and fs has every firing that is enabled over it
+  -- where it is quiet, fs holds the whole history, and has every firing that is enabled over it
   pub whole : state ≡ states.Quiet → Same (Held (system_of job) fs) (Whole (system_of job))
   pub all : state ≡ states.Quiet → (f : Firing) → Enabled (system_of job) (Held (system_of job) fs) f → Contains fs f
-  -- where it says paused, it fired as often as it may, and more is enabled
+  -- where it is paused, it fired as often as it may, and more is enabled
   pub many : state ≡ states.Paused → length fs ≡ firings
   pub more : state ≡ states.Paused → (f : Firing) × Enabled (system_of job) (Held (system_of job) fs) f × (Contains fs f → ⊥)
+
+-- The report and the status of such a run: those of what fs holds; no firing is parked.
+pub record IsReportedRun (job : JobParts) (firings : ℕ) (state : Ending) (fs : List Firing) (report : List ℕ) (status : ℕ) : Type 0 where
+  pub run : RunsTo job firings state fs
+  pub reported : IsReportOf (Held (system_of job) fs) state (length fs) 0 report
+  pub ended : IsStatusOf (Held (system_of job) fs) state status
 
 -- some run of the job, with its report and its status
 pub record ReportsRunOfJob (job : JobParts) (firings : ℕ) (report : List ℕ) (status : ℕ) : Type 0 where

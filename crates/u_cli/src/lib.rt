@@ -4,6 +4,7 @@
 mod argument;
 mod checking;
 mod command_error;
+mod explaining;
 mod input;
 mod number;
 mod output;
@@ -11,11 +12,13 @@ mod restoring;
 mod run;
 mod saving;
 mod tracing;
+mod waiting;
 mod worlds;
 
 pub use argument::argument_of;
 pub use checking::check_text;
 pub use command_error::CommandError;
+pub use explaining::explain_text;
 pub use input::{INPUT_LIMIT, read_input};
 pub use number::{firings_of, number_of};
 pub use output::{Unwritten, write_whole};
@@ -23,6 +26,7 @@ pub use restoring::{RESTORED_FIRINGS, restore_text};
 pub use run::{FIRING_LIMIT, run_text};
 pub use saving::save_text;
 pub use tracing::trace_text;
+pub use waiting::waits_text;
 pub use worlds::{WORLD_FIRINGS, world_text};
 
 /// The program that runs where no word is given: it doubles its argument.

@@ -37,7 +37,7 @@ pub(crate) fn job_of(alloc: Global, bytes: &[u8], word: &[u8]) -> Result<Job, Co
 }
 
 /// The exit status of a report with that state and verdict.
-fn status(state: Ending, verdict: Verdict<'_>) -> u8
+pub(crate) fn status(state: Ending, verdict: Verdict<'_>) -> u8
     ensures { result ≡ status_of state (judgement verdict.entry) }
 {
     match (state, verdict) {

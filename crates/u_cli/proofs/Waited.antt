@@ -1,0 +1,64 @@
+-- What a new machine that ran waits for.
+use Rattle.std.proofs.Common.{◌≡◌, ◌∙◌, ap, refl, subst, ℕ, List, [], ◌++◌, append_assoc, Contains, Ok, map}
+use Rattle.u_check.specs.Jobs.{JobParts}
+use Rattle.u_system.specs.Firing.{Held, Same}
+use Rattle.u_rule.specs.Rule.{system_of}
+use Rattle.u_rule.specs.declared.entry.Entry.{Entry}
+use Rattle.u_machine.specs.declared.answer.Ran.{Ran}
+use Rattle.u_machine.specs.State.{State, state, IsMachine}
+use Rattle.u_machine.specs.Calls.{RunAnswer}
+use Rattle.u_machine.proofs.Runs.{run_done}
+use Rattle.u_history.specs.declared.outcome.Outcome.{Outcome}
+use Rattle.u_history.specs.declared.report.Ending.{Ending}
+use Rattle.u_history.specs.Clashes.{cell_pairs, port_values}
+use Rattle.u_history.specs.OutcomeParts.{IsOutcomeOf, judged_of}
+use Rattle.u_history.specs.Report.{verdict_line}
+use Rattle.u_history.specs.Verdicts.{Judgement}
+use Rattle.u_waits.specs.Answers.{AreWaits}
+use Rattle.u_waits.specs.Text.{waits_text}
+use Rattle.u_waits.specs.declared.answer.Waiting.{Waiting}
+use Rattle.u_cli.specs.Statuses.{status_of}
+use Rattle.u_cli.specs.Runs.{RunsTo, state_of}
+use Rattle.u_cli.specs.Waits.{TellsWaits, WaitsAfterRun}
+use Rattle.u_cli.proofs.Ran.{ran_to}
+
+pub join2 : (o a b n1 n2 : List ℕ) → n1 ≡ o ++ a → n2 ≡ n1 ++ b → n2 ≡ o ++ (a ++ b)
+join2 o a b n1 n2 p q = rw (q, p) (append_assoc o a b)
+
+pub join4 : (o a b c d n1 n2 n3 n4 : List ℕ) → n1 ≡ o ++ a → n2 ≡ n1 ++ b → n3 ≡ n2 ++ c → n4 ≡ n3 ++ d → n4 ≡ o ++ (a ++ (b ++ (c ++ d)))
+join4 o a b c d n1 n2 n3 n4 p q r s = rw (s, r, q, p) (simp append_assoc)
+
+pub waits_after : (job : JobParts) (limit : ℕ) (h : List Entry) (old new : State) (budget : ℕ) (end : Ran) (written : List ℕ) (status : ℕ) → old ≡ state job limit [] [] h → IsMachine new → RunAnswer old budget (Ok end) new → TellsWaits new.job (Contains new.history) (state_of end) written status → WaitsAfterRun job budget written status
+waits_after job limit h old new budget end written status e is a told =
+    let log = ap (λ (m : State). m.log) e in
+    let parked = ap (λ (m : State). m.parked) e in
+    let same = ap (λ (m : State). m.job) e in
+    let done = run_done old new budget end a log parked is.sound in
+    let to = ran_to old new budget log parked is end a in
+    record {
+      state = state_of end;
+      fs = new.log;
+      run = subst (λ (j : JobParts). RunsTo j budget (state_of end) new.log) same to.0;
+      history = new.history;
+      held = subst (λ (j : JobParts). Same (Contains new.history) (Held (system_of j) new.log)) same to.1;
+      told = subst (λ (j : JobParts). TellsWaits j (Contains new.history) (state_of end) written status) (done.0.job ∙ same) told;
+    }
+
+-- the lines of what waits over a machine's history, and the verdict on it
+pub tells_waits : (m : State) (end : Ending) (es : List Entry) (job : JobParts) (o : Outcome) (w : Waiting) (told judged : Judgement) (none lines written : List ℕ) (status : ℕ) → es ≡ m.history → job ≡ m.job → IsOutcomeOf (Contains es) o → AreWaits job (Contains es) w → told ≡ judged_of o → judged ≡ judged_of o → none ≡ [] → lines ≡ none ++ waits_text w → written ≡ lines ++ verdict_line told → status ≡ status_of end judged → TellsWaits m.job (Contains m.history) end written status
+tells_waits m end es job o w told judged none lines written status same of said exact t j empty l text ended =
+    record {
+      waits = w;
+      exact = subst (λ (p : JobParts). AreWaits p (Contains m.history) w) of (subst (λ (xs : List Entry). AreWaits job (Contains xs) w) same exact);
+      verdict = judged_of o;
+      judged = record {
+        answers = o.answers;
+        cells = map cell_pairs o.cell_clashes;
+        ports = map port_values o.port_clashes;
+        faults = o.faults;
+        outcome = subst (λ (xs : List Entry). IsOutcomeOf (Contains xs) o) same said;
+        is = refl;
+      };
+      is = text ∙ ap (λ (xs : List ℕ). xs ++ verdict_line told) (l ∙ ap (λ (xs : List ℕ). xs ++ waits_text w) empty) ∙ ap (λ (v : Judgement). waits_text w ++ verdict_line v) t;
+      ended = ended ∙ ap (λ (v : Judgement). status_of end v) j;
+    }
