@@ -1,5 +1,5 @@
 //! Sets of entries.
-ghost use Rattle.std.specs.Prelude.{◌≡◌, ◌↔◌, ◌++◌, [], ◌∷◌, OnOk, OnErr, IfOk, IfErr, Contains, ◌⊎◌, IsTrue, length, map};
+ghost use Rattle.std.specs.Prelude.{◌≡◌, ◌↔◌, ◌++◌, [], OnOk, OnErr, IfOk, IfErr, Contains, ◌⊎◌, IsTrue, length, map};
 ghost use Rattle.std.specs.Map.Iter.{deref};
 ghost use Rattle.u_sets.specs.Rising.{Rises, IsListOf};
 ghost use Rattle.u_sets.specs.Members.{IsWith, IsUnion};
@@ -7,9 +7,8 @@ ghost use Rattle.u_rule.specs.EntryOrder.{entry_cmp};
 ghost use Rattle.u_rule.specs.declared.entry.Entry.{Entry};
 ghost use Rattle.u_history.specs.Orders.{value_order, written_order};
 ghost use Rattle.u_text.specs.Appending.{Extends};
-ghost use Rattle.u_rule.specs.EntryText.{entry_text};
 ghost use Rattle.u_history.specs.Text.{history_text};
-ghost use Rattle.u_history.specs.Outcomes.{PairIn, ValueAt, lent};
+ghost use Rattle.u_history.specs.Outcomes.{PairIn, ValueAt};
 ghost use Rattle.u_history.specs.OutcomeParts.{IsOutcomeOf};
 
 use crate::lookup::{pairs_in, values_at};
@@ -18,7 +17,7 @@ use std::alloc::{AllocError, AllocFailed, Global};
 use std::marker::Model;
 use u_name::{Cell, Name};
 use u_rule::{Entry, Written};
-use u_sets::ListedSet;
+use u_sets::OrderedSet;
 use u_text::cut_back;
 use u_value::Value;
 
@@ -26,7 +25,7 @@ use u_value::Value;
 #[derive(Drop)]
 pub struct History {
     alloc: Global,
-    entries: ListedSet<Entry>,
+    entries: OrderedSet<Entry>,
 }
 
 impl Model for History {
@@ -53,7 +52,7 @@ impl History {
     {
         History {
             alloc,
-            entries: ListedSet::new(alloc),
+            entries: OrderedSet::new(alloc),
         }
     }
 
@@ -91,7 +90,7 @@ impl History {
         ensures all { IfOk result (λ v. map (deref {X = Entry}) v.items ≡ self.now) }
         ensures rises { Rises entry_cmp self.now }
     {
-        self.entries.in_order(self.alloc)
+        self.entries.iter().collect(self.alloc)
     }
 
     /// Copies of the entries, in order.
@@ -102,8 +101,11 @@ impl History {
         ensures all { IfOk result (λ v. v.items ≡ self.now) }
         ensures rises { Rises entry_cmp self.now }
     {
-        let entries = self.references()?;
-        copies(self.alloc, &entries)
+        let mut all = Vec::new(self.alloc);
+        for entry in self.entries.iter() {
+            all.push(entry.copy()?)?;
+        }
+        Ok(all)
     }
 
     /// The values of the tokens at that port of the activity, in order.
@@ -132,13 +134,16 @@ impl History {
 
     /// Appends the text of each entry, in order, with a newline behind it. On an error a part of it
     /// may stand there.
-    #[tactic(auto, using(u_text::proofs::AppendingLaws::extends_same))]
+    #[tactic(auto, using(u_text::proofs::AppendingLaws::extends_by, u_text::proofs::AppendingLaws::extends_behind))]
     fn append(&self, out: &mut Vec<u8>) -> Result<(), AllocError>
         ensures ok { OnOk result (out.new.items ≡ out.old.items ++ history_text self.now) }
         ensures err { OnErr result (Extends out.old.items out.new.items) }
     {
-        let entries = self.references()?;
-        push_lines(out, &entries)
+        for entry in self.entries.iter() {
+            entry.write_text(out)?;
+            out.push(b'\n')?;
+        }
+        Ok(())
     }
 
     /// Appends the text of each entry, in order, with a newline behind it.
@@ -166,21 +171,14 @@ impl History {
         Outcome::of(self.alloc, &entries)
     }
 
-    /// Puts copies of the entries in.
-    fn put_all(&mut self, entries: &[Entry]) -> Result<(), AllocError>
-        ensures { OnOk result (IsUnion self.old entries.now self.new) }
-    {
-        for entry in entries {
-            let _ = self.insert(entry.copy()?)?;
-        }
-        Ok(())
-    }
-
     /// Puts copies of the other set's entries in.
     fn take_in(&mut self, other: &History) -> Result<(), AllocError>
         ensures { OnOk result (IsUnion self.old other.now self.new) }
     {
-        self.put_all(other.entries.as_slice())
+        for entry in other.entries.iter() {
+            let _ = self.insert(entry.copy()?)?;
+        }
+        Ok(())
     }
 
     /// An equal set.
@@ -208,39 +206,4 @@ impl History {
         *self = union;
         Ok(())
     }
-}
-
-/// Equal entries, in the same order.
-fn copies(alloc: Global, entries: &[&Entry]) -> Result<Vec<Entry>, AllocError>
-    ensures { IfOk result (λ v. v.items ≡ lent entries.now) }
-{
-    let mut all = Vec::new(alloc);
-    for entry in entries {
-        all.push(entry.copy()?)?;
-    }
-    Ok(all)
-}
-
-/// Appends the text of the entry, with a newline behind it. On an error a part of it may stand there.
-#[tactic(auto, using(u_text::proofs::AppendingLaws::extends_by, u_text::proofs::AppendingLaws::extends_behind, u_text::proofs::AppendingLaws::extends_same))]
-fn push_line(out: &mut Vec<u8>, entry: &Entry) -> Result<(), AllocError>
-    ensures ok { OnOk result
-        (out.new.items ≡ out.old.items ++ (entry_text entry.now ++ (10 ∷ []))) }
-    ensures err { OnErr result (Extends out.old.items out.new.items) }
-{
-    entry.write_text(out)?;
-    out.push(b'\n')?;
-    Ok(())
-}
-
-/// Appends the text of each entry, with a newline behind it. On an error a part of it may stand there.
-#[tactic(auto, using(u_text::proofs::AppendingLaws::extends_behind))]
-fn push_lines(out: &mut Vec<u8>, entries: &[&Entry]) -> Result<(), AllocError>
-    ensures ok { OnOk result (out.new.items ≡ out.old.items ++ history_text (lent entries.now)) }
-    ensures err { OnErr result (Extends out.old.items out.new.items) }
-{
-    for entry in entries {
-        push_line(out, entry)?;
-    }
-    Ok(())
 }

@@ -40,13 +40,14 @@ module _ (job : JobParts) (limit : ℕ) where
     lies = λ e m. elim (Contains-cons_cases (system_of job).start e [] m) [ inl p ↦ subst (Cl (system_of job) (Contains [])) p (Cl-start (system_of job) (Contains [])) | inr n ↦ absurd (Contains-nil e n) ];
   }
 
-  pub fresh_log : IsLogged job limit [] 0 [] ((system_of job).start ∷ [])
+  pub fresh_log : IsLogged job limit [] 0 [] [] ((system_of job).start ∷ [])
   fresh_log = record {
     is = fresh;
     place = omega arith;
     derivation = Derivation-nil (system_of job);
     apart = tt;
     begun = λ f m. absurd (Contains-nil f m);
+    same = λ f. ((λ m. m), λ m. m);
     lies = λ e m. elim (Contains-cons_cases (system_of job).start e [] m) [ inl p ↦ subst (Held (system_of job) []) p (Held-start (system_of job) []) | inr n ↦ absurd (Contains-nil e n) ];
   }
 

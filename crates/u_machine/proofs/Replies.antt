@@ -20,7 +20,7 @@ use Rattle.u_machine.proofs.Settled.{kept_ready, not_both}
 use Rattle.u_machine.proofs.Lists.{slice_get_mid, slice_get_Contains}
 
 -- the firing at that place of the ready ones
-pub pick_of : (old p : Parts) (k : Invariant p) (st : p.done ≡ length p.log) → Rises firing_cmp p.ready → Applies (state_of old) (state_of p) → (pick count : ℕ) (f : Firing) → count ≡ length p.ready → slice_get p.ready (pick % count) ≡ Some f → IsPick (state_of old) pick f × IsReady (state_of p) f
+pub pick_of : (old p : Parts) (k : Invariant p) (st : p.done ≡ length p.log.items) → Rises firing_cmp p.ready → Applies (state_of old) (state_of p) → (pick count : ℕ) (f : Firing) → count ≡ length p.ready → slice_get p.ready (pick % count) ≡ Some f → IsPick (state_of old) pick f × IsReady (state_of p) f
 pick_of old p k st r ap_old pick count f n at = (
   (p.ready, are_ready_before (state_of old) (state_of p) ap_old p.ready (kept_ready p k st r), subst (λ (m : ℕ). slice_get p.ready (pick % m) ≡ Some f) n at),
   (kept_ready p k st r).0 f (slice_get_Contains p.ready (pick % count) f at),

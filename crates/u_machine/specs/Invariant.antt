@@ -6,30 +6,27 @@ use Rattle.u_rule.specs.Rule.{system_of}
 use Rattle.u_rule.specs.EntryOrder.{FiringList, EntryList}
 use Rattle.u_rule.specs.declared.entry.Entry.{Entry}
 use Rattle.u_rule.specs.declared.firing.Firing.{Firing}
-use Rattle.u_system.specs.Firing.{Held, Enabled, Derivation, Distinct}
+use Rattle.u_system.specs.Firing.{Held, Enabled, Derivation, Distinct, Same}
 use Rattle.u_machine.specs.State.{State, state, IsSound}
 use Rattle.u_machine.specs.declared.parts.Parts.{Parts}
 
 -- The first `done` firings of the log were applied: all that they give has entered. The others of the
 -- log are being applied, and count as parked until they are.
 abbrev pub state_of : Parts → State
-state_of p = state p.job.now p.limit (take p.done p.log) p.parked p.history
-
--- the taken firings
-abbrev pub taken_of : Parts → FiringList
-taken_of p = take p.done p.log ++ p.parked
+state_of p = state p.job.now p.limit (take p.done p.log.items) p.parked p.history
 
 -- the firings of the matcher's last answer that are still to be sorted out
 abbrev pub left_of : Parts → FiringList
 left_of p = drop p.sorted p.found.items
 
--- the log, and the parked firings
-pub record IsLogged (job : JobParts) (limit : ℕ) (log : FiringList) (done : ℕ) (parked : FiringList) (history : EntryList) : Type 0 where
+-- the log, and the sets of taken and of parked firings
+pub record IsLogged (job : JobParts) (limit : ℕ) (log : FiringList) (done : ℕ) (taken parked : FiringList) (history : EntryList) : Type 0 where
   pub is : IsSound (state job limit (take done log) parked history)
   pub place : done ≤ length log
   pub derivation : Derivation (system_of job) log
   pub apart : Distinct log
   pub begun : (f : Firing) → Contains (drop done log) f → Contains parked f
+  pub same : Same (Contains taken) (Contains (take done log ++ parked))
   pub lies : (e : Entry) → Contains history e → Held (system_of job) log e
 
 -- the matcher has the entries of the history but one at most, which is `late`
@@ -51,14 +48,14 @@ pub record IsIdle (left : FiringList) (late : Option Entry) : Type 0 where
   pub matched : late ≡ None
 
 pub record Invariant (p : Parts) : Type 0 where
-  pub logged : IsLogged p.job.now p.limit p.log p.done p.parked p.history
+  pub logged : IsLogged p.job.now p.limit p.log.items p.done p.taken p.parked p.history
   pub matched : IsMatched p.history p.matcher p.late
-  pub sorted : IsSorted p.job.now p.log (taken_of p) p.ready (left_of p) p.matcher
-  pub idle : p.done ≡ length p.log → IsIdle (left_of p) p.late
+  pub sorted : IsSorted p.job.now p.log.items p.taken p.ready (left_of p) p.matcher
+  pub idle : p.done ≡ length p.log.items → IsIdle (left_of p) p.late
 
 -- the firing that is being applied gives the entry
 abbrev pub Gives : Parts → Entry → Type 0
-Gives p e = (f : Firing) × (slice_get p.log p.done ≡ Some f) × Contains ((system_of p.job.now).gives f) e
+Gives p e = (f : Firing) × (slice_get p.log.items p.done ≡ Some f) × Contains ((system_of p.job.now).gives f) e
 
 -- the list goes on
 abbrev pub Lengthens : FiringList → FiringList → Type 0
@@ -68,4 +65,4 @@ Lengthens old new = (rest : FiringList) × (new ≡ old ++ rest)
 pub record GoesOn (old new : Parts) : Type 0 where
   pub job : new.job.now ≡ old.job.now
   pub done : new.done ≡ old.done
-  pub log : Lengthens old.log new.log
+  pub log : Lengthens old.log.items new.log.items

@@ -9,7 +9,6 @@
 ghost use Rattle.std.specs.Prelude.{◌≡◌, ◌<◌, ◌+◌, [], ◌∷◌, OnOk, IfOk, IsOk, Contains, length, drop, None};
 ghost use Rattle.u_rule.specs.Rule.{system_of};
 ghost use Rattle.u_rule.specs.declared.entry.Entry.{Entry};
-ghost use Rattle.u_machine.specs.State.{Taken};
 ghost use Rattle.u_machine.specs.Calls.{Applies};
 ghost use Rattle.u_machine.specs.Invariant.{state_of, left_of, Invariant, IsIdle, Gives, GoesOn, Lengthens};
 
@@ -72,7 +71,7 @@ impl<'a> Parts<'a> {
         requires kept { Invariant self.old }
         requires next { left_of self.old
             ≡ firing ∷ drop (self.old.sorted + 1) self.old.found.items }
-        requires taken { Taken (state_of self.old) firing }
+        requires taken { Contains self.old.taken firing }
         ensures kept { Invariant self.new }
         ensures same { state_of self.new ≡ state_of self.old }
         ensures goes { GoesOn self.old self.new }
@@ -80,7 +79,7 @@ impl<'a> Parts<'a> {
             × (self.new.late ≡ self.old.late) }
         ensures ok { OnOk result (self.new.sorted ≡ self.old.sorted + 1) }
     {
-        self.log.insert(firing)?;
+        self.log.push(firing)?;
         self.sorted += 1;
         Ok(())
     }
@@ -90,7 +89,7 @@ impl<'a> Parts<'a> {
         requires kept { Invariant self.old }
         requires next { left_of self.old
             ≡ firing ∷ drop (self.old.sorted + 1) self.old.found.items }
-        requires new { Taken (state_of self.old) firing → ⊥ }
+        requires new { Contains self.old.taken firing → ⊥ }
         ensures kept { Invariant self.new }
         ensures same { state_of self.new ≡ state_of self.old }
         ensures goes { GoesOn self.old self.new }
@@ -116,7 +115,7 @@ impl<'a> Parts<'a> {
         ensures ok { OnOk result (self.new.sorted ≡ self.old.sorted + 1) }
     {
         let firing = self.found[self.sorted].copy(self.alloc)?;
-        if self.knows(&firing) {
+        if self.taken.contains(&firing) {
             self.begin_next(firing)?;
             return Ok(());
         }
@@ -194,7 +193,7 @@ impl<'a> Parts<'a> {
     fn close(&mut self)
         requires kept { Invariant self.old }
         requires idle { IsIdle (left_of self.old) self.old.late }
-        requires some { self.old.done < length self.old.log }
+        requires some { self.old.done < length self.old.log.items }
         requires all { (e : Entry) → Gives self.old e → Contains self.old.history e }
         ensures kept { Invariant self.new }
         ensures applies { Applies (state_of self.old) (state_of self.new) }
@@ -202,7 +201,7 @@ impl<'a> Parts<'a> {
         ensures idle { IsIdle (left_of self.new) self.new.late }
         ensures done { self.new.done ≡ self.old.done + 1 }
     {
-        self.parked.remove(&self.log.as_slice()[self.done]);
+        self.parked.remove(&self.log[self.done]);
         self.done += 1;
     }
 
@@ -210,14 +209,14 @@ impl<'a> Parts<'a> {
     fn apply_next(&mut self) -> Result<(), AllocError>
         requires kept { Invariant self.old }
         requires idle { IsIdle (left_of self.old) self.old.late }
-        requires some { self.old.done < length self.old.log }
+        requires some { self.old.done < length self.old.log.items }
         ensures kept { Invariant self.new }
         ensures applies { Applies (state_of self.old) (state_of self.new) }
-        ensures log { Lengthens self.old.log self.new.log }
+        ensures log { Lengthens self.old.log.items self.new.log.items }
         ensures idle { OnOk result (IsIdle (left_of self.new) self.new.late) }
         ensures done { OnOk result (self.new.done ≡ self.old.done + 1) }
     {
-        let given = given_by(self.alloc, self.job, &self.log.as_slice()[self.done])?;
+        let given = given_by(self.alloc, self.job, &self.log[self.done])?;
         self.enter_all(&given)?;
         self.close();
         Ok(())
@@ -228,9 +227,9 @@ impl<'a> Parts<'a> {
         requires { Invariant self.old }
         ensures kept { Invariant self.new }
         ensures applies { Applies (state_of self.old) (state_of self.new) }
-        ensures log { Lengthens self.old.log self.new.log }
-        ensures ok { OnOk result (self.new.done ≡ length self.new.log) }
-        ensures still { self.old.done ≡ length self.old.log
+        ensures log { Lengthens self.old.log.items self.new.log.items }
+        ensures ok { OnOk result (self.new.done ≡ length self.new.log.items) }
+        ensures still { self.old.done ≡ length self.old.log.items
             → IsOk result × (self.new ≡ self.old) }
     {
         if self.is_settled() {

@@ -48,7 +48,7 @@ impl<'a> Parts<'a> {
     /// Whether nothing is ready. All that was begun is applied.
     fn is_quiet(&self) -> bool
         requires kept { Invariant self.now }
-        requires settled { self.now.done ≡ length self.now.log }
+        requires settled { self.now.done ≡ length self.now.log.items }
         ensures quiet { IsTrue result → NothingReady (state_of self.now) }
         ensures ready { IsFalse result → (f : Firing) × IsReady (state_of self.now) f }
     {

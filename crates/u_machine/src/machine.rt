@@ -123,7 +123,7 @@ impl<'a> Machine<'a> {
     pub fn applied(&self) -> &[Firing]
         ensures { result.now ≡ self.now.log }
     {
-        &self.parts.log.as_slice()[..self.parts.done]
+        &self.parts.log[..self.parts.done]
     }
 
     /// The firings that were taken and not applied, in order.

@@ -13,7 +13,7 @@ use u_check::Job;
 use u_history::History;
 use u_match::Matcher;
 use u_rule::{Entry, Firing, start};
-use u_sets::{OrderedSet, PlacedSet};
+use u_sets::{HashedSet, OrderedSet};
 
 /// The parts of a machine.
 #[derive(Drop)]
@@ -23,9 +23,10 @@ pub(crate) struct Parts<'a> {
     /// The greatest number of taken firings.
     pub(crate) limit: usize,
     /// The applied firings, and behind them those that are being applied.
-    pub(crate) log: PlacedSet<Firing>,
+    pub(crate) log: Vec<Firing>,
     /// How many firings of the log were applied.
     pub(crate) done: usize,
+    pub(crate) taken: HashedSet<Firing>,
     /// The firings that were taken and not applied.
     pub(crate) parked: OrderedSet<Firing>,
     /// The firings that are enabled and not taken.
@@ -68,8 +69,9 @@ impl<'a> Parts<'a> {
             alloc,
             job,
             limit,
-            log: PlacedSet::new(alloc),
+            log: Vec::new(alloc),
             done: 0,
+            taken: HashedSet::new(alloc),
             parked: OrderedSet::new(alloc),
             ready,
             found: Vec::new(alloc),
@@ -84,7 +86,7 @@ impl<'a> Parts<'a> {
     pub(crate) fn is_settled(&self) -> bool
         requires { Invariant self.now }
         ensures settled { IsTrue result ↔ IsSettled (state_of self.now) }
-        ensures done { IsTrue result ↔ (self.now.done ≡ length self.now.log) }
+        ensures done { IsTrue result ↔ (self.now.done ≡ length self.now.log.items) }
     {
         if self.done < self.log.len() {
             return false;

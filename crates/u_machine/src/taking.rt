@@ -13,36 +13,35 @@ ghost use Rattle.u_machine.specs.Invariant.{state_of, Invariant};
 
 use crate::answer::{ListRefusal, TakeRefusal, Took};
 use crate::parts::Parts;
+use crate::room::push_into_room;
 use std::alloc::{AllocError, Global};
 use u_check::Job;
 use u_rule::{Firing, is_firing};
-use u_sets::{OrderedSet, PlacedSet};
+use u_sets::{HashedSet, OrderedSet};
 
-/// Parks a copy of the firing and puts another one at the end of the log, or does neither.
-pub fn park_and_log(
+/// Puts copies of the firing into both sets, or into neither.
+pub fn put_in_both(
     alloc: Global,
+    taken: &mut HashedSet<Firing>,
     parked: &mut OrderedSet<Firing>,
-    log: &mut PlacedSet<Firing>,
     firing: &Firing,
 ) -> Result<(), AllocError>
+    requires taken { Contains taken.old firing.now → ⊥ }
     requires parked { Contains parked.old firing.now → ⊥ }
-    requires log { Contains log.old firing.now → ⊥ }
+    ensures taken { OnOk result (IsWith taken.old firing.now taken.new) }
     ensures parked { OnOk result (IsWith parked.old firing.now parked.new) }
     ensures rises { OnOk result (Rises firing_cmp parked.new) }
     ensures count { OnOk result (length parked.new ≡ length parked.old + 1) }
-    ensures log { OnOk result (log.new ≡ log.old ++ firing.now ∷ []) }
-    ensures still { OnErr result (parked.new ≡ parked.old) }
-    ensures err { OnErr result (log.new ≡ log.old) }
+    ensures still { OnErr result (Same (Contains taken.new) (Contains taken.old)) }
+    ensures err { OnErr result (parked.new ≡ parked.old) }
 {
-    // Brings in that the parked firings stand in order.
-    let _count = parked.len();
-    let waiting = firing.copy(alloc)?;
-    let logged = firing.copy(alloc)?;
-    parked.insert(waiting)?;
-    let Err(_) = log.insert(logged) else {
+    let first = firing.copy(alloc)?;
+    let second = firing.copy(alloc)?;
+    taken.insert(first)?;
+    let Err(_) = parked.insert(second) else {
         return Ok(());
     };
-    parked.remove(firing);
+    taken.remove(firing);
     Err(AllocError)
 }
 
@@ -65,13 +64,13 @@ impl<'a> Parts<'a> {
         requires { Invariant self.now }
         ensures { IsTrue result ↔ Taken (state_of self.now) firing.now }
     {
-        self.parked.contains(firing) || self.log.contains(firing)
+        self.taken.contains(firing)
     }
 
     /// Whether no further firing may be taken. All that was begun is applied.
     pub(crate) fn is_full(&self) -> bool
         requires kept { Invariant self.now }
-        requires settled { self.now.done ≡ length self.now.log }
+        requires settled { self.now.done ≡ length self.now.log.items }
         ensures full { IsTrue result → count_of (state_of self.now) ≡ self.now.limit }
         ensures room { IsFalse result → count_of (state_of self.now) < self.now.limit }
     {
@@ -82,7 +81,7 @@ impl<'a> Parts<'a> {
     /// whether it does.
     pub(crate) fn take_new(&mut self, firing: &Firing) -> Result<bool, AllocError>
         requires kept { Invariant self.old }
-        requires settled { self.old.done ≡ length self.old.log }
+        requires settled { self.old.done ≡ length self.old.log.items }
         requires new { Taken (state_of self.old) firing.now → ⊥ }
         requires firing { IsTrue ((system_of self.old.job.now).is_firing firing.now) }
         requires room { count_of (state_of self.old) < self.old.limit }
@@ -91,17 +90,18 @@ impl<'a> Parts<'a> {
         ensures err { OnErr result (state_of self.new ≡ state_of self.old) }
         ensures begins { IfOk result (λ b. Contains self.old.ready firing.now → IsTrue b) }
         ensures begun { IfOk result
-            (λ b. IsTrue b → self.new.log ≡ self.old.log ++ firing.now ∷ []) }
+            (λ b. IsTrue b → self.new.log.items ≡ self.old.log.items ++ firing.now ∷ []) }
         ensures parked { IfOk result
             (λ b. IsFalse b
-            → (Contains self.new.parked firing.now × (self.new.done ≡ length self.new.log))) }
+            → (Contains self.new.parked firing.now × (self.new.done ≡ length self.new.log.items))) }
     {
-        if !self.ready.contains(firing) {
-            self.parked.insert(firing.copy(self.alloc)?)?;
+        let logged = firing.copy(self.alloc)?;
+        self.log.reserve(1)?;
+        put_in_both(self.alloc, &mut self.taken, &mut self.parked, firing)?;
+        if !self.ready.remove(firing) {
             return Ok(false);
         }
-        park_and_log(self.alloc, &mut self.parked, &mut self.log, firing)?;
-        self.ready.remove(firing);
+        push_into_room(&mut self.log, logged);
         Ok(true)
     }
 
@@ -157,7 +157,7 @@ impl<'a> Parts<'a> {
     /// Whether so many more firings may be taken. All that was begun is applied.
     fn has_room(&self, more: usize) -> bool
         requires kept { Invariant self.now }
-        requires settled { self.now.done ≡ length self.now.log }
+        requires settled { self.now.done ≡ length self.now.log.items }
         ensures room { IsTrue result → count_of (state_of self.now) + more ≤ self.now.limit }
         ensures full { IsFalse result → self.now.limit < count_of (state_of self.now) + more }
     {

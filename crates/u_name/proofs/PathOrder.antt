@@ -7,7 +7,7 @@ use Rattle.std.specs.declared.cmp.Ordering.TheVariants.{Less, Equal, Greater}
 use Rattle.std.specs.Cmp.Lexicographic.{slice_cmp}
 use Rattle.std.specs.FinMap.{nat_cmp-IsAntisymmetric, slice_cmp-IsAntisymmetric}
 use Rattle.u_name.specs.declared.path.Frame.{Frame}
-use Rattle.u_name.specs.Context.{Tree, Top, InLoop, InCall, depth}
+use Rattle.u_name.specs.Context.{Tree, Top, InLoop, InCall}
 use Rattle.u_name.specs.ContextOrder.{context_cmp, parts_cmp}
 use Rattle.u_name.specs.Path.{frame, kinds, path}
 use Rattle.u_name.specs.contracts.path.FrameOrd.TheImpl as frame_ord
@@ -79,8 +79,3 @@ by_kinds x y h = unequal (slice_cmp nat_cmp (kinds x) (kinds y)) (slice_cmp fram
     unequal Less s h = refl
     unequal Equal s h = absurd (h refl)
     unequal Greater s h = refl
-
-pub kinds_deep : (t : Tree) → length (kinds t) ≡ depth t
-kinds_deep Top = refl
-kinds_deep (InLoop o b n i) = let h = kinds_deep o in omega arith
-kinds_deep (InCall o b n i) = let h = kinds_deep o in omega arith

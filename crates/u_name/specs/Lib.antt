@@ -6,11 +6,9 @@ pub mod ContextOrder
 pub mod ContextLaws
 pub mod ContextHash
 pub mod Path
-pub mod Digest
-pub mod LinkTree
-pub mod LinkDepth
+pub mod NodeTree
+pub mod NodeDepth
 pub mod Name
-pub mod NameLists
 pub mod NameOrder
 pub mod NameText
 pub mod NameReader

@@ -2,8 +2,6 @@
 -- the outermost inwards.
 use Rattle.std.specs.Prelude.{ℕ, List, [], ◌∷◌, ◌++◌}
 use Rattle.u_name.specs.declared.path.Frame.{Frame}
-use Rattle.u_name.specs.declared.context.Step.{Step}
-use Rattle.u_name.specs.declared.context.Step.TheVariants.{Loop, Call}
 use Rattle.u_name.specs.Context.{Tree, Top, InLoop, InCall}
 
 abbrev pub frame : List ℕ → ℕ → ℕ → Frame
@@ -19,12 +17,3 @@ abbrev pub path : Tree → List Frame
 path Top = []
 path (InLoop outer block number initiation) = path outer ++ frame block number initiation ∷ []
 path (InCall outer block statement initiation) = path outer ++ frame block statement initiation ∷ []
-
--- the kind, and the number of the loop or of the statement
-abbrev pub kind_by : Step → ℕ
-kind_by (Loop number) = 1
-kind_by (Call statement) = 2
-
-abbrev pub number_by : Step → ℕ
-number_by (Loop number) = number
-number_by (Call statement) = statement

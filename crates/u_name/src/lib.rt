@@ -7,14 +7,12 @@ mod cell;
 mod context;
 mod exact;
 mod name;
-mod names;
 mod path;
 mod reading;
 mod writing;
 
 pub use block_name::BlockName;
 pub use cell::Cell;
-pub use context::{Context, Node};
+pub use context::{Context, Node, Outer};
 pub use name::{Name, NameError};
-pub use names::Names;
 pub use reading::{Front, NameTextError, front_block, front_name};

@@ -273,7 +273,7 @@ impl Name {
                 block,
                 initiation,
                 ..
-            } => Ok(outside(outer, block, statement, initiation)?),
+            } => Ok(outside(&outer.context, block, statement, *initiation)?),
             _ => unreachable!(),
         }
     }
@@ -291,7 +291,7 @@ impl Name {
                 block,
                 initiation,
                 ..
-            } => Ok(outside(caller, block, statement, initiation)?),
+            } => Ok(outside(&caller.context, block, statement, *initiation)?),
             _ => unreachable!(),
         }
     }

@@ -298,7 +298,7 @@ fn finished(
             block,
             statement,
             ..
-        } => match back_of(program, block, statement) {
+        } => match back_of(program, block, *statement) {
             None => unreachable!(),
             Some(back) => {
                 let name = activity.back(back).map_err(|_| AllocError)?;

@@ -3,7 +3,5 @@ pub mod Sorted
 pub mod Places
 pub mod Keys
 pub mod Hashed
-pub mod Placed
-pub mod Listed
 pub mod Gathering
 pub mod Shown

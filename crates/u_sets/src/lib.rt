@@ -8,14 +8,10 @@
 
 mod exact_ord;
 mod hashed_set;
-mod listed_set;
 mod ordered_set;
-mod placed_set;
 mod rising;
 
 pub use exact_ord::ExactOrd;
 pub use hashed_set::HashedSet;
-pub use listed_set::ListedSet;
 pub use ordered_set::OrderedSet;
-pub use placed_set::PlacedSet;
 pub use rising::{has, place_in};

@@ -1,8 +1,9 @@
-use Rattle.std.proofs.Common.{◌≡◌, ◌∙◌, ap, List}
-use Rattle.u_rule.specs.declared.entry.Entry.{Entry}
-use Rattle.u_history.specs.Outcomes.{lent}
-use Rattle.u_history.proofs.Gathered.{along}
+use Rattle.std.proofs.Common.{sym, ◌∙◌}
+use Rattle.u_sets.proofs.Shown.{shown_all}
 use Rattle.u_history.proofs.history.History.entries.Goals as goal
 
 pub returns-clause-all : goal.returns-clause-all
-returns-clause-all c = along c.copies.result (λ (es : List Entry) v. v.items ≡ es) (lent c.deref.result.now) c.args.self.now (ap lent c.deref.ensures.value ∙ c.in_ok-entries.ensures.all) c.copies.ensures
+returns-clause-all c =
+    c.loop-entry.invariant
+    ∙ sym (shown_all c.loop-entry.yielded c.into_iter-entry-iterator.result c.loop-entry.entry-iterator c.loop-entry.yielded_by c.in-None.ensures.steps.0)
+    ∙ (c.into_iter-entry-iterator.ensures.into_iter_gives ∙ c.iter-entry-items.ensures.rest ∙ c.self.view_is)

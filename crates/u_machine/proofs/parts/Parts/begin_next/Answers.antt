@@ -1,5 +1,4 @@
-use Rattle.std.proofs.Common.{◌≡◌, ap, length, arith, length-append, [], ◌∷◌, ◌++◌, sym, subst, take, drop, ◌+◌, inl, inr}
-use Rattle.std.proofs.lemmas.List.{take-append-le}
+use Rattle.std.proofs.Common.{◌≡◌, ap, length, arith, length-append, [], ◌∷◌, ◌++◌, sym, subst, drop, ◌+◌}
 use Rattle.u_rule.specs.EntryOrder.{FiringList}
 use Rattle.u_machine.specs.Invariant.{IsLogged, IsSorted}
 use Rattle.u_machine.proofs.Settled.{not_logged, parked_first, enabled_first}
@@ -12,13 +11,11 @@ returns-clause-kept c =
     let k = c.requires.kept in
     let n = c.requires.next in
     let m = c.args.self.now in
-    let l : c.insert.new.self ≡ m.log ++ c.args.firing ∷ [] = elim c.in_ok-insert.ensures.ok [ inl g ↦ absurd (not_logged m k c.args.firing _ n g.0) | inr g ↦ g.1 ] in
-    let s : take m.done (m.log ++ c.args.firing ∷ []) ≡ take m.done m.log = take-append-le m.done m.log (c.args.firing ∷ []) k.logged.place in
+    let l : c.push.new.self.items ≡ m.log.items ++ c.args.firing ∷ [] = c.in_ok-push.ensures.items in
     record {
-      logged = subst (λ (log : FiringList). IsLogged m.job.now m.limit log m.done m.parked m.history) (sym l)
-          (begins _ _ _ _ _ _ k.logged c.args.firing (parked_first m k c.args.firing _ n c.requires.taken) (not_logged m k c.args.firing _ n) (enabled_first m k c.args.firing _ n));
+      logged = subst (λ (log : FiringList). IsLogged m.job.now m.limit log m.done m.taken m.parked m.history) (sym l)
+          (begins _ _ _ _ _ _ _ k.logged c.args.firing (parked_first m k c.args.firing _ n c.requires.taken) (not_logged m k c.args.firing _ n) (enabled_first m k c.args.firing _ n));
       matched = k.matched;
-      sorted = subst (λ (log : FiringList). IsSorted m.job.now log (take m.done log ++ m.parked) m.ready (drop (m.sorted + 1) m.found.items) m.matcher) (sym l)
-          (rw s (sorts_logged _ _ _ _ _ _ k.sorted c.args.firing _ n));
-      idle = λ e. let a = length-append m.log (c.args.firing ∷ []) in let b = k.logged.place in let d = ap length l in absurd (omega (arith, e));
+      sorted = subst (λ (log : FiringList). IsSorted m.job.now log m.taken m.ready (drop (m.sorted + 1) m.found.items) m.matcher) (sym l) (sorts_logged _ _ _ _ _ _ k.sorted c.args.firing _ n);
+      idle = λ e. let a = length-append m.log.items (c.args.firing ∷ []) in let b = k.logged.place in let d = ap length l in absurd (omega (arith, e));
     }

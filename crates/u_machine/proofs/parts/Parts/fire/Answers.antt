@@ -94,6 +94,6 @@ returns-clause-answer c =
       (q.0, room_before (state_of c.args.self.now) (state_of c.settle.new.self) c.in_ok-firing.firing c.settle.ensures.applies q.1.1 (c.is_full.ensures.room c.if-is_full.false)),
       takes_between _ _ _ _ _ c.settle.ensures.applies c.in_ok-take_new.ensures.takes c.settle-2.ensures.applies,
       settled_there c.settle-2.new.self c.settle-2.ensures.kept c.in_ok-settle-2.ensures.ok,
-      subst (λ (n : ℕ). slice_get (take c.settle-2.new.self.done c.settle-2.new.self.log) n ≡ Some c.in_ok-firing.firing) (sym c.len-place.ensures.len)
-          (fired_at c.settle.new.self.log c.in_ok-firing.firing c.take_new.new.self.log c.settle-2.new.self.done c.settle-2.new.self.log (c.in_ok-take_new.ensures.begun (c.in_ok-take_new.ensures.begins there)) c.settle-2.ensures.log c.in_ok-settle-2.ensures.ok),
+      subst (λ (n : ℕ). slice_get (take c.settle-2.new.self.done c.settle-2.new.self.log.items) n ≡ Some c.in_ok-firing.firing) (sym (c.len-place.ensures ∙ c.settle.new.self.log.ok.0))
+          (fired_at c.settle.new.self.log.items c.in_ok-firing.firing c.take_new.new.self.log.items c.settle-2.new.self.done c.settle-2.new.self.log.items (c.in_ok-take_new.ensures.begun (c.in_ok-take_new.ensures.begins there)) c.settle-2.ensures.log c.in_ok-settle-2.ensures.ok),
     )

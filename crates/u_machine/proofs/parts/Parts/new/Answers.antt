@@ -22,16 +22,16 @@ matched c =
 
 pub returns-clause-kept : goal.returns-clause-kept
 returns-clause-kept c = record {
-  logged = rw (c.new.ensures, c.new-2.ensures, held c) (fresh_log c.args.job.now c.args.limit);
+  logged = rw (c.new.ensures.items, c.new-2.ensures, c.new-3.ensures, held c) (fresh_log c.args.job.now c.args.limit);
   matched = rw (held c) (fresh_matched c.args.job.now c.args.limit c.enter.new.self (matched c));
-  sorted = rw (c.new.ensures, c.new-2.ensures, c.new-3.ensures.items)
+  sorted = rw (c.new.ensures.items, c.new-2.ensures, c.new-4.ensures.items)
       (fresh_sorted c.args.job.now c.args.limit c.enter.new.self c.in_ok-found.found.items c.in_ok-ready.ready (matched c)
       (subst (λ (e : Entry). (f : Firing) → Contains c.in_ok-found.found.items f ↔ (Contains ((system_of c.args.job.now).needs f) e × Enabled (system_of c.args.job.now) (Contains c.enter.new.self) f)) c.start-2.ensures.start c.in_ok-found.ensures.exact)
       (subst (λ (fs : FiringList). Same (Contains c.in_ok-ready.ready) (Contains fs)) c.deref.ensures.value c.in_ok-ready.ensures));
-  idle = λ e. record { sorted = rw c.new-3.ensures.items refl; matched = refl };
+  idle = λ e. record { sorted = rw c.new-4.ensures.items refl; matched = refl };
 }
 
 pub returns-clause-state : goal.returns-clause-state
 returns-clause-state c =
-    ap (λ (parked : FiringList). state c.args.job.now c.args.limit [] parked c.insert.new.self) c.new-2.ensures
+    ap (λ (parked : FiringList). state c.args.job.now c.args.limit [] parked c.insert.new.self) c.new-3.ensures
     ∙ ap (λ (h : EntryList). state c.args.job.now c.args.limit [] [] h) (held c)

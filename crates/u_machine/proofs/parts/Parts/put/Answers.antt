@@ -21,11 +21,11 @@ returns-clause-kept c =
     let k = c.requires.kept in
     let (f, place, g) = c.requires.gives in
     record {
-      logged = entered _ _ _ _ _ _ k.logged f c.args.entry.now c.insert.new.self (slice_get_Contains _ _ f place) g (with_it c);
+      logged = entered _ _ _ _ _ _ _ k.logged f c.args.entry.now c.insert.new.self (slice_get_Contains _ _ f place) g (with_it c);
       matched = subst (λ (e : Entry). IsMatched c.insert.new.self c.args.self.now.matcher (Some e)) (sym c.in_ok-late.ensures)
           (entered_late _ _ _ _ c.args.entry.now k.matched c.requires.idle.matched c.requires.new (with_it c));
       sorted = k.sorted;
-      idle = λ e. let b = slice_get_below c.args.self.now.log c.args.self.now.done f place in absurd (omega (arith, b, e));
+      idle = λ e. let b = slice_get_below c.args.self.now.log.items c.args.self.now.done f place in absurd (omega (arith, b, e));
     }
 
 pub returns-clause-applies : goal.returns-clause-applies

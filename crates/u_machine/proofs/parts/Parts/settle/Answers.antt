@@ -10,7 +10,7 @@ returns-in_err-apply_next-clause-applies c = applies_trans _ _ _ c.loop-self.inv
 pub loop-self-preserved : goal.loop-self-preserved
 loop-self-preserved c =
     let v = c.loop-self.invariant in
-    let b : c.loop-self.self.done < length c.loop-self.self.log = omega arith in
+    let b : c.loop-self.self.done < length c.loop-self.self.log.items = omega arith in
     let l = below_limit c.loop-self.self v.kept b in
     record {
       kept = c.apply_next.ensures.kept;

@@ -7,7 +7,7 @@ abbrev pub invariant-loop-self : goal.invariant-loop-self
 invariant-loop-self l = record {
   kept : Invariant l.self;
   applies : Applies (state_of l.fn.self) (state_of l.self);
-  log : Lengthens l.fn.self.log l.self.log;
+  log : Lengthens l.fn.self.log.items l.self.log.items;
   idle : IsIdle (left_of l.self) l.self.late;
 }
 

@@ -59,6 +59,6 @@ returns-clause-answer c =
     let p = c.settle.ensures.applies in (
       is_new (state_of c.args.self.now) (state_of c.settle.new.self) c.args.firing.now p c.is_firing.result c.is_firing.ensures c.knows.result c.knows.ensures.1 c.if-knows.false c.if-not-is_firing.false (c.is_full.ensures.room c.if-is_full.false),
       takes_between _ _ _ _ _ p c.in_ok-begun.ensures.takes c.settle-2.ensures.applies,
-      applied_has c.settle.new.self.log c.args.firing.now c.take_new.new.self.log c.settle-2.new.self.done c.settle-2.new.self.log (c.in_ok-begun.ensures.begun c.if-not-begun.false) c.settle-2.ensures.log c.in_ok-settle-2.ensures.ok,
+      applied_has c.settle.new.self.log.items c.args.firing.now c.take_new.new.self.log.items c.settle-2.new.self.done c.settle-2.new.self.log.items (c.in_ok-begun.ensures.begun c.if-not-begun.false) c.settle-2.ensures.log c.in_ok-settle-2.ensures.ok,
       settled_there c.settle-2.new.self c.settle-2.ensures.kept c.in_ok-settle-2.ensures.ok,
     )
