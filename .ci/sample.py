@@ -13,6 +13,9 @@ import time
 TICKS = os.sysconf("SC_CLK_TCK")
 EVERY = 0.25
 
+# How the prover's processes are called; one of them changes its name while it runs.
+PROVERS = ("rattle", "antt")
+
 # The process that started this one: the gate.
 GATE = str(os.getppid())
 
@@ -48,7 +51,8 @@ def is_ours(number):
 
 def look_at(number):
     """Notes how much processor time the process has had, if it is one of the gate's provers."""
-    if "(rattle" not in text_of(f"/proc/{number}/stat"):
+    name = text_of(f"/proc/{number}/stat").partition("(")[2]
+    if not name.startswith(PROVERS):
         return
     fields = fields_of(number)
     key = number, fields[19]
