@@ -279,96 +279,133 @@ fn told(command: Result<Command<'_>, AllocError>, message: &str) -> Result<Error
 }
 
 fn commands<'a>(alloc: Global) -> Result<Command<'a>, AllocError> {
-    Command::new(alloc, "u")
+    let all = Command::new(alloc, "u")
         .bin_name("u")?
         .version("0.1.0")
         .about("Checks and runs dataflow programs. Without any word it runs a stored program.")
         .after_help(STATUSES)
-        .disable_help_subcommand(true)
-        .subcommand(check(alloc)?)?
-        .subcommand(explain(alloc)?)?
-        .subcommand(run(alloc, "run")?)?
-        .subcommand(save(alloc, SAVE)?)?
-        .subcommand(restore(alloc)?)?
-        .subcommand(trace(alloc)?)?
-        .subcommand(waits(alloc, WAITS)?)?
-        .subcommand(world(alloc, WORLD)?)
+        .disable_help_subcommand(true);
+    let all = with(all, check(alloc))?;
+    let all = with(all, explain(alloc))?;
+    let all = with(all, run(alloc, "run"))?;
+    let all = with(all, save(alloc, SAVE))?;
+    let all = with(all, restore(alloc))?;
+    let all = with(all, trace(alloc))?;
+    let all = with(all, waits(alloc, WAITS))?;
+    with(all, world(alloc, WORLD))
+}
+
+/// The command with one more below it.
+fn with<'a>(
+    all: Command<'a>,
+    one: Result<Command<'a>, AllocError>,
+) -> Result<Command<'a>, AllocError> {
+    all.subcommand(one?)
+}
+
+/// A command that takes FILE.
+fn of_program<'a>(
+    alloc: Global,
+    name: &'a str,
+    about: &'a str,
+    example: &'a str,
+) -> Result<Command<'a>, AllocError> {
+    Command::new(alloc, name)
+        .about(about)
+        .after_help(example)
+        .arg(word(alloc, "FILE").help("The program's file, or the word stdin for standard input"))
+}
+
+/// A command that takes FILE and ARG.
+fn of_run<'a>(
+    alloc: Global,
+    name: &'a str,
+    about: &'a str,
+    example: &'a str,
+) -> Result<Command<'a>, AllocError> {
+    of_program(alloc, name, about, example)?.arg(word(alloc, "ARG").help(
+        "The argument, a decimal number: n1 is -1",
+    ))
 }
 
 fn check<'a>(alloc: Global) -> Result<Command<'a>, AllocError> {
-    Command::new(alloc, CHECK)
-        .about("Checks the program and prints how many blocks and statements it has")
-        .after_help("Example: ./u check programs/double.u")
-        .arg(file(alloc))
+    of_program(
+        alloc,
+        CHECK,
+        "Checks the program and prints how many blocks and statements it has",
+        "Example: ./u check programs/double.u",
+    )
 }
 
 fn explain<'a>(alloc: Global) -> Result<Command<'a>, AllocError> {
-    Command::new(alloc, EXPLAIN)
-        .about("Says where and why the program is refused, in more words than check")
-        .after_help("Example: ./u explain programs/double.u")
-        .arg(file(alloc))
+    of_program(
+        alloc,
+        EXPLAIN,
+        "Says where and why the program is refused, in more words than check",
+        "Example: ./u explain programs/double.u",
+    )
 }
 
 fn run<'a>(alloc: Global, name: &'a str) -> Result<Command<'a>, AllocError> {
-    Command::new(alloc, name)
-        .about("Runs the program and prints its report")
-        .after_help("Example: ./u run programs/double.u 4 --firings 1000")
-        .arg(file(alloc))?
-        .arg(argument(alloc))?
-        .arg(most_firings(alloc))
+    of_run(
+        alloc,
+        name,
+        "Runs the program and prints its report",
+        "Example: ./u run programs/double.u 4 --firings 1000",
+    )?
+    .arg(most_firings(alloc))
 }
 
 fn save<'a>(alloc: Global, name: &'a str) -> Result<Command<'a>, AllocError> {
-    Command::new(alloc, name)
-        .about("Runs the program and prints a checkpoint: all that was fired")
-        .after_help("Example: ./u save programs/sum.u 3 --firings 5 > checkpoint")
-        .arg(file(alloc))?
-        .arg(argument(alloc))?
-        .arg(most_firings(alloc))
+    of_run(
+        alloc,
+        name,
+        "Runs the program and prints a checkpoint: all that was fired",
+        "Example: ./u save programs/sum.u 3 --firings 5 > checkpoint",
+    )?
+    .arg(most_firings(alloc))
 }
 
 fn restore<'a>(alloc: Global) -> Result<Command<'a>, AllocError> {
-    let checkpoint = word(alloc, "CHECKPOINT").help("The checkpoint's file");
-    Command::new(alloc, RESTORE)
-        .about("Goes on from a checkpoint, whole or torn, and prints the report")
-        .after_help("Example: ./u restore programs/sum.u 3 checkpoint")
-        .arg(file(alloc))?
-        .arg(argument(alloc))?
-        .arg(checkpoint)
+    of_run(
+        alloc,
+        RESTORE,
+        "Goes on from a checkpoint, whole or torn, and prints the report",
+        "Example: ./u restore programs/sum.u 3 checkpoint",
+    )?
+    .arg(word(alloc, "CHECKPOINT").help("The checkpoint's file"))
 }
 
 fn trace<'a>(alloc: Global) -> Result<Command<'a>, AllocError> {
-    let entry = word(alloc, "ENTRY").help("The entry's text, one word: 'a 8' is the answer 8");
-    Command::new(alloc, TRACE)
-        .about(
-            "Runs the program and prints which firings give the entry, and how the run came to it",
-        )
-        .after_help("Example: ./u trace programs/double.u 4 'a 8'")
-        .arg(file(alloc))?
-        .arg(argument(alloc))?
-        .arg(entry)
+    of_run(
+        alloc,
+        TRACE,
+        "Runs the program and prints which firings give the entry, and how the run came to it",
+        "Example: ./u trace programs/double.u 4 'a 8'",
+    )?
+    .arg(word(alloc, "ENTRY").help("The entry's text, one word: 'a 8' is the answer 8"))
 }
 
 fn waits<'a>(alloc: Global, name: &'a str) -> Result<Command<'a>, AllocError> {
-    Command::new(alloc, name)
-        .about("Runs the program and prints what waits: for a token, or for the write of a cell")
-        .after_help("Example: ./u waits programs/sum.u 3 --firings 10")
-        .arg(file(alloc))?
-        .arg(argument(alloc))?
-        .arg(most_firings(alloc))
+    of_run(
+        alloc,
+        name,
+        "Runs the program and prints what waits: for a token, or for the write of a cell",
+        "Example: ./u waits programs/sum.u 3 --firings 10",
+    )?
+    .arg(most_firings(alloc))
 }
 
 fn world<'a>(alloc: Global, name: &'a str) -> Result<Command<'a>, AllocError> {
-    Command::new(alloc, name)
-        .about(
-            "Lets random events happen between replicas, and prints what they hold and the report",
-        )
-        .after_help("Example: ./u world programs/sum.u 3 --replicas 3 --seed 7 --events 200")
-        .arg(file(alloc))?
-        .arg(argument(alloc))?
-        .arg(number_of_replicas(alloc))?
-        .arg(seed(alloc))?
-        .arg(number_of_events(alloc))
+    of_run(
+        alloc,
+        name,
+        "Lets random events happen between replicas, and prints what they hold and the report",
+        "Example: ./u world programs/sum.u 3 --replicas 3 --seed 7 --events 200",
+    )?
+    .arg(number_of_replicas(alloc))?
+    .arg(seed(alloc))?
+    .arg(number_of_events(alloc))
 }
 
 fn number_of_replicas<'a>(alloc: Global) -> Arg<'a> {
@@ -399,14 +436,6 @@ fn number_of_events<'a>(alloc: Global) -> Arg<'a> {
         .action(ArgAction::Set)
         .default_value("100")
         .value_parser(value_parser!(u32).range(0..=100000))
-}
-
-fn file<'a>(alloc: Global) -> Arg<'a> {
-    word(alloc, "FILE").help("The program's file, or the word stdin for standard input")
-}
-
-fn argument<'a>(alloc: Global) -> Arg<'a> {
-    word(alloc, "ARG").help("The argument, a decimal number: n1 is -1")
 }
 
 fn most_firings<'a>(alloc: Global) -> Arg<'a> {

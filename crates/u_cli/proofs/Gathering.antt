@@ -11,14 +11,11 @@ use Rattle.u_world.proofs.Effects.{stays}
 use Rattle.u_world.proofs.Doable.{IsNoTake, never_refused}
 use Rattle.u_replica.specs.ReplicaState.{ReplicaState}
 use Rattle.u_world.specs.Runs.{Steps}
-use Rattle.u_machine.specs.State.{State}
-use Rattle.u_machine.specs.Calls.{RunAnswer}
-use Rattle.u_machine.specs.declared.answer.Refusal.{Refusal}
-use Rattle.u_machine.specs.declared.answer.Refusal.TheVariants as refusals
-use Rattle.u_cli.specs.Restores.{fault_of, HasJob}
+use Rattle.u_cli.specs.Runs.{RunsBehind, RunRefused}
+use Rattle.u_cli.specs.Restores.{HasJob}
 use Rattle.u_cli.specs.declared.command_error.CommandError.{CommandError}
 use Rattle.u_cli.specs.declared.command_error.CommandError.TheVariants as faults
-use Rattle.u_cli.specs.Worlds.{most_held, replica_line, replica_lines, merges, AreDoable, EventsRefused, Gathers, EndRefused, EndsRefused, WorldRefused, WorldTextAnswer}
+use Rattle.u_cli.specs.Worlds.{most_held, replica_line, replica_lines, merges, AreDoable, EventsRefused, Gathers, TellsEnd, EndsRefused, WorldRefused, WorldTextAnswer}
 use Rattle.u_cli.proofs.Known.{kept}
 
 same_event : (a b : Event) → Some a ≡ Some b → a ≡ b
@@ -92,13 +89,20 @@ module _ (w v : WorldState) (es fs : List Event) (same : w ≡ v) (list : es ≡
   pub refused_so : (fault : CommandError) → EventsRefused w es fault → EventsRefused v fs fault
   refused_so fault r = subst (λ (x : WorldState). EventsRefused x fs fault) same (subst (λ (xs : List Event). EventsRefused w xs fault) list r)
 
--- a run that was refused
-pub end_refused : (old new : State) (r : Refusal) → RunAnswer old most_held (Err r) new → EndRefused old (fault_of r)
-end_refused old new refusals.Full a = (new, a)
-end_refused old new refusals.NoMemory a = tt
+-- the report of the first replica, once it fired what it could, behind the lines of all replicas
+pub tells_end : (w : WorldState) (first : ReplicaState) → Gathers w first → (written : List ℕ) (status : ℕ) → RunsBehind (replica_lines w.replicas) first.machine 100000 written status → TellsEnd w written status
+unfolding most_held
+tells_end w first g written status r = record {
+  first = first;
+  gathers = g;
+  report = r.report;
+  ends = record { end = r.end; machine = r.machine; is_machine = r.is_machine; ran = r.ran; reported = r.reported };
+  is = r.is;
+}
 
 -- a first replica that fires until it is full
-pub ends_refused : (w : WorldState) (first : ReplicaState) → Gathers w first → (fault : CommandError) → EndRefused first.machine fault → EndsRefused w fault
+pub ends_refused : (w : WorldState) (first : ReplicaState) → Gathers w first → (fault : CommandError) → RunRefused first.machine 100000 fault → EndsRefused w fault
+unfolding most_held
 ends_refused w first g (faults.LineNotAllowed n) r = r
 ends_refused w first g (faults.TooMany n) r = r
 ends_refused w first g faults.CutShort r = r
@@ -110,7 +114,7 @@ ends_refused w first g (faults.CheckpointLineTooLong n) r = r
 ends_refused w first g (faults.OtherFiring n) r = r
 ends_refused w first g (faults.EntryNotAllowed n) r = r
 ends_refused w first g faults.EntryNotHeld r = r
-ends_refused w first g faults.Full r = inr (first, g, r)
+ends_refused w first g faults.Full r = inr (first, g, (r.0, r.2))
 ends_refused w first g faults.NoMemory r = tt
 ends_refused w first g faults.NotReadable r = r
 ends_refused w first g faults.NotWritten r = r

@@ -1,6 +1,6 @@
 -- Known bytes of readers and writers, one call after another.
 use Rattle.std.proofs.Common.{◌≡◌, ◌∙◌, sym, ap, refl, ℕ, List, [], ◌++◌, Option, Some, None, ◌<◌, length, take, append_assoc, append-nil, arith}
-use Rattle.std.specs.Prelude.{IfSome, ◌≤◌}
+use Rattle.std.specs.Prelude.{IfSome, ◌≤◌, Result, Ok, Err, MatchResult}
 use Rattle.std.specs.Option.{option_map}
 use Rattle.std.proofs.lemmas.List.{length-take, take_all}
 use Rattle.std.specs.Io.KnownBytes.{Appends, Keeps}
@@ -36,3 +36,8 @@ read_short (Some xs) n items e l =
 pub read_long : (known : Option (List ℕ)) (n : ℕ) (items : List ℕ) (m : ℕ) → IfSome (option_map (take n) known) (λ xs. items ≡ xs) → m < length items → IfSome known (λ xs. m < length xs)
 read_long None n items m e l = tt
 read_long (Some xs) n items m e l = omega (arith, ap length e, length-take n xs)
+
+-- what follows from both answers of a call follows from the call's
+pub match_more : {A E : Type 0} (r : Result A E) (P Q : A → Type 0) (R S : E → Type 0) → ((a : A) → P a → Q a) → ((e : E) → R e → S e) → MatchResult r P R → MatchResult r Q S
+match_more (Ok a) P Q R S f g m = f a m
+match_more (Err e) P Q R S f g m = g e m

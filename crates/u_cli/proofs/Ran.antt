@@ -1,5 +1,5 @@
 -- What a new machine that ran says of its job.
-use Rattle.std.proofs.Common.{◌≡◌, ◌∙◌, sym, ap, refl, subst, ℕ, List, [], ◌++◌, append-nil, length, Contains, Ok}
+use Rattle.std.proofs.Common.{◌≡◌, ◌∙◌, sym, ap, refl, subst, ℕ, List, [], ◌++◌, append-nil, length, Contains, Ok, Err}
 use Rattle.u_check.specs.Jobs.{JobParts}
 use Rattle.u_system.specs.Firing.{Held, Same, Enabled, Cl}
 use Rattle.u_system.proofs.Held.{Enabled-mono}
@@ -9,14 +9,17 @@ use Rattle.u_rule.specs.declared.entry.Entry.{Entry}
 use Rattle.u_rule.specs.declared.firing.Firing.{Firing}
 use Rattle.u_machine.specs.declared.answer.Ran.{Ran}
 use Rattle.u_machine.specs.declared.answer.Ran.TheVariants as ran
-use Rattle.u_machine.specs.State.{State, state, Taken, IsMachine, IsSettled, NothingReady, IsReady}
+use Rattle.u_machine.specs.declared.answer.Refusal.{Refusal}
+use Rattle.u_machine.specs.declared.answer.Refusal.TheVariants as refusals
+use Rattle.u_machine.specs.State.{State, Taken, IsMachine, IsSettled, NothingReady, IsReady}
 use Rattle.u_machine.specs.Calls.{RunAnswer}
 use Rattle.u_machine.proofs.States.{settled_is_Cl}
 use Rattle.u_machine.proofs.Runs.{run_done}
 use Rattle.u_history.specs.declared.report.Ending.{Ending}
 use Rattle.u_history.specs.Report.{IsReportOf}
 use Rattle.u_history.proofs.Reports.{report_same, outcome_same}
-use Rattle.u_cli.specs.Runs.{RunsTo, IsReportedRun, IsStatusOf, ReportsMachine, ReportsRunOfJob, state_of}
+use Rattle.u_cli.specs.Runs.{RunsTo, RanTo, RunRefused, IsStatusOf, ReportsMachine, ReportsRunOfJob, state_of}
+use Rattle.u_cli.specs.Restores.{fault_of}
 
 -- one set, two predicates: one status
 status_same : (H K : Entry → Type 0) → Same H K → (s : _) (n : ℕ) → IsStatusOf H s n → IsStatusOf K s n
@@ -47,7 +50,7 @@ none_parked new s report e r = subst (λ (fs : FiringList). IsReportOf (Contains
 
 module _ (old new : State) (budget : ℕ) (log : old.log ≡ []) (parked : old.parked ≡ []) (is : IsMachine new) where
   -- the machine's log is the run, and its history is what the log holds
-  pub ran_to : (end : Ran) → RunAnswer old budget (Ok end) new → RunsTo old.job budget (state_of end) new.log × Same (Contains new.history) (Held (system_of old.job) new.log)
+  ran_to : (end : Ran) → RunAnswer old budget (Ok end) new → RunsTo old.job budget (state_of end) new.log × Same (Contains new.history) (Held (system_of old.job) new.log)
   ran_to ran.Quiet a =
       let d = run_done old new budget ran.Quiet a log parked is.sound in (
         record {
@@ -72,22 +75,27 @@ module _ (old new : State) (budget : ℕ) (log : old.log ≡ []) (parked : old.p
         d.0.held,
       )
 
-  ran_run : (end : Ran) (report : List ℕ) (status : ℕ) → RunAnswer old budget (Ok end) new → ReportsMachine new (state_of end) report status → IsReportedRun old.job budget (state_of end) new.log report status
-  ran_run end report status a r =
+  -- what stands after the run of a machine that had taken nothing
+  pub ran_new : (end : Ran) → RunAnswer old budget (Ok end) new → RanTo old.job budget (state_of end) new
+  ran_new end a =
       let d = run_done old new budget end a log parked is.sound in
       let to = ran_to end a in
-      record {
-        run = to.0;
-        reported = report_same (Contains new.history) (Held (system_of old.job) new.log) to.1 (state_of end) (length new.log) 0 report (none_parked new (state_of end) report d.0.parked r.reported);
-        ended = status_same (Contains new.history) (Held (system_of old.job) new.log) to.1 (state_of end) status r.ended;
-      }
+      record { of = d.0.job; parked = d.0.parked; run = to.0; held = to.1 }
 
--- the same for a machine that was new for this job
-pub ran_job : (job : JobParts) (limit : ℕ) (h : List Entry) (old new : State) (budget : ℕ) (end : Ran) (report : List ℕ) (status : ℕ) → old ≡ state job limit [] [] h → IsMachine new → RunAnswer old budget (Ok end) new → ReportsMachine new (state_of end) report status → ReportsRunOfJob job budget report status
-ran_job job limit h old new budget end report status e is a r =
+-- and its report
+pub reports_run : (job : JobParts) (budget : ℕ) (end : Ending) (m : State) (report : List ℕ) (status : ℕ) → RanTo job budget end m → ReportsMachine m end report status → ReportsRunOfJob job budget report status
+reports_run job budget end m report status to r =
     record {
-      state = state_of end;
-      fs = new.log;
-      run = subst (λ (j : JobParts). IsReportedRun j budget (state_of end) new.log report status) (ap (λ (m : State). m.job) e)
-          (ran_run old new budget (ap (λ (m : State). m.log) e) (ap (λ (m : State). m.parked) e) is end report status a r);
+      state = end;
+      fs = m.log;
+      run = record {
+        run = to.run;
+        reported = report_same (Contains m.history) (Held (system_of job) m.log) to.held end (length m.log) 0 report (none_parked m end report to.parked r.reported);
+        ended = status_same (Contains m.history) (Held (system_of job) m.log) to.held end status r.ended;
+      };
     }
+
+-- why a run was refused
+pub run_refused : (old new : State) (budget : ℕ) → IsMachine new → (r : Refusal) → RunAnswer old budget (Err r) new → RunRefused old budget (fault_of r)
+run_refused old new budget is refusals.Full a = (new, is, a)
+run_refused old new budget is refusals.NoMemory a = tt

@@ -1,5 +1,5 @@
 -- How a replica goes on from a checkpoint.
-use Rattle.std.proofs.Common.{◌≡◌, ◌∙◌, subst, refl, ℕ, List, ◌++◌, ◌⊎◌, inl, inr, take, Contains, Ok, Err, arith}
+use Rattle.std.proofs.Common.{◌≡◌, ◌∙◌, subst, refl, ℕ, List, ◌⊎◌, inl, inr, take, Contains, Ok, Err, arith}
 use Rattle.u_check.specs.Jobs.{JobParts}
 use Rattle.u_system.specs.Firing.{System, Cl, IsNextFrom, Same}
 use Rattle.u_system.proofs.Member.{Contains-nil}
@@ -12,15 +12,16 @@ use Rattle.u_machine.specs.Calls.{firing_le, Fires, RunAnswer}
 use Rattle.u_machine.specs.Taking.{AreFirings, IsTooLong, TakesAll}
 use Rattle.u_machine.specs.declared.answer.Ran.{Ran}
 use Rattle.u_machine.specs.declared.answer.Ran.TheVariants as ran
-use Rattle.u_machine.specs.declared.answer.Refusal.{Refusal}
 use Rattle.u_machine.specs.declared.answer.Refusal.TheVariants as refusals
 use Rattle.u_machine.proofs.States.{settled_is_Cl}
 use Rattle.u_history.specs.declared.report.Ending.TheVariants as states
 use Rattle.u_replica.specs.declared.checkpoint.Ending.{Ending}
 use Rattle.u_replica.specs.ReplicaState.{ReplicaState}
 use Rattle.u_replica.specs.Restoring.{blank, WasRead, IsRestored}
-use Rattle.u_cli.specs.Runs.{ReportsMachine, state_of}
-use Rattle.u_cli.specs.Restores.{most_taken, most_fired, SavedOrFired, GoesOn, ReportsOn, FillsUp, ending_line, RestoresJob, HasNoRoom, CheckpointRefused, fault_of}
+use Rattle.u_cli.specs.Runs.{ReportsMachine, RunsBehind, RunRefused, state_of}
+use Rattle.u_cli.specs.declared.command_error.CommandError.{CommandError}
+use Rattle.u_cli.specs.declared.command_error.CommandError.TheVariants as faults
+use Rattle.u_cli.specs.Restores.{most_taken, most_fired, SavedOrFired, GoesOn, ReportsOn, FillsUp, ending_line, RestoresJob, HasNoRoom, CheckpointRefused}
 
 module _ {E F : Type 0} (s : System E F) (le : F → F → Type 0) (M N : F → Type 0) (same : Same M N) (done : List F) where
   there : (f : F) → M f ⊎ Contains done f → N f ⊎ Contains done f
@@ -100,28 +101,44 @@ module _ (job : JobParts) (fs : List Firing) (old new : State) (takes : TakesAll
       record { gs = a.0; machine = new; goes = goes; few = a.2; ready = a.4; full = a.5 ∙ goes.limit }
 
 -- the firings of a checkpoint were taken, and the replica ran
-module _ (job : JobParts) (number life : ℕ) (checkpoint : List ℕ) (ending : Ending) (old new : ReplicaState) (restored : IsRestored job most_taken number life checkpoint ending old) (is : IsMachine new.machine) where
-  pub restored_run : (end : Ran) (report : List ℕ) (status : ℕ) (written : List ℕ) → RunAnswer old.machine 100000 (Ok end) new.machine → ReportsMachine new.machine (state_of end) report status → written ≡ ending_line ending ++ report → RestoresJob job checkpoint written status
+module _ (job : JobParts) (number life : ℕ) (checkpoint : List ℕ) (ending : Ending) (old : ReplicaState) (restored : IsRestored job most_taken number life checkpoint ending old) where
+  pub restored_run : (written : List ℕ) (status : ℕ) → RunsBehind (ending_line ending) old.machine 100000 written status → RestoresJob job checkpoint written status
   unfolding most_fired
-  restored_run end report status written a r e = record {
+  restored_run written status r = record {
     ending = ending;
     fs = restored.firings;
     read = restored.read;
     firings = restored.of_job;
-    report = report;
-    on = reports_on job restored.firings old.machine new.machine restored.takes is end report status a r;
-    is = e;
+    report = r.report;
+    on = reports_on job restored.firings old.machine r.machine restored.takes r.is_machine r.end r.report status r.ran r.reported;
+    is = r.is;
   }
 
-  pub restored_refused : (refusal : Refusal) → RunAnswer old.machine 100000 (Err refusal) new.machine → CheckpointRefused job checkpoint (fault_of refusal)
+  fills_checkpoint : RunRefused old.machine 100000 faults.Full → CheckpointRefused job checkpoint faults.Full
   unfolding most_fired
-  restored_refused refusals.Full a = record {
+  fills_checkpoint r = record {
     firings = restored.firings;
     ending = ending;
     read = restored.read;
-    so = (restored.of_job, inr (fills_up job restored.firings old.machine new.machine restored.takes is a));
+    so = (restored.of_job, inr (fills_up job restored.firings old.machine r.0 restored.takes r.1 r.2));
   }
-  restored_refused refusals.NoMemory a = tt
+
+  pub restored_refused : (fault : CommandError) → RunRefused old.machine 100000 fault → CheckpointRefused job checkpoint fault
+  restored_refused (faults.LineNotAllowed n) r = r
+  restored_refused (faults.TooMany n) r = r
+  restored_refused faults.CutShort r = r
+  restored_refused (faults.Rule b) r = r
+  restored_refused faults.ArgumentNotAllowed r = r
+  restored_refused faults.InputTooLong r = r
+  restored_refused (faults.CheckpointLineNotAllowed n) r = absurd r
+  restored_refused (faults.CheckpointLineTooLong n) r = absurd r
+  restored_refused (faults.OtherFiring n) r = absurd r
+  restored_refused (faults.EntryNotAllowed n) r = r
+  restored_refused faults.EntryNotHeld r = r
+  restored_refused faults.Full r = fills_checkpoint r
+  restored_refused faults.NoMemory r = tt
+  restored_refused faults.NotReadable r = r
+  restored_refused faults.NotWritten r = r
 
 -- firings of the job that are too many from the start
 pub too_many : (job : JobParts) (checkpoint : List ℕ) → WasRead checkpoint (λ fs. AreFirings job fs × IsTooLong (blank job most_taken) fs) → WasRead checkpoint (λ fs. HasNoRoom job fs)

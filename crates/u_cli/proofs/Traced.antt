@@ -10,7 +10,7 @@ use Rattle.u_rule.specs.EntryOrder.{firing_cmp}
 use Rattle.u_rule.specs.declared.entry.Entry.{Entry}
 use Rattle.u_rule.specs.declared.firing.Firing.{Firing}
 use Rattle.u_machine.specs.State.{State, state}
-use Rattle.u_machine.specs.Calls.{IsPlainRun}
+use Rattle.u_history.specs.declared.report.Ending.{Ending}
 use Rattle.u_trace.specs.Causes.{IsCause}
 use Rattle.u_trace.specs.Stories.{IsStory, Tells}
 use Rattle.u_trace.specs.declared.trace_error.TraceError.{TraceError}
@@ -19,11 +19,13 @@ use Rattle.u_cli.specs.declared.command_error.CommandError.{CommandError}
 use Rattle.u_cli.specs.declared.command_error.CommandError.TheVariants as faults
 use Rattle.u_cli.specs.Traces.{most_traced, traced_text, trace_fault, IsCauseIn, RanPlainly, TracesJob, TraceRefused}
 use Rattle.u_cli.specs.Traces.{HasEntry, TraceTextAnswer}
+use Rattle.u_cli.specs.Runs.{RanTo}
 use Rattle.u_cli.proofs.Known.{kept}
 
-pub ran_plainly : (job : JobParts) (limit : ℕ) (h : List Entry) (old new : State) → old ≡ state job limit [] [] h → IsPlainRun old most_traced new → RanPlainly job new
-ran_plainly job limit h old new e p =
-    subst (λ (j : JobParts). RanPlainly j new) (ap (λ (m : State). m.job) e) (record { of = p.job; plain = p.plain; held = p.held })
+pub ran_plainly : (job : JobParts) (limit : ℕ) (h : List Entry) (old new : State) (end : Ending) → old ≡ state job limit [] [] h → RanTo old.job 100000 end new → RanPlainly job new
+unfolding most_traced
+ran_plainly job limit h old new end e p =
+    subst (λ (j : JobParts). RanPlainly j new) (ap (λ (m : State). m.job) e) (record { of = p.of; plain = p.run.plain; held = p.held })
 
 module _ (job : JobParts) (m : State) (ran : RanPlainly job m) (e : Entry) where
   cause_in : (f : Firing) → IsCause job m.history e f → IsCauseIn job m.log e f

@@ -1,13 +1,8 @@
 -- What a new machine that ran waits for.
-use Rattle.std.proofs.Common.{◌≡◌, ◌∙◌, ap, refl, subst, ℕ, List, [], ◌++◌, append_assoc, Contains, Ok, map}
+use Rattle.std.proofs.Common.{◌≡◌, ◌∙◌, ap, refl, subst, ℕ, List, [], ◌++◌, append_assoc, Contains, map}
 use Rattle.u_check.specs.Jobs.{JobParts}
-use Rattle.u_system.specs.Firing.{Held, Same}
-use Rattle.u_rule.specs.Rule.{system_of}
 use Rattle.u_rule.specs.declared.entry.Entry.{Entry}
-use Rattle.u_machine.specs.declared.answer.Ran.{Ran}
-use Rattle.u_machine.specs.State.{State, state, IsMachine}
-use Rattle.u_machine.specs.Calls.{RunAnswer}
-use Rattle.u_machine.proofs.Runs.{run_done}
+use Rattle.u_machine.specs.State.{State}
 use Rattle.u_history.specs.declared.outcome.Outcome.{Outcome}
 use Rattle.u_history.specs.declared.report.Ending.{Ending}
 use Rattle.u_history.specs.Clashes.{cell_pairs, port_values}
@@ -18,9 +13,8 @@ use Rattle.u_waits.specs.Answers.{AreWaits}
 use Rattle.u_waits.specs.Text.{waits_text}
 use Rattle.u_waits.specs.declared.answer.Waiting.{Waiting}
 use Rattle.u_cli.specs.Statuses.{status_of}
-use Rattle.u_cli.specs.Runs.{RunsTo, state_of}
+use Rattle.u_cli.specs.Runs.{RanTo}
 use Rattle.u_cli.specs.Waits.{TellsWaits, WaitsAfterRun}
-use Rattle.u_cli.proofs.Ran.{ran_to}
 
 pub join2 : (o a b n1 n2 : List ℕ) → n1 ≡ o ++ a → n2 ≡ n1 ++ b → n2 ≡ o ++ (a ++ b)
 join2 o a b n1 n2 p q = rw (q, p) (append_assoc o a b)
@@ -28,20 +22,16 @@ join2 o a b n1 n2 p q = rw (q, p) (append_assoc o a b)
 pub join4 : (o a b c d n1 n2 n3 n4 : List ℕ) → n1 ≡ o ++ a → n2 ≡ n1 ++ b → n3 ≡ n2 ++ c → n4 ≡ n3 ++ d → n4 ≡ o ++ (a ++ (b ++ (c ++ d)))
 join4 o a b c d n1 n2 n3 n4 p q r s = rw (s, r, q, p) (simp append_assoc)
 
-pub waits_after : (job : JobParts) (limit : ℕ) (h : List Entry) (old new : State) (budget : ℕ) (end : Ran) (written : List ℕ) (status : ℕ) → old ≡ state job limit [] [] h → IsMachine new → RunAnswer old budget (Ok end) new → TellsWaits new.job (Contains new.history) (state_of end) written status → WaitsAfterRun job budget written status
-waits_after job limit h old new budget end written status e is a told =
-    let log = ap (λ (m : State). m.log) e in
-    let parked = ap (λ (m : State). m.parked) e in
-    let same = ap (λ (m : State). m.job) e in
-    let done = run_done old new budget end a log parked is.sound in
-    let to = ran_to old new budget log parked is end a in
+-- what a machine that ran waits for
+pub waits_after : (job : JobParts) (budget : ℕ) (end : Ending) (m : State) (written : List ℕ) (status : ℕ) → RanTo job budget end m → TellsWaits m.job (Contains m.history) end written status → WaitsAfterRun job budget written status
+waits_after job budget end m written status to told =
     record {
-      state = state_of end;
-      fs = new.log;
-      run = subst (λ (j : JobParts). RunsTo j budget (state_of end) new.log) same to.0;
-      history = new.history;
-      held = subst (λ (j : JobParts). Same (Contains new.history) (Held (system_of j) new.log)) same to.1;
-      told = subst (λ (j : JobParts). TellsWaits j (Contains new.history) (state_of end) written status) (done.0.job ∙ same) told;
+      state = end;
+      fs = m.log;
+      run = to.run;
+      history = m.history;
+      held = to.held;
+      told = subst (λ (j : JobParts). TellsWaits j (Contains m.history) end written status) to.of told;
     }
 
 -- the lines of what waits over a machine's history, and the verdict on it

@@ -1,5 +1,5 @@
 -- What `run` answers to the bytes of a program and the word of an argument.
-use Rattle.std.specs.Prelude.{◌≡◌, ℕ, List, Option, Result, Ok, Err, Contains, length, ℤ}
+use Rattle.std.specs.Prelude.{◌≡◌, ℕ, List, [], ◌++◌, Option, Result, Ok, Err, Contains, length, ℤ}
 use Rattle.std.specs.Io.KnownBytes.{Keeps}
 use Rattle.u_program.specs.Parts.{ProgramParts}
 use Rattle.u_program.specs.Answer.{IsTextOf}
@@ -12,10 +12,11 @@ use Rattle.u_rule.specs.Rule.{system_of}
 use Rattle.u_rule.specs.declared.parts.Fault.{Fault}
 use Rattle.u_rule.specs.declared.entry.Entry.{Entry}
 use Rattle.u_rule.specs.declared.firing.Firing.{Firing}
-use Rattle.u_machine.specs.State.{State}
-use Rattle.u_machine.specs.Calls.{firing_le}
+use Rattle.u_machine.specs.State.{State, IsMachine}
+use Rattle.u_machine.specs.Calls.{firing_le, RunAnswer}
 use Rattle.u_machine.specs.declared.answer.Ran.{Ran}
 use Rattle.u_machine.specs.declared.answer.Ran.TheVariants as ran
+use Rattle.u_machine.specs.declared.answer.Refusal.TheVariants as refusals
 use Rattle.u_history.specs.declared.report.Ending.{Ending}
 use Rattle.u_history.specs.declared.report.Ending.TheVariants as states
 use Rattle.u_history.specs.Outcomes.{IsOutcome, CellPairs, PortValues}
@@ -43,6 +44,11 @@ pub record IsStatusOf (H : Entry → Type 0) (state : Ending) (status : ℕ) : T
   pub outcome : IsOutcome H answers cells ports faults
   pub is : status ≡ status_of state (judged answers cells ports faults)
 
+-- the state that a report names
+abbrev pub state_of : Ran → Ending
+state_of ran.Quiet = states.Quiet
+state_of ran.Paused = states.Paused
+
 -- The report and the status of a machine in that state: those of its history, with the counts of its
 -- applied and of its parked firings.
 pub record ReportsMachine (m : State) (state : Ending) (report : List ℕ) (status : ℕ) : Type 0 where
@@ -59,11 +65,35 @@ pub record RunsTo (job : JobParts) (firings : ℕ) (state : Ending) (fs : List F
   pub many : state ≡ states.Paused → length fs ≡ firings
   pub more : state ≡ states.Paused → (f : Firing) × Enabled (system_of job) (Held (system_of job) fs) f × (Contains fs f → ⊥)
 
+-- A machine of the job that had taken nothing, once it ran: its log is the plain run, nothing is parked, and its
+-- history is what the log holds.
+pub record RanTo (job : JobParts) (firings : ℕ) (state : Ending) (m : State) : Type 0 where
+  pub of : m.job ≡ job
+  pub parked : m.parked ≡ []
+  pub run : RunsTo job firings state m.log
+  pub held : Same (Contains m.history) (Held (system_of job) m.log)
+
 -- The report and the status of such a run: those of what fs holds; no firing is parked.
 pub record IsReportedRun (job : JobParts) (firings : ℕ) (state : Ending) (fs : List Firing) (report : List ℕ) (status : ℕ) : Type 0 where
   pub run : RunsTo job firings state fs
   pub reported : IsReportOf (Held (system_of job) fs) state (length fs) 0 report
   pub ended : IsStatusOf (Held (system_of job) fs) state status
+
+-- Some bytes, and behind them the report of a machine that fires what it can, so many at most; and its status.
+pub record RunsBehind (front : List ℕ) (old : State) (firings : ℕ) (written : List ℕ) (status : ℕ) : Type 0 where
+  pub end : Ran
+  pub machine : State
+  pub is_machine : IsMachine machine
+  pub ran : RunAnswer old firings (Ok end) machine
+  pub report : List ℕ
+  pub reported : ReportsMachine machine (state_of end) report status
+  pub is : written ≡ front ++ report
+
+-- it fires until it is full, or there is no memory
+abbrev pub RunRefused : State → ℕ → CommandError → Type 0
+RunRefused old firings faults.Full = (new : State) × IsMachine new × RunAnswer old firings (Err refusals.Full) new
+RunRefused old firings faults.NoMemory = Unit {0}
+RunRefused old firings fault = ⊥
 
 -- some run of the job, with its report and its status
 pub record ReportsRunOfJob (job : JobParts) (firings : ℕ) (report : List ℕ) (status : ℕ) : Type 0 where
@@ -76,10 +106,6 @@ pub record ReportsRun (bytes word : List ℕ) (firings : ℕ) (report : List ℕ
   pub job : JobParts
   pub is : IsJobOf bytes word job
   pub run : ReportsRunOfJob job firings report status
-
-abbrev pub state_of : Ran → Ending
-state_of ran.Quiet = states.Quiet
-state_of ran.Paused = states.Paused
 
 -- the program breaks no rule, and the word gives no argument
 pub record GivesNoArgument (bytes word : List ℕ) : Type 0 where

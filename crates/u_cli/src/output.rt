@@ -2,7 +2,7 @@
 ghost use Rattle.std.specs.Prelude.{◌≡◌, ◌++◌, IfOk, OnOk, OnErr, length, MatchResult, ◌≤◌, drop};
 ghost use Rattle.u_cli.specs.Outputs.{WritesAll, WritesPrefix, numbered};
 
-use std::alloc::AllocError;
+use std::alloc::{AllocError, Global};
 use std::io::Write;
 use u_text::push_long;
 
@@ -36,6 +36,16 @@ pub fn write_whole<W: Write>(writer: &mut W, bytes: &[u8]) -> Result<(), Unwritt
         Ok(()) => Ok(()),
         Err(_) => Err(Unwritten),
     }
+}
+
+/// The bytes, and the others behind them.
+pub(crate) fn joined(alloc: Global, front: &[u8], rest: &[u8]) -> Result<Vec<u8>, AllocError>
+    ensures { IfOk result (λ v. v.items ≡ front.now ++ rest.now) }
+{
+    let mut all = Vec::new(alloc);
+    all.extend_from_slice(front)?;
+    all.extend_from_slice(rest)?;
+    Ok(all)
 }
 
 /// Appends the word and the number behind it.

@@ -1,12 +1,13 @@
 //! The command `restore`.
-ghost use Rattle.std.specs.Prelude.{◌≡◌, ◌++◌, IfOk, MatchResult};
+ghost use Rattle.std.specs.Prelude.{◌≡◌, MatchResult};
 ghost use Rattle.u_replica.specs.Restoring.{IsRestored};
+ghost use Rattle.u_cli.specs.Runs.{RunsBehind, RunRefused};
 ghost use Rattle.u_cli.specs.Restores.{most_taken, fault_of, ending_line, RestoresJob, CheckpointRefused, RestoreTextAnswer};
 
 use crate::command_error::CommandError;
-use crate::output::write_whole;
+use crate::output::{joined, write_whole};
 use crate::run::{FIRING_LIMIT, job_of, state_of, told};
-use std::alloc::{AllocError, Global};
+use std::alloc::Global;
 use std::io::Write;
 use u_check::Job;
 use u_machine::Refusal;
@@ -57,14 +58,27 @@ fn ending_line(ending: Ending) -> &'static [u8]
     }
 }
 
-/// The line that tells how a checkpoint ended, and the report behind it.
-fn behind_line(alloc: Global, ending: Ending, report: &[u8]) -> Result<Vec<u8>, AllocError>
-    ensures { IfOk result (λ v. v.items ≡ ending_line ending ++ report.now) }
+/// The front, and behind it the report of a replica that fires so many times at most; and the exit
+/// status.
+pub(crate) fn run_behind(
+    alloc: Global,
+    front: &[u8],
+    replica: &mut Replica<'_>,
+    firings: usize,
+) -> Result<(Vec<u8>, u8), CommandError>
+    ensures { MatchResult result
+        (λ p. RunsBehind front.now replica.old.machine firings p.0.items p.1)
+        (λ fault. RunRefused replica.old.machine firings fault) }
 {
-    let mut all = Vec::new(alloc);
-    all.extend_from_slice(ending_line(ending))?;
-    all.extend_from_slice(report)?;
-    Ok(all)
+    let ran = replica.run(firings);
+    replica.holds();
+    let state = match ran {
+        Ok(ran) => state_of(ran),
+        Err(refusal) => return Err(fault_of(refusal)),
+    };
+    let (report, status) = told(alloc, replica.machine(), state)?;
+    let written = joined(alloc, front, &report)?;
+    Ok((written, status))
 }
 
 /// How the checkpoint ended and the report of a replica that goes on from it, and the exit status.
@@ -74,15 +88,7 @@ fn restore_job(alloc: Global, job: &Job, checkpoint: &[u8]) -> Result<(Vec<u8>, 
         (λ fault. CheckpointRefused job.now checkpoint.now fault) }
 {
     let (mut replica, ending) = restored(alloc, job, checkpoint)?;
-    let ran = replica.run(RESTORED_FIRINGS);
-    replica.holds();
-    let state = match ran {
-        Ok(ran) => state_of(ran),
-        Err(refusal) => return Err(fault_of(refusal)),
-    };
-    let (report, status) = told(alloc, replica.machine(), state)?;
-    let written = behind_line(alloc, ending, &report)?;
-    Ok((written, status))
+    run_behind(alloc, ending_line(ending), &mut replica, RESTORED_FIRINGS)
 }
 
 /// Restores a replica of the program with this text, on the argument that the word gives, from the

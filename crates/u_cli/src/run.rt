@@ -1,7 +1,8 @@
 //! The command `run`.
 ghost use Rattle.std.specs.Prelude.{◌≡◌, ◌≤◌, IfOk, IfErr, MatchResult, IsTrue, List, ℕ, length};
 ghost use Rattle.u_check.specs.Jobs.{JobParts};
-ghost use Rattle.u_cli.specs.Runs.{IsJobOf, ReportsRun, RunTextAnswer, JobRefused, ReportsMachine, ReportsRunOfJob, state_of};
+ghost use Rattle.u_machine.specs.Calls.{IsFresh};
+ghost use Rattle.u_cli.specs.Runs.{IsJobOf, ReportsRun, RunTextAnswer, JobRefused, ReportsMachine, RanTo, ReportsRunOfJob, state_of};
 ghost use Rattle.u_cli.specs.declared.command_error.CommandError.TheVariants as faults;
 ghost use Rattle.u_sets.specs.Rising.{Rises};
 ghost use Rattle.u_rule.specs.EntryOrder.{entry_cmp};
@@ -85,6 +86,39 @@ pub(crate) fn told(
     Ok((report, status(state, outcome.verdict())))
 }
 
+/// Lets a machine that has taken nothing fire so many times at most. Returns the state that a report
+/// names then.
+pub(crate) fn run_new(machine: &mut Machine<'_>, firings: usize) -> Result<Ending, CommandError>
+    requires fresh { IsFresh machine.old }
+    requires room { firings ≤ machine.old.limit }
+    ensures ok { IfOk result (λ state. RanTo machine.old.job firings state machine.new) }
+    ensures memory { IfErr result (λ e. e ≡ faults.NoMemory) }
+{
+    let ran = machine.run(firings);
+    machine.holds();
+    match ran {
+        Ok(ran) => Ok(state_of(ran)),
+        Err(Refusal::NoMemory) => Err(CommandError::NoMemory),
+        Err(Refusal::Full) => unreachable!(),
+    }
+}
+
+/// The report of a machine that has taken nothing, after so many firings at most, and the exit status.
+fn report_of(
+    alloc: Global,
+    machine: &mut Machine<'_>,
+    firings: usize,
+) -> Result<(Vec<u8>, u8), CommandError>
+    requires fresh { IsFresh machine.old }
+    requires room { firings ≤ machine.old.limit }
+    ensures ok { IfOk result (λ p. ReportsRunOfJob machine.old.job firings p.0.items p.1) }
+    ensures memory { IfErr result (λ e. e ≡ faults.NoMemory) }
+{
+    let state = run_new(machine, firings)?;
+    let told = told(alloc, machine, state)?;
+    Ok(told)
+}
+
 /// The report of a new machine of the job after so many firings at most, and the exit status.
 fn run_job(alloc: Global, job: &Job, firings: usize) -> Result<(Vec<u8>, u8), CommandError>
     requires { firings ≤ 1000000 }
@@ -92,14 +126,7 @@ fn run_job(alloc: Global, job: &Job, firings: usize) -> Result<(Vec<u8>, u8), Co
     ensures memory { IfErr result (λ e. e ≡ faults.NoMemory) }
 {
     let mut machine = Machine::new(alloc, job, FIRING_LIMIT)?;
-    let ran = match machine.run(firings) {
-        Ok(ran) => ran,
-        Err(Refusal::NoMemory) => return Err(CommandError::NoMemory),
-        Err(Refusal::Full) => unreachable!(),
-    };
-    machine.holds();
-    let told = told(alloc, &machine, state_of(ran))?;
-    Ok(told)
+    report_of(alloc, &mut machine, firings)
 }
 
 /// Runs the program with this text on the argument that the word gives, with so many firings at

@@ -1,5 +1,6 @@
 //! The command `save`.
 ghost use Rattle.std.specs.Prelude.{◌≡◌, ◌≤◌, IfOk, IfErr};
+ghost use Rattle.u_machine.specs.Calls.{IsFresh};
 ghost use Rattle.u_cli.specs.Saves.{SavesRunOfJob, SaveTextAnswer};
 ghost use Rattle.u_cli.specs.declared.command_error.CommandError.TheVariants as faults;
 
@@ -12,13 +13,13 @@ use u_check::Job;
 use u_machine::Refusal;
 use u_replica::Replica;
 
-/// The checkpoint of a new replica of the job after so many firings at most.
-fn save_job(alloc: Global, job: &Job, firings: usize) -> Result<Vec<u8>, CommandError>
-    requires { firings ≤ 1000000 }
-    ensures ok { IfOk result (λ v. SavesRunOfJob job.now firings v.items) }
+/// The checkpoint of a replica that has taken nothing, after so many firings at most.
+fn checkpoint_of(replica: &mut Replica<'_>, firings: usize) -> Result<Vec<u8>, CommandError>
+    requires fresh { IsFresh replica.old.machine }
+    requires room { firings ≤ replica.old.machine.limit }
+    ensures ok { IfOk result (λ v. SavesRunOfJob replica.old.machine.job firings v.items) }
     ensures memory { IfErr result (λ e. e ≡ faults.NoMemory) }
 {
-    let mut replica = Replica::new(alloc, job, FIRING_LIMIT, 1)?;
     match replica.run(firings) {
         Ok(_) => {}
         Err(Refusal::NoMemory) => return Err(CommandError::NoMemory),
@@ -26,6 +27,16 @@ fn save_job(alloc: Global, job: &Job, firings: usize) -> Result<Vec<u8>, Command
     }
     let checkpoint = replica.save()?;
     Ok(checkpoint)
+}
+
+/// The checkpoint of a new replica of the job after so many firings at most.
+fn save_job(alloc: Global, job: &Job, firings: usize) -> Result<Vec<u8>, CommandError>
+    requires { firings ≤ 1000000 }
+    ensures ok { IfOk result (λ v. SavesRunOfJob job.now firings v.items) }
+    ensures memory { IfErr result (λ e. e ≡ faults.NoMemory) }
+{
+    let mut replica = Replica::new(alloc, job, FIRING_LIMIT, 1)?;
+    checkpoint_of(&mut replica, firings)
 }
 
 /// Runs the program with this text on the argument that the word gives, with so many firings at

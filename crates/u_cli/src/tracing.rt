@@ -7,12 +7,12 @@ ghost use Rattle.u_cli.specs.declared.command_error.CommandError.TheVariants as 
 
 use crate::command_error::CommandError;
 use crate::output::{push_numbered, write_whole};
-use crate::run::{FIRING_LIMIT, job_of};
+use crate::run::{FIRING_LIMIT, job_of, run_new};
 use std::alloc::{AllocError, Global};
 use std::io::Write;
 use u_check::Job;
 use u_delta::write_firings;
-use u_machine::{Machine, Refusal};
+use u_machine::Machine;
 use u_rule::{Entry, Firing, TextError};
 use u_trace::{TraceError, causes, story};
 
@@ -46,12 +46,9 @@ fn ran(alloc: Global, job: &Job) -> Result<Machine<'_>, CommandError>
     ensures memory { IfErr result (λ e. e ≡ faults.NoMemory) }
 {
     let mut machine = Machine::new(alloc, job, FIRING_LIMIT)?;
-    let ran = machine.run(TRACED_FIRINGS);
-    machine.holds();
-    match ran {
+    match run_new(&mut machine, TRACED_FIRINGS) {
         Ok(_) => Ok(machine),
-        Err(Refusal::NoMemory) => Err(CommandError::NoMemory),
-        Err(Refusal::Full) => unreachable!(),
+        Err(fault) => Err(fault),
     }
 }
 

@@ -2,17 +2,18 @@
 ghost use Rattle.std.specs.Prelude.{◌≡◌, ◌≤◌, ◌++◌, Contains, IfOk, IfErr, codes};
 ghost use Rattle.u_history.specs.Report.{answer_line, verdict_line};
 ghost use Rattle.u_history.specs.Verdicts.{judgement};
+ghost use Rattle.u_machine.specs.Calls.{IsFresh};
 ghost use Rattle.u_cli.specs.Waits.{TellsWaits, WaitsAfterRun, WaitsTextAnswer};
 ghost use Rattle.u_cli.specs.declared.command_error.CommandError.TheVariants as faults;
 
 use crate::command_error::CommandError;
 use crate::output::write_whole;
-use crate::run::{FIRING_LIMIT, job_of, state_of, status};
+use crate::run::{FIRING_LIMIT, job_of, run_new, status};
 use std::alloc::{AllocError, Global};
 use std::io::Write;
 use u_check::Job;
 use u_history::{Ending, Verdict};
-use u_machine::{Machine, Refusal};
+use u_machine::Machine;
 use u_value::Value;
 use u_waits::waits;
 
@@ -56,6 +57,22 @@ fn told(alloc: Global, machine: &Machine<'_>, state: Ending) -> Result<(Vec<u8>,
     Ok((text, status(state, outcome.verdict())))
 }
 
+/// What a machine that has taken nothing waits for after so many firings at most, and the exit status.
+fn waits_of(
+    alloc: Global,
+    machine: &mut Machine<'_>,
+    firings: usize,
+) -> Result<(Vec<u8>, u8), CommandError>
+    requires fresh { IsFresh machine.old }
+    requires room { firings ≤ machine.old.limit }
+    ensures ok { IfOk result (λ p. WaitsAfterRun machine.old.job firings p.0.items p.1) }
+    ensures memory { IfErr result (λ e. e ≡ faults.NoMemory) }
+{
+    let state = run_new(machine, firings)?;
+    let told = told(alloc, machine, state)?;
+    Ok(told)
+}
+
 /// What a new machine of the job waits for after so many firings at most, and the exit status.
 fn waits_job(alloc: Global, job: &Job, firings: usize) -> Result<(Vec<u8>, u8), CommandError>
     requires { firings ≤ 1000000 }
@@ -63,14 +80,7 @@ fn waits_job(alloc: Global, job: &Job, firings: usize) -> Result<(Vec<u8>, u8), 
     ensures memory { IfErr result (λ e. e ≡ faults.NoMemory) }
 {
     let mut machine = Machine::new(alloc, job, FIRING_LIMIT)?;
-    let ran = match machine.run(firings) {
-        Ok(ran) => ran,
-        Err(Refusal::NoMemory) => return Err(CommandError::NoMemory),
-        Err(Refusal::Full) => unreachable!(),
-    };
-    machine.holds();
-    let told = told(alloc, &machine, state_of(ran))?;
-    Ok(told)
+    waits_of(alloc, &mut machine, firings)
 }
 
 /// Runs the program with this text on the argument that the word gives, with so many firings at

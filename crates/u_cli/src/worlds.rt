@@ -6,13 +6,13 @@ ghost use Rattle.u_world.specs.Runs.{Steps};
 ghost use Rattle.u_world.specs.Random.{random_list};
 ghost use Rattle.u_cli.specs.Worlds.{most_held, replica_line, replica_lines, merges};
 ghost use Rattle.u_cli.specs.Worlds.{AreDoable, EventsRefused, HappensAtRandom, Gathers};
-ghost use Rattle.u_cli.specs.Worlds.{EndsAlone, EndRefused, TellsEnd, EndsRefused};
+ghost use Rattle.u_cli.specs.Worlds.{TellsEnd, EndsRefused};
 ghost use Rattle.u_cli.specs.Worlds.{TellsWorld, WorldRefused, WorldTextAnswer};
 
 use crate::command_error::CommandError;
 use crate::output::{push_numbered, write_whole};
-use crate::restoring::fault_of;
-use crate::run::{job_of, state_of, told};
+use crate::restoring::run_behind;
+use crate::run::job_of;
 use std::alloc::{AllocError, Global};
 use std::io::Write;
 use u_check::Job;
@@ -115,30 +115,6 @@ fn first_of<'a>(alloc: Global, mut world: World<'a>) -> Result<Replica<'a>, Comm
     }
 }
 
-/// The report of a replica that fires 100,000 times at most, and the exit status.
-fn ended(alloc: Global, replica: &mut Replica<'_>) -> Result<(Vec<u8>, u8), CommandError>
-    ensures { MatchResult result
-        (λ p. EndsAlone replica.old.machine p.0.items p.1)
-        (λ fault. EndRefused replica.old.machine fault) }
-{
-    let ran = replica.run(WORLD_FIRINGS);
-    replica.holds();
-    let state = match ran {
-        Ok(ran) => state_of(ran),
-        Err(refusal) => return Err(fault_of(refusal)),
-    };
-    let told = told(alloc, replica.machine(), state)?;
-    Ok(told)
-}
-
-/// The lines, and the report behind them.
-fn behind_lines(mut lines: Vec<u8>, report: &[u8]) -> Result<Vec<u8>, AllocError>
-    ensures { IfOk result (λ v. v.items ≡ lines.items ++ report.now) }
-{
-    lines.extend_from_slice(report)?;
-    Ok(lines)
-}
-
 /// What is told of a world in the end, and the exit status.
 fn told_of(alloc: Global, world: World<'_>) -> Result<(Vec<u8>, u8), CommandError>
     ensures { MatchResult result
@@ -150,12 +126,7 @@ fn told_of(alloc: Global, world: World<'_>) -> Result<(Vec<u8>, u8), CommandErro
         Ok(first) => first,
         Err(fault) => return Err(fault),
     };
-    let (report, status) = match ended(alloc, &mut first) {
-        Ok(told) => told,
-        Err(fault) => return Err(fault),
-    };
-    let written = behind_lines(lines, &report)?;
-    Ok((written, status))
+    run_behind(alloc, &lines, &mut first, WORLD_FIRINGS)
 }
 
 /// What is told of a world of the job, and the exit status.

@@ -1,5 +1,6 @@
-//! The tests of the machine and of the commands over bytes, on worked programs. It has nothing
-//! else: a crate is proved once more for its tests, so those of the two crates stand here.
+//! The tests of the machine, of what waits, of causes and stories, and of the commands over bytes, on
+//! worked programs. It has nothing else: a crate is proved once more for its tests, so those of these
+//! crates stand here.
 #![tactic(auto)]
 
 #[cfg(test)]
@@ -22,3 +23,7 @@ mod queue;
 mod stepping;
 #[cfg(test)]
 mod torn;
+#[cfg(test)]
+mod traces;
+#[cfg(test)]
+mod waits;

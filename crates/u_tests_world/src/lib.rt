@@ -1,9 +1,13 @@
-//! The tests of worlds, on worked lists of events. It has nothing else: a crate is proved once more
-//! for its tests, so those of the world stand here.
+//! The tests of replicas and of worlds. It has nothing else: a crate is proved once more for its tests,
+//! so those of the two crates stand here.
 #![tactic(auto)]
 
 #[cfg(test)]
+mod lists;
+#[cfg(test)]
 mod looks;
+#[cfg(test)]
+mod replicas;
 #[cfg(test)]
 mod rows;
 #[cfg(test)]

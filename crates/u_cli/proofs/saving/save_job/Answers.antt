@@ -1,6 +1,10 @@
-use Rattle.u_cli.proofs.Saved.{saved_run}
+use Rattle.std.proofs.Common.{ap, subst}
+use Rattle.std.specs.Prelude.{IfOk}
+use Rattle.u_check.specs.Jobs.{JobParts}
+use Rattle.u_replica.specs.ReplicaState.{ReplicaState}
+use Rattle.u_cli.specs.Saves.{SavesRunOfJob}
 use Rattle.u_cli.proofs.saving.save_job.Goals as goal
 
 pub returns-clause-ok : goal.returns-clause-ok
 returns-clause-ok c =
-    saved_run c.args.job.now _ 1 c.in_ok-replica.replica c.run.new.self c.args.firings c.in-Ok.field-0 c.in_ok-checkpoint.checkpoint.items c.in_ok-replica.ensures c.in-Ok.ensures.plain c.in_ok-checkpoint.ensures.text c.in_ok-checkpoint.ensures.valid
+    subst (λ (j : JobParts). IfOk c.checkpoint_of.result (λ v. SavesRunOfJob j c.args.firings v.items)) (ap (λ (r : ReplicaState). r.machine.job) c.in_ok-replica.ensures) c.checkpoint_of.ensures.ok

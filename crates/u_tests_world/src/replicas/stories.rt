@@ -1,0 +1,107 @@
+//! Stories of two replicas, numbers 1 and 2.
+use crate::replicas::acts::{Act, is_so};
+use crate::replicas::stage::Stage;
+use std::alloc::{AllocError, Global};
+use u_check::Job;
+use u_plain::examples::job;
+use u_replica::Replica;
+
+/// Which replica acts.
+#[derive(Clone, Copy)]
+pub enum Who {
+    First,
+    Second,
+}
+
+/// What two new replicas do.
+#[derive(Clone, Copy)]
+pub struct Story {
+    /// What the story shows.
+    pub shows: &'static str,
+    /// The program of the first replica and its argument.
+    pub first: (&'static [u8], i64),
+    /// The program of the second replica and its argument.
+    pub second: (&'static [u8], i64),
+    /// How many firings each of them may take.
+    pub limit: usize,
+    /// The acts, one after another.
+    pub acts: &'static [(Who, Act)],
+}
+
+/// Whether the act is answered as it says.
+fn is_met(
+    stage: &mut Stage,
+    first: &mut Replica<'_>,
+    second: &mut Replica<'_>,
+    who: Who,
+    act: Act,
+) -> bool {
+    if let Who::First = who {
+        return is_so(stage, first, second, act);
+    }
+    is_so(stage, second, first, act)
+}
+
+/// The place of the first act that is answered otherwise, counted from 0.
+fn wrong_among(
+    stage: &mut Stage,
+    first: &mut Replica<'_>,
+    second: &mut Replica<'_>,
+    acts: &[(Who, Act)],
+) -> Option<usize> {
+    let mut place = 0usize;
+    for (who, act) in acts {
+        if !is_met(stage, first, second, *who, *act) {
+            return Some(place);
+        }
+        place = place.saturating_add(1);
+    }
+    None
+}
+
+/// The same on an empty stage.
+fn wrong_on(
+    alloc: Global,
+    story: &Story,
+    first: &mut Replica<'_>,
+    second: &mut Replica<'_>,
+) -> Option<usize> {
+    let mut stage = Stage::new(alloc, story.limit);
+    wrong_among(&mut stage, first, second, story.acts)
+}
+
+/// The same with a new second replica.
+fn wrong_with(
+    alloc: Global,
+    story: &Story,
+    first: &mut Replica<'_>,
+    job: &Job,
+) -> Result<Option<usize>, AllocError> {
+    let mut second = Replica::new(alloc, job, story.limit, 2)?;
+    Ok(wrong_on(alloc, story, first, &mut second))
+}
+
+/// The same with new replicas.
+fn wrong_of(
+    alloc: Global,
+    story: &Story,
+    first: &Job,
+    second: &Job,
+) -> Result<Option<usize>, AllocError> {
+    let mut replica = Replica::new(alloc, first, story.limit, 1)?;
+    wrong_with(alloc, story, &mut replica, second)
+}
+
+/// The same with the second job.
+fn wrong_beside(alloc: Global, story: &Story, first: &Job) -> Result<Option<usize>, AllocError> {
+    let (text, argument) = story.second;
+    let second = job(alloc, text, argument)?;
+    wrong_of(alloc, story, first, &second)
+}
+
+/// The place of the story's first act that is answered otherwise than it says.
+pub fn first_wrong(alloc: Global, story: &Story) -> Result<Option<usize>, AllocError> {
+    let (text, argument) = story.first;
+    let first = job(alloc, text, argument)?;
+    wrong_beside(alloc, story, &first)
+}
