@@ -9,9 +9,10 @@
 #
 # The record, tests/edits/record, has a line for each crate whose edits were all refused: its name,
 # and a sum over the logic of the kit (what `rt version` says behind its name), the sources, specs and
-# proofs of the crate and of all crates below it, and its edits. It holds until one of these changes. A
-# crate that is tried and whose edits are not all refused loses its line. The last line is 'N passed, M
-# failed', over the edits that were tried; those of a crate that is passed over count as passed.
+# proofs of the crate, what its proofs can see of the crates below it (tests/visible.py), and its edits.
+# It holds until one of these changes. A crate that is tried and whose edits are not all refused loses
+# its line. The last line is 'N passed, M failed', over the edits that were tried; those of a crate that
+# is passed over count as passed.
 set -u
 export LC_ALL=C
 
@@ -36,18 +37,20 @@ below() {
     done
 }
 
-# What a crate's record is made of, a line each: the logic of the kit, the libraries of each crate,
-# and the sums of the files.
+# What a crate's record is made of, a line each: the logic of the kit, the libraries of each crate, the
+# sums of its own files, and that of what it can see of the crates below it. Where that can't be told,
+# the record of no two moments is the same.
 parts_of() {
     local seen='' name
     rt version | sed 's/^.* logic /logic /'
     below "$1"
     for name in $(printf '%s\n' $seen | sort); do
         printf '%s: %s\n' "$name" "$(deps_of "$name")"
-        find "crates/$name/src" "crates/$name/specs" "crates/$name/proofs" -type f 2>/dev/null |
-            sort | xargs -r -d '\n' sha256sum
     done
-    find "tests/edits/$1" -type f | sort | xargs -r -d '\n' sha256sum
+    find "crates/$1/src" "crates/$1/specs" "crates/$1/proofs" "tests/edits/$1" -type f 2>/dev/null |
+        sort | xargs -r -d '\n' sha256sum
+    python3 tests/visible.py "$1" | sha256sum
+    [ "${PIPESTATUS[0]}" -eq 0 ] || date +%s.%N
 }
 
 sum_of() {
