@@ -136,13 +136,15 @@ class Source:
             self.add(item)
 
     def read_impl(self, item, name):
-        """The public functions of a type, each a piece."""
+        """What is public of a type's own, each function a piece."""
         at = 1
         while at < len(item):
-            found = FN.match(item[at])
-            head, at = signature_at(item, at, found[1]) if found else ([], at + 1)
+            line, found = item[at], FN.match(item[at])
+            head, at = signature_at(item, at, found[1]) if found else ([line], at + 1)
             if found and found[2] == "pub ":
                 self.add([item[0], *head], name, found[3])
+            elif not found and line.startswith("    pub "):
+                self.add([item[0], line], name)
 
     def read_trait_impl(self, item, name, is_model):
         """A trait's impl without its bodies; of a model the value alone."""
@@ -175,7 +177,8 @@ def definitions(path, module):
             names += [it.split()[0] for it in lines[1:]]
         beside |= {it: f"{module}.{it}" for it in names}
     for names, lines in groups:
-        piece = Piece("\n".join(lines), imports, any_of=[f"{module}.{it}" for it in [*names, "*"]])
+        cited = [] if "◌" in "".join(names) else [f"{module}.{it}" for it in [*names, "*"]]
+        piece = Piece("\n".join(lines), imports, any_of=cited)
         piece.beside = {whole for it, whole in beside.items() if it in piece.words}
         yield piece
 
@@ -201,14 +204,11 @@ def words_of(text):
     words = set(BETWEEN.split(text))
     for name, path, inner in CITED.findall(text):
         parts = path.split(".")
+        cited = [re.split(" as ", it.strip())[0] for it in inner.split(",")]
         if parts[0] == "declared":
-            words |= {f"declared {it}" for it in parts}
-        elif inner:
-            words |= {f"{name}.{parts[0]}.{re.split(' as ', it.strip())[0]}" for it in inner.split(",")}
-        elif len(parts) > 1:
-            words |= {f"{name}.{parts[0]}.{parts[1]}"}
+            words |= {f"declared {it}" for it in [*parts, *cited]}
         else:
-            words |= {f"{name}.{parts[0]}.*"}
+            words |= {f"{name}.{parts[0]}.{it}" for it in (cited if inner else "*")}
     return words
 
 
