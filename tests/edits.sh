@@ -1,11 +1,13 @@
 #!/usr/bin/env bash
 # Tries the wrong bodies of tests/edits, which the prover has to refuse: tests/edits/NAME/*.edit are
 # edits of crate NAME, of the same form as those in crates/NAME/must-fail, which `rt ci` tries. They
-# are tried by `rt must-fail` on a copy of the tree, several crates side by side (RT_JOBS: how many).
+# are tried on copies of the tree, several crates side by side (RT_JOBS: how many): those of different
+# functions in one check (tests/try_edits.py), and what that does not find refused by `rt must-fail`.
 #
 #   tests/edits.sh              tries the crates whose record does not hold
 #   tests/edits.sh NAME..       tries these crates
 #   tests/edits.sh --all        tries every crate
+#   tests/edits.sh --fresh ..   the same, over the libraries that `rt ci` has just built of these sources
 #
 # The record, tests/edits/record, has a line for each crate whose edits were all refused: its name,
 # and a sum over the logic of the kit (what `rt version` says behind its name), the sources, specs and
@@ -70,23 +72,43 @@ sum_tried() {
     sed -n "s/^$1 //p" "$room/sums"
 }
 
-# A copy of the crates, with what is built of them, and with the edits to be tried as its must-fail edits.
+# Copies crates to a tree of their own, with what is built of them in another tree.
 copy_tree() {
-    local name
-    cp -- crates.txt "$room/" || exit 2
-    [ ! -f HANDLES ] || cp -- HANDLES "$room/"
-    for name in crates/*/; do
-        name=$(basename -- "$name")
-        mkdir -p -- "$room/crates/$name/out"
-        cp -R -- "crates/$name/src" "$room/crates/$name/"
-        [ ! -d "crates/$name/specs" ] || cp -R -- "crates/$name/specs" "$room/crates/$name/"
-        [ ! -d "crates/$name/proofs" ] || cp -R -- "crates/$name/proofs" "$room/crates/$name/"
-        [ ! -d "crates/$name/out/rlib" ] || cp -Rp -- "crates/$name/out/rlib" "$room/crates/$name/out/"
-        [ ! -d "tests/edits/$name" ] || cp -R -- "tests/edits/$name" "$room/crates/$name/must-fail"
+    local to=$1 from=$2 name part
+    shift 2
+    mkdir -p -- "$to/crates"
+    [ ! -f HANDLES ] || cp -- HANDLES "$to/"
+    for name in "$@"; do
+        sed -n "/^$name\( staticlib\)\{0,1\}:/p" crates.txt >>"$to/crates.txt"
+        mkdir -p -- "$to/crates/$name/out"
+        for part in src specs proofs; do
+            [ ! -d "crates/$name/$part" ] || cp -R -- "crates/$name/$part" "$to/crates/$name/"
+        done
+        [ ! -d "$from/crates/$name/out/rlib" ] ||
+            cp -Rp -- "$from/crates/$name/out/rlib" "$to/crates/$name/out/"
     done
 }
 
-# Builds the libraries below a crate in the copy, lowest first, so that crates can be tried side by side.
+# Marks the libraries in the copy as made of its sources, as `rt ci` does not: what lies there is what
+# it has just built. Where that can't be done they are built once more.
+mark_as_built() {
+    python3 - "$room/libraries" <<'END'
+import os
+import shutil
+import sys
+
+sys.path.insert(0, os.path.dirname(os.path.realpath(shutil.which("rt"))))
+import rtlib
+
+os.chdir(sys.argv[1])
+for crate in rtlib.crates_below(os.getcwd()):
+    if os.path.isdir(crate.rlib):
+        with open(f"{crate.folder}/out/rlib/stamp", "w", encoding="utf-8") as file:
+            file.write(crate.stamp())
+END
+}
+
+# Builds the libraries below a crate in the copy, lowest first.
 build_below() {
     local name
     for name in "$@"; do
@@ -95,17 +117,24 @@ build_below() {
         # shellcheck disable=SC2046
         build_below $(deps_of "$name")
         built="$built $name"
-        (cd "$room/crates/$name" && rt lib) </dev/null >"$room/$name.lib" 2>&1 || {
+        (cd "$room/libraries/crates/$name" && rt lib) </dev/null >"$room/$name.lib" 2>&1 || {
             tail -n 5 -- "$room/$name.lib"
             echo "$name: the library was not built"
         }
     done
 }
 
-# Tries the edits of a crate, and leaves what was said of them in NAME.said.
+# Tries the edits of a crate in its own copy, and leaves what was said of them in NAME.said. `rt` lets
+# nobody else work in the folders of a crate and of those below it.
 try() {
-    cd -- "$1" && rt must-fail "$2" </dev/null >"$1/$2.said" 2>&1
-    echo $? >"$1/$2.status"
+    local status=0
+    cd -- "$1/$2" || return
+    python3 "$3/tests/try_edits.py" "crates/$2" </dev/null >"$1/$2.said" 2>&1
+    if [ -n "$(ls "crates/$2/must-fail")" ]; then
+        rt must-fail "$2" </dev/null >>"$1/$2.said" 2>&1
+        status=$?
+    fi
+    echo "$status" >"$1/$2.status"
     echo "$2: tried"
 }
 export -f try
@@ -113,7 +142,7 @@ export -f try
 # Counts what was said of a crate's edits, and keeps or drops its line of the record.
 judge() {
     local name=$1 wanted refused
-    wanted=$(find "$room/crates/$name/must-fail" -name '*.edit' | wc -l)
+    wanted=$(cat -- "$room/$name.wanted")
     refused=$(grep -c '^rt: must-fail .*: refused, as it must be' "$room/$name.said")
     grep -v '^rt: must-fail .*: refused, as it must be' "$room/$name.said"
     passed=$((passed + refused))
@@ -126,6 +155,11 @@ judge() {
 }
 
 all=$(for name in tests/edits/*/; do basename -- "$name"; done)
+fresh=''
+if [ "${1:-}" = --fresh ]; then
+    fresh=1
+    shift
+fi
 case "${1:-}" in
     --all) names=$all ;;
     '') names=$(for name in $all; do holds "$name" || echo "$name"; done) ;;
@@ -153,14 +187,26 @@ for name in $all; do
     esac
 done
 if [ -n "$names" ]; then
-    for name in $names; do printf '%s %s\n' "$name" "$(sum_of "$name")"; done >"$room/sums"
-    copy_tree
+    for name in $names; do
+        printf '%s %s\n' "$name" "$(sum_of "$name")" >>"$room/sums"
+        edits_of "$name" >"$room/$name.wanted"
+    done
+    # shellcheck disable=SC2046
+    copy_tree "$room/libraries" . $(cd crates && echo *)
+    [ -z "$fresh" ] || mark_as_built
     built=''
     for name in $names; do
         # shellcheck disable=SC2046
         build_below $(deps_of "$name")
+        seen=''
+        below "$name"
+        # shellcheck disable=SC2086
+        copy_tree "$room/$name" "$room/libraries" $seen
+        rm -rf -- "$room/$name/crates/$name/out"
+        cp -R -- "tests/edits/$name" "$room/$name/crates/$name/must-fail"
     done
-    printf '%s\n' $names | xargs -P "${RT_JOBS:-$(nproc)}" -I{} bash -c 'try "$1" "$2"' - "$room" {}
+    printf '%s\n' $names |
+        xargs -P "${RT_JOBS:-$(nproc)}" -I{} bash -c 'try "$1" "$2" "$3"' - "$room" {} "$top"
     for name in $names; do judge "$name"; done
     sort -- "$room/record" >"$record.new" 2>/dev/null || : >"$record.new"
     mv -- "$record.new" "$record"

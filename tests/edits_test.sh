@@ -15,7 +15,7 @@ failed=0
 make_repository() {
     mkdir -p -- "$room/crates/small/src" "$room/crates/small/specs" "$room/crates/upper/src" \
         "$room/tests/edits/small" "$room/tests/edits/upper"
-    cp -- "$top/tests/edits.sh" "$top/tests/visible.py" "$room/tests/"
+    cp -- "$top/tests/edits.sh" "$top/tests/visible.py" "$top/tests/try_edits.py" "$room/tests/"
     printf 'small:\nupper: small\n' >"$room/crates.txt"
     echo 'pub mod Digits' >"$room/crates/small/specs/Lib.antt"
     cat >"$room/crates/small/specs/Digits.antt" <<'END'
