@@ -18,7 +18,7 @@ import re
 import subprocess
 import sys
 
-IMPL = re.compile(r"impl(?:<.*?>)? (?:.*? for )?(\w+)")
+IMPL = re.compile(r"impl(?:<.*?>)? (?:(\w+).*? for )?(\w+)")
 FN = re.compile(r'( *)(?:pub(?:\([a-z]+\))? )?(?:const |unsafe |extern "C" )*fn (\w+)')
 SAID = re.compile(r"fn (\S+?): (.*)")
 
@@ -70,9 +70,11 @@ def function_at(path, old):
 
 
 def owner_of(path, lines, start, margin):
-    """The type in whose impl the function stands that begins there, or else the path of its module."""
+    """The type in whose impl the function stands that begins there, with the trait behind it if it is one's,
+    as the prover writes them; or else the path of its module."""
     if margin:
-        return next((it[1] for k in range(start, -1, -1) if (it := IMPL.match(lines[k]))), None)
+        impl = next((it for k in range(start, -1, -1) if (it := IMPL.match(lines[k]))), None)
+        return impl[2] + (impl[1] or "") if impl else "::"
     inner = path.split("/src/", 1)[1].removesuffix(".rt").replace("/", "::")
     return "::" if inner in ("lib", "main") else f"::{inner}::"
 
@@ -106,7 +108,7 @@ def is_named(function, whole):
     parts = whole.split("::")
     if owner.startswith("::"):
         return whole == f"{parts[0]}{owner}{name}"
-    return parts[-1] == name and len(parts) > 2 and parts[-2].startswith(owner)
+    return parts[-2:] == [owner, name]
 
 
 def refusal_of(edit, refused):
