@@ -1,5 +1,6 @@
 -- What a set of keys in order has, and what an insert makes of it.
-use Rattle.std.proofs.Common.{◌≡◌, ◌↔◌, ◌⊎◌, inl, inr, List, [], ◌∷◌, Bool, true, false, cond, ◌||◌, IsTrue, Contains, subst, sym, ◌∙◌, ap, refl, Ordering, not}
+use Rattle.std.proofs.Common.{◌≡◌, ◌↔◌, ◌⊎◌, inl, inr, List, [], ◌∷◌, Bool, true, false, cond, ◌||◌, IsTrue, Contains, subst, sym, ◌∙◌, ap, refl, Ordering, not, Option, Some, None}
+use Rattle.std.specs.Prelude.{IfSome}
 use Rattle.std.specs.Cmp.{IsTotalOrder, tied_itself, Equal-is}
 use Rattle.std.specs.List.{list_any}
 use Rattle.std.proofs.lemmas.Bool.{or_cases, or_right}
@@ -110,3 +111,15 @@ module _ {X : Type 0} (R : X → X → Ordering) (o : IsTotalOrder R) (exact : I
       by : (b : Bool) → Rises R (remove_key (is_at (R x)) ys) → Rises R (cond b ys (y ∷ remove_key (is_at (R x)) ys))
       by true still = r.1
       by false still = ((λ z m. r.0 z ((removes ys x r.1).less z m)), still)
+
+  -- the set without its least member
+  without_first : (k : X) (rest : List X) → Rises R (k ∷ rest) → IsWithout (k ∷ rest) k rest
+  without_first k rest r = record {
+    less = λ z m. Contains-tail k z rest m;
+    gone = λ m. apart_from_less k k (r.0 k m) refl;
+    rest = λ z m. Contains-cons_cases k z rest m;
+  }
+
+  pub first_out : (o : Option X) (xs rest : List X) → IfSome o (λ k. xs ≡ k ∷ rest) → Rises R xs → IfSome o (λ k. IsWithout xs k rest)
+  first_out None xs rest h r = h
+  first_out (Some k) xs rest h r = subst (λ (ys : List X). IsWithout ys k rest) (sym h) (without_first k rest (subst (λ (ys : List X). Rises R ys) h r))

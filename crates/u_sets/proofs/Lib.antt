@@ -3,5 +3,8 @@ pub mod Sorted
 pub mod Places
 pub mod Keys
 pub mod Hashed
+pub mod Placed
+pub mod Listed
 pub mod Gathering
 pub mod Shown
+pub mod Keyed

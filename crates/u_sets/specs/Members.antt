@@ -1,5 +1,5 @@
 -- What the members of a list are, beside those of another list.
-use Rattle.std.specs.Prelude.{◌≡◌, List, ◌⊎◌, ◌↔◌, Contains}
+use Rattle.std.specs.Prelude.{◌≡◌, List, [], ◌∷◌, ◌++◌, ◌⊎◌, ◌↔◌, Contains}
 
 -- new has the members of old, and y
 abbrev pub IsWith : {X : Type 0} → List X → X → List X → Type 0
@@ -30,3 +30,7 @@ IsUnion {X} left right all = (x : X) → Contains all x ↔ (Contains left x ⊎
 -- some member of ys has P with f
 abbrev pub SomeOf : {Y F : Type 0} → List Y → (Y → F → Type 0) → F → Type 0
 SomeOf {Y} ys P f = (y : Y) × Contains ys y × P y f
+
+-- y stands last in new, behind old, or was there
+abbrev pub GoesLast : {X : Type 0} → List X → X → List X → Type 0
+GoesLast old y new = (Contains old y × (new ≡ old)) ⊎ ((Contains old y → ⊥) × (new ≡ old ++ y ∷ []))

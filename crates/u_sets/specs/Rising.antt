@@ -2,6 +2,7 @@
 use Rattle.std.specs.Prelude.{◌≡◌, List, [], ◌∷◌, ◌↔◌, Contains}
 use Rattle.std.specs.declared.cmp.Ordering.{Ordering}
 use Rattle.std.specs.declared.cmp.Ordering.TheVariants.{Less, Equal}
+use Rattle.std.specs.BTreeSet.{insert_key}
 
 -- each member is below all later ones
 abbrev pub Ascending : {X : Type 0} → (X → X → Type 0) → List X → Type 0
@@ -20,3 +21,8 @@ IsExact {X} R = (a b : X) → R a b ≡ Equal → a ≡ b
 pub record IsListOf {X : Type 0} (R : X → X → Ordering) (P : X → Type 0) (xs : List X) : Type 0 where
   pub rises : Rises R xs
   pub exact : (x : X) → Contains xs x ↔ P x
+
+-- the members of a list, each once, in order
+abbrev pub in_order : {X : Type 0} → (X → X → Ordering) → List X → List X
+in_order R [] = []
+in_order R (x ∷ xs) = insert_key R (in_order R xs) x

@@ -7,11 +7,15 @@
 #![tactic(auto)]
 
 mod exact_ord;
-mod hashed_set;
+mod keyed_set;
+mod listed_set;
 mod ordered_set;
+mod placed_set;
 mod rising;
 
 pub use exact_ord::ExactOrd;
-pub use hashed_set::HashedSet;
+pub use keyed_set::KeyedSet;
+pub use listed_set::ListedSet;
 pub use ordered_set::OrderedSet;
-pub use rising::{has, place_in};
+pub use placed_set::PlacedSet;
+pub use rising::{has, place_in, put_in_order};

@@ -1,5 +1,5 @@
 //! Sets that are kept in order.
-ghost use Rattle.std.specs.Prelude.{◌≡◌, ◌↔◌, ◌+◌, [], OnOk, OnErr, IfOk, IfErr, Contains, IsTrue, IsFalse, length, slice_get};
+ghost use Rattle.std.specs.Prelude.{◌≡◌, ◌↔◌, ◌+◌, [], ◌∷◌, OnOk, OnErr, IfOk, IfErr, IfSome, IfNone, Contains, IsTrue, IsFalse, length, slice_get};
 ghost use Rattle.std.specs.Option.{option_copied};
 ghost use Rattle.std.specs.Map.Iter.{ShowsInOrder, deref};
 ghost use Rattle.u_sets.specs.Rising.{Rises};
@@ -79,6 +79,37 @@ impl<K: ExactOrd + Drop> OrderedSet<K> {
         ensures count { IsTrue result → length self.old ≡ length self.new + 1 }
     {
         self.keys.remove(key)
+    }
+
+    /// The least key.
+    pub fn first(&self) -> Option<&K>
+        ensures { option_copied result ≡ slice_get self.now 0 }
+    {
+        self.keys.first()
+    }
+
+    /// Takes the least key out.
+    pub fn pop_first(&mut self) -> Option<K>
+        ensures some { IfSome result (λ k. self.old ≡ k ∷ self.new) }
+        ensures without { IfSome result (λ k. IsWithout self.old k self.new) }
+        ensures none { IfNone result ((self.old ≡ []) × (self.new ≡ [])) }
+        ensures rises { Rises K.cmp self.new }
+    {
+        self.keys.pop_first()
+    }
+
+    /// Takes out a key that is there. The only key is found without comparing.
+    pub fn take_out(&mut self, key: &K)
+        requires { Contains self.old key.now }
+        ensures without { IsWithout self.old key.now self.new }
+        ensures rises { Rises K.cmp self.new }
+        ensures count { length self.old ≡ length self.new + 1 }
+    {
+        if self.keys.len() == 1 {
+            self.keys.clear();
+            return;
+        }
+        self.remove(key);
     }
 
     /// The keys, in order.

@@ -1,5 +1,6 @@
 //! Lists that rise: what is in them, and how an item is put in its place.
 ghost use Rattle.std.specs.Prelude.{◌≡◌, ◌↔◌, OnOk, OnErr, IfOk, IfErr, Contains, IsTrue};
+ghost use Rattle.u_system.specs.Firing.{Same, Distinct};
 ghost use Rattle.u_sets.specs.Rising.{Rises};
 ghost use Rattle.u_sets.specs.Members.{IsWith};
 
@@ -37,4 +38,13 @@ pub fn place_in<T: ExactOrd + Drop>(list: &mut Vec<T>, item: T) -> Result<bool, 
             Ok(true)
         }
     }
+}
+
+/// Puts the items, of which none comes twice, in ascending order.
+pub fn put_in_order<T: ExactOrd + Drop>(list: &mut Vec<T>)
+    requires { Distinct list.old.items }
+    ensures rises { Rises T.cmp list.new.items }
+    ensures same { Same (Contains list.new.items) (Contains list.old.items) }
+{
+    list.sort_unstable();
 }

@@ -1,0 +1,263 @@
+//! Sets of pairs of a key and a value, by key.
+ghost use Rattle.std.specs.Prelude.{◌≡◌, ◌↔◌, ◌++◌, [], ◌∷◌, ◌<◌, OnOk, OnErr, IfOk, IfErr, Contains, IsTrue, map, length};
+ghost use Rattle.std.specs.Map.Iter.{deref_pair};
+ghost use Rattle.std.specs.Mem.{FitsInMemory};
+ghost use Rattle.indexmap.specs.IndexSet.{spare};
+ghost use Rattle.u_system.specs.Firing.{Distinct};
+ghost use Rattle.u_sets.specs.Members.{IsWith};
+ghost use Rattle.u_sets.specs.Pairs.{items_of, group_pairs, pairs_of_many, GroupsAreDistinct, HasAnother, IsOne};
+
+use crate::exact_ord::ExactOrd;
+use indexmap::{IndexMap, IndexSet};
+use std::alloc::{AllocError, AllocFailed, Global};
+use std::hash::Hash;
+use std::marker::Model;
+use std::{mem, slice};
+
+/// The values under a key: a single one stands in place, and several are found by their hashes.
+#[derive(Drop)]
+enum Few<V: ExactOrd + Hash + Drop> {
+    One(V),
+    Many(Box<IndexSet<V>>),
+}
+
+/// A set of pairs of a key and a value, by key: the pairs of a key are found by its hash. Contracts
+/// see the list of the pairs.
+#[derive(Drop)]
+pub struct KeyedSet<K: ExactOrd + Hash + Drop, V: ExactOrd + Hash + Drop> {
+    alloc: Global,
+    groups: IndexMap<K, Few<V>>,
+}
+
+impl<K: ExactOrd + Hash + Drop, V: ExactOrd + Hash + Drop> Model for KeyedSet<K, V> {
+    ghost use Rattle.std.specs.Prelude.{List};
+    ghost use Rattle.indexmap.specs.IndexMap.{IsUnique};
+    ghost use Rattle.u_sets.specs.Pairs.{pairs_of};
+
+    ghost Value = { List (K × V) };
+
+    ghost view = { λ s. pairs_of s.groups.entries };
+
+    ghost invariant = { λ s. IsUnique K.eq s.groups };
+}
+
+/// The set of that value, with room for one more.
+fn with_room<V: ExactOrd + Hash + Drop>(
+    alloc: Global,
+    value: V,
+) -> Result<Box<IndexSet<V>>, AllocFailed<V>>
+    ensures keys { IfOk result (λ s. s.value.keys ≡ value ∷ []) }
+    ensures room { IfOk result (λ s. 0 < spare s.value) }
+    ensures back { IfErr result (λ e. e.value ≡ value) }
+{
+    let Ok(all) = IndexSet::with_capacity(alloc, 2) else {
+        return Err(AllocFailed { value });
+    };
+    let Ok(mut all) = Box::new(alloc, all) else {
+        return Err(AllocFailed { value });
+    };
+    let _ = all.insert(value)?;
+    Ok(all)
+}
+
+impl<V: ExactOrd + Hash + Drop> Few<V> {
+    /// The values.
+    fn as_slice(&self) -> &[V]
+        requires { FitsInMemory V.row }
+        ensures items { result.now ≡ items_of self.now }
+        ensures distinct { Distinct (items_of self.now) }
+    {
+        match self {
+            Few::One(value) => slice::from_ref(value),
+            Few::Many(all) => all.as_slice(),
+        }
+    }
+
+    /// Whether the value is there.
+    fn contains(&self, value: &V) -> bool
+        ensures { IsTrue result ↔ Contains (items_of self.now) value.now }
+    {
+        match self {
+            Few::One(there) => there == value,
+            Few::Many(all) => all.contains(value),
+        }
+    }
+
+    /// Puts another value beside the single one.
+    fn join(&mut self, alloc: Global, value: V) -> Result<bool, AllocFailed<V>>
+        requires one { IsOne self.old }
+        requires other { Contains (items_of self.old) value → ⊥ }
+        ensures ok { OnOk result (IsWith (items_of self.old) value (items_of self.new)) }
+        ensures new { IfOk result (λ b. IsTrue b) }
+        ensures err { OnErr result (self.new ≡ self.old) }
+        ensures back { IfErr result (λ e. e.value ≡ value) }
+    {
+        let all = with_room(alloc, value)?;
+        let first = mem::replace(self, Few::Many(all));
+        let (Few::Many(all), Few::One(first)) = (self, first) else {
+            unreachable!()
+        };
+        let Ok(added) = all.insert(first) else {
+            unreachable!()
+        };
+        Ok(added)
+    }
+
+    /// Puts the value in. Returns whether it was new.
+    fn insert(&mut self, alloc: Global, value: V) -> Result<bool, AllocFailed<V>>
+        ensures ok { OnOk result (IsWith (items_of self.old) value (items_of self.new)) }
+        ensures new { IfOk result (λ b. IsTrue b ↔ (Contains (items_of self.old) value → ⊥)) }
+        ensures still { IfOk result (λ b. (IsTrue b → ⊥) → self.new ≡ self.old) }
+        ensures err { OnErr result (items_of self.new ≡ items_of self.old) }
+        ensures back { IfErr result (λ e. e.value ≡ value) }
+    {
+        if self.contains(&value) {
+            return Ok(false);
+        }
+        match self {
+            Few::Many(all) => {
+                let added = all.insert(value)?;
+                Ok(added)
+            }
+            Few::One(_) => self.join(alloc, value),
+        }
+    }
+}
+
+/// Adds the pairs of the key, if there are at least so many.
+fn push_pairs<'a, K, V: ExactOrd + Hash + Drop>(
+    list: &mut Vec<(&'a K, &'a V)>,
+    key: &'a K,
+    few: &'a Few<V>,
+    least: usize,
+) -> Result<(), AllocError>
+    requires { FitsInMemory V.row }
+    ensures ok { OnOk result
+        (map deref_pair list.new.items
+        ≡ map deref_pair list.old.items ++ group_pairs least (key.now, few.now)) }
+    ensures distinct { Distinct (items_of few.now) }
+{
+    let values = few.as_slice();
+    if values.len() < least {
+        return Ok(());
+    }
+    for value in values {
+        list.push((key, value))?;
+    }
+    Ok(())
+}
+
+/// The pairs of each key that has at least so many.
+fn gather<K: ExactOrd + Hash + Drop, V: ExactOrd + Hash + Drop>(
+    groups: &IndexMap<K, Few<V>>,
+    alloc: Global,
+    least: usize,
+) -> Result<Vec<(&K, &V)>, AllocError>
+    requires { FitsInMemory V.row }
+    ensures all { IfOk result
+        (λ v. map deref_pair v.items ≡ pairs_of_many least groups.now.entries) }
+    ensures apart { IfOk result (λ _. GroupsAreDistinct groups.now.entries) }
+{
+    let mut list = Vec::new(alloc);
+    for place in 0..groups.len() {
+        let Some((key, few)) = groups.get_index(place) else {
+            unreachable!()
+        };
+        push_pairs(&mut list, key, few, least)?;
+    }
+    Ok(list)
+}
+
+impl<K: ExactOrd + Hash + Drop, V: ExactOrd + Hash + Drop> KeyedSet<K, V> {
+    /// The empty set. It takes no memory.
+    pub fn new(alloc: Global) -> KeyedSet<K, V>
+        ensures { result ≡ [] }
+    {
+        KeyedSet {
+            alloc,
+            groups: IndexMap::new(alloc),
+        }
+    }
+
+    /// Whether the pair is there.
+    pub fn contains(&self, key: &K, value: &V) -> bool
+        ensures { IsTrue result ↔ Contains self.now (key.now, value.now) }
+    {
+        match self.groups.get(key) {
+            Some(few) => few.contains(value),
+            None => false,
+        }
+    }
+
+    /// The values under the key.
+    pub fn under(&self, key: &K) -> &[V]
+        requires { FitsInMemory V.row }
+        ensures all { (v : V) → Contains result.now v ↔ Contains self.now (key.now, v) }
+        ensures distinct { Distinct result.now }
+    {
+        match self.groups.get(key) {
+            Some(few) => few.as_slice(),
+            None => &[],
+        }
+    }
+
+    /// Puts the pair in. Returns whether it was new.
+    ///
+    /// # Errors
+    /// `AllocFailed` with the pair where there is no memory; the set stays as it was.
+    pub fn insert(&mut self, key: K, value: V) -> Result<bool, AllocFailed<(K, V)>>
+        ensures ok { OnOk result (IsWith self.old (key, value) self.new) }
+        ensures new { IfOk result (λ b. IsTrue b ↔ (Contains self.old (key, value) → ⊥)) }
+        ensures still { IfOk result (λ b. (IsTrue b → ⊥) → self.new ≡ self.old) }
+        ensures err { OnErr result (self.new ≡ self.old) }
+        ensures back { IfErr result (λ e. e.value ≡ (key, value)) }
+    {
+        let alloc = self.alloc;
+        if let Some(few) = self.groups.get_mut(&key) {
+            match few.insert(alloc, value) {
+                Ok(added) => return Ok(added),
+                Err(failed) => {
+                    return Err(AllocFailed {
+                        value: (key, failed.value),
+                    });
+                }
+            }
+        }
+        match self.groups.insert(key, Few::One(value)) {
+            Ok(_) => Ok(true),
+            Err(failed) => {
+                let (key, few) = failed.value;
+                let Few::One(value) = few else { unreachable!() };
+                Err(AllocFailed {
+                    value: (key, value),
+                })
+            }
+        }
+    }
+
+    /// References to the pairs.
+    ///
+    /// # Errors
+    /// `AllocError` where there is no memory.
+    pub fn pairs(&self, alloc: Global) -> Result<Vec<(&K, &V)>, AllocError>
+        requires { FitsInMemory V.row }
+        ensures all { IfOk result (λ v. map deref_pair v.items ≡ self.now) }
+        ensures distinct { IfOk result (λ v. Distinct (map deref_pair v.items)) }
+    {
+        gather(&self.groups, alloc, 0)
+    }
+
+    /// References to the pairs of the keys that have several values.
+    ///
+    /// # Errors
+    /// `AllocError` where there is no memory.
+    pub fn shared_pairs(&self, alloc: Global) -> Result<Vec<(&K, &V)>, AllocError>
+        requires { FitsInMemory V.row }
+        ensures all { IfOk result
+            (λ v. (k : K) (x : V) → Contains (map deref_pair v.items) (k, x)
+            ↔ (Contains self.now (k, x) × HasAnother (λ y. Contains self.now (k, y)) x)) }
+        ensures distinct { IfOk result (λ v. Distinct (map deref_pair v.items)) }
+    {
+        gather(&self.groups, alloc, 2)
+    }
+}
