@@ -1,22 +1,17 @@
 -- The order of contexts is that of their kinds, and then that of their paths.
-use Rattle.std.specs.Prelude.{◌≡◌, ℕ, List, [], ◌∷◌, ◌++◌, length, refl}
-use Rattle.std.proofs.Common.{sym, ◌∙◌, ap, arith, length-append, suc}
+use Rattle.std.specs.Prelude.{◌≡◌, ℕ, ◌*◌, List, [], ◌∷◌, ◌++◌, length, refl}
+use Rattle.std.proofs.Common.{sym, ◌∙◌, ap, arith, length-append}
 use Rattle.std.specs.Ordering.{ordering_then, nat_cmp}
 use Rattle.std.specs.declared.cmp.Ordering.{Ordering}
 use Rattle.std.specs.declared.cmp.Ordering.TheVariants.{Less, Equal, Greater}
 use Rattle.std.specs.Cmp.Lexicographic.{slice_cmp}
 use Rattle.std.specs.FinMap.{nat_cmp-IsAntisymmetric, slice_cmp-IsAntisymmetric}
-use Rattle.u_name.specs.declared.path.Frame.{Frame}
-use Rattle.u_name.specs.Context.{Tree, Top, InLoop, InCall}
+use Rattle.u_name.specs.Block.{IsBlock}
+use Rattle.u_name.specs.Context.{Tree, Top, InLoop, InCall, depth, InRange, IsBetween, IsContext}
 use Rattle.u_name.specs.ContextOrder.{context_cmp, parts_cmp}
-use Rattle.u_name.specs.Path.{frame, kinds, path}
-use Rattle.u_name.specs.contracts.path.FrameOrd.TheImpl as frame_ord
-
-abbrev pub frame_cmp : Frame → Frame → Ordering
-frame_cmp = (frame_ord.ghosts).cmp
-
-frame_parts : (b : List ℕ) (n i : ℕ) (c : List ℕ) (m j : ℕ) → frame_cmp (frame b n i) (frame c m j) ≡ parts_cmp b n i c m j
-frame_parts b n i c m j = refl
+use Rattle.u_name.specs.Path.{kinds, path}
+use Rattle.u_name.specs.Words.{words, high_word, low_word, last_word}
+use Rattle.u_name.proofs.BlockNumbers.{digits, halves_in_order}
 
 then_same : (r s t : Ordering) → ordering_then (ordering_then r s) t ≡ ordering_then r (ordering_then s t)
 then_same Less s t = refl
@@ -29,53 +24,74 @@ then_equal Less = refl
 then_equal Equal = refl
 then_equal Greater = refl
 
-module _ {X : Type 0} (R : X → X → Ordering) where
-  -- lists as long, with one more behind each
-  behind : (xs ys : List X) (x y : X) → length xs ≡ length ys → slice_cmp R (xs ++ x ∷ []) (ys ++ y ∷ []) ≡ ordering_then (slice_cmp R xs ys) (R x y)
-  behind [] [] x y h = then_equal (R x y)
-  behind [] (y' ∷ ys) x y h = absurd (omega arith)
-  behind (x' ∷ xs) [] x y h = absurd (omega arith)
-  behind (x' ∷ xs) (y' ∷ ys) x y h =
-      ap (λ r. ordering_then (R x' y') r) (behind xs ys x y (omega arith)) ∙ sym (then_same (R x' y') (slice_cmp R xs ys) (R x y))
+words_in_order : (b : List ℕ) (n i : ℕ) (c : List ℕ) (m j : ℕ) → IsBlock b → IsBlock c → IsBetween 1 i 4294967295 → IsBetween 1 j 4294967295
+    → slice_cmp nat_cmp (words b n i) (words c m j) ≡ parts_cmp b n i c m j
+words_in_order b n i c m j v w k l =
+    let high : Ordering = nat_cmp (high_word b) (high_word c) in
+    let low : Ordering = nat_cmp (low_word b) (low_word c) in
+    let last : Ordering = nat_cmp (last_word n i) (last_word m j) in
+    ap (λ r. ordering_then high (ordering_then low r)) (then_equal last)
+    ∙ sym (then_same high low last)
+    ∙ ap (λ r. ordering_then r last) (halves_in_order b c v w)
+    ∙ ap (λ r. ordering_then (slice_cmp nat_cmp b c) r) (digits 4294967296 n m i j (omega arith) (omega arith))
 
-more : {X : Type 0} (xs : List X) (x : X) (n : ℕ) → length xs ≡ n → length (xs ++ x ∷ []) ≡ suc n
-more xs x n h = let k = length-append xs (x ∷ []) in omega arith
+-- lists as long, with more behind each
+behind : (xs ys us vs : List ℕ) → length xs ≡ length ys → slice_cmp nat_cmp (xs ++ us) (ys ++ vs) ≡ ordering_then (slice_cmp nat_cmp xs ys) (slice_cmp nat_cmp us vs)
+behind [] [] us vs h = refl
+behind [] (y ∷ ys) us vs h = absurd (omega arith)
+behind (x ∷ xs) [] us vs h = absurd (omega arith)
+behind (x ∷ xs) (y ∷ ys) us vs h =
+    ap (λ r. ordering_then (nat_cmp x y) r) (behind xs ys us vs (omega arith)) ∙ sym (then_same (nat_cmp x y) (slice_cmp nat_cmp xs ys) (slice_cmp nat_cmp us vs))
 
-path_long : (t : Tree) → length (path t) ≡ length (kinds t)
+path_long : (t : Tree) → length (path t) ≡ 3 * length (kinds t)
 path_long Top = refl
-path_long (InLoop o b n i) = more (path o) (frame b n i) (length (kinds o)) (path_long o)
-path_long (InCall o b n i) = more (path o) (frame b n i) (length (kinds o)) (path_long o)
+path_long (InLoop o b n i) = let h = path_long o in let k = length-append (path o) (words b n i) in omega arith
+path_long (InCall o b n i) = let h = path_long o in let k = length-append (path o) (words b n i) in omega arith
 
 -- where the kinds are those, so the paths are as long
 as_long : (x y : Tree) → slice_cmp nat_cmp (kinds x) (kinds y) ≡ Equal → length (path x) ≡ length (path y)
-as_long x y h = path_long x ∙ ap (λ (k : List ℕ). length k) (slice_cmp-IsAntisymmetric nat_cmp-IsAntisymmetric (kinds x) (kinds y) h) ∙ sym (path_long y)
+as_long x y h =
+    path_long x ∙ ap (λ (k : List ℕ). 3 * length k) (slice_cmp-IsAntisymmetric nat_cmp-IsAntisymmetric (kinds x) (kinds y) h) ∙ sym (path_long y)
 
-one_more : (r : Ordering) (x y : Tree) (f g : Frame) → slice_cmp nat_cmp (kinds x) (kinds y) ≡ r
-    → ordering_then (ordering_then r (slice_cmp frame_cmp (path x) (path y))) (frame_cmp f g) ≡ ordering_then r (slice_cmp frame_cmp (path x ++ f ∷ []) (path y ++ g ∷ []))
-one_more Less x y f g h = refl
-one_more Equal x y f g h = sym (behind frame_cmp (path x) (path y) f g (as_long x y h))
-one_more Greater x y f g h = refl
+one_more : (r : Ordering) (x y : Tree) (us vs : List ℕ) → slice_cmp nat_cmp (kinds x) (kinds y) ≡ r
+    → ordering_then r (slice_cmp nat_cmp (path x ++ us) (path y ++ vs)) ≡ ordering_then (ordering_then r (slice_cmp nat_cmp (path x) (path y))) (slice_cmp nat_cmp us vs)
+one_more Less x y us vs h = refl
+one_more Equal x y us vs h = behind (path x) (path y) us vs (as_long x y h)
+one_more Greater x y us vs h = refl
 
-compared : (x y : Tree) → ordering_then (slice_cmp nat_cmp (kinds x) (kinds y)) (slice_cmp frame_cmp (path x) (path y)) ≡ context_cmp x y
-compared Top Top = refl
-compared Top (InLoop p c m j) = refl
-compared Top (InCall p c m j) = refl
-compared (InLoop o b n i) Top = refl
-compared (InLoop o b n i) (InLoop p c m j) =
-    sym (one_more _ o p (frame b n i) (frame c m j) refl) ∙ ap (λ r. ordering_then r (parts_cmp b n i c m j)) (compared o p)
-compared (InLoop o b n i) (InCall p c m j) = refl
-compared (InCall o b n i) Top = refl
-compared (InCall o b n i) (InLoop p c m j) = refl
-compared (InCall o b n i) (InCall p c m j) =
-    sym (one_more _ o p (frame b n i) (frame c m j) refl) ∙ ap (λ r. ordering_then r (parts_cmp b n i c m j)) (compared o p)
+-- the order of two contexts, given that of their outer ones
+deeper : (x y : Tree) (b : List ℕ) (n i : ℕ) (c : List ℕ) (m j : ℕ) → IsBlock b → IsBlock c → IsBetween 1 i 4294967295 → IsBetween 1 j 4294967295
+    → ordering_then (slice_cmp nat_cmp (kinds x) (kinds y)) (slice_cmp nat_cmp (path x) (path y)) ≡ context_cmp x y
+    → ordering_then (slice_cmp nat_cmp (kinds x) (kinds y)) (slice_cmp nat_cmp (path x ++ words b n i) (path y ++ words c m j))
+    ≡ ordering_then (context_cmp x y) (parts_cmp b n i c m j)
+deeper x y b n i c m j v w k l e =
+    one_more (slice_cmp nat_cmp (kinds x) (kinds y)) x y (words b n i) (words c m j) refl
+    ∙ ap (λ r. ordering_then r (slice_cmp nat_cmp (words b n i) (words c m j))) e
+    ∙ ap (λ r. ordering_then (context_cmp x y) r) (words_in_order b n i c m j v w k l)
 
-pub by_paths : (x y : Tree) → slice_cmp nat_cmp (kinds x) (kinds y) ≡ Equal → slice_cmp frame_cmp (path x) (path y) ≡ context_cmp x y
-by_paths x y h = ap (λ r. ordering_then r (slice_cmp frame_cmp (path x) (path y))) (sym h) ∙ compared x y
+compared : (x y : Tree) → InRange x → InRange y → ordering_then (slice_cmp nat_cmp (kinds x) (kinds y)) (slice_cmp nat_cmp (path x) (path y)) ≡ context_cmp x y
+compared Top Top f g = refl
+compared Top (InLoop p c m j) f g = refl
+compared Top (InCall p c m j) f g = refl
+compared (InLoop o b n i) Top f g = refl
+compared (InLoop o b n i) (InLoop p c m j) f g = deeper o p b n i c m j f.1 g.1 f.3 g.3 (compared o p f.0 g.0)
+compared (InLoop o b n i) (InCall p c m j) f g = refl
+compared (InCall o b n i) Top f g = refl
+compared (InCall o b n i) (InLoop p c m j) f g = refl
+compared (InCall o b n i) (InCall p c m j) f g = deeper o p b n i c m j f.1 g.1 f.3 g.3 (compared o p f.0 g.0)
 
-pub by_kinds : (x y : Tree) → (slice_cmp nat_cmp (kinds x) (kinds y) ≡ Equal → ⊥) → slice_cmp nat_cmp (kinds x) (kinds y) ≡ context_cmp x y
-by_kinds x y h = unequal (slice_cmp nat_cmp (kinds x) (kinds y)) (slice_cmp frame_cmp (path x) (path y)) h ∙ compared x y
+pub by_paths : (x y : Tree) → IsContext x → IsContext y → slice_cmp nat_cmp (kinds x) (kinds y) ≡ Equal → slice_cmp nat_cmp (path x) (path y) ≡ context_cmp x y
+by_paths x y f g h = ap (λ r. ordering_then r (slice_cmp nat_cmp (path x) (path y))) (sym h) ∙ compared x y f.in_range g.in_range
+
+pub by_kinds : (x y : Tree) → IsContext x → IsContext y → (slice_cmp nat_cmp (kinds x) (kinds y) ≡ Equal → ⊥) → slice_cmp nat_cmp (kinds x) (kinds y) ≡ context_cmp x y
+by_kinds x y f g h = unequal (slice_cmp nat_cmp (kinds x) (kinds y)) (slice_cmp nat_cmp (path x) (path y)) h ∙ compared x y f.in_range g.in_range
   where
     unequal : (r s : Ordering) → (r ≡ Equal → ⊥) → r ≡ ordering_then r s
     unequal Less s h = refl
     unequal Equal s h = absurd (h refl)
     unequal Greater s h = refl
+
+pub kinds_deep : (t : Tree) → length (kinds t) ≡ depth t
+kinds_deep Top = refl
+kinds_deep (InLoop o b n i) = let h = kinds_deep o in omega arith
+kinds_deep (InCall o b n i) = let h = kinds_deep o in omega arith

@@ -1,20 +1,18 @@
 -- What a context feeds to a hasher.
 -- The laws stand here because the impl of Hash for Context cites them.
-use Rattle.std.specs.Prelude.{◌++◌, ◌+◌, ◌*◌, [], true, IsTrue, ◌≡◌}
+use Rattle.std.specs.Prelude.{true, IsTrue, ◌≡◌}
 use Rattle.std.proofs.Common.{ap}
 use Rattle.std.specs.Hash.{HashWrites}
 use Rattle.std.specs.Ordering.{eq_by_cmp}
 use Rattle.std.specs.Cmp.{Equal-is}
 use Rattle.std.specs.Hash as fed
-use Rattle.u_name.specs.Context.{Tree, Top, InLoop, InCall}
+use Rattle.u_name.specs.Context.{Tree}
+use Rattle.u_name.specs.Digest.{digest}
 use Rattle.u_name.specs.ContextOrder.{context_cmp}
 use Rattle.u_name.specs.ContextLaws.{context_cmp_ties}
 
--- one number for each loop and call, the outermost first, from its initiation and its loop's or statement's number
 abbrev pub context_hash : Tree → HashWrites
-context_hash Top = []
-context_hash (InLoop outer block number initiation) = context_hash outer ++ fed.u64 (initiation * 65536 + number)
-context_hash (InCall outer block statement initiation) = context_hash outer ++ fed.u64 (initiation * 65536 + 32768 + statement)
+context_hash t = fed.u64 (digest t)
 
 pub same_context : (x y : Tree) → eq_by_cmp context_cmp x y ≡ true → x ≡ y
 same_context x y h = context_cmp_ties x y ((Equal-is (context_cmp x y)).0 h)

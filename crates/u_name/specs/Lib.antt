@@ -5,10 +5,13 @@ pub mod Context
 pub mod ContextOrder
 pub mod ContextLaws
 pub mod ContextHash
+pub mod Words
 pub mod Path
-pub mod NodeTree
-pub mod NodeDepth
+pub mod Digest
+pub mod LinkTree
+pub mod LinkDepth
 pub mod Name
+pub mod NameLists
 pub mod NameOrder
 pub mod NameText
 pub mod NameReader

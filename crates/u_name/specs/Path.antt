@@ -1,11 +1,10 @@
--- What contexts are compared by: the kinds of their loops and calls from the innermost outwards, and these themselves from
+-- What contexts are compared by: the kinds of their loops and calls from the innermost outwards, and the words of these from
 -- the outermost inwards.
 use Rattle.std.specs.Prelude.{ℕ, List, [], ◌∷◌, ◌++◌}
-use Rattle.u_name.specs.declared.path.Frame.{Frame}
+use Rattle.u_name.specs.declared.context.Step.{Step}
+use Rattle.u_name.specs.declared.context.Step.TheVariants.{Loop, Call}
 use Rattle.u_name.specs.Context.{Tree, Top, InLoop, InCall}
-
-abbrev pub frame : List ℕ → ℕ → ℕ → Frame
-frame b n i = record { block = b; number = n; initiation = i }
+use Rattle.u_name.specs.Words.{words}
 
 -- a loop's kind is 1, and a call's is 2
 abbrev pub kinds : Tree → List ℕ
@@ -13,7 +12,17 @@ kinds Top = []
 kinds (InLoop outer block number initiation) = 1 ∷ kinds outer
 kinds (InCall outer block statement initiation) = 2 ∷ kinds outer
 
-abbrev pub path : Tree → List Frame
+-- three words of each loop and call
+abbrev pub path : Tree → List ℕ
 path Top = []
-path (InLoop outer block number initiation) = path outer ++ frame block number initiation ∷ []
-path (InCall outer block statement initiation) = path outer ++ frame block statement initiation ∷ []
+path (InLoop outer block number initiation) = path outer ++ words block number initiation
+path (InCall outer block statement initiation) = path outer ++ words block statement initiation
+
+-- the kind, and the number of the loop or of the statement
+abbrev pub kind_by : Step → ℕ
+kind_by (Loop number) = 1
+kind_by (Call statement) = 2
+
+abbrev pub number_by : Step → ℕ
+number_by (Loop number) = number
+number_by (Call statement) = statement

@@ -8,6 +8,7 @@ ghost use Rattle.std.specs.Ordering.{nat_cmp, as_partial_cmp};
 ghost use Rattle.std.specs.Hash as fed;
 ghost use Rattle.std.proofs.lemmas.Cmp.{nat_list_cmp_total, nat_list_eq_equiv};
 ghost use Rattle.u_name.specs.Block.{IsBlock};
+ghost use Rattle.u_name.specs.Words.{high_word, low_word};
 ghost use lib.Pointwise.{pointwise};
 
 use crate::block_text::{begins_with_letter, block_len};
@@ -84,7 +85,19 @@ impl BlockName {
     {
         &self.bytes[..self.len as usize]
     }
+
+    /// The name as two numbers, that of its first eight bytes and that of its last eight, the first byte
+    /// being the highest. Bytes that it does not have count as 0.
+    pub(crate) fn words(&self) -> (u64, u64)
+        ensures { result ≡ (high_word self.now, low_word self.now) }
+    {
+        let number = u128::from_be_bytes(self.bytes);
+        ((number >> 64) as u64, (number % TWO_TO_64) as u64)
+    }
 }
+
+/// The least number that has more than 64 bits.
+const TWO_TO_64: u128 = 1 << 64;
 
 /// Whether they are the same bytes. Sixteen bytes are compared as one number.
 fn same_bytes(left: &[u8; 16], right: &[u8; 16]) -> bool
@@ -98,8 +111,12 @@ impl PartialEq for BlockName {
 
     ghost laws = { Prim.search (comparing, rules) };
 
+    /// Equal names have the same length and the same zeros behind them, so that no byte is looked at alone.
     fn eq(&self, other: &BlockName) -> bool {
-        self.as_bytes() == other.as_bytes()
+        if self.len != other.len {
+            return false;
+        }
+        same_bytes(&self.bytes, &other.bytes)
     }
 }
 

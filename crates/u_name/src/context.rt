@@ -6,41 +6,72 @@ ghost use Rattle.std.specs.Cmp.{partial_order_from_own_ties};
 ghost use Rattle.std.specs.Cmp.Rules.{comparing, hashing};
 ghost use Rattle.std.specs.Ordering.{eq_by_cmp, as_partial_cmp};
 ghost use Rattle.std.proofs.lemmas.Cmp.{eq_by_cmp_equiv};
-ghost use Rattle.u_name.specs.NodeTree.{tree_of, IsFollowed, IsBeside};
-ghost use Rattle.u_name.specs.Path.{kinds, path};
+ghost use Rattle.u_name.specs.LinkTree.{tree_by, inner_tree, node_tree, IsBeside};
+ghost use Rattle.u_name.specs.Path.{kinds, path, kind_by, number_by};
+ghost use Rattle.u_name.specs.Digest.{digest, next_digest, mark_by};
 ghost use Rattle.u_name.specs.ContextOrder.{context_cmp};
 ghost use Rattle.u_name.specs.ContextLaws.{context_cmp_total};
 ghost use Rattle.u_name.specs.ContextHash.{context_hash, hashes_alike};
 
 use crate::block_name::BlockName;
-use crate::path::{CALL, Frame, LOOP, frame_behind, kind_before};
+use crate::path::{CALL, LOOP, kind_before, words_behind};
 use std::alloc::{AllocError, Global};
 use std::cmp::Ordering;
 use std::hash::{Hash, Hasher};
 use std::marker::Model;
 use std::sync::Arc;
 
-/// A context: the root, or what a loop or a call makes in an outer context, at most 64 deep. The
-/// outer contexts are shared. The root comes before loops, and loops before calls; the same kind goes
-/// by outer context, block, loop or statement, and initiation.
+/// A context: the root, or what a loop or a call makes in an outer context, at most 64 deep. Copies
+/// share all that they are made of. The root comes before loops, and loops before calls; the same kind
+/// goes by outer context, block, loop or statement, and initiation.
 #[cycle(context)]
 #[derive(Drop)]
 pub struct Context {
-    node: Node,
+    link: Link,
 }
 
-/// What a context is.
+/// The root, or a way to what a loop's or a call's context has.
 #[cycle(context)]
 #[derive(Drop)]
-pub enum Node {
+enum Link {
+    Root,
+    Inner(Arc<Inner, Global>),
+}
+
+/// A loop's or a call's context: what it is made of, and beside that what it is compared by (the kinds
+/// of its loops and calls, the innermost first, and the words of these, the outermost first) and what
+/// it is hashed by.
+#[cycle(context)]
+#[derive(Drop)]
+struct Inner {
+    outer: Context,
+    step: Step,
+    block: BlockName,
+    initiation: u32,
+    digest: u64,
+    kinds: Vec<u8>,
+    path: Vec<u64>,
+}
+
+/// What leads from an outer context into another: the loop with that number, or a call by the
+/// statement with that number.
+#[derive(Clone, Copy, Drop)]
+enum Step {
+    Loop(u8),
+    Call(u16),
+}
+
+/// What a context is, with its parts.
+#[derive(Clone, Copy)]
+pub enum Node<'a> {
     /// The context in which a program begins.
     Root,
     /// The context of a loop that was entered.
     Loop {
         /// The context of the activity that entered it.
-        outer: Arc<Outer, Global>,
+        outer: &'a Context,
         /// The block of that activity.
-        block: BlockName,
+        block: &'a BlockName,
         /// The loop's number, 1 to 99.
         number: u8,
         /// The initiation of that activity, 1 to 4294967295.
@@ -49,25 +80,14 @@ pub enum Node {
     /// The context of a call.
     Call {
         /// The context of the activity that called.
-        outer: Arc<Outer, Global>,
+        outer: &'a Context,
         /// The block of that activity.
-        block: BlockName,
+        block: &'a BlockName,
         /// The statement of that activity, 1 to 999.
         statement: u16,
         /// The initiation of that activity, 1 to 4294967295.
         initiation: u32,
     },
-}
-
-/// A context that others lie in, with what it is compared by: the kinds of its loops and calls, the
-/// innermost first, and these themselves, the outermost first.
-#[cycle(context)]
-#[derive(Drop)]
-pub struct Outer {
-    /// The context.
-    pub context: Context,
-    kinds: Vec<u8>,
-    frames: Vec<Frame>,
 }
 
 impl Model for Context {
@@ -77,19 +97,117 @@ impl Model for Context {
 
     ghost coded = { tree_code };
 
-    ghost use Rattle.u_name.specs.NodeTree.{tree_of};
+    ghost use Rattle.u_name.specs.LinkTree.{tree_of};
 
-    ghost view = { λ a. tree_of a.node };
+    ghost view = { λ a. tree_of a.link };
 
-    ghost use Rattle.u_name.specs.NodeTree.{IsFollowed};
+    ghost use Rattle.u_name.specs.LinkTree.{IsFollowed};
 
-    ghost invariant = { λ a. IsContext (tree_of a.node) × IsFollowed a.node };
+    ghost invariant = { λ a. IsContext (tree_of a.link) × IsFollowed a.link };
 
     ghost size = { depth };
 
-    ghost use Rattle.u_name.specs.NodeDepth.{deep-le-depth};
+    ghost use Rattle.u_name.specs.LinkDepth.{deep-le-depth};
 
-    ghost size_decreases = { λ a h. deep-le-depth a.node };
+    ghost size_decreases = { λ a h. deep-le-depth a.link };
+}
+
+impl Step {
+    /// The kind of the context: 1 for a loop's, 2 for a call's.
+    fn kind(self) -> u8
+        ensures { result ≡ kind_by self }
+    {
+        match self {
+            Step::Loop(_) => LOOP,
+            Step::Call(_) => CALL,
+        }
+    }
+
+    /// The number of the loop, or of the statement that called.
+    fn number(self) -> u16
+        ensures { result ≡ number_by self }
+    {
+        match self {
+            Step::Loop(number) => u16::from(number),
+            Step::Call(statement) => statement,
+        }
+    }
+
+    /// What a context adds to the digest of the outer one.
+    fn mark(self, initiation: u32) -> u64
+        ensures { result ≡ mark_by self initiation }
+    {
+        match self {
+            Step::Loop(number) => u64::from(initiation) * 65536 + u64::from(number),
+            Step::Call(statement) => u64::from(initiation) * 65536 + 32768 + u64::from(statement),
+        }
+    }
+}
+
+/// The digest of a context that adds this to the digest of its outer one.
+#[tactic(auto, unfolding(crate::specs::Digest::next_digest))]
+fn next_digest(outer: u64, mark: u64) -> u64
+    ensures { result ≡ next_digest outer mark }
+{
+    outer.wrapping_mul(0x9E37_79B9_7F4A_7C15).wrapping_add(mark)
+}
+
+impl Inner {
+    /// What the context has that a loop or a call makes in the outer one.
+    #[tactic(auto, unfolding(crate::specs::Digest::digest))]
+    fn new(
+        alloc: Global,
+        outer: Context,
+        step: Step,
+        block: BlockName,
+        initiation: u32,
+    ) -> Result<Inner, AllocError>
+        ensures { IfOk result
+            (λ i. (inner_tree i ≡ tree_by step outer block initiation) × IsBeside i) }
+    {
+        let kinds = kind_before(alloc, step.kind(), outer.kinds())?;
+        let path = words_behind(alloc, outer.path(), &block, step.number(), initiation)?;
+        let digest = next_digest(outer.digest(), step.mark(initiation));
+        Ok(Inner {
+            outer,
+            step,
+            block,
+            initiation,
+            digest,
+            kinds,
+            path,
+        })
+    }
+
+    /// Kinds first, from the innermost outwards, and then the words from the outermost inwards.
+    #[tactic(auto, using(crate::proofs::PathOrder::by_paths, crate::proofs::PathOrder::by_kinds))]
+    fn compare(&self, other: &Inner) -> Ordering
+        requires own { IsBeside self.now }
+        requires own_in { IsContext (inner_tree self.now) }
+        requires others { IsBeside other.now }
+        requires others_in { IsContext (inner_tree other.now) }
+        ensures { result ≡ context_cmp (inner_tree self.now) (inner_tree other.now) }
+    {
+        match self.kinds.cmp(&other.kinds) {
+            Ordering::Equal => self.path.cmp(&other.path),
+            unequal => unequal,
+        }
+    }
+
+    /// Whether they are the same. Where the digests differ, nothing else is looked at.
+    #[tactic(auto, using(crate::proofs::EqualContexts::other_digest))]
+    fn is_same(&self, other: &Inner) -> bool
+        requires own { IsBeside self.now }
+        requires own_in { IsContext (inner_tree self.now) }
+        requires others { IsBeside other.now }
+        requires others_in { IsContext (inner_tree other.now) }
+        ensures { result ≡ eq_by_cmp context_cmp (inner_tree self.now) (inner_tree other.now) }
+    {
+        if self.digest != other.digest {
+            return false;
+        }
+        self.compare(other).is_eq()
+    }
 }
 
 impl Context {
@@ -97,15 +215,31 @@ impl Context {
     pub fn root() -> Context
         ensures { result ≡ Top }
     {
-        Context { node: Node::Root }
+        Context { link: Link::Root }
     }
 
     /// What the context is, with its parts.
-    pub fn node(&self) -> &Node
-        ensures tree { tree_of result.now ≡ self.now }
+    pub fn node(&self) -> Node<'_>
+        ensures tree { node_tree result ≡ self.now }
         ensures bound { IsContext self.now }
     {
-        &self.node
+        match &self.link {
+            Link::Root => Node::Root,
+            Link::Inner(inner) => match inner.step {
+                Step::Loop(number) => Node::Loop {
+                    outer: &inner.outer,
+                    block: &inner.block,
+                    number,
+                    initiation: inner.initiation,
+                },
+                Step::Call(statement) => Node::Call {
+                    outer: &inner.outer,
+                    block: &inner.block,
+                    statement,
+                    initiation: inner.initiation,
+                },
+            },
+        }
     }
 
     /// The context of a loop, in an outer context that is less than 64 deep.
@@ -125,17 +259,13 @@ impl Context {
         ensures { IfOk result (λ c. c ≡ InLoop outer block number initiation) }
     {
         // Brings in that the outer context's parts are in their ranges.
-        let _ = &outer.node;
+        let _ = &outer.link;
         // Brings in that the block's name is one: 1 to 16 letters, digits and `_`.
         let _ = block.as_bytes();
-        let outer = outer.shared(alloc)?;
+        let inner = Inner::new(alloc, outer, Step::Loop(number), block, initiation)?;
+        let shared = Arc::new(alloc, inner)?;
         Ok(Context {
-            node: Node::Loop {
-                outer,
-                block,
-                number,
-                initiation,
-            },
+            link: Link::Inner(shared),
         })
     }
 
@@ -156,123 +286,67 @@ impl Context {
         ensures { IfOk result (λ c. c ≡ InCall outer block statement initiation) }
     {
         // Brings in that the outer context's parts are in their ranges.
-        let _ = &outer.node;
+        let _ = &outer.link;
         // Brings in that the block's name is one: 1 to 16 letters, digits and `_`.
         let _ = block.as_bytes();
-        let outer = outer.shared(alloc)?;
+        let inner = Inner::new(alloc, outer, Step::Call(statement), block, initiation)?;
+        let shared = Arc::new(alloc, inner)?;
         Ok(Context {
-            node: Node::Call {
-                outer,
-                block,
-                statement,
-                initiation,
-            },
+            link: Link::Inner(shared),
         })
     }
 
     /// The kinds of the loops and calls that it is in, the innermost first.
-    fn kinds(&self, alloc: Global) -> Result<Vec<u8>, AllocError>
-        ensures { IfOk result (λ v. v.items ≡ kinds self.now) }
+    fn kinds(&self) -> &[u8]
+        ensures { result.now ≡ kinds self.now }
     {
-        match &self.node {
-            Node::Root => Ok(Vec::new(alloc)),
-            Node::Loop { outer, .. } => kind_before(alloc, LOOP, &outer.kinds),
-            Node::Call { outer, .. } => kind_before(alloc, CALL, &outer.kinds),
+        match &self.link {
+            Link::Root => &[],
+            Link::Inner(inner) => &inner.kinds,
         }
     }
 
-    /// The loops and calls that it is in, the outermost first.
-    fn frames(&self, alloc: Global) -> Result<Vec<Frame>, AllocError>
-        ensures { IfOk result (λ v. v.items ≡ path self.now) }
+    /// The words of the loops and calls that it is in, the outermost first.
+    fn path(&self) -> &[u64]
+        ensures { result.now ≡ path self.now }
     {
-        match &self.node {
-            Node::Root => Ok(Vec::new(alloc)),
-            Node::Loop {
-                outer,
-                block,
-                number,
-                initiation,
-            } => {
-                let frame = Frame {
-                    block: *block,
-                    number: u16::from(*number),
-                    initiation: *initiation,
-                };
-                frame_behind(alloc, &outer.frames, frame)
-            }
-            Node::Call {
-                outer,
-                block,
-                statement,
-                initiation,
-            } => {
-                let frame = Frame {
-                    block: *block,
-                    number: *statement,
-                    initiation: *initiation,
-                };
-                frame_behind(alloc, &outer.frames, frame)
-            }
+        match &self.link {
+            Link::Root => &[],
+            Link::Inner(inner) => &inner.path,
         }
     }
 
-    /// The context, for others to lie in.
-    fn shared(self, alloc: Global) -> Result<Arc<Outer, Global>, AllocError>
-        ensures { IfOk result (λ o. (o.value.context ≡ self) × IsBeside o.value) }
+    /// What the context is hashed by.
+    #[tactic(auto, unfolding(crate::specs::Digest::digest))]
+    fn digest(&self) -> u64
+        ensures { result ≡ digest self.now }
     {
-        let kinds = self.kinds(alloc)?;
-        let frames = self.frames(alloc)?;
-        let outer = Outer {
-            context: self,
-            kinds,
-            frames,
-        };
-        let shared = Arc::new(alloc, outer)?;
-        Ok(shared)
+        match &self.link {
+            Link::Root => 0,
+            Link::Inner(inner) => inner.digest,
+        }
     }
 
     /// How many loops and calls it is in, 0 to 64.
+    #[tactic(auto, using(crate::proofs::PathOrder::kinds_deep))]
     pub fn depth(&self) -> u32
         ensures value { result ≡ depth self.now }
         ensures bound { IsContext self.now }
     {
-        match &self.node {
-            Node::Root => 0,
-            Node::Loop { outer, .. } => outer.context.depth() + 1,
-            Node::Call { outer, .. } => outer.context.depth() + 1,
-        }
+        // Brings in that the context is at most 64 deep.
+        let _ = self.node();
+        self.kinds().len() as u32
     }
 
-    /// An equal context. The outer contexts are shared.
+    /// An equal context, which shares all with this one.
     pub fn copy(&self) -> Result<Context, AllocError>
         ensures { IfOk result (λ c. c ≡ self.now) }
     {
-        let node = match &self.node {
-            Node::Root => Node::Root,
-            Node::Loop {
-                outer,
-                block,
-                number,
-                initiation,
-            } => Node::Loop {
-                outer: Arc::try_clone(outer)?,
-                block: *block,
-                number: *number,
-                initiation: *initiation,
-            },
-            Node::Call {
-                outer,
-                block,
-                statement,
-                initiation,
-            } => Node::Call {
-                outer: Arc::try_clone(outer)?,
-                block: *block,
-                statement: *statement,
-                initiation: *initiation,
-            },
+        let link = match &self.link {
+            Link::Root => Link::Root,
+            Link::Inner(inner) => Link::Inner(Arc::try_clone(inner)?),
         };
-        Ok(Context { node })
+        Ok(Context { link })
     }
 
     /// Kinds first, and for the same kind the outer contexts. The parts are compared only where those
@@ -280,72 +354,22 @@ impl Context {
     fn compare(&self, other: &Context) -> Ordering
         ensures { result ≡ context_cmp self.now other.now }
     {
-        match (&self.node, &other.node) {
-            (Node::Root, Node::Root) => Ordering::Equal,
-            (Node::Root, _) => Ordering::Less,
-            (_, Node::Root) => Ordering::Greater,
-            (Node::Loop { .. }, Node::Call { .. }) => Ordering::Less,
-            (Node::Call { .. }, Node::Loop { .. }) => Ordering::Greater,
-            (
-                Node::Loop {
-                    outer,
-                    block,
-                    number,
-                    initiation,
-                },
-                Node::Loop {
-                    outer: outer_2,
-                    block: block_2,
-                    number: number_2,
-                    initiation: initiation_2,
-                },
-            ) => match outer.compare(outer_2) {
-                Ordering::Equal => match block.cmp(block_2) {
-                    Ordering::Equal => number.cmp(number_2).then(initiation.cmp(initiation_2)),
-                    unequal => unequal,
-                },
-                unequal => unequal,
-            },
-            (
-                Node::Call {
-                    outer,
-                    block,
-                    statement,
-                    initiation,
-                },
-                Node::Call {
-                    outer: outer_2,
-                    block: block_2,
-                    statement: statement_2,
-                    initiation: initiation_2,
-                },
-            ) => match outer.compare(outer_2) {
-                Ordering::Equal => match block.cmp(block_2) {
-                    Ordering::Equal => statement
-                        .cmp(statement_2)
-                        .then(initiation.cmp(initiation_2)),
-                    unequal => unequal,
-                },
-                unequal => unequal,
-            },
+        match (&self.link, &other.link) {
+            (Link::Root, Link::Root) => Ordering::Equal,
+            (Link::Root, Link::Inner(_)) => Ordering::Less,
+            (Link::Inner(_), Link::Root) => Ordering::Greater,
+            (Link::Inner(inner), Link::Inner(others)) => inner.compare(others),
         }
     }
-}
 
-impl Outer {
-    /// Kinds first, from the innermost outwards, and then the loops and calls from the outermost inwards.
-    #[tactic(auto, using(crate::proofs::PathOrder::by_paths, crate::proofs::PathOrder::by_kinds))]
-    fn compare(&self, other: &Outer) -> Ordering
-        requires own { IsBeside self.now }
-        requires others { IsBeside other.now }
-        ensures { result ≡ context_cmp self.now.context other.now.context }
+    /// Whether they are the same.
+    fn is_same(&self, other: &Context) -> bool
+        ensures { result ≡ eq_by_cmp context_cmp self.now other.now }
     {
-        if let (Node::Root, Node::Root) = (&self.context.node, &other.context.node) {
-            return Ordering::Equal;
-        }
-        match self.kinds.cmp(&other.kinds) {
-            Ordering::Equal => self.frames.cmp(&other.frames),
-            unequal => unequal,
+        match (&self.link, &other.link) {
+            (Link::Root, Link::Root) => true,
+            (Link::Inner(inner), Link::Inner(others)) => inner.is_same(others),
+            _ => false,
         }
     }
 }
@@ -356,7 +380,7 @@ impl PartialEq for Context {
     ghost laws = { Prim.search (comparing, rules, context_cmp_total, eq_by_cmp_equiv) };
 
     fn eq(&self, other: &Context) -> bool {
-        self.compare(other).is_eq()
+        self.is_same(other)
     }
 }
 
@@ -393,29 +417,10 @@ impl Hash for Context {
 
     ghost respects_eq = { hashes_alike };
 
-    /// One number for each loop and call. The blocks are left out: in the contexts of one program the
-    /// other parts tell almost all of them apart.
+    /// The digest, which is made of the initiation and the loop's or statement's number of each loop and
+    /// call. The blocks are left out: in the contexts of one program the other parts tell almost all of
+    /// them apart.
     fn hash<H: Hasher>(&self, state: &mut H) {
-        match &self.node {
-            Node::Root => {}
-            Node::Loop {
-                outer,
-                number,
-                initiation,
-                ..
-            } => {
-                outer.context.hash(state);
-                state.write_u64(u64::from(*initiation) * 65536 + u64::from(*number));
-            }
-            Node::Call {
-                outer,
-                statement,
-                initiation,
-                ..
-            } => {
-                outer.context.hash(state);
-                state.write_u64(u64::from(*initiation) * 65536 + 32768 + u64::from(*statement));
-            }
-        }
+        state.write_u64(self.digest());
     }
 }

@@ -7,12 +7,14 @@ mod cell;
 mod context;
 mod exact;
 mod name;
+mod names;
 mod path;
 mod reading;
 mod writing;
 
 pub use block_name::BlockName;
 pub use cell::Cell;
-pub use context::{Context, Node, Outer};
+pub use context::{Context, Node};
 pub use name::{Name, NameError};
+pub use names::Names;
 pub use reading::{Front, NameTextError, front_block, front_name};

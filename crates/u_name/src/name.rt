@@ -273,7 +273,7 @@ impl Name {
                 block,
                 initiation,
                 ..
-            } => Ok(outside(&outer.context, block, statement, *initiation)?),
+            } => Ok(outside(outer, block, statement, initiation)?),
             _ => unreachable!(),
         }
     }
@@ -291,7 +291,7 @@ impl Name {
                 block,
                 initiation,
                 ..
-            } => Ok(outside(&caller.context, block, statement, *initiation)?),
+            } => Ok(outside(caller, block, statement, initiation)?),
             _ => unreachable!(),
         }
     }
@@ -365,10 +365,10 @@ impl Hash for Name {
 
     ghost respects_eq = { names_hash_alike };
 
+    /// The context, and the statement and the initiation as one number. The block is left out, as in
+    /// contexts: in the names of one program the other parts tell almost all of them apart.
     fn hash<H: Hasher>(&self, state: &mut H) {
         self.context.hash(state);
-        self.block.hash(state);
-        self.statement.hash(state);
-        self.initiation.hash(state);
+        state.write_u64(u64::from(self.statement) * 4294967296 + u64::from(self.initiation));
     }
 }

@@ -1,7 +1,11 @@
 //! What contexts are compared by: the kinds of their loops and calls from the innermost outwards, and
-//! then these themselves from the outermost inwards. Both lie in one place each, so that a comparison
+//! then the words of these from the outermost inwards. Both lie in one place each, so that a comparison
 //! need not go from context to context.
-ghost use Rattle.std.specs.Prelude.{◌≡◌, ◌++◌, [], ◌∷◌, IfOk};
+//!
+//! A loop or a call has three words, which go by block, number and initiation as plain numbers do: the
+//! first eight bytes of the block's name, its last eight, and the number with the initiation.
+ghost use Rattle.std.specs.Prelude.{◌≡◌, ◌++◌, ◌∷◌, IfOk};
+ghost use Rattle.u_name.specs.Words.{words, last_word};
 
 use crate::block_name::BlockName;
 use std::alloc::{AllocError, Global};
@@ -11,17 +15,6 @@ pub(crate) const LOOP: u8 = 1;
 
 /// The kind of a call's context.
 pub(crate) const CALL: u8 = 2;
-
-/// A loop that was entered, or a call. They are ordered by block, number and initiation.
-#[derive(Clone, Copy, PartialEq, Eq, PartialOrd, Ord, Drop)]
-pub(crate) struct Frame {
-    /// The block of the activity that entered the loop, or called.
-    pub block: BlockName,
-    /// The number of the loop, or of the statement that called.
-    pub number: u16,
-    /// The initiation of that activity.
-    pub initiation: u32,
-}
 
 /// The kinds with another one before them.
 pub(crate) fn kind_before(alloc: Global, kind: u8, kinds: &[u8]) -> Result<Vec<u8>, AllocError>
@@ -34,17 +27,29 @@ pub(crate) fn kind_before(alloc: Global, kind: u8, kinds: &[u8]) -> Result<Vec<u
     Ok(all)
 }
 
-/// The frames with another one behind them.
-pub(crate) fn frame_behind(
+/// The words of loops and calls with those of another one behind them.
+pub(crate) fn words_behind(
     alloc: Global,
-    frames: &[Frame],
-    frame: Frame,
-) -> Result<Vec<Frame>, AllocError>
-    ensures { IfOk result (λ v. v.items ≡ frames.now ++ frame ∷ []) }
+    path: &[u64],
+    block: &BlockName,
+    number: u16,
+    initiation: u32,
+) -> Result<Vec<u64>, AllocError>
+    ensures { IfOk result (λ v. v.items ≡ path.now ++ words block.now number initiation) }
 {
+    let (high, low) = block.words();
     let mut all = Vec::new(alloc);
-    all.reserve_exact(frames.len())?;
-    all.extend_from_slice(frames)?;
-    all.push(frame)?;
+    all.reserve_exact(path.len() + 3)?;
+    all.extend_from_slice(path)?;
+    all.push(high)?;
+    all.push(low)?;
+    all.push(last_word(number, initiation))?;
     Ok(all)
+}
+
+/// The number and the initiation as one number, in which the initiation has the lower 32 bits.
+fn last_word(number: u16, initiation: u32) -> u64
+    ensures { result ≡ last_word number initiation }
+{
+    u64::from(number) * 4294967296 + u64::from(initiation)
 }

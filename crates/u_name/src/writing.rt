@@ -76,8 +76,8 @@ fn push_context(out: &mut Vec<u8>, context: &Context) -> Result<(), AllocError>
             initiation,
         } => {
             out.push(b'(')?;
-            push_context(out, &outer.context)?;
-            push_loop(out, block, *number, *initiation)?;
+            push_context(out, outer)?;
+            push_loop(out, block, number, initiation)?;
             out.push(b')')?;
             Ok(())
         }
@@ -88,8 +88,8 @@ fn push_context(out: &mut Vec<u8>, context: &Context) -> Result<(), AllocError>
             initiation,
         } => {
             out.push(b'(')?;
-            push_context(out, &outer.context)?;
-            push_call(out, block, *statement, *initiation)?;
+            push_context(out, outer)?;
+            push_call(out, block, statement, initiation)?;
             out.push(b')')?;
             Ok(())
         }
