@@ -80,12 +80,12 @@ pub(crate) fn fits(
             number,
             initiation: turn,
         } => {
-            if region == 0 || *number != region || from != block {
+            if region == 0 || number != region || from != block {
                 return false;
             }
             match holder_of(program, block, region) {
                 None => false,
-                Some(holder) => fits(program, &outer.context, block, holder, *turn),
+                Some(holder) => fits(program, outer, block, holder, turn),
             }
         }
         Node::Call {
@@ -97,9 +97,9 @@ pub(crate) fn fits(
             if region != 0 || initiation != 1 || !names_block(program, block) {
                 return false;
             }
-            match calling_region(program, from, *caller) {
+            match calling_region(program, from, caller) {
                 None => false,
-                Some(calling) => fits(program, &outer.context, from, calling, *turn),
+                Some(calling) => fits(program, outer, from, calling, turn),
             }
         }
     }

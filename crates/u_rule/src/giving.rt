@@ -53,13 +53,13 @@ fn operated(given: Result<Value, FaultKind>) -> Made
 }
 
 /// What `alloc` makes: a structure of that length, with the name of the activity.
-fn allocated(activity: &Name, values: &[Value]) -> Result<Made, AllocError>
+fn allocated(alloc: Global, activity: &Name, values: &[Value]) -> Result<Made, AllocError>
     ensures { IfOk result (λ m. allocated activity.now values.now ≡ outcome_of m) }
 {
     match values {
         [Value::Int(length), ..] => {
             if 0 <= *length && *length <= 1_000_000 {
-                let structure = Reference::new(activity.copy()?, *length as u32);
+                let structure = Reference::new(alloc, activity.copy()?, *length as u32)?;
                 Ok(Made::Value(Value::Ref(structure)))
             } else {
                 Ok(Made::Fault(FaultKind::Length))
@@ -83,14 +83,14 @@ fn fetched(firing: &Firing) -> Result<Made, AllocError>
 
 /// What a statement of that kind makes of the values at its ports and of the write that it reads.
 #[tactic(auto, unfolding(crate::specs::Rule::result_of))]
-fn made_by(kind: &Kind, firing: &Firing) -> Result<Made, AllocError>
+fn made_by(alloc: Global, kind: &Kind, firing: &Firing) -> Result<Made, AllocError>
     ensures { IfOk result
         (λ m. result_of kind.now firing.now.activity firing.now.values firing.now.write
         ≡ outcome_of m) }
 {
     match (kind, firing.values.as_slice()) {
         (Kind::Const(constant), _) => Ok(Made::Value(value_of(constant))),
-        (Kind::Alloc, values) => allocated(&firing.activity, values),
+        (Kind::Alloc, values) => allocated(alloc, &firing.activity, values),
         (Kind::Fetch, _) => fetched(firing),
         (Kind::Unary(operator), [first, ..]) => Ok(operated(apply1(*operator, first))),
         (Kind::Binary(operator), [first, second, ..]) => {
@@ -227,7 +227,7 @@ fn handed_on(
         (result_of statement.now.kind firing.now.activity firing.now.values firing.now.write)) }
 {
     let activity = &firing.activity;
-    match made_by(statement.kind(), firing)? {
+    match made_by(alloc, statement.kind(), firing)? {
         Made::Fault(kind) => fault(alloc, activity, kind),
         Made::Value(value) => {
             let to = list_of(statement, firing.values.as_slice());
@@ -298,7 +298,7 @@ fn finished(
             block,
             statement,
             ..
-        } => match back_of(program, block, *statement) {
+        } => match back_of(program, block, statement) {
             None => unreachable!(),
             Some(back) => {
                 let name = activity.back(back).map_err(|_| AllocError)?;

@@ -65,6 +65,14 @@ impl Token {
         &self.value
     }
 
+    /// The activity, the port, 1 to 3, and the value.
+    pub fn into_parts(self) -> (Name, u8, Value)
+        ensures parts { token result.0 result.1 result.2 ≡ self }
+        ensures range { IsBetween 1 result.1 3 }
+    {
+        (self.activity, self.port, self.value)
+    }
+
     /// An equal token.
     ///
     /// # Errors

@@ -11,7 +11,7 @@ ghost use Rattle.u_rule.specs.declared.rule.RuleError.TheVariants as errors;
 ghost use Rattle.u_rule.specs.EntryOrder.{entry_cmp};
 ghost use Rattle.u_sets.specs.Rising.{Rises};
 ghost use Rattle.u_rule.specs.Fits.{statement_of, fits_at, IsFitting, AllFit};
-ghost use Rattle.u_rule.specs.Rule.{tokens_from, start_of, needs_of, gives_of, is_firing_of, has_its_values};
+ghost use Rattle.u_rule.specs.Rule.{tokens_from, start_of, needs_of, gives_of, is_firing_of, is_firing_at, has_its_values};
 
 use crate::entry::Entry;
 use crate::firing::Firing;
@@ -58,20 +58,26 @@ fn has_its_values(statement: &Statement, firing: &Firing) -> bool
         && has_its_write(statement.kind(), firing)
 }
 
+/// Whether the firing is one of that statement: its activity fits, it has one value for each port,
+/// and a write exactly where the statement is a `fetch` and its values name a cell. The place is looked
+/// at last, since that goes through the whole context.
+#[tactic(auto, using(crate::proofs::Both::with_true, crate::proofs::Both::with_false))]
+fn is_firing_at(program: &Program, statement: &Statement, firing: &Firing) -> bool
+    ensures { result ≡ is_firing_at program.now.blocks (Some statement.now) firing.now }
+{
+    has_its_values(statement, firing) && fits_at(program, statement.region(), &firing.activity)
+}
+
 /// Whether it is a firing of the job: an activity that fits, with one value for each port of its
-/// statement, and a write exactly where the statement is a `fetch` and its values name a cell. The
-/// place is looked at last, since that goes through the whole context.
-#[tactic(auto, unfolding(crate::specs::Rule::is_firing_of), using(crate::proofs::Both::with_true, crate::proofs::Both::with_false))]
+/// statement, and a write exactly where the statement is a `fetch` and its values name a cell.
+#[tactic(auto, unfolding(crate::specs::Rule::is_firing_of))]
 pub fn is_firing(job: &Job, firing: &Firing) -> bool
     ensures { result ≡ is_firing_of job.now firing.now }
 {
     let program = job.program();
-    let activity = &firing.activity;
-    match executed(program, activity) {
+    match executed(program, &firing.activity) {
         None => false,
-        Some(statement) => {
-            has_its_values(statement, firing) && fits_at(program, statement.region(), activity)
-        }
+        Some(statement) => is_firing_at(program, statement, firing),
     }
 }
 
@@ -131,17 +137,36 @@ pub fn gives(alloc: Global, job: &Job, firing: &Firing) -> Result<Vec<Entry>, Ru
     ensures fitting { IfOk result (λ v. AllFit job.now.program.blocks v.items) }
     ensures refused { result ≡ Err errors.NotAFiring ↔ (is_firing_of job.now firing.now ≡ false) }
 {
-    if !is_firing(job, firing) {
-        return Err(RuleError::NotAFiring);
-    }
     let program = job.program();
     let Some(statement) = executed(program, &firing.activity) else {
         return Err(RuleError::NotAFiring);
     };
+    if !is_firing_at(program, statement, firing) {
+        return Err(RuleError::NotAFiring);
+    }
     // Brings in that the program lies within its limits.
     let _ = program.blocks();
     let entries = given(alloc, program, statement, firing)?;
     Ok(entries)
+}
+
+/// The entries that a firing of the job gives, as `gives` returns them. It doesn't look whether it is
+/// a firing of the job.
+///
+/// # Errors
+/// `AllocError` where there is no memory.
+#[tactic(auto, unfolding(crate::specs::Rule::gives_of, crate::specs::Rule::is_firing_of), using(crate::proofs::Follow::leaves_loop, crate::proofs::Follow::ends_call))]
+pub fn given_by(alloc: Global, job: &Job, firing: &Firing) -> Result<Vec<Entry>, AllocError>
+    requires { IsTrue (is_firing_of job.now firing.now) }
+    ensures { IfOk result (λ v. v.items ≡ gives_of job.now firing.now) }
+{
+    let program = job.program();
+    let Some(statement) = executed(program, &firing.activity) else {
+        unreachable!();
+    };
+    // Brings in that the program lies within its limits.
+    let _ = program.blocks();
+    given(alloc, program, statement, firing)
 }
 
 /// Adds the tokens that have these values at the activity's ports, from that port on.

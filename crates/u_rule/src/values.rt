@@ -1,5 +1,5 @@
 //! The values of a firing.
-ghost use Rattle.std.specs.Prelude.{◌≡◌, ◌≤◌, ◌<◌, ◌+◌, ◌++◌, [], ◌∷◌, IfOk, OnErr, length};
+ghost use Rattle.std.specs.Prelude.{◌≡◌, ◌≤◌, [], ◌∷◌, IfOk, length};
 ghost use Rattle.std.proofs.Common.{rules};
 ghost use Rattle.std.specs.Cmp.{partial_order_from_own_ties};
 ghost use Rattle.std.specs.Cmp.Rules.{comparing};
@@ -12,13 +12,23 @@ use std::alloc::{AllocError, Global};
 use std::cmp::Ordering;
 use std::hash::{Hash, Hasher};
 use std::marker::Model;
+use std::sync::Arc;
 use u_value::Value;
 
 /// One to three values, in the order of the ports. Contracts see a list. Lists are ordered value by
-/// value, and a list comes before those that go on behind it.
+/// value, and a list comes before those that go on behind it. One value takes no memory of its own, and
+/// copies of two or three share them.
 #[derive(Drop)]
 pub struct Values {
-    all: Vec<Value>,
+    held: Held,
+}
+
+/// One value in its place, or a way to more.
+#[derive(Drop)]
+enum Held {
+    One([Value; 1]),
+    Two(Arc<[Value; 2], Global>),
+    Three(Arc<[Value; 3], Global>),
 }
 
 impl Model for Values {
@@ -28,9 +38,11 @@ impl Model for Values {
 
     ghost coded = { value_list_code };
 
-    ghost view = { λ v. v.all.items };
+    ghost use Rattle.u_rule.specs.HeldValues.{values_held};
 
-    ghost invariant = { λ v. IsValueList v.all.items };
+    ghost view = { λ v. values_held v.held };
+
+    ghost invariant = { λ v. IsValueList (values_held v.held) };
 }
 
 impl Values {
@@ -38,12 +50,12 @@ impl Values {
     ///
     /// # Errors
     /// `AllocError` where there is no memory.
-    pub fn one(alloc: Global, first: Value) -> Result<Values, AllocError>
+    pub fn one(_: Global, first: Value) -> Result<Values, AllocError>
         ensures { IfOk result (λ v. v ≡ first ∷ []) }
     {
-        let mut all = Vec::with_capacity(alloc, 1)?;
-        all.push(first)?;
-        Ok(Values { all })
+        Ok(Values {
+            held: Held::One([first]),
+        })
     }
 
     /// Two values.
@@ -53,10 +65,10 @@ impl Values {
     pub fn two(alloc: Global, first: Value, second: Value) -> Result<Values, AllocError>
         ensures { IfOk result (λ v. v ≡ first ∷ second ∷ []) }
     {
-        let mut all = Vec::with_capacity(alloc, 2)?;
-        all.push(first)?;
-        all.push(second)?;
-        Ok(Values { all })
+        let two = Arc::new(alloc, [first, second])?;
+        Ok(Values {
+            held: Held::Two(two),
+        })
     }
 
     /// Three values.
@@ -71,11 +83,10 @@ impl Values {
     ) -> Result<Values, AllocError>
         ensures { IfOk result (λ v. v ≡ first ∷ second ∷ third ∷ []) }
     {
-        let mut all = Vec::with_capacity(alloc, 3)?;
-        all.push(first)?;
-        all.push(second)?;
-        all.push(third)?;
-        Ok(Values { all })
+        let three = Arc::new(alloc, [first, second, third])?;
+        Ok(Values {
+            held: Held::Three(three),
+        })
     }
 
     /// The values, in the order of the ports.
@@ -83,30 +94,27 @@ impl Values {
         ensures values { result.now ≡ self.now }
         ensures count { IsValueList self.now }
     {
-        &self.all
+        match &self.held {
+            Held::One(one) => &one[..],
+            Held::Two(two) => &two[..],
+            Held::Three(three) => &three[..],
+        }
     }
 
-    /// An equal list.
+    /// An equal list. Two or three values are shared.
     ///
     /// # Errors
     /// `AllocError` where there is no memory.
-    pub fn copy(&self, alloc: Global) -> Result<Values, AllocError>
+    pub fn copy(&self, _: Global) -> Result<Values, AllocError>
         ensures { IfOk result (λ v. v ≡ self.now) }
     {
-        let all = copies(alloc, &self.all)?;
-        Ok(Values { all })
+        let held = match &self.held {
+            Held::One([only]) => Held::One([only.copy()?]),
+            Held::Two(two) => Held::Two(Arc::try_clone(two)?),
+            Held::Three(three) => Held::Three(Arc::try_clone(three)?),
+        };
+        Ok(Values { held })
     }
-}
-
-/// Equal values, in order.
-fn copies(alloc: Global, values: &[Value]) -> Result<Vec<Value>, AllocError>
-    ensures { IfOk result (λ v. v.items ≡ values.now) }
-{
-    let mut all = Vec::with_capacity(alloc, values.len())?;
-    for value in values {
-        all.push(value.copy()?)?;
-    }
-    Ok(all)
 }
 
 impl PartialEq for Values {

@@ -6,27 +6,21 @@ use Rattle.std.specs.Cmp.{IsTotalOrder, Equal-is}
 use Rattle.std.specs.FinMap.{nat_cmp-IsAntisymmetric}
 use Rattle.std.specs.Ordering.{is_eq, ordering_reverse, int_cmp, bool_cmp}
 use Rattle.std.specs.declared.cmp.Ordering.{Ordering}
-use Rattle.std.proofs.lemmas.Cmp.{tied_itself, nat_cmp_total, on_total, then_total}
+use Rattle.std.proofs.lemmas.Cmp.{tied_itself, nat_cmp_total, on_total}
 use Rattle.std.proofs.lemmas.Map.Lookups.{exact_signed}
-use Rattle.u_name.specs.ContextLaws.{both}
-use Rattle.u_name.specs.NameOrder.{name_cmp_total, name_cmp_ties}
 use Rattle.u_name.specs.ExactOrders.{block_cmp_ties}
 use Rattle.std.specs.declared.cmp.Ordering.TheVariants.{Equal}
-use Rattle.u_value.specs.Pointer.{Pointer, pointer}
-use Rattle.u_value.specs.Values.{pointer_cmp, value_cmp}
+use Rattle.u_value.specs.PointerOrder.{pointer_cmp_ties}
+use Rattle.u_value.specs.Values.{value_cmp}
 use Rattle.u_value.specs.FaultKinds.{fault_kind_cmp, fault_kind_place}
 use Rattle.u_value.specs.declared.value.Value.{Value}
 use Rattle.u_value.specs.declared.value.Value.TheVariants.{Int, Bool, Proc, Ref}
 use Rattle.u_value.specs.declared.fault_kind.FaultKind.{FaultKind}
 use Rattle.u_value.specs.declared.fault_kind.FaultKind.TheVariants.{Kind, Overflow, Zero, Deep, Initiation, Length, Bounds}
-use Rattle.u_value.specs.contracts.reference.ReferenceOrd.TheImpl as reference_ord
 use Rattle.u_value.specs.contracts.value.ValueOrd.TheImpl as value_ord
 use Rattle.u_value.specs.contracts.value.ValuePartialEq.TheImpl as value_eq
 use Rattle.u_value.specs.contracts.value.ValueOrd.TheImpl.Laws as value_laws
 use Rattle.u_value.specs.contracts.fault_kind.FaultKindOrd.TheImpl as fault_kind_ord
-
-pub derived_pointer_cmp : (p q : Pointer) → (reference_ord.ghosts).cmp p q ≡ pointer_cmp p q
-derived_pointer_cmp p q = refl
 
 pub derived_value_cmp : (a b : Value) → (value_ord.ghosts).cmp a b ≡ value_cmp a b
 derived_value_cmp (Int a) (Int b) = refl
@@ -53,21 +47,11 @@ agreeing_total same total = record {
   congr = λ x y z p. sym (same x z) ∙ total.congr x y z (same x y ∙ p) ∙ same y z;
 }
 
-pub pointer_cmp_total : IsTotalOrder pointer_cmp
-pointer_cmp_total = then_total (on_total (λ (p : Pointer). p.name) name_cmp_total) (on_total (λ (p : Pointer). p.length) nat_cmp_total)
-
 pub value_cmp_total : IsTotalOrder value_cmp
 value_cmp_total = agreeing_total derived_value_cmp value_laws.total-law
 
 pub fault_kind_cmp_total : IsTotalOrder fault_kind_cmp
 fault_kind_cmp_total = on_total fault_kind_place nat_cmp_total
-
--- references that tie are the same
-pub pointer_cmp_ties : (p q : Pointer) → pointer_cmp p q ≡ Equal → p ≡ q
-pointer_cmp_ties p q h =
-    let u = both _ _ h in
-    ap (λ n. pointer n p.length) (name_cmp_ties p.name q.name u.0)
-    ∙ ap (λ l. pointer q.name l) (nat_cmp-IsAntisymmetric p.length q.length u.1)
 
 int_cmp_ties : (a b : ℤ) → int_cmp a b ≡ Equal → a ≡ b
 int_cmp_ties = exact_signed

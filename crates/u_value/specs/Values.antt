@@ -1,19 +1,15 @@
 -- The order of values, and their texts.
 use Rattle.std.specs.Prelude.{ℕ, List, [], ◌∷◌, ◌++◌, true, false}
 use Rattle.std.specs.Fmt.{decimal, signed_decimal}
-use Rattle.std.specs.Ordering.{ordering_then, nat_cmp, int_cmp, bool_cmp}
+use Rattle.std.specs.Ordering.{nat_cmp, int_cmp, bool_cmp}
 use Rattle.std.specs.Cmp.Lexicographic.{slice_cmp}
 use Rattle.std.specs.declared.cmp.Ordering.{Ordering}
 use Rattle.std.specs.declared.cmp.Ordering.TheVariants.{Less, Greater}
-use Rattle.u_name.specs.NameOrder.{name_cmp}
 use Rattle.u_name.specs.NameText.{name_text}
 use Rattle.u_value.specs.Pointer.{Pointer}
+use Rattle.u_value.specs.PointerOrder.{pointer_cmp}
 use Rattle.u_value.specs.declared.value.Value.{Value}
 use Rattle.u_value.specs.declared.value.Value.TheVariants.{Int, Bool, Proc, Ref}
-
--- by name, and then by length
-abbrev pub pointer_cmp : Pointer → Pointer → Ordering
-pointer_cmp p q = ordering_then (name_cmp p.name q.name) (nat_cmp p.length q.length)
 
 -- the kinds in turn, and then numbers by size, false before true, blocks by their bytes, references by name and length
 abbrev pub value_cmp : Value → Value → Ordering

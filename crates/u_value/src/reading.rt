@@ -34,15 +34,26 @@ impl From<AllocError> for ValueTextError {
     }
 }
 
-/// `#` and a length from 0 to 1000000, behind a name.
+/// `#` and a length from 0 to 1000000.
 #[tactic(auto, using(u_text::proofs::FromZeroLaws::number0_at_bound))]
-fn with_length(name: Name, bytes: &[u8]) -> Front<'_, Reference>
+fn front_length(bytes: &[u8]) -> Front<'_, u32>
     ensures { MatchResult result
-        (λ found. (found.0.name ≡ name) × (length_at bytes.now ≡ Ok (found.0.length, found.1.now)))
+        (λ found. (found.0 ≤ 1000000) × (length_at bytes.now ≡ Ok (found.0, found.1.now)))
         (λ rest. length_at bytes.now ≡ Err rest.now) }
 {
-    let (length, rest) = number0_at(after(bytes, b'#')?, 1000000)?;
-    Ok((Reference::new(name, length), rest))
+    number0_at(after(bytes, b'#')?, 1000000)
+}
+
+/// The reference of that name, with the length behind it.
+fn with_length(alloc: Global, name: Name, bytes: &[u8]) -> Result<Front<'_, Reference>, AllocError>
+    ensures { IfOk result (λ front. MatchResult front
+        (λ found. (found.0.name ≡ name) × (length_at bytes.now ≡ Ok (found.0.length, found.1.now)))
+        (λ rest. length_at bytes.now ≡ Err rest.now)) }
+{
+    match front_length(bytes) {
+        Ok((length, rest)) => Ok(Ok((Reference::new(alloc, name, length)?, rest))),
+        Err(rest) => Ok(Err(rest)),
+    }
 }
 
 /// `name#length`, behind the `&`.
@@ -55,7 +66,7 @@ fn front_reference(alloc: Global, bytes: &[u8]) -> Result<Front<'_, Value>, Allo
         Ok(found) => found,
         Err(rest) => return Ok(Err(rest)),
     };
-    match with_length(name, rest) {
+    match with_length(alloc, name, rest)? {
         Ok((reference, rest)) => Ok(Ok((Value::Ref(reference), rest))),
         Err(rest) => Ok(Err(rest)),
     }

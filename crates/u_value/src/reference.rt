@@ -1,17 +1,33 @@
 //! References to structures.
 ghost use Rattle.std.specs.Prelude.{◌≡◌, ◌≤◌, ◌++◌, IfOk, OnOk, OnErr};
+ghost use Rattle.std.proofs.Common.{rules};
+ghost use Rattle.std.specs.Cmp.{partial_order_from_own_ties};
+ghost use Rattle.std.specs.Cmp.Rules.{comparing, hashing};
+ghost use Rattle.std.specs.Ordering.{eq_by_cmp, as_partial_cmp};
+ghost use Rattle.std.proofs.lemmas.Cmp.{eq_by_cmp_equiv};
 ghost use Rattle.u_text.specs.Appending.{Extends};
+ghost use Rattle.u_value.specs.PointerOrder.{pointer_cmp, pointer_cmp_total, pointer_hash, pointers_hash_alike};
 ghost use Rattle.u_value.specs.Values.{pointer_text};
 ghost use Rattle.u_value.specs.Pointer.{pointer, IsPointer};
 
-use std::alloc::AllocError;
+use std::alloc::{AllocError, Global};
+use std::cmp::Ordering;
+use std::hash::{Hash, Hasher};
 use std::marker::Model;
+use std::sync::Arc;
 use u_name::Name;
 use u_text::{cut_back, push_behind};
 
-/// A structure: the name of the activity that made it, and its length, 0 to 1000000.
-#[derive(PartialEq, Eq, PartialOrd, Ord, Hash, Drop)]
+/// A structure: the name of the activity that made it, and its length, 0 to 1000000. Copies share both.
+/// References are ordered by name, and then by length.
+#[derive(Drop)]
 pub struct Reference {
+    parts: Arc<Parts, Global>,
+}
+
+/// What a reference has.
+#[derive(Drop)]
+struct Parts {
     name: Name,
     length: u32,
 }
@@ -23,27 +39,29 @@ impl Model for Reference {
 
     ghost coded = { pointer_code };
 
-    ghost view = { λ r. pointer r.name r.length };
+    ghost view = { λ r. pointer r.parts.value.name r.parts.value.length };
 
-    ghost invariant = { λ r. IsPointer (pointer r.name r.length) };
-
-    ghost inverse = { λ p. record { name = p.name; length = p.length } };
+    ghost invariant = { λ r. IsPointer (pointer r.parts.value.name r.parts.value.length) };
 }
 
 impl Reference {
     /// The structure of that name and length.
-    pub fn new(name: Name, length: u32) -> Reference
+    ///
+    /// # Errors
+    /// `AllocError` where there is no memory.
+    pub fn new(alloc: Global, name: Name, length: u32) -> Result<Reference, AllocError>
         requires { length ≤ 1000000 }
-        ensures { result ≡ pointer name length }
+        ensures { IfOk result (λ r. r ≡ pointer name length) }
     {
-        Reference { name, length }
+        let parts = Arc::new(alloc, Parts { name, length })?;
+        Ok(Reference { parts })
     }
 
     /// The name of the activity that made it.
     pub fn name(&self) -> &Name
         ensures { result.now ≡ self.now.name }
     {
-        &self.name
+        &self.parts.name
     }
 
     /// How many cells it has.
@@ -51,18 +69,24 @@ impl Reference {
         ensures value { result ≡ self.now.length }
         ensures bound { IsPointer self.now }
     {
-        self.length
+        self.parts.length
     }
 
-    /// An equal reference.
+    /// An equal reference, which shares all with this one.
     pub fn copy(&self) -> Result<Reference, AllocError>
         ensures { IfOk result (λ r. r ≡ self.now) }
     {
-        let name = self.name.copy()?;
-        Ok(Reference {
-            name,
-            length: self.length,
-        })
+        let parts = Arc::try_clone(&self.parts)?;
+        Ok(Reference { parts })
+    }
+
+    /// By name, and then by length.
+    fn compare(&self, other: &Reference) -> Ordering
+        ensures { result ≡ pointer_cmp self.now other.now }
+    {
+        self.name()
+            .cmp(other.name())
+            .then(self.length().cmp(&other.length()))
     }
 
     /// Appends the text of the reference: `&name#length`.
@@ -89,4 +113,58 @@ fn push_reference(out: &mut Vec<u8>, reference: &Reference) -> Result<(), AllocE
     out.push(b'&')?;
     reference.name().write_text(out)?;
     push_behind(out, b'#', reference.length())
+}
+
+impl PartialEq for Reference {
+    ghost eq = { eq_by_cmp pointer_cmp };
+
+    ghost laws = { Prim.search (comparing, rules, pointer_cmp_total, eq_by_cmp_equiv) };
+
+    /// The names come last, since they are longer.
+    #[tactic(auto, using(crate::proofs::EqualReferences::other_length, crate::proofs::EqualReferences::same_but_name))]
+    fn eq(&self, other: &Reference) -> bool {
+        if self.length() != other.length() {
+            return false;
+        }
+        self.name() == other.name()
+    }
+}
+
+impl Eq for Reference {
+    ghost laws = { eq_by_cmp_equiv pointer_cmp_total };
+}
+
+impl Ord for Reference {
+    ghost cmp = { pointer_cmp };
+
+    ghost total = { pointer_cmp_total };
+
+    ghost matches_partial_cmp = { Prim.search (comparing, rules) };
+
+    ghost matches_eq = { Prim.search (comparing, rules) };
+
+    fn cmp(&self, other: &Reference) -> Ordering {
+        self.compare(other)
+    }
+}
+
+impl PartialOrd for Reference {
+    ghost partial_cmp = { as_partial_cmp pointer_cmp };
+
+    ghost laws = { partial_order_from_own_ties (Prim.search (comparing, rules, pointer_cmp_total)) (Prim.search (comparing, rules)) };
+
+    fn partial_cmp(&self, other: &Reference) -> Option<Ordering> {
+        Some(self.compare(other))
+    }
+}
+
+impl Hash for Reference {
+    ghost hash_input = { pointer_hash };
+
+    ghost respects_eq = { pointers_hash_alike };
+
+    fn hash<H: Hasher>(&self, state: &mut H) {
+        self.name().hash(state);
+        self.length().hash(state);
+    }
 }

@@ -1,4 +1,4 @@
-use Rattle.std.proofs.Common.{◌≡◌, sym, List, subst}
+use Rattle.std.proofs.Common.{sym, List, subst}
 use Rattle.std.specs.List.{AllByRecursion}
 use Rattle.u_program.specs.Parts.{StatementParts}
 use Rattle.u_program.specs.Limits.{IsStatement, the_limits}
