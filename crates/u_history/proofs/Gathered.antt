@@ -1,5 +1,6 @@
 -- Lists that are gathered from entries.
-use Rattle.std.proofs.Common.{◌≡◌, ◌↔◌, ◌⊎◌, inl, inr, ℕ, ◌+◌, ◌<◌, ◌≤◌, List, [], ◌∷◌, Ordering, Contains, IsTrue, Bool, length, refl, sym, subst, ◌∙◌, ap, arith}
+use Rattle.std.proofs.Common.{◌≡◌, ◌↔◌, ◌⊎◌, inl, inr, ℕ, ◌+◌, ◌<◌, ◌≤◌, List, [], ◌∷◌, ◌++◌, Ordering, Contains, IsTrue, Bool, length, take, get_or, refl, sym, subst, ◌∙◌, ap, arith}
+use Rattle.std.proofs.lemmas.List.{take_more, get_or-map}
 use Rattle.std.specs.Prelude.{Result, IfOk}
 use Rattle.std.specs.Borrow.{Bor}
 use Rattle.u_sets.specs.Members.{SomeOf, IsWith}
@@ -17,6 +18,12 @@ lent_below es i l = let h = length_lent es in omega arith
 
 pub lent_end : (es : List (Bor Entry)) (i : ℕ) → length es ≤ i → length (lent es) ≤ i
 lent_end es i l = let h = length_lent es in omega arith
+
+-- one more of them
+pub lent_more : (es : List (Bor Entry)) (i : ℕ) (d : Bor Entry) → i < length es → d ≡ get_or es i d → take (i + 1) (lent es) ≡ take i (lent es) ++ d.now ∷ []
+lent_more es i d l e =
+    take_more (lent es) i d.now (lent_below es i l)
+    ∙ ap (λ (x : Entry). take i (lent es) ++ x ∷ []) (get_or-map (λ (b : Bor Entry). b.now) es i d d.now l ∙ ap (λ (b : Bor Entry). b.now) (sym e))
 
 pub lent_after : (es : List (Bor Entry)) (i : ℕ) (b : Bool) (P : Type 0) → (IsTrue b ↔ ((i + 1 < length es) × P)) → IsTrue b ↔ ((i + 1 < length (lent es)) × P)
 lent_after es i b P h =

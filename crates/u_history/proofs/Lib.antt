@@ -9,3 +9,5 @@ pub mod Spans
 pub mod Texts
 pub mod Unions
 pub mod Lines
+pub mod Tabled
+pub mod Telling

@@ -1,11 +1,8 @@
 -- The lines of a history, one after the other.
 use Rattle.std.proofs.Common.{◌≡◌, ◌∙◌, sym, ap, refl, ℕ, List, [], ◌∷◌, ◌++◌, map, append_assoc}
-use Rattle.std.specs.Borrow.{Bor}
-use Rattle.std.specs.Map.Iter.{deref}
 use Rattle.u_text.specs.Spaced.{ended}
 use Rattle.u_rule.specs.EntryText.{entry_text}
 use Rattle.u_rule.specs.declared.entry.Entry.{Entry}
-use Rattle.u_history.proofs.Unions.{lent_push}
 
 ended_push : (ls : List (List ℕ)) (l : List ℕ) → ended (ls ++ l ∷ []) ≡ ended ls ++ (l ++ (10 ∷ []))
 ended_push [] l = refl
@@ -16,7 +13,5 @@ texts_push [] e = refl
 texts_push (d ∷ es) e = ap (λ (t : List (List ℕ)). entry_text d ∷ t) (texts_push es e)
 
 -- one entry more
-pub text_more : (es : List (Bor Entry)) (e : Bor Entry) (o old mid new : List ℕ) → old ≡ o ++ ended (map entry_text (map (deref {X = Entry}) es)) → mid ≡ old ++ entry_text e.now → new ≡ mid ++ (10 ∷ [])
-    → new ≡ o ++ ended (map entry_text (map (deref {X = Entry}) (es ++ e ∷ [])))
-text_more es e o old mid new p q r =
-    rw (r, q, p, lent_push es e, texts_push (map (deref {X = Entry}) es) e.now, ended_push (map entry_text (map (deref {X = Entry}) es)) (entry_text e.now)) (simp append_assoc)
+pub text_more : (es : List Entry) (e : Entry) (o old new : List ℕ) → old ≡ o ++ ended (map entry_text es) → new ≡ old ++ (entry_text e ++ (10 ∷ [])) → new ≡ o ++ ended (map entry_text (es ++ e ∷ []))
+text_more es e o old new p q = rw (q, p, texts_push es e, ended_push (map entry_text es) (entry_text e)) (simp append_assoc)

@@ -27,10 +27,10 @@ use Rattle.u_history.specs.Clashes.{cell_pairs, port_values}
 use Rattle.u_history.specs.OutcomeParts.{IsOutcomeOf, report_text_of}
 use Rattle.u_history.specs.Report.{IsReportOf, report_text}
 
-cells_total : IsTotalOrder cell_clash_order
+pub cells_total : IsTotalOrder cell_clash_order
 cells_total = on_total (λ (r : CellPairs). r.cell) cell_cmp_total
 
-ports_total : IsTotalOrder port_clash_order
+pub ports_total : IsTotalOrder port_clash_order
 ports_total = then_total (on_total (λ (r : PortValues). r.activity) name_cmp_total) (on_total (λ (r : PortValues). r.port) nat_cmp_total)
 
 module _ (H K : Entry → Type 0) (same : Same H K) where

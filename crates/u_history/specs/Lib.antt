@@ -1,4 +1,5 @@
 pub mod Stored
+pub mod Held
 pub mod Orders
 pub mod Text
 pub mod Outcomes

@@ -45,10 +45,12 @@ pub struct PortClash {
 }
 
 /// A port of an activity. Ports are ordered by activity, and then by number.
-#[derive(PartialEq, Eq, PartialOrd, Ord, Drop)]
-pub(crate) struct Port {
-    activity: Name,
-    number: u8,
+#[derive(PartialEq, Eq, PartialOrd, Ord, Hash, Drop)]
+pub struct Port {
+    /// The activity.
+    pub activity: Name,
+    /// Its port, 1 to 3.
+    pub number: u8,
 }
 
 /// Whether the two are values of one port of one activity, or of one cell.

@@ -1,23 +1,28 @@
 //! Sets of entries.
-ghost use Rattle.std.specs.Prelude.{◌≡◌, ◌↔◌, ◌++◌, [], OnOk, OnErr, IfOk, IfErr, Contains, ◌⊎◌, IsTrue, length, map};
+ghost use Rattle.std.specs.Prelude.{◌≡◌, ◌↔◌, ◌++◌, [], ◌∷◌, OnOk, OnErr, IfOk, IfErr, Contains, ◌⊎◌, IsTrue, length, map};
 ghost use Rattle.std.specs.Map.Iter.{deref};
+ghost use Rattle.u_system.specs.Firing.{Distinct};
+ghost use Rattle.u_value.specs.declared.value.Value.{Value};
+ghost use Rattle.u_rule.specs.declared.firing.Written.{Written};
 ghost use Rattle.u_sets.specs.Rising.{Rises, IsListOf};
 ghost use Rattle.u_sets.specs.Members.{IsWith, IsUnion};
 ghost use Rattle.u_rule.specs.EntryOrder.{entry_cmp};
 ghost use Rattle.u_rule.specs.declared.entry.Entry.{Entry};
 ghost use Rattle.u_history.specs.Orders.{value_order, written_order};
 ghost use Rattle.u_text.specs.Appending.{Extends};
+ghost use Rattle.u_rule.specs.EntryText.{entry_text};
 ghost use Rattle.u_history.specs.Text.{history_text};
-ghost use Rattle.u_history.specs.Outcomes.{PairIn, ValueAt};
+ghost use Rattle.u_history.specs.Outcomes.{PairIn, ValueAt, lent};
 ghost use Rattle.u_history.specs.OutcomeParts.{IsOutcomeOf};
 
+use crate::clash::Port;
 use crate::lookup::{pairs_in, values_at};
 use crate::outcome::Outcome;
+use crate::tables::Tables;
 use std::alloc::{AllocError, AllocFailed, Global};
 use std::marker::Model;
 use u_name::{Cell, Name};
 use u_rule::{Entry, Written};
-use u_sets::OrderedSet;
 use u_text::cut_back;
 use u_value::Value;
 
@@ -25,7 +30,8 @@ use u_value::Value;
 #[derive(Drop)]
 pub struct History {
     alloc: Global,
-    entries: OrderedSet<Entry>,
+    count: usize,
+    tables: Tables,
 }
 
 impl Model for History {
@@ -37,12 +43,11 @@ impl Model for History {
 
     ghost coded = { entries_code };
 
-    ghost use Rattle.u_sets.specs.Rising.{Rises};
-    ghost use Rattle.u_rule.specs.EntryOrder.{entry_cmp};
+    ghost use Rattle.u_history.specs.Held.{all_entries, AreCounted};
 
-    ghost view = { λ h. h.entries };
+    ghost view = { λ h. all_entries h.tables };
 
-    ghost invariant = { λ h. Rises entry_cmp h.entries };
+    ghost invariant = { λ h. AreCounted h.tables h.count };
 }
 
 impl History {
@@ -52,7 +57,8 @@ impl History {
     {
         History {
             alloc,
-            entries: OrderedSet::new(alloc),
+            count: 0,
+            tables: Tables::new(alloc),
         }
     }
 
@@ -61,14 +67,14 @@ impl History {
         ensures len { result ≡ length self.now }
         ensures rises { Rises entry_cmp self.now }
     {
-        self.entries.len()
+        self.count
     }
 
     /// Whether the entry is there.
     pub fn contains(&self, entry: &Entry) -> bool
         ensures { IsTrue result ↔ Contains self.now entry.now }
     {
-        self.entries.contains(entry)
+        self.tables.contains(entry)
     }
 
     /// Puts the entry in. Returns whether it was new.
@@ -82,15 +88,33 @@ impl History {
         ensures err { OnErr result (self.new ≡ self.old) }
         ensures back { IfErr result (λ e. e.value ≡ entry) }
     {
-        self.entries.insert(entry)
+        let Some(next) = self.count.checked_add(1) else {
+            return Err(AllocFailed { value: entry });
+        };
+        let added = self.tables.insert(entry)?;
+        if !added {
+            return Ok(false);
+        }
+        self.count = next;
+        Ok(true)
     }
 
-    /// References to the entries, in order.
-    fn references(&self) -> Result<Vec<&Entry>, AllocError>
-        ensures all { IfOk result (λ v. map (deref {X = Entry}) v.items ≡ self.now) }
-        ensures rises { Rises entry_cmp self.now }
+    /// The values of the tokens at the port, each once, in no order.
+    pub fn values_at(&self, port: &Port) -> &[Value]
+        ensures all { (v : Value) → Contains result.now v
+            ↔ ValueAt (Contains self.now) port.now.activity port.now.number v }
+        ensures distinct { Distinct result.now }
     {
-        self.entries.iter().collect(self.alloc)
+        self.tables.values_at(&port.activity, port.number)
+    }
+
+    /// The writers and values of the writes of the cell, each pair once, in no order.
+    pub fn writes_to(&self, cell: &Cell) -> &[Written]
+        ensures all { (w : Written) → Contains result.now w
+            ↔ PairIn (Contains self.now) cell.now w }
+        ensures distinct { Distinct result.now }
+    {
+        self.tables.writes.under(cell)
     }
 
     /// Copies of the entries, in order.
@@ -101,11 +125,7 @@ impl History {
         ensures all { IfOk result (λ v. v.items ≡ self.now) }
         ensures rises { Rises entry_cmp self.now }
     {
-        let mut all = Vec::new(self.alloc);
-        for entry in self.entries.iter() {
-            all.push(entry.copy()?)?;
-        }
-        Ok(all)
+        self.tables.entries(self.alloc)
     }
 
     /// The values of the tokens at that port of the activity, in order.
@@ -116,8 +136,9 @@ impl History {
         ensures { IfOk result
             (λ v. IsListOf value_order (ValueAt (Contains self.now) activity.now port) v.items) }
     {
-        let entries = self.references()?;
-        values_at(self.alloc, &entries, activity, port)
+        let entries = self.entries()?;
+        let lent = references(self.alloc, &entries)?;
+        values_at(self.alloc, &lent, activity, port)
     }
 
     /// The writers and values of the writes of the cell, in order.
@@ -128,22 +149,21 @@ impl History {
         ensures { IfOk result
             (λ v. IsListOf written_order (PairIn (Contains self.now) cell.now) v.items) }
     {
-        let entries = self.references()?;
-        pairs_in(self.alloc, &entries, cell)
+        let entries = self.entries()?;
+        let lent = references(self.alloc, &entries)?;
+        pairs_in(self.alloc, &lent, cell)
     }
 
     /// Appends the text of each entry, in order, with a newline behind it. On an error a part of it
     /// may stand there.
-    #[tactic(auto, using(u_text::proofs::AppendingLaws::extends_by, u_text::proofs::AppendingLaws::extends_behind))]
+    #[tactic(auto, using(u_text::proofs::AppendingLaws::extends_same))]
     fn append(&self, out: &mut Vec<u8>) -> Result<(), AllocError>
         ensures ok { OnOk result (out.new.items ≡ out.old.items ++ history_text self.now) }
         ensures err { OnErr result (Extends out.old.items out.new.items) }
     {
-        for entry in self.entries.iter() {
-            entry.write_text(out)?;
-            out.push(b'\n')?;
-        }
-        Ok(())
+        let entries = self.entries()?;
+        let lent = references(self.alloc, &entries)?;
+        push_lines(out, &lent)
     }
 
     /// Appends the text of each entry, in order, with a newline behind it.
@@ -167,18 +187,27 @@ impl History {
     pub fn outcome(&self) -> Result<Outcome, AllocError>
         ensures { IfOk result (IsOutcomeOf (Contains self.now)) }
     {
-        let entries = self.references()?;
-        Outcome::of(self.alloc, &entries)
+        let entries = self.tables.telling(self.alloc)?;
+        let lent = references(self.alloc, &entries)?;
+        Outcome::of(self.alloc, &lent)
+    }
+
+    /// Puts copies of the entries in.
+    fn put_all(&mut self, entries: &[Entry]) -> Result<(), AllocError>
+        ensures { OnOk result (IsUnion self.old entries.now self.new) }
+    {
+        for entry in entries {
+            let _ = self.insert(entry.copy()?)?;
+        }
+        Ok(())
     }
 
     /// Puts copies of the other set's entries in.
     fn take_in(&mut self, other: &History) -> Result<(), AllocError>
         ensures { OnOk result (IsUnion self.old other.now self.new) }
     {
-        for entry in other.entries.iter() {
-            let _ = self.insert(entry.copy()?)?;
-        }
-        Ok(())
+        let entries = other.entries()?;
+        self.put_all(&entries)
     }
 
     /// An equal set.
@@ -190,6 +219,7 @@ impl History {
     {
         let mut copied = History::new(self.alloc);
         copied.take_in(self)?;
+        let _count = copied.count;
         Ok(copied)
     }
 
@@ -206,4 +236,35 @@ impl History {
         *self = union;
         Ok(())
     }
+}
+
+/// References to the entries.
+fn references(alloc: Global, entries: &[Entry]) -> Result<Vec<&Entry>, AllocError>
+    ensures { IfOk result (λ v. map (deref {X = Entry}) v.items ≡ entries.now) }
+{
+    entries.iter().collect(alloc)
+}
+
+/// Appends the text of the entry, with a newline behind it. On an error a part of it may stand there.
+#[tactic(auto, using(u_text::proofs::AppendingLaws::extends_by, u_text::proofs::AppendingLaws::extends_behind, u_text::proofs::AppendingLaws::extends_same))]
+fn push_line(out: &mut Vec<u8>, entry: &Entry) -> Result<(), AllocError>
+    ensures ok { OnOk result
+        (out.new.items ≡ out.old.items ++ (entry_text entry.now ++ (10 ∷ []))) }
+    ensures err { OnErr result (Extends out.old.items out.new.items) }
+{
+    entry.write_text(out)?;
+    out.push(b'\n')?;
+    Ok(())
+}
+
+/// Appends the text of each entry, with a newline behind it. On an error a part of it may stand there.
+#[tactic(auto, using(u_text::proofs::AppendingLaws::extends_behind))]
+fn push_lines(out: &mut Vec<u8>, entries: &[&Entry]) -> Result<(), AllocError>
+    ensures ok { OnOk result (out.new.items ≡ out.old.items ++ history_text (lent entries.now)) }
+    ensures err { OnErr result (Extends out.old.items out.new.items) }
+{
+    for entry in entries {
+        push_line(out, entry)?;
+    }
+    Ok(())
 }

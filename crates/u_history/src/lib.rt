@@ -10,9 +10,10 @@ mod merging;
 mod outcome;
 mod place;
 mod report;
+mod tables;
 mod verdict;
 
-pub use clash::{CellClash, PortClash};
+pub use clash::{CellClash, Port, PortClash};
 pub use history::History;
 pub use listed::Listed;
 pub use outcome::Outcome;

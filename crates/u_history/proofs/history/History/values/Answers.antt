@@ -12,8 +12,8 @@ use Rattle.u_history.proofs.history.History.values.Goals as goal
 
 pub returns : goal.returns
 returns c =
-    along c.values_at.result (λ (es : List Entry) v. IsListOf value_order (λ (x : Value). Contains es (kinds.Token (token c.args.activity.now c.args.port x))) v.items) (lent c.deref.result.now) c.args.self.now
-    (ap lent c.deref.ensures.value ∙ c.in_ok-entries.ensures.all) c.values_at.ensures
+    along c.values_at.result (λ (es : List Entry) v. IsListOf value_order (λ (x : Value). Contains es (kinds.Token (token c.args.activity.now c.args.port x))) v.items) (lent c.deref-2.result.now) c.args.self.now
+    (ap lent c.deref-2.ensures.value ∙ c.in_ok-lent.ensures ∙ c.deref.ensures.value ∙ c.in_ok-entries.ensures.all) c.values_at.ensures
 
 pub values_at-requires : goal.values_at-requires
-values_at-requires c = subst (Rises entry_cmp) (sym (ap lent c.deref.ensures.value ∙ c.in_ok-entries.ensures.all)) c.in_ok-entries.ensures.rises
+values_at-requires c = subst (Rises entry_cmp) (sym (ap lent c.deref-2.ensures.value ∙ c.in_ok-lent.ensures ∙ c.deref.ensures.value ∙ c.in_ok-entries.ensures.all)) c.in_ok-entries.ensures.rises

@@ -1,0 +1,328 @@
+//! Where the entries of a history stand: tokens under their activities, writes under their cells.
+ghost use Rattle.std.specs.Prelude.{◌≡◌, ◌↔◌, ◌⊎◌, OnOk, OnErr, IfOk, IfErr, Contains, IsTrue, ◌++◌, map};
+ghost use Rattle.std.specs.Map.Iter.{deref, deref_pair};
+ghost use Rattle.u_system.specs.Firing.{Distinct};
+ghost use Rattle.u_name.specs.Context.{IsBetween};
+ghost use Rattle.u_name.specs.Name.{Activity};
+ghost use Rattle.u_value.specs.declared.value.Value.{Value};
+ghost use Rattle.u_rule.specs.Parts.{token};
+ghost use Rattle.u_rule.specs.EntryOrder.{entry_cmp, write_of, written};
+ghost use Rattle.u_rule.specs.declared.entry.Entry.{Entry};
+ghost use Rattle.u_rule.specs.declared.entry.Entry.TheVariants as kinds;
+ghost use Rattle.u_sets.specs.Members.{IsWith};
+ghost use Rattle.u_sets.specs.Rising.{Rises};
+ghost use Rattle.u_history.specs.Held.{table_at, Held, OthersAreOther, token_entry, write_entry, listed_entries, all_entries, Matters};
+
+use std::alloc::{AllocError, AllocFailed, Global};
+use u_name::{Cell, Name};
+use u_rule::{Entry, Token, Write, Written};
+use u_sets::{KeyedSet, ListedSet, put_in_order};
+use u_value::Value;
+
+/// The entries of a history.
+#[derive(Drop)]
+pub struct Tables {
+    /// The values at port 1, by activity.
+    pub first: KeyedSet<Name, Value>,
+    /// The values at port 2, by activity.
+    pub second: KeyedSet<Name, Value>,
+    /// The values at port 3, by activity.
+    pub third: KeyedSet<Name, Value>,
+    /// The writes, by cell.
+    pub writes: KeyedSet<Cell, Written>,
+    /// The faults and the answers.
+    pub rest: ListedSet<Entry>,
+}
+
+/// Puts the token into the table of its port.
+fn put_token(table: &mut KeyedSet<Name, Value>, token: Token) -> Result<bool, AllocFailed<Entry>>
+    ensures ok { OnOk result (IsWith table.old (token.activity, token.value) table.new) }
+    ensures new { IfOk result
+        (λ b. IsTrue b ↔ (Contains table.old (token.activity, token.value) → ⊥)) }
+    ensures still { IfOk result (λ b. (IsTrue b → ⊥) → table.new ≡ table.old) }
+    ensures err { OnErr result (table.new ≡ table.old) }
+    ensures back { IfErr result (λ e. e.value ≡ kinds.Token token) }
+{
+    let (activity, port, value) = token.into_parts();
+    match table.insert(activity, value) {
+        Ok(added) => Ok(added),
+        Err(failed) => {
+            let (activity, value) = failed.value;
+            Err(AllocFailed {
+                value: Entry::Token(Token::new(activity, port, value)),
+            })
+        }
+    }
+}
+
+/// Puts the write into the table.
+fn put_write(table: &mut KeyedSet<Cell, Written>, write: Write) -> Result<bool, AllocFailed<Entry>>
+    ensures ok { OnOk result
+        (IsWith table.old (write.cell, written write.writer write.value) table.new) }
+    ensures new { IfOk result
+        (λ b. IsTrue b
+        ↔ (Contains table.old (write.cell, written write.writer write.value) → ⊥)) }
+    ensures still { IfOk result (λ b. (IsTrue b → ⊥) → table.new ≡ table.old) }
+    ensures err { OnErr result (table.new ≡ table.old) }
+    ensures back { IfErr result (λ e. e.value ≡ kinds.Write write) }
+{
+    let Write {
+        cell,
+        writer,
+        value,
+    } = write;
+    match table.insert(cell, Written { writer, value }) {
+        Ok(added) => Ok(added),
+        Err(failed) => {
+            let (cell, pair) = failed.value;
+            let Written { writer, value } = pair;
+            Err(AllocFailed {
+                value: Entry::Write(Write {
+                    cell,
+                    writer,
+                    value,
+                }),
+            })
+        }
+    }
+}
+
+/// The token, of copies of its parts.
+fn token_copy(activity: &Name, port: u8, value: &Value) -> Result<Entry, AllocError>
+    requires { IsBetween 1 port 3 }
+    ensures { IfOk result (λ e. e ≡ kinds.Token (token activity.now port value.now)) }
+{
+    let activity = activity.copy()?;
+    let value = value.copy()?;
+    Ok(Entry::Token(Token::new(activity, port, value)))
+}
+
+/// The write, of copies of its parts.
+fn write_copy(cell: &Cell, pair: &Written) -> Result<Entry, AllocError>
+    ensures { IfOk result
+        (λ e. e ≡ kinds.Write (write_of cell.now pair.now.writer pair.now.value)) }
+{
+    Ok(Entry::Write(Write {
+        cell: cell.copy()?,
+        writer: pair.writer.copy()?,
+        value: pair.value.copy()?,
+    }))
+}
+
+/// Adds copies of the tokens at the port.
+fn push_tokens(list: &mut Vec<Entry>, pairs: &[(&Name, &Value)], port: u8) -> Result<(), AllocError>
+    requires { IsBetween 1 port 3 }
+    ensures { OnOk result
+        (list.new.items ≡ list.old.items ++ map (token_entry port) (map deref_pair pairs.now)) }
+{
+    for pair in pairs {
+        list.push(token_copy(pair.0, port, pair.1)?)?;
+    }
+    Ok(())
+}
+
+/// Adds copies of the writes.
+fn push_writes(list: &mut Vec<Entry>, pairs: &[(&Cell, &Written)]) -> Result<(), AllocError>
+    ensures { OnOk result
+        (list.new.items ≡ list.old.items ++ map write_entry (map deref_pair pairs.now)) }
+{
+    for pair in pairs {
+        list.push(write_copy(pair.0, pair.1)?)?;
+    }
+    Ok(())
+}
+
+/// Adds copies of the entries.
+fn push_others(list: &mut Vec<Entry>, others: &[&Entry]) -> Result<(), AllocError>
+    ensures { OnOk result
+        (list.new.items ≡ list.old.items ++ map (deref {X = Entry}) others.now) }
+{
+    for entry in others {
+        list.push(entry.copy()?)?;
+    }
+    Ok(())
+}
+
+/// The writer and the value of the write.
+fn pair_of(write: &Write) -> Result<Written, AllocError>
+    ensures { IfOk result (λ w. w ≡ written write.now.writer write.now.value) }
+{
+    Ok(Written {
+        writer: write.writer.copy()?,
+        value: write.value.copy()?,
+    })
+}
+
+/// Whether the pair is that of the write.
+#[tactic(auto, using(crate::proofs::Neighbours::same_name))]
+fn is_pair(pair: &Written, write: &Write) -> bool
+    ensures { IsTrue result
+        ↔ ((pair.now.writer ≡ write.now.writer) × (pair.now.value ≡ write.now.value)) }
+{
+    pair.writer == write.writer && pair.value == write.value
+}
+
+/// Whether one of the pairs is that of the write.
+fn has_pair(pairs: &[Written], write: &Write) -> bool
+    ensures { IsTrue result ↔ Contains pairs.now (written write.now.writer write.now.value) }
+{
+    for pair in pairs {
+        if is_pair(pair, write) {
+            return true;
+        }
+    }
+    false
+}
+
+impl Tables {
+    /// No entries. It takes no memory.
+    pub fn new(alloc: Global) -> Tables
+        ensures held { (e : Entry) → Held result e → ⊥ }
+        ensures others { OthersAreOther result }
+    {
+        Tables {
+            first: KeyedSet::new(alloc),
+            second: KeyedSet::new(alloc),
+            third: KeyedSet::new(alloc),
+            writes: KeyedSet::new(alloc),
+            rest: ListedSet::new(alloc),
+        }
+    }
+
+    /// The values of the activity at that port, each once.
+    pub fn values_at(&self, activity: &Name, port: u8) -> &[Value]
+        ensures all { (v : Value) → Contains result.now v
+            ↔ Held self.now (kinds.Token (token activity.now port v)) }
+        ensures distinct { Distinct result.now }
+    {
+        match port {
+            1 => self.first.under(activity),
+            2 => self.second.under(activity),
+            3 => self.third.under(activity),
+            _ => &[],
+        }
+    }
+
+    /// Whether the token is there.
+    fn has_token(&self, item: &Token) -> bool
+        ensures { IsTrue result ↔ Held self.now (kinds.Token item.now) }
+    {
+        match item.port() {
+            1 => self.first.contains(item.activity(), item.value()),
+            2 => self.second.contains(item.activity(), item.value()),
+            _ => self.third.contains(item.activity(), item.value()),
+        }
+    }
+
+    /// Whether the write is there.
+    fn has_write(&self, write: &Write) -> bool
+        ensures { IsTrue result ↔ Held self.now (kinds.Write write.now) }
+    {
+        match pair_of(write) {
+            Ok(pair) => self.writes.contains(&write.cell, &pair),
+            Err(_) => has_pair(self.writes.under(&write.cell), write),
+        }
+    }
+
+    /// Whether the entry is there.
+    pub fn contains(&self, entry: &Entry) -> bool
+        ensures { IsTrue result ↔ Held self.now entry.now }
+    {
+        match entry {
+            Entry::Token(token) => self.has_token(token),
+            Entry::Write(write) => self.has_write(write),
+            Entry::Fault(_) | Entry::Answer(_) => self.rest.contains(entry),
+        }
+    }
+
+    /// Puts the token in. Returns whether it was new.
+    fn insert_token(&mut self, item: Token) -> Result<bool, AllocFailed<Entry>>
+        ensures ok { OnOk result
+            ((e : Entry) → Held self.new e ↔ (Held self.old e ⊎ (kinds.Token item ≡ e))) }
+        ensures new { IfOk result (λ b. IsTrue b ↔ (Held self.old (kinds.Token item) → ⊥)) }
+        ensures still { IfOk result (λ b. (IsTrue b → ⊥) → self.new ≡ self.old) }
+        ensures err { OnErr result (self.new ≡ self.old) }
+        ensures back { IfErr result (λ e. e.value ≡ kinds.Token item) }
+        ensures rest { self.new.rest ≡ self.old.rest }
+    {
+        match item.port() {
+            1 => put_token(&mut self.first, item),
+            2 => put_token(&mut self.second, item),
+            _ => put_token(&mut self.third, item),
+        }
+    }
+
+    /// Puts the entry in. Returns whether it was new.
+    pub fn insert(&mut self, entry: Entry) -> Result<bool, AllocFailed<Entry>>
+        requires { OthersAreOther self.old }
+        ensures ok { OnOk result
+            ((e : Entry) → Held self.new e ↔ (Held self.old e ⊎ (entry ≡ e))) }
+        ensures new { IfOk result (λ b. IsTrue b ↔ (Held self.old entry → ⊥)) }
+        ensures still { IfOk result (λ b. (IsTrue b → ⊥) → self.new ≡ self.old) }
+        ensures err { OnErr result (self.new ≡ self.old) }
+        ensures back { IfErr result (λ e. e.value ≡ entry) }
+        ensures others { OthersAreOther self.new }
+    {
+        match entry {
+            Entry::Token(token) => self.insert_token(token),
+            Entry::Write(write) => put_write(&mut self.writes, write),
+            Entry::Fault(fault) => self.rest.insert(Entry::Fault(fault)),
+            Entry::Answer(value) => self.rest.insert(Entry::Answer(value)),
+        }
+    }
+
+    /// Copies of the entries, table by table.
+    fn listed(&self, alloc: Global) -> Result<Vec<Entry>, AllocError>
+        requires { OthersAreOther self.now }
+        ensures all { IfOk result
+            (λ v. v.items
+            ≡ listed_entries self.now.first self.now.second self.now.third self.now.writes self.now.rest) }
+        ensures distinct { IfOk result (λ v. Distinct v.items) }
+    {
+        let first = self.first.pairs(alloc)?;
+        let second = self.second.pairs(alloc)?;
+        let third = self.third.pairs(alloc)?;
+        let writes = self.writes.pairs(alloc)?;
+        let others = self.rest.in_order(alloc)?;
+        let mut list = Vec::new(alloc);
+        push_tokens(&mut list, &first, 1)?;
+        push_tokens(&mut list, &second, 2)?;
+        push_tokens(&mut list, &third, 3)?;
+        push_writes(&mut list, &writes)?;
+        push_others(&mut list, &others)?;
+        Ok(list)
+    }
+
+    /// Copies of the entries, in order.
+    pub fn entries(&self, alloc: Global) -> Result<Vec<Entry>, AllocError>
+        requires { OthersAreOther self.now }
+        ensures { IfOk result (λ v. v.items ≡ all_entries self.now) }
+    {
+        let mut list = self.listed(alloc)?;
+        put_in_order(&mut list);
+        Ok(list)
+    }
+
+    /// Copies of the entries that tell in an outcome, in order: of the tokens and the writes only those
+    /// that are not alone at their place. It goes over the others and leaves them where they are.
+    pub fn telling(&self, alloc: Global) -> Result<Vec<Entry>, AllocError>
+        requires { OthersAreOther self.now }
+        ensures rises { IfOk result (λ v. Rises entry_cmp v.items) }
+        ensures all { IfOk result
+            (λ v. (e : Entry) → Contains v.items e ↔ Matters (Held self.now) e) }
+    {
+        let first = self.first.shared_pairs(alloc)?;
+        let second = self.second.shared_pairs(alloc)?;
+        let third = self.third.shared_pairs(alloc)?;
+        let writes = self.writes.shared_pairs(alloc)?;
+        let others = self.rest.in_order(alloc)?;
+        let mut list = Vec::new(alloc);
+        push_tokens(&mut list, &first, 1)?;
+        push_tokens(&mut list, &second, 2)?;
+        push_tokens(&mut list, &third, 3)?;
+        push_writes(&mut list, &writes)?;
+        push_others(&mut list, &others)?;
+        put_in_order(&mut list);
+        Ok(list)
+    }
+}
