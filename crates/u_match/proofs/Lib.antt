@@ -5,5 +5,9 @@ pub mod Wakes
 pub mod Noted
 pub mod Needs
 pub mod Meeting
+pub mod Made
+pub mod Answering
+pub mod WriteWaking
 pub mod Completing
-pub mod Waking
+pub mod Naming
+pub mod Finding

@@ -47,7 +47,7 @@ pub three_members : {X : Type 0} (x y z e : X) → Contains (x ∷ y ∷ z ∷ [
 three_members x y z e = cons_member ((y ≡ e) ⊎ (z ≡ e)) x e (y ∷ z ∷ []) (two_members y z e)
 
 -- a write exactly where it is wanted
-read_or_none : (b : Bool) (w : Option Written) → (if b then is_some w else is_none w) ≡ true → ((b ≡ true) × ((x : Written) × (w ≡ Some x))) ⊎ (w ≡ None)
+pub read_or_none : (b : Bool) (w : Option Written) → (if b then is_some w else is_none w) ≡ true → ((b ≡ true) × ((x : Written) × (w ≡ Some x))) ⊎ (w ≡ None)
 read_or_none true None h = cc
 read_or_none true (Some x) h = inl (refl, (x, refl))
 read_or_none false None h = inr refl
@@ -58,12 +58,12 @@ ok_of (Ok cell) h = (cell, refl)
 ok_of (Err fault) h = cc
 
 -- a statement that reads a cell has two ports, and its values name the cell
-reads : (k : Kind) (vs : ValueList) → reads_cell k vs ≡ true → (ports_of k ≡ 2) × ((cell : CellOf) × (cell_named vs ≡ Ok cell))
+pub reads : (k : Kind) (vs : ValueList) → reads_cell k vs ≡ true → (ports_of k ≡ 2) × ((cell : CellOf) × (cell_named vs ≡ Ok cell))
 reads Fetch vs h = (refl, ok_of (cell_named vs) h)
 reads k vs h = cc
 
 -- a statement has one to three ports, whatever its kind
-few_ports : (k : Kind) → (1 ≤ ports_of k) × (ports_of k ≤ 3)
+pub few_ports : (k : Kind) → (1 ≤ ports_of k) × (ports_of k ≤ 3)
 few_ports Begin = (omega arith, omega arith)
 few_ports k = (omega arith, omega arith)
 

@@ -1,113 +1,74 @@
-//! The firings that an entry may make with what it meets. Which of them are firings of the job, and
-//! have all that they need, is tested later.
-ghost use Rattle.std.specs.Prelude.{◌≡◌, ◌↔◌, ◌⊎◌, [], ◌∷◌, OnOk, IfOk, Contains, Some, None, Ok};
-ghost use Rattle.u_rule.specs.declared.firing.Firing.{Firing};
-ghost use Rattle.u_rule.specs.EntryOrder.{firing, written};
-ghost use Rattle.u_sets.specs.Members.{SomeOf, AreThose, Gains, IsWith};
-ghost use Rattle.u_match.specs.Joins.{IsThree, IsReading, ReadsCell, JoinsTwo, JoinsOne, JoinsToken, IsWoken, JoinsWrite, Meets};
+//! The firings of a job that a token makes with what it meets. What it meets is in the history, so each
+//! of them has all that it needs; which of them are firings of the job is tested as they are made.
+ghost use Rattle.std.specs.Prelude.{◌≡◌, ◌↔◌, ◌⊎◌, [], ◌∷◌, OnOk, IfOk, Contains};
+ghost use Rattle.u_rule.specs.declared.entry.Entry.TheVariants.{Token as token_entry};
+ghost use Rattle.u_rule.specs.EntryOrder.{firing_cmp};
+ghost use Rattle.u_sets.specs.Rising.{Rises};
+ghost use Rattle.u_sets.specs.Members.{SomeOf, AreThose, Gains, HasOr};
+ghost use Rattle.u_match.specs.Joins.{IsKept, IsOne, IsThree, IsReading, ReadsCell, JoinsTwo, JoinsSome, JoinsThird, JoinsPair};
+ghost use Rattle.u_match.specs.Waking.{IsWokenBy};
 
-use crate::keys::{Read, Tables, met_at, place_of};
+use crate::keys::{met_at, port_of};
+use crate::making::{of_one, of_read, of_three, of_two};
 use std::alloc::{AllocError, Global};
+use u_check::Job;
+use u_history::History;
 use u_name::Name;
-use u_rule::{Entry, Firing, Token, Values, Write, Written, cell_at};
+use u_rule::{Firing, Token, Written, cell_at, is_firing, ports_at};
+use u_sets::place_in;
 use u_value::Value;
 
-/// Adds the firing.
-fn add(found: &mut Vec<Firing>, firing: Firing) -> Result<(), AllocError>
-    ensures { OnOk result (IsWith found.old.items firing found.new.items) }
+/// Puts the firing in its place, if it is one of the job.
+fn add(job: &Job, found: &mut Vec<Firing>, firing: Firing) -> Result<(), AllocError>
+    requires { Rises firing_cmp found.old.items }
+    ensures rises { Rises firing_cmp found.new.items }
+    ensures ok { OnOk result (Gains found.old.items (IsKept job.now firing) found.new.items) }
 {
-    found.push(firing)?;
+    if is_firing(job, &firing) {
+        place_in(found, firing)?;
+    }
     Ok(())
 }
 
-/// The firing of one value.
-fn of_one(alloc: Global, activity: &Name, first: &Value) -> Result<Firing, AllocError>
-    ensures { IfOk result (λ f. f ≡ firing activity.now (first.now ∷ []) None) }
-{
-    Ok(Firing {
-        activity: activity.copy()?,
-        values: Values::one(alloc, first.copy()?)?,
-        write: None,
-    })
-}
-
-/// The firing of two values.
-fn of_two(
+/// Adds the firings of one value of the list.
+fn add_ones(
     alloc: Global,
+    job: &Job,
     activity: &Name,
-    first: &Value,
-    second: &Value,
-) -> Result<Firing, AllocError>
-    ensures { IfOk result (λ f. f ≡ firing activity.now (first.now ∷ second.now ∷ []) None) }
+    firsts: &[Value],
+    found: &mut Vec<Firing>,
+) -> Result<(), AllocError>
+    requires { Rises firing_cmp found.old.items }
+    ensures rises { Rises firing_cmp found.new.items }
+    ensures ok { OnOk result
+        (Gains found.old.items (SomeOf firsts.now (IsOne job.now activity.now)) found.new.items) }
 {
-    Ok(Firing {
-        activity: activity.copy()?,
-        values: Values::two(alloc, first.copy()?, second.copy()?)?,
-        write: None,
-    })
-}
-
-/// The firing of three values.
-fn of_three(
-    alloc: Global,
-    activity: &Name,
-    first: &Value,
-    second: &Value,
-    third: &Value,
-) -> Result<Firing, AllocError>
-    ensures { IfOk result
-        (λ f. f ≡ firing activity.now (first.now ∷ second.now ∷ third.now ∷ []) None) }
-{
-    let value = first.copy()?;
-    let other = second.copy()?;
-    let last = third.copy()?;
-    Ok(Firing {
-        activity: activity.copy()?,
-        values: Values::three(alloc, value, other, last)?,
-        write: None,
-    })
-}
-
-/// The firing of two values that reads a write.
-fn of_read(
-    alloc: Global,
-    activity: &Name,
-    first: &Value,
-    second: &Value,
-    writer: &Name,
-    value: &Value,
-) -> Result<Firing, AllocError>
-    ensures { IfOk result
-        (λ f. f ≡ firing activity.now (first.now ∷ second.now ∷ [])
-        (Some (written writer.now value.now))) }
-{
-    let by = Written {
-        writer: writer.copy()?,
-        value: value.copy()?,
-    };
-    Ok(Firing {
-        activity: activity.copy()?,
-        values: Values::two(alloc, first.copy()?, second.copy()?)?,
-        write: Some(by),
-    })
+    for first in firsts {
+        let single = of_one(alloc, activity, first)?;
+        add(job, found, single)?;
+    }
+    Ok(())
 }
 
 /// Adds the firings of two values that read one of the writes.
 fn add_readings(
     alloc: Global,
+    job: &Job,
     activity: &Name,
     first: &Value,
     second: &Value,
     writes: &[Written],
     found: &mut Vec<Firing>,
 ) -> Result<(), AllocError>
-    ensures { OnOk result
+    requires { Rises firing_cmp found.old.items }
+    ensures rises { Rises firing_cmp found.new.items }
+    ensures ok { OnOk result
         (Gains found.old.items
-        (SomeOf writes.now (IsReading activity.now first.now second.now)) found.new.items) }
+        (SomeOf writes.now (IsReading job.now activity.now first.now second.now)) found.new.items) }
 {
     for write in writes {
         let reading = of_read(alloc, activity, first, second, &write.writer, &write.value)?;
-        add(found, reading)?;
+        add(job, found, reading)?;
     }
     Ok(())
 }
@@ -115,196 +76,201 @@ fn add_readings(
 /// Adds the firings of two values that read a write of the cell that these name.
 fn add_reads(
     alloc: Global,
-    tables: &Tables,
+    job: &Job,
+    history: &History,
     activity: &Name,
     first: &Value,
     second: &Value,
     found: &mut Vec<Firing>,
 ) -> Result<(), AllocError>
-    ensures { OnOk result
+    requires { Rises firing_cmp found.old.items }
+    ensures rises { Rises firing_cmp found.new.items }
+    ensures ok { OnOk result
         (Gains found.old.items
-        (ReadsCell tables.now activity.now first.now second.now) found.new.items) }
+        (ReadsCell job.now (Contains history.now) activity.now first.now second.now)
+        found.new.items) }
 {
     let named = cell_at(first, second)?;
     let cell = match named {
         None => return Ok(()),
         Some(cell) => cell,
     };
-    let writes = tables.writes.under(&cell);
-    add_readings(alloc, activity, first, second, writes, found)?;
+    let writes = history.writes_to(&cell);
+    add_readings(alloc, job, activity, first, second, writes, found)?;
     Ok(())
 }
 
-/// Adds the firings of three values, of which the third is one of the list.
-fn join_thirds(
+/// Adds the firings that have these two values, and besides nothing or a write.
+fn add_two(
     alloc: Global,
+    job: &Job,
+    history: &History,
+    activity: &Name,
+    first: &Value,
+    second: &Value,
+    found: &mut Vec<Firing>,
+) -> Result<(), AllocError>
+    requires { Rises firing_cmp found.old.items }
+    ensures rises { Rises firing_cmp found.new.items }
+    ensures ok { OnOk result
+        (Gains found.old.items
+        (JoinsTwo job.now (Contains history.now) activity.now first.now second.now)
+        found.new.items) }
+{
+    let joined = of_two(alloc, activity, first, second)?;
+    add(job, found, joined)?;
+    add_reads(alloc, job, history, activity, first, second, found)?;
+    Ok(())
+}
+
+/// Adds the firings that have this first value and a second one of the list.
+fn add_seconds(
+    alloc: Global,
+    job: &Job,
+    history: &History,
+    activity: &Name,
+    first: &Value,
+    seconds: &[Value],
+    found: &mut Vec<Firing>,
+) -> Result<(), AllocError>
+    requires { Rises firing_cmp found.old.items }
+    ensures rises { Rises firing_cmp found.new.items }
+    ensures ok { OnOk result
+        (Gains found.old.items
+        (JoinsSome job.now (Contains history.now) activity.now seconds.now first.now)
+        found.new.items) }
+{
+    for second in seconds {
+        add_two(alloc, job, history, activity, first, second, found)?;
+    }
+    Ok(())
+}
+
+/// Adds the firings that have a first and a second value of the lists.
+fn add_twos(
+    alloc: Global,
+    job: &Job,
+    history: &History,
+    activity: &Name,
+    firsts: &[Value],
+    seconds: &[Value],
+    found: &mut Vec<Firing>,
+) -> Result<(), AllocError>
+    requires { Rises firing_cmp found.old.items }
+    ensures rises { Rises firing_cmp found.new.items }
+    ensures ok { OnOk result
+        (Gains found.old.items
+        (SomeOf firsts.now
+        (JoinsSome job.now (Contains history.now) activity.now seconds.now)) found.new.items) }
+{
+    for first in firsts {
+        add_seconds(alloc, job, history, activity, first, seconds, found)?;
+    }
+    Ok(())
+}
+
+/// Adds the firings that have these two values and a third one of the list.
+fn add_thirds(
+    alloc: Global,
+    job: &Job,
     activity: &Name,
     first: &Value,
     second: &Value,
     thirds: &[Value],
     found: &mut Vec<Firing>,
 ) -> Result<(), AllocError>
-    ensures { OnOk result
+    requires { Rises firing_cmp found.old.items }
+    ensures rises { Rises firing_cmp found.new.items }
+    ensures ok { OnOk result
         (Gains found.old.items
-        (SomeOf thirds.now (IsThree activity.now first.now second.now)) found.new.items) }
+        (JoinsThird job.now activity.now thirds.now first.now second.now) found.new.items) }
 {
     for third in thirds {
         let tripled = of_three(alloc, activity, first, second, third)?;
-        add(found, tripled)?;
+        add(job, found, tripled)?;
     }
     Ok(())
 }
 
-/// Adds the firings that have these two values, and besides nothing, a write, or a third value of the
-/// list.
-fn join_two(
+/// Adds the firings that have this first value, and a second and a third one of the lists.
+fn add_pairs(
     alloc: Global,
-    tables: &Tables,
-    activity: &Name,
-    first: &Value,
-    second: &Value,
-    thirds: &[Value],
-    found: &mut Vec<Firing>,
-) -> Result<(), AllocError>
-    ensures { OnOk result
-        (Gains found.old.items
-        (JoinsTwo tables.now activity.now first.now thirds.now second.now) found.new.items) }
-{
-    let joined = of_two(alloc, activity, first, second)?;
-    add(found, joined)?;
-    add_reads(alloc, tables, activity, first, second, found)?;
-    join_thirds(alloc, activity, first, second, thirds, found)?;
-    Ok(())
-}
-
-/// Adds the firings that have this first value, and one or more of the lists.
-fn join_seconds(
-    alloc: Global,
-    tables: &Tables,
+    job: &Job,
     activity: &Name,
     first: &Value,
     seconds: &[Value],
     thirds: &[Value],
     found: &mut Vec<Firing>,
 ) -> Result<(), AllocError>
-    ensures { OnOk result
+    requires { Rises firing_cmp found.old.items }
+    ensures rises { Rises firing_cmp found.new.items }
+    ensures ok { OnOk result
         (Gains found.old.items
-        (SomeOf seconds.now
-        (JoinsTwo tables.now activity.now first.now thirds.now)) found.new.items) }
+        (JoinsPair job.now activity.now seconds.now thirds.now first.now) found.new.items) }
 {
     for second in seconds {
-        join_two(alloc, tables, activity, first, second, thirds, found)?;
+        add_thirds(alloc, job, activity, first, second, thirds, found)?;
     }
     Ok(())
 }
 
-/// Adds the firings that have this first value, and besides nothing, or more of the lists.
-fn join_one(
+/// Adds the firings that have a value of each of the three lists.
+fn add_threes(
     alloc: Global,
-    tables: &Tables,
-    activity: &Name,
-    first: &Value,
-    seconds: &[Value],
-    thirds: &[Value],
-    found: &mut Vec<Firing>,
-) -> Result<(), AllocError>
-    ensures { OnOk result
-        (Gains found.old.items
-        (JoinsOne tables.now activity.now seconds.now thirds.now first.now) found.new.items) }
-{
-    let alone = of_one(alloc, activity, first)?;
-    add(found, alone)?;
-    join_seconds(alloc, tables, activity, first, seconds, thirds, found)?;
-    Ok(())
-}
-
-/// The firings of values of the three lists: one of the first, of the first two or of all three.
-fn join_firsts(
-    alloc: Global,
-    tables: &Tables,
+    job: &Job,
     activity: &Name,
     firsts: &[Value],
     seconds: &[Value],
     thirds: &[Value],
-) -> Result<Vec<Firing>, AllocError>
-    ensures { IfOk result
-        (λ v. AreThose
-        (SomeOf firsts.now (JoinsOne tables.now activity.now seconds.now thirds.now)) v.items) }
+    found: &mut Vec<Firing>,
+) -> Result<(), AllocError>
+    requires { Rises firing_cmp found.old.items }
+    ensures rises { Rises firing_cmp found.new.items }
+    ensures ok { OnOk result
+        (Gains found.old.items
+        (SomeOf firsts.now
+        (JoinsPair job.now activity.now seconds.now thirds.now)) found.new.items) }
 {
-    let mut found = Vec::new(alloc);
     for first in firsts {
-        join_one(alloc, tables, activity, first, seconds, thirds, &mut found)?;
+        add_pairs(alloc, job, activity, first, seconds, thirds, found)?;
     }
-    Ok(found)
+    Ok(())
 }
 
-/// The firings that are made of what the token meets at the ports of its activity.
-pub(crate) fn with_token(
+/// The firings of the job that the token wakes where it enters the history. They stand in order, each
+/// once. What lies at a port is asked of the history only where the activity has that port.
+pub(crate) fn woken_by_token(
     alloc: Global,
-    tables: &Tables,
+    job: &Job,
+    history: &History,
     token: &Token,
 ) -> Result<Vec<Firing>, AllocError>
-    ensures { IfOk result (λ v. AreThose (JoinsToken tables.now token.now) v.items) }
-{
-    let first = place_of(token, 1)?;
-    let second = place_of(token, 2)?;
-    let third = place_of(token, 3)?;
-    let firsts = met_at(&tables.tokens, token, &first);
-    let seconds = met_at(&tables.tokens, token, &second);
-    let thirds = met_at(&tables.tokens, token, &third);
-    let found = join_firsts(alloc, tables, token.activity(), firsts, seconds, thirds)?;
-    Ok(found)
-}
-
-/// The firings of the reads, each with the write.
-fn wake_each(alloc: Global, write: &Write, reads: &[Read]) -> Result<Vec<Firing>, AllocError>
-    ensures { IfOk result (λ v. AreThose (SomeOf reads.now (IsWoken write.now)) v.items) }
+    ensures exact { IfOk result
+        (λ v. AreThose
+        (IsWokenBy job.now (token_entry token.now) (HasOr history.now (token_entry token.now)))
+        v.items) }
+    ensures rises { IfOk result (λ v. Rises firing_cmp v.items) }
 {
     let mut found = Vec::new(alloc);
-    for read in reads {
-        let woken = of_read(
-            alloc,
-            &read.activity,
-            &read.structure,
-            &read.index,
-            &write.writer,
-            &write.value,
-        )?;
-        add(&mut found, woken)?;
+    let activity = token.activity();
+    let ports = ports_at(job, activity);
+    if ports < usize::from(token.port()) {
+        return Ok(found);
     }
-    Ok(found)
-}
-
-/// The firings that are made of a read that waits for the write's cell.
-pub(crate) fn with_write(
-    alloc: Global,
-    tables: &Tables,
-    write: &Write,
-) -> Result<Vec<Firing>, AllocError>
-    ensures { IfOk result (λ v. AreThose (JoinsWrite tables.now write.now) v.items) }
-{
-    let reads = tables.reads.under(&write.cell);
-    let found = wake_each(alloc, write, reads)?;
-    Ok(found)
-}
-
-/// The firings that are made of the entry and what it meets. Faults and answers meet nothing.
-pub(crate) fn with_entry(
-    alloc: Global,
-    tables: &Tables,
-    entry: &Entry,
-) -> Result<Vec<Firing>, AllocError>
-    ensures { IfOk result (λ v. AreThose (Meets tables.now entry.now) v.items) }
-{
-    match entry {
-        Entry::Token(token) => {
-            let found = with_token(alloc, tables, token)?;
-            Ok(found)
-        }
-        Entry::Write(write) => {
-            let found = with_write(alloc, tables, write)?;
-            Ok(found)
-        }
-        Entry::Fault(_) | Entry::Answer(_) => Ok(Vec::new(alloc)),
+    let first = port_of(token, 1)?;
+    let firsts = met_at(history, token, &first);
+    if ports == 1 {
+        add_ones(alloc, job, activity, firsts, &mut found)?;
+        return Ok(found);
     }
+    let second = port_of(token, 2)?;
+    let seconds = met_at(history, token, &second);
+    if ports == 2 {
+        add_twos(alloc, job, history, activity, firsts, seconds, &mut found)?;
+        return Ok(found);
+    }
+    let third = port_of(token, 3)?;
+    let thirds = met_at(history, token, &third);
+    add_threes(alloc, job, activity, firsts, seconds, thirds, &mut found)?;
+    Ok(found)
 }

@@ -6,12 +6,15 @@
 //! That entries stay once they met, so that a port with several values makes a firing for each choice
 //! and each write of a cell one for each read, is this project's profile.
 //!
-//! `Matcher` has a set of entries, and tables of what each of them may meet. A table may name more
-//! than the set has; what it names is tested before it is answered.
+//! `Matcher` has a history, which says what stands at each port and in each cell, and a table of the
+//! reads that wait for each cell. The table may name more than the history has; what it names is tested
+//! before it is returned.
 #![tactic(auto)]
 
+mod having;
 mod joins;
 mod keys;
+mod making;
 mod matcher;
 mod notes;
 mod table;

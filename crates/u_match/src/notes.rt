@@ -1,23 +1,21 @@
-//! How an entry goes into the tables. Where memory runs out the tables may have more than before, and
-//! nothing is lost.
-ghost use Rattle.std.specs.Prelude.{◌≡◌, ◌⊎◌, OnOk, Contains};
-ghost use Rattle.u_name.specs.Cell.{CellOf};
+//! How the reads that an entry makes go into the table. Where memory runs out the table may have more
+//! than before, and nothing is lost.
+ghost use Rattle.std.specs.Prelude.{◌≡◌, ◌⊎◌, OnOk, IsFalse, Contains};
 ghost use Rattle.u_value.specs.declared.value.Value.{Value};
-ghost use Rattle.u_rule.specs.EntryOrder.{written};
-ghost use Rattle.u_match.specs.KeyedLists.{under, KeepsAll};
-ghost use Rattle.u_match.specs.Keys.{cell_eq, place_eq, values_at, met_at, Notes, StaysComplete, IsCompleteWith};
+ghost use Rattle.u_match.specs.KeyedLists.{KeepsAll};
+ghost use Rattle.u_match.specs.Keys.{cell_eq, IsMet, Notes, NamesNone, IsCompleteWith};
 
-use crate::keys::{Place, Read, Tables, met_at, place_of};
-use crate::table::Table;
+use crate::keys::{Read, Reads, met_at, port_of};
 use std::alloc::{AllocError, Global};
-use u_name::{Cell, Name};
-use u_rule::{Entry, Token, Write, Written, cell_at};
+use u_history::History;
+use u_name::Name;
+use u_rule::{Entry, Token, cell_at};
 use u_value::Value;
 
 /// Notes the read of the cell that the structure and the index name, where they name one.
 fn note_read(
     alloc: Global,
-    reads: &mut Table<Cell, Read>,
+    reads: &mut Reads,
     activity: &Name,
     structure: &Value,
     index: &Value,
@@ -42,7 +40,7 @@ fn note_read(
 /// Notes the reads of the cells that the structure names with one of the indices.
 fn note_indices(
     alloc: Global,
-    reads: &mut Table<Cell, Read>,
+    reads: &mut Reads,
     activity: &Name,
     structure: &Value,
     indices: &[Value],
@@ -60,7 +58,7 @@ fn note_indices(
 /// Notes the reads of the cells that one of the structures names with one of the indices.
 fn note_reads(
     alloc: Global,
-    reads: &mut Table<Cell, Read>,
+    reads: &mut Reads,
     activity: &Name,
     structures: &[Value],
     indices: &[Value],
@@ -76,84 +74,64 @@ fn note_reads(
     Ok(())
 }
 
+/// Whether the token may name a cell with what it meets: a structure at the first port, or an index at
+/// the second.
+#[tactic(auto, using(crate::proofs::Naming::names_none))]
+fn may_name(token: &Token) -> bool
+    ensures { IsFalse result → NamesNone token.now }
+{
+    let port = token.port();
+    match token.value() {
+        Value::Ref(_structure) => port == 1,
+        Value::Int(_index) => port == 2,
+        Value::Bool(_truth) => false,
+        Value::Proc(_block) => false,
+    }
+}
+
 /// Notes the reads that the token makes with what it meets. A token at the third port makes none.
 fn note_reads_of(
     alloc: Global,
-    tokens: &Table<Place, Value>,
-    reads: &mut Table<Cell, Read>,
+    history: &History,
+    reads: &mut Reads,
     token: &Token,
 ) -> Result<(), AllocError>
     ensures kept { KeepsAll cell_eq reads.old reads.new }
     ensures ok { OnOk result
-        ((v : Value) → Contains (met_at tokens.now token.now 1) v → (w : Value)
-        → Contains (met_at tokens.now token.now 2) w
+        ((v w : Value) → IsMet (Contains history.now) token.now 1 v
+        → IsMet (Contains history.now) token.now 2 w
         → (token.now.port ≡ 3) ⊎ Notes token.now.activity v w reads.new) }
 {
-    if token.port() == 3 {
+    if !may_name(token) {
         return Ok(());
     }
-    let first = place_of(token, 1)?;
-    let second = place_of(token, 2)?;
-    let structures = met_at(tokens, token, &first);
-    let indices = met_at(tokens, token, &second);
+    let first = port_of(token, 1)?;
+    let second = port_of(token, 2)?;
+    let structures = met_at(history, token, &first);
+    let indices = met_at(history, token, &second);
     note_reads(alloc, reads, token.activity(), structures, indices)?;
     Ok(())
 }
 
-/// Puts the token's value at its port.
-fn note_value(
-    alloc: Global,
-    tokens: &mut Table<Place, Value>,
-    token: &Token,
-) -> Result<(), AllocError>
-    ensures kept { KeepsAll place_eq tokens.old tokens.new }
-    ensures ok { OnOk result
-        (Contains (values_at tokens.new token.now.activity token.now.port) token.now.value) }
-{
-    let at = place_of(token, token.port())?;
-    let value = token.value().copy()?;
-    tokens.put(alloc, at, value)?;
-    Ok(())
-}
-
-/// Puts the write in its cell.
-fn note_write(
-    alloc: Global,
-    writes: &mut Table<Cell, Written>,
-    write: &Write,
-) -> Result<(), AllocError>
-    ensures kept { KeepsAll cell_eq writes.old writes.new }
-    ensures ok { OnOk result
-        (Contains (under cell_eq writes.new write.now.cell)
-        (written write.now.writer write.now.value)) }
-{
-    let cell = write.cell.copy()?;
-    let by = Written {
-        writer: write.writer.copy()?,
-        value: write.value.copy()?,
-    };
-    writes.put(alloc, cell, by)?;
-    Ok(())
-}
-
-/// Puts the entry into the tables.
+/// Notes the reads that the entry makes with what it meets in the history.
 ///
 /// # Errors
-/// `AllocError` where there is no memory; what the tables had they still have.
-pub(crate) fn note(alloc: Global, tables: &mut Tables, entry: &Entry) -> Result<(), AllocError>
-    ensures kept { StaysComplete tables.old tables.new }
-    ensures ok { OnOk result (IsCompleteWith tables.old entry.now tables.new) }
+/// `AllocError` where there is no memory; what the table had it still has.
+pub(crate) fn note(
+    alloc: Global,
+    history: &History,
+    reads: &mut Reads,
+    entry: &Entry,
+) -> Result<(), AllocError>
+    ensures kept { KeepsAll cell_eq reads.old reads.new }
+    ensures ok { OnOk result (IsCompleteWith reads.old history.now entry.now reads.new) }
 {
     match entry {
         Entry::Token(token) => {
-            note_reads_of(alloc, &tables.tokens, &mut tables.reads, token)?;
-            note_value(alloc, &mut tables.tokens, token)?;
+            note_reads_of(alloc, history, reads, token)?;
             Ok(())
         }
-        Entry::Write(write) => {
-            note_write(alloc, &mut tables.writes, write)?;
-            Ok(())
-        }
+        Entry::Write(_write) => Ok(()),
         Entry::Fault(_fault) => Ok(()),
         Entry::Answer(_value) => Ok(()),
     }

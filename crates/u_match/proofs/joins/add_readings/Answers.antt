@@ -6,9 +6,11 @@ use Rattle.u_match.proofs.Steps.{round, renamed}
 use Rattle.u_match.proofs.joins.add_readings.Goals as goal
 
 pub loop-write-preserved : goal.loop-write-preserved
-loop-write-preserved c =
-    round (IsReading c.args.activity.now c.args.first.now c.args.second.now) c.args.found.now.items c.loop-write.found.items c.add.new.found.items c.args.writes.now c.loop-write.write-index c.write-item.result c.loop-write-test.true c.write-item.is c.loop-write.invariant
-    (renamed c.in_ok-reading.reading (firing c.args.activity.now (c.args.first.now ∷ c.args.second.now ∷ []) (Some c.write-item.result)) c.loop-write.found.items c.add.new.found.items c.in_ok-reading.ensures c.in_ok-add.ensures)
+loop-write-preserved c = record {
+  rises = c.in_ok-add.ensures.rises;
+  all = round (IsReading c.args.job.now c.args.activity.now c.args.first.now c.args.second.now) c.args.found.now.items c.loop-write.found.items c.add.new.found.items c.args.writes.now c.loop-write.write-index c.write-item.result c.loop-write-test.true c.write-item.is c.loop-write.invariant.all
+      (renamed c.args.job.now c.in_ok-reading.reading (firing c.args.activity.now (c.args.first.now ∷ c.args.second.now ∷ []) (Some c.write-item.result)) c.loop-write.found.items c.add.new.found.items c.in_ok-reading.ensures c.in_ok-add.ensures.ok);
+}
 
-pub returns : goal.returns
-returns c = scan_all (IsReading c.args.activity.now c.args.first.now c.args.second.now) c.args.found.now.items c.args.writes.now c.loop-write.write-index c.loop-write.found.items c.loop-write-test.false c.loop-write.invariant
+pub returns-clause-ok : goal.returns-clause-ok
+returns-clause-ok c = scan_all (IsReading c.args.job.now c.args.activity.now c.args.first.now c.args.second.now) c.args.found.now.items c.args.writes.now c.loop-write.write-index c.loop-write.found.items c.loop-write-test.false c.loop-write.invariant.all

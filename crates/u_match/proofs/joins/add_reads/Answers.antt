@@ -1,16 +1,13 @@
-use Rattle.std.proofs.Common.{subst, List}
-use Rattle.u_rule.specs.declared.firing.Written.{Written}
-use Rattle.u_sets.specs.Members.{SomeOf, Gains}
-use Rattle.u_match.specs.Joins.{IsReading, ReadsCell}
+use Rattle.std.specs.Prelude.{Contains}
+use Rattle.u_match.specs.Joins.{ReadsCell}
 use Rattle.u_match.proofs.Steps.{nothing, no_cell, of_cell}
 use Rattle.u_match.proofs.joins.add_reads.Goals as goal
 
-pub returns-in-None : goal.returns-in-None
-returns-in-None c =
-    nothing (ReadsCell c.args.tables.now c.args.activity.now c.args.first.now c.args.second.now) c.args.found.now.items
-    (no_cell c.args.tables.now c.args.activity.now c.args.first.now c.args.second.now c.in_ok-named.named c.in-None.is c.in_ok-named.ensures)
+pub returns-in-None-clause-ok : goal.returns-in-None-clause-ok
+returns-in-None-clause-ok c =
+    nothing (ReadsCell c.args.job.now (Contains c.args.history.now) c.args.activity.now c.args.first.now c.args.second.now) c.args.found.now.items
+    (no_cell c.args.job.now (Contains c.args.history.now) c.args.activity.now c.args.first.now c.args.second.now c.in_ok-named.named c.in-None.is c.in_ok-named.ensures)
 
-pub returns : goal.returns
-returns c =
-    of_cell c.args.tables.now c.args.activity.now c.args.first.now c.args.second.now c.in_ok-named.named c.in-Some.cell c.args.found.now.items c.add_readings.new.found.items c.in-Some.is c.in_ok-named.ensures
-    (subst (λ (xs : List Written). Gains c.args.found.now.items (SomeOf xs (IsReading c.args.activity.now c.args.first.now c.args.second.now)) c.add_readings.new.found.items) c.under-writes.ensures c.in_ok-add_readings.ensures)
+pub returns-clause-ok : goal.returns-clause-ok
+returns-clause-ok c =
+    of_cell c.args.job.now (Contains c.args.history.now) c.args.activity.now c.args.first.now c.args.second.now c.in_ok-named.named c.in-Some.cell c.writes_to-writes.result.now c.args.found.now.items c.add_readings.new.found.items c.in-Some.is c.in_ok-named.ensures c.writes_to-writes.ensures.all c.in_ok-add_readings.ensures.ok

@@ -3,7 +3,7 @@ use Rattle.std.proofs.lemmas.Bool.{false≢true}
 use Rattle.u_rule.specs.declared.entry.Entry.{Entry}
 use Rattle.u_rule.specs.declared.firing.Firing.{Firing}
 use Rattle.u_match.specs.Waking.{IsWokenBy}
-use Rattle.u_match.proofs.Steps.{nothing, renamed}
+use Rattle.u_match.proofs.Steps.{nothing, same_firing}
 use Rattle.u_match.proofs.Wakes.{added, left_out}
 use Rattle.u_match.proofs.woken.add_woken.Goals as goal
 
@@ -17,4 +17,4 @@ pub returns-clause-ok : goal.returns-clause-ok
 returns-clause-ok c =
     let woken : Firing → Type 0 = IsWokenBy c.args.job.now c.args.entry.now (λ (x : Entry). Contains c.args.entries.now x ⊎ (c.args.entry.now ≡ x)) in
     added woken c.args.firing.now c.args.found.now.items c.place_in.new.list.items (c.in_ok-woken.ensures.0 c.if-not-woken.false)
-    (renamed c.in_ok-copy.copy c.args.firing.now c.args.found.now.items c.place_in.new.list.items c.in_ok-copy.ensures c.in_ok-place_in.ensures.ok)
+    (same_firing c.in_ok-copy.copy c.args.firing.now c.args.found.now.items c.place_in.new.list.items c.in_ok-copy.ensures c.in_ok-place_in.ensures.ok)

@@ -1,6 +1,22 @@
-use Rattle.u_match.proofs.Waking.{answered}
+use Rattle.std.proofs.Common.{sym, ◌∙◌, subst}
+use Rattle.std.specs.Prelude.{IfOk}
+use Rattle.u_rule.specs.declared.entry.Entry.{Entry}
+use Rattle.u_sets.specs.Members.{AreThose, HasOr}
+use Rattle.u_match.specs.Waking.{IsWokenBy}
+use Rattle.u_match.proofs.WriteWaking.{wakes_none}
 use Rattle.u_match.proofs.matcher.Matcher.woken.Goals as goal
 
-pub returns-clause-exact : goal.returns-clause-exact
-returns-clause-exact c =
-    rw (← c.self.view_is) (answered c.self.inside.tables c.self.inside.entries c.self.invariant c.args.entry.now c.args.job.now c.in_ok-met.met.items c.deref.result.now c.in_ok-found.found.items c.deref.ensures.value c.in_ok-met.ensures c.in_ok-found.ensures.exact)
+pub returns-in-Token-clause-exact : goal.returns-in-Token-clause-exact
+returns-in-Token-clause-exact c =
+    rw (← c.self.view_is) (subst (λ (e : Entry). IfOk c.woken_by_token.result (λ v. AreThose (IsWokenBy c.args.job.now e (HasOr c.self.inside.history e)) v.items)) (sym c.in-Token.is) c.woken_by_token.ensures.exact)
+
+pub returns-in-Write-clause-exact : goal.returns-in-Write-clause-exact
+returns-in-Write-clause-exact c = rw (← c.self.view_is) c.woken_by_write.ensures.exact
+
+pub returns-in-Fault-clause-exact : goal.returns-in-Fault-clause-exact
+returns-in-Fault-clause-exact c =
+    wakes_none c.args.job.now (HasOr c.args.self.now c.args.entry.now) c.args.entry.now (λ t e. let h = sym c.in-Fault.is ∙ e in absurd (cc)) (λ w e. let h = sym c.in-Fault.is ∙ e in absurd (cc)) c.new.result.items c.new.ensures.items
+
+pub returns-in-Answer-clause-exact : goal.returns-in-Answer-clause-exact
+returns-in-Answer-clause-exact c =
+    wakes_none c.args.job.now (HasOr c.args.self.now c.args.entry.now) c.args.entry.now (λ t e. let h = sym c.in-Answer.is ∙ e in absurd (cc)) (λ w e. let h = sym c.in-Answer.is ∙ e in absurd (cc)) c.new-in-Answer.result.items c.new-in-Answer.ensures.items

@@ -1,0 +1,147 @@
+//! Whether a history has all that a firing needs. An entry that is looked up is made of copies that
+//! share what they have, so it takes no memory.
+ghost use Rattle.std.specs.Prelude.{◌≡◌, ◌↔◌, ◌≤◌, ◌+◌, [], ◌∷◌, IfOk, IsTrue, Contains, Ok, length};
+ghost use Rattle.u_name.specs.Context.{IsBetween};
+ghost use Rattle.u_name.specs.Cell.{CellOf};
+ghost use Rattle.u_rule.specs.declared.entry.Entry.{Entry};
+ghost use Rattle.u_rule.specs.declared.entry.Entry.TheVariants as entries;
+ghost use Rattle.u_rule.specs.Parts.{token};
+ghost use Rattle.u_rule.specs.Rule.{system_of, tokens_from};
+ghost use Rattle.u_rule.specs.Structures.{cell_named, wrote, write_read};
+ghost use Rattle.u_system.specs.Firing.{Enabled, Within};
+ghost use Rattle.u_match.specs.ReadCells.{HasCell, HasReadCell};
+
+use std::alloc::AllocError;
+use u_check::Job;
+use u_history::History;
+use u_name::{Cell, Name};
+use u_rule::{Entry, Firing, Token, Write, Written, cell_at, is_firing};
+use u_value::Value;
+
+/// That token.
+fn token_of(activity: &Name, port: u8, value: &Value) -> Result<Entry, AllocError>
+    requires { IsBetween 1 port 3 }
+    ensures { IfOk result (λ e. e ≡ entries.Token (token activity.now port value.now)) }
+{
+    let activity = activity.copy()?;
+    let value = value.copy()?;
+    Ok(Entry::Token(Token::new(activity, port, value)))
+}
+
+/// Whether the history has that token.
+fn has_token(
+    history: &History,
+    activity: &Name,
+    port: u8,
+    value: &Value,
+) -> Result<bool, AllocError>
+    requires { IsBetween 1 port 3 }
+    ensures { IfOk result (λ b. IsTrue b
+        ↔ Contains history.now (entries.Token (token activity.now port value.now))) }
+{
+    let token = token_of(activity, port, value)?;
+    Ok(history.contains(&token))
+}
+
+/// Whether the history has the activity's tokens with these values, from that port on.
+fn has_tokens(
+    history: &History,
+    activity: &Name,
+    port: u8,
+    values: &[Value],
+) -> Result<bool, AllocError>
+    requires from { 1 ≤ port }
+    requires to { port + length values.now ≤ 4 }
+    ensures { IfOk result (λ b. IsTrue b
+        ↔ Within (Contains history.now) (tokens_from activity.now port values.now)) }
+{
+    let [first, rest @ ..] = values else {
+        return Ok(true);
+    };
+    let there = has_token(history, activity, port, first)?;
+    if !there {
+        return Ok(false);
+    }
+    let others = has_tokens(history, activity, port + 1, rest)?;
+    Ok(others)
+}
+
+/// The cell that the two values name.
+fn named_cell(structure: &Value, index: &Value) -> Result<Cell, AllocError>
+    requires { HasCell structure.now index.now }
+    ensures { IfOk result (λ x. cell_named (structure.now ∷ index.now ∷ []) ≡ Ok x) }
+{
+    let found = cell_at(structure, index)?;
+    match found {
+        Some(cell) => Ok(cell),
+        None => unreachable!(),
+    }
+}
+
+/// That write of the cell that the two values name.
+fn write_of(structure: &Value, index: &Value, by: &Written) -> Result<Entry, AllocError>
+    requires { HasCell structure.now index.now }
+    ensures { IfOk result (λ e. (c : CellOf)
+        → cell_named (structure.now ∷ index.now ∷ []) ≡ Ok c
+        → e ≡ wrote c by.now.writer by.now.value) }
+{
+    let cell = named_cell(structure, index)?;
+    let writer = by.writer.copy()?;
+    let value = by.value.copy()?;
+    Ok(Entry::Write(Write {
+        cell,
+        writer,
+        value,
+    }))
+}
+
+/// Whether the history has that write of the cell that the two values name.
+fn has_write(
+    history: &History,
+    structure: &Value,
+    index: &Value,
+    by: &Written,
+) -> Result<bool, AllocError>
+    requires { HasCell structure.now index.now }
+    ensures { IfOk result (λ b. (c : CellOf)
+        → cell_named (structure.now ∷ index.now ∷ []) ≡ Ok c
+        → IsTrue b ↔ Contains history.now (wrote c by.now.writer by.now.value)) }
+{
+    let write = write_of(structure, index, by)?;
+    Ok(history.contains(&write))
+}
+
+/// Whether the history has the write that the firing read, where it has one.
+fn has_read(history: &History, firing: &Firing) -> Result<bool, AllocError>
+    requires { HasReadCell firing.now }
+    ensures { IfOk result (λ b. IsTrue b
+        ↔ Within (Contains history.now) (write_read firing.now.values firing.now.write)) }
+{
+    let Some(by) = &firing.write else {
+        return Ok(true);
+    };
+    let [structure, index, ..] = firing.values.as_slice() else {
+        unreachable!();
+    };
+    let there = has_write(history, structure, index, by)?;
+    Ok(there)
+}
+
+/// Whether it is a firing of the job, and the history has all that it needs.
+///
+/// # Errors
+/// `AllocError` where so many share a name or a value already that no copy can be made.
+pub(crate) fn has_all_of(history: &History, job: &Job, firing: &Firing) -> Result<bool, AllocError>
+    ensures { IfOk result
+        (λ b. IsTrue b ↔ Enabled (system_of job.now) (Contains history.now) firing.now) }
+{
+    if !is_firing(job, firing) {
+        return Ok(false);
+    }
+    let there = has_tokens(history, &firing.activity, 1, firing.values.as_slice())?;
+    if !there {
+        return Ok(false);
+    }
+    let read = has_read(history, firing)?;
+    Ok(read)
+}
