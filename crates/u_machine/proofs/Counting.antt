@@ -30,3 +30,7 @@ no_more {X} (x ∷ xs) ys d within =
           | inl a ↦ Contains-append_left left right z a
           | inr b ↦ elim (Contains-cons_cases x z right b) [ inl p ↦ absurd (d.0 (subst (λ (w : X). Contains xs w) (sym p) m)) | inr c ↦ Contains-append_right left right z c ]
         ]
+
+pub Distinct-right : {X : Type 0} (xs ys : List X) → Distinct (xs ++ ys) → Distinct ys
+Distinct-right [] ys d = d
+Distinct-right (x ∷ xs) ys d = Distinct-right xs ys d.1

@@ -1,5 +1,5 @@
 -- A new machine.
-use Rattle.std.proofs.Common.{◌≡◌, ◌↔◌, ◌⊎◌, inl, inr, sym, subst, arith, ℕ, [], ◌∷◌, None}
+use Rattle.std.proofs.Common.{◌≡◌, ◌↔◌, inl, inr, sym, subst, arith, ℕ, [], ◌∷◌}
 use Rattle.std.specs.Prelude.{Contains}
 use Rattle.u_check.specs.Jobs.{JobParts}
 use Rattle.u_rule.specs.Rule.{system_of}
@@ -15,7 +15,7 @@ use Rattle.u_sets.proofs.Places.{one_list}
 use Rattle.u_system.proofs.Held.{Held-start, Held-nil}
 use Rattle.u_system.proofs.Closure.{Derivation-nil, Cl-start}
 use Rattle.u_machine.specs.State.{state, IsSound}
-use Rattle.u_machine.specs.Invariant.{IsLogged, IsMatched, IsSorted}
+use Rattle.u_machine.specs.Invariant.{IsLogged, IsSorted}
 use Rattle.u_machine.proofs.Once.{enabled_with}
 use Rattle.u_machine.proofs.Needed.{needs_some}
 
@@ -40,30 +40,18 @@ module _ (job : JobParts) (limit : ℕ) where
     lies = λ e m. elim (Contains-cons_cases (system_of job).start e [] m) [ inl p ↦ subst (Cl (system_of job) (Contains [])) p (Cl-start (system_of job) (Contains [])) | inr n ↦ absurd (Contains-nil e n) ];
   }
 
-  pub fresh_log : IsLogged job limit [] 0 [] [] ((system_of job).start ∷ [])
+  pub fresh_log : IsLogged job limit [] 0 [] ((system_of job).start ∷ [])
   fresh_log = record {
     is = fresh;
     place = omega arith;
     derivation = Derivation-nil (system_of job);
     apart = tt;
     begun = λ f m. absurd (Contains-nil f m);
-    same = λ f. ((λ m. m), λ m. m);
     lies = λ e m. elim (Contains-cons_cases (system_of job).start e [] m) [ inl p ↦ subst (Held (system_of job) []) p (Held-start (system_of job) []) | inr n ↦ absurd (Contains-nil e n) ];
   }
 
-  pub fresh_matched : (matched : EntryList) → IsWith [] (system_of job).start matched → IsMatched ((system_of job).start ∷ []) matched None
-  fresh_matched matched w = record { all = λ x. ((λ k. inl ((w x).1 (over x (Contains-cons_cases (system_of job).start x [] k)))), λ s. elim s [ inl k ↦ back x ((w x).0 k) | inr p ↦ absurd (cc) ]); new = λ x p. absurd (cc) }
-    where
-      over : (x : Entry) → ((system_of job).start ≡ x) ⊎ Contains [] x → Contains [] x ⊎ ((system_of job).start ≡ x)
-      over x (inl p) = inr p
-      over x (inr n) = inl n
-
-      back : (x : Entry) → Contains [] x ⊎ ((system_of job).start ≡ x) → Contains ((system_of job).start ∷ []) x
-      back x (inl n) = absurd (Contains-nil x n)
-      back x (inr p) = subst (λ (z : Entry). Contains ((system_of job).start ∷ []) z) p (Contains-head (system_of job).start [])
-
-  pub fresh_sorted : (matched : EntryList) (found ready : FiringList) → IsWith [] (system_of job).start matched → ((f : Firing) → Contains found f ↔ (Contains ((system_of job).needs f) (system_of job).start × Enabled (system_of job) (Contains matched) f)) → Same (Contains ready) (Contains found) → IsSorted job [] [] ready [] matched
-  fresh_sorted matched found ready w exact same = record {
+  pub fresh_sorted : (history : EntryList) (found ready : FiringList) → IsWith [] (system_of job).start history → ((f : Firing) → Contains found f ↔ (Contains ((system_of job).needs f) (system_of job).start × Enabled (system_of job) (Contains history) f)) → Same (Contains ready) (Contains found) → IsSorted job [] [] ready [] history
+  fresh_sorted history found ready w exact same = record {
     logged = λ f m. absurd (Contains-nil f m);
     fit = λ f m. (((exact f).0 ((same f).0 m)).1, λ t. Contains-nil f t);
     waits = λ f m. absurd (Contains-nil f m);
@@ -71,7 +59,7 @@ module _ (job : JobParts) (limit : ℕ) where
     all = λ f en. inl ((same f).1 ((exact f).1 (first f en, en)));
   }
     where
-      first : (f : Firing) → Enabled (system_of job) (Contains matched) f → Contains ((system_of job).needs f) (system_of job).start
+      first : (f : Firing) → Enabled (system_of job) (Contains history) f → Contains ((system_of job).needs f) (system_of job).start
       first f en =
-          elim (enabled_with (system_of job) (Contains []) (Contains matched) (system_of job).start f (λ x. (w x).0) en)
+          elim (enabled_with (system_of job) (Contains []) (Contains history) (system_of job).start f (λ x. (w x).0) en)
           [ inl n ↦ n | inr k ↦ (let s = needs_some job f en.0 in absurd (Contains-nil s.0 (k.1 s.0 s.1))) ]

@@ -3,6 +3,7 @@ pub mod Blank
 pub mod Once
 pub mod Steps
 pub mod Sorting
+pub mod Beginning
 pub mod States
 pub mod Going
 pub mod Settled
@@ -13,3 +14,4 @@ pub mod Counting
 pub mod TakenLists
 pub mod Replies
 pub mod Obeying
+pub mod NewOnes

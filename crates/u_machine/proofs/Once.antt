@@ -1,9 +1,14 @@
 -- Lists without repeats, and which needs of a firing an entry meets.
-use Rattle.std.proofs.Common.{◌≡◌, List, [], ◌∷◌, ◌++◌, ◌⊎◌, inl, inr, subst, sym}
+use Rattle.std.proofs.Common.{◌≡◌, List, [], ◌∷◌, ◌++◌, ◌⊎◌, inl, inr, subst, sym, ap, ◌↔◌, IsTrue}
 use Rattle.std.specs.Prelude.{Contains}
 use Rattle.std.proofs.lemmas.List.Elements.{Contains-append_cases}
 use Rattle.std.specs.declared.cmp.Ordering.{Ordering}
-use Rattle.std.specs.Cmp.{IsTotalOrder}
+use Rattle.std.specs.Cmp.{IsTotalOrder, tied_itself, Equal-is}
+use Rattle.std.specs.Ordering.{is_eq}
+use Rattle.std.specs.declared.cmp.Ordering.TheVariants.{Equal}
+use Rattle.u_rule.specs.EntryOrder.{firing_cmp}
+use Rattle.u_rule.specs.ExactOrders.{firing_cmp_total, firing_cmp_ties}
+use Rattle.u_rule.specs.declared.firing.Firing.{Firing}
 use Rattle.u_system.specs.Firing.{System, Enabled, Distinct}
 use Rattle.u_sets.specs.Rising.{Rises}
 use Rattle.u_sets.proofs.Places.{irreflexive}
@@ -23,6 +28,10 @@ Distinct-right (x ∷ xs) ys d = Distinct-right xs ys d.1
 pub Distinct-from_Rises : {X : Type 0} (R : X → X → Ordering) (o : IsTotalOrder R) (xs : List X) → Rises R xs → Distinct xs
 Distinct-from_Rises R o [] r = tt
 Distinct-from_Rises R o (x ∷ xs) r = ((λ m. irreflexive R o x (r.0 x m)), Distinct-from_Rises R o xs r.1)
+
+pub same_firing : (a b : Firing) → IsTrue (is_eq (firing_cmp a b)) ↔ (a ≡ b)
+same_firing a b =
+    ((λ h. firing_cmp_ties a b ((Equal-is (firing_cmp a b)).0 h)), λ e. ap is_eq (subst (λ (x : Firing). firing_cmp a x ≡ Equal) e (tied_itself firing_cmp_total a)))
 
 module _ {E : Type 0} (P : E → Type 0) (e : E) where
   split : (ns : List E) → ((x : E) → Contains ns x → P x ⊎ (e ≡ x)) → Contains ns e ⊎ ((x : E) → Contains ns x → P x)

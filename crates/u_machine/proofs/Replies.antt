@@ -1,10 +1,10 @@
 -- What the calls of a machine answer, from what they do to its parts.
-use Rattle.std.proofs.Common.{◌≡◌, ◌<◌, ◌%◌, sym, ◌∙◌, arith, subst, length, Some, Ok, Err, ℕ, take, ap, ◌++◌, ◌∷◌, [], false, true, Bool}
+use Rattle.std.proofs.Common.{◌≡◌, ◌%◌, inl, inr, sym, ◌∙◌, arith, subst, length, Some, Ok, Err, ℕ, take, ◌++◌, ◌∷◌, [], false}
 use Rattle.std.specs.Prelude.{slice_get, IsTrue, Contains, Result}
 use Rattle.std.specs.Result.{IsErrAnd}
 use Rattle.std.proofs.lemmas.List.{take_all}
 use Rattle.u_rule.specs.declared.firing.Firing.{Firing}
-use Rattle.u_rule.specs.Rule.{system_of, is_firing_of}
+use Rattle.u_rule.specs.Rule.{system_of}
 use Rattle.u_rule.specs.EntryOrder.{FiringList, firing_cmp}
 use Rattle.u_check.specs.Jobs.{JobParts}
 use Rattle.u_sets.specs.Rising.{Rises}
@@ -12,11 +12,13 @@ use Rattle.u_machine.specs.declared.parts.Parts.{Parts}
 use Rattle.u_machine.specs.declared.answer.Took.{Took}
 use Rattle.u_machine.specs.declared.answer.TakeRefusal.{TakeRefusal}
 use Rattle.u_machine.specs.declared.answer.TakeRefusal.TheVariants.{NoMemory}
-use Rattle.u_machine.specs.State.{State, Taken, IsReady, IsPick, count_of}
-use Rattle.u_machine.specs.Calls.{Applies, IsNew, TakeAnswer}
+use Rattle.u_machine.specs.declared.answer.TakeRefusal.TheVariants as untaken
+use Rattle.u_machine.specs.declared.answer.Took.TheVariants as took
+use Rattle.u_machine.specs.State.{State, IsReady, IsPick}
+use Rattle.u_machine.specs.Calls.{Applies, Settles, Takes, IsNew, TakeAnswer}
 use Rattle.u_machine.specs.Invariant.{state_of, Invariant, Lengthens}
-use Rattle.u_machine.proofs.States.{are_ready_before, room_before}
-use Rattle.u_machine.proofs.Settled.{kept_ready, not_both}
+use Rattle.u_machine.proofs.States.{are_ready_before, room_before, applies_trans, takes_between, Applies-refl}
+use Rattle.u_machine.proofs.Settled.{kept_ready}
 use Rattle.u_machine.proofs.Lists.{slice_get_mid, slice_get_Contains}
 
 -- the firing at that place of the ready ones
@@ -34,27 +36,36 @@ fired_at log f mid done new e (rest, w) d = rw (take_all done new (omega (arith,
 pub applied_has : (log : FiringList) (f : Firing) (mid : FiringList) (done : ℕ) (new : FiringList) → mid ≡ log ++ f ∷ [] → Lengthens mid new → done ≡ length new → Contains (take done new) f
 applied_has log f mid done new e l d = slice_get_Contains (take done new) (length log) f (fired_at log f mid done new e l d)
 
--- a firing that is new after taken ones were applied was new before
-module _ (old new : State) (f : Firing) (p : Applies old new) (b : Bool) (tested : b ≡ is_firing_of new.job f) where
-  same_test : b ≡ is_firing_of old.job f
-  same_test = tested ∙ ap (λ (job : JobParts). is_firing_of job f) p.job
-
-  pub no_firing : b ≡ false → (system_of old.job).is_firing f ≡ false
-  no_firing e = sym same_test ∙ e
-
-  pub a_firing : b ≡ true → IsTrue ((system_of old.job).is_firing f)
-  a_firing e = sym same_test ∙ e
-
-  module _ (known : Bool) (knows : Taken new f → IsTrue known) (unknown : known ≡ false) where
-    pub not_taken_now : Taken new f → ⊥
-    not_taken_now t = not_both known (knows t) unknown
-
-    pub not_taken_before : Taken old f → ⊥
-    not_taken_before t = not_taken_now ((p.taken f).0 t)
-
-    pub is_new : b ≡ true → count_of new < new.limit → IsNew old f
-    is_new e room = record { firing = a_firing e; new = not_taken_before; room = room_before old new f p not_taken_now room }
-
 pub take_no_memory : (old new : State) (f : Firing) (r : Result Took TakeRefusal) → IsErrAnd r (λ e. e ≡ NoMemory) → TakeAnswer old f (Err NoMemory) new → TakeAnswer old f r new
 take_no_memory old new f (Ok t) h w = absurd h
 take_no_memory old new f (Err e) h w = subst (λ (x : TakeRefusal). TakeAnswer old f (Err x) new) (sym h) w
+
+pub settles_trans : (a b c : State) → Settles a b → Settles b c → Settles a c
+settles_trans a b c p q = record { applies = applies_trans a b c p.applies q.applies; settled = q.settled; still = λ st. q.still p.settled ∙ p.still st }
+
+-- what a call answers that began with settling
+module _ (a b c : State) (f : Firing) (s : Settles a b) where
+  new_before : IsNew b f → IsNew a f
+  new_before n = record {
+    firing = subst (λ (job : JobParts). IsTrue ((system_of job).is_firing f)) s.applies.job n.firing;
+    new = λ t. n.new ((s.applies.taken f).0 t);
+    room = room_before a b f s.applies n.new n.room;
+  }
+
+  takes_before : Takes b f c → Takes a f c
+  takes_before t = takes_between a b c c f s.applies t (Applies-refl c)
+
+  pub take_after : (r : Result Took TakeRefusal) → TakeAnswer b f r c → TakeAnswer a f r c
+  take_after (Ok took.Known) (t, q) = ((s.applies.taken f).1 t, settles_trans a b c s q)
+  take_after (Ok took.Taken) (n, t, l, st) = (new_before n, takes_before t, l, st)
+  take_after (Ok took.Parked) (n, t, l, st) = (new_before n, takes_before t, l, st)
+  take_after (Err untaken.NotAFiring) (e, q) = (subst (λ (job : JobParts). (system_of job).is_firing f ≡ false) s.applies.job e, settles_trans a b c s q)
+  take_after (Err untaken.Full) (i, n, e, q) = (
+    subst (λ (job : JobParts). IsTrue ((system_of job).is_firing f)) s.applies.job i,
+    (λ t. n ((s.applies.taken f).0 t)),
+    sym s.applies.count ∙ e ∙ s.applies.limit,
+    settles_trans a b c s q,
+  )
+  take_after (Err untaken.NoMemory) (inl u) = absurd (u.unsettled s.settled)
+  take_after (Err untaken.NoMemory) (inr (n, inl p)) = inr (new_before n, inl (applies_trans a b c s.applies p))
+  take_after (Err untaken.NoMemory) (inr (n, inr t)) = inr (new_before n, inr (takes_before t))

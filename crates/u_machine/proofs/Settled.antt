@@ -1,25 +1,26 @@
 -- When a machine is settled, and what is ready then.
-use Rattle.std.proofs.Common.{◌≡◌, ◌<◌, ◌≤◌, ◌⊎◌, inl, inr, refl, length, take, arith, [], ℕ, get_or, ap, zero, suc, ◌∷◌, length-take, Bool, true, false}
-use Rattle.std.specs.Prelude.{Contains}
-use Rattle.std.proofs.lemmas.List.{take_all, drop_more}
+use Rattle.std.proofs.Common.{◌≡◌, ◌<◌, ◌≤◌, ◌+◌, ◌-◌, ◌⊎◌, inl, inr, refl, length, take, drop, subst, arith, [], ℕ, get_or, ap, zero, suc, ◌∷◌, length-take, Bool, true, false}
+use Rattle.std.specs.Prelude.{Contains, ◌↔◌, IsTrue}
+use Rattle.std.proofs.lemmas.List.{take_all, drop_more, length-drop, take-append-drop}
 use Rattle.std.proofs.lemmas.List.Elements.{Contains-get_or, Contains-append_left, Contains-append_right, Contains-append_cases}
-use Rattle.u_system.specs.Firing.{Enabled, Cl, Same}
+use Rattle.u_system.specs.Firing.{Distinct, Enabled, Cl, Same}
 use Rattle.u_sets.specs.Rising.{Rises}
 use Rattle.u_system.proofs.Apart.{Distinct-apart}
 use Rattle.u_system.proofs.Held.{Enabled-mono}
-use Rattle.u_system.proofs.Member.{Contains-nil, Contains-head}
-use Rattle.u_rule.specs.declared.entry.Entry.{Entry}
+use Rattle.u_system.proofs.Member.{Contains-nil, Contains-head, Contains-cons_cases}
 use Rattle.u_rule.specs.declared.firing.Firing.{Firing}
 use Rattle.u_rule.specs.Rule.{system_of}
 use Rattle.u_rule.specs.EntryOrder.{firing_cmp, FiringList, EntryList}
-use Rattle.u_machine.proofs.Lists.{Contains-taken}
+use Rattle.u_machine.proofs.Lists.{Contains-taken, Contains-dropped}
+use Rattle.u_machine.proofs.Counting.{no_more, Distinct-right}
 use Rattle.u_machine.specs.declared.parts.Parts.{Parts}
 use Rattle.u_machine.specs.State.{IsSettled, AreReady, Taken}
 use Rattle.u_machine.specs.Calls.{Applies, Settles, StaysUnsettled}
-use Rattle.u_machine.specs.Invariant.{Invariant, IsLogged, IsSorted, state_of, left_of}
+use Rattle.u_machine.specs.Invariant.{Invariant, IsSorted, state_of, left_of}
 use Rattle.u_check.specs.Jobs.{JobParts}
 use Rattle.u_machine.proofs.Blank.{blank_firing}
-use Rattle.u_machine.proofs.States.{settled_is_Cl, over_history}
+use Rattle.u_machine.proofs.States.{settled_is_Cl, over_history, Applies-refl}
+use Rattle.u_machine.proofs.Steps.{log_taken}
 
 le_split : (m n : ℕ) → m ≤ n → (m ≡ n) ⊎ (m < n)
 le_split zero zero l = inl refl
@@ -28,34 +29,21 @@ le_split (suc m) zero l = absurd (omega (arith, l))
 le_split (suc m) (suc n) l = elim (le_split m n (omega (arith, l))) [ inl e ↦ inl (ap suc e) | inr k ↦ inr (omega (arith, k)) ]
 
 module _ (p : Parts) (k : Invariant p) where
-  -- what the matcher has, the history has
-  pub in_history : (e : Entry) → Contains p.matcher e → Contains p.history e
-  in_history e m = (k.matched.all e).1 (inl m)
-
-  pub enabled_in : (f : Firing) → Enabled (system_of p.job.now) (Contains p.matcher) f → Enabled (system_of p.job.now) (Contains p.history) f
-  enabled_in f = Enabled-mono (system_of p.job.now) (Contains p.matcher) (Contains p.history) in_history f
-
   module _ (st : p.done ≡ length p.log.items) where
     whole : take p.done p.log.items ≡ p.log.items
     whole = take_all p.done p.log.items (omega (arith, st))
 
-    all_matched : (e : Entry) → Contains p.history e → Contains p.matcher e
-    all_matched e h = elim ((k.matched.all e).0 h) [ inl m ↦ m | inr q ↦ absurd (let i = (k.idle st).matched in cc) ]
-
-    enabled_back : (f : Firing) → Enabled (system_of p.job.now) (Contains p.history) f → Enabled (system_of p.job.now) (Contains p.matcher) f
-    enabled_back f = Enabled-mono (system_of p.job.now) (Contains p.history) (Contains p.matcher) all_matched f
-
     -- each firing that is enabled over the history is ready or applied
-    pub each_enabled : (f : Firing) → Enabled (system_of p.job.now) (Contains p.history) f → Contains p.ready f ⊎ Contains (take p.done p.log.items) f
-    each_enabled f en = over (k.sorted.all f (enabled_back f en))
+    pub each_enabled : (f : Firing) → Enabled (system_of p.job.now) (Contains p.matcher) f → Contains p.ready f ⊎ Contains (take p.done p.log.items) f
+    each_enabled f en = over (k.sorted.all f en)
       where
         over : Contains p.ready f ⊎ Contains p.log.items f ⊎ Contains (left_of p) f → Contains p.ready f ⊎ Contains (take p.done p.log.items) f
         over (inl a) = inl a
         over (inr (inl b)) = inr (rw whole b)
-        over (inr (inr c)) = absurd (Contains-nil f (rw (k.idle st).sorted at c))
+        over (inr (inr c)) = absurd (Contains-nil f (rw (k.idle st) at c))
 
     not_taken : (f : Firing) → Contains p.ready f → Taken (state_of p) f → ⊥
-    not_taken f m t = (k.sorted.fit f m).1 ((k.logged.same f).1 t)
+    not_taken f m = (k.sorted.fit f m).1
 
     pub settled_there : IsSettled (state_of p)
     settled_there = record {
@@ -66,7 +54,7 @@ module _ (p : Parts) (k : Invariant p) where
     -- the ready firings are kept
     pub kept_ready : Rises firing_cmp p.ready → AreReady (state_of p) p.ready
     kept_ready r = (
-      (λ f m. (Enabled-mono (system_of p.job.now) (Contains p.history) (Cl (system_of p.job.now) (Taken (state_of p))) (λ e. ((settled_is_Cl (state_of p) k.logged.is settled_there).0 e).0) f (enabled_in f (k.sorted.fit f m).0), not_taken f m)),
+      (λ f m. (Enabled-mono (system_of p.job.now) (Contains p.matcher) (Cl (system_of p.job.now) (Taken (state_of p))) (λ e. ((settled_is_Cl (state_of p) k.logged.is settled_there).0 e).0) f (k.sorted.fit f m).0, not_taken f m)),
       (λ f en. elim (each_enabled f (over_history (state_of p) k.logged.is settled_there f en)) [ inl a ↦ inl a | inr b ↦ inr (Contains-append_left (take p.done p.log.items) p.parked f b) ]),
       r,
     )
@@ -79,7 +67,7 @@ module _ (p : Parts) (k : Invariant p) where
       at l =
           let f = get_or p.log.items p.done blank_firing in
           st.none f (k.logged.begun f (rw (drop_more p.log.items p.done blank_firing l) (Contains-head f _)))
-          (enabled_in f (k.sorted.logged f (Contains-get_or p.log.items p.done blank_firing l)))
+          (k.sorted.logged f (Contains-get_or p.log.items p.done blank_firing l))
 
 -- what `settle` leaves
 module _ (p q : Parts) (kp : Invariant p) (ap_pq : Applies (state_of p) (state_of q)) where
@@ -93,24 +81,31 @@ module _ (p q : Parts) (kp : Invariant p) (ap_pq : Applies (state_of p) (state_o
   pub stays_unsettled : (IsSettled (state_of p) → ⊥) → StaysUnsettled (state_of p) (state_of q)
   stays_unsettled un = record { applies = ap_pq; unsettled = un }
 
--- a firing that is sorted out and was taken is parked, and isn't in the log
+-- the next firing that is sorted out isn't in the log, so it is parked where it was taken
 module _ (p : Parts) (k : Invariant p) (f : Firing) (rest : FiringList) (next : left_of p ≡ f ∷ rest) where
-  waits_first : Contains (left_of p) f
+  pub waits_first : Contains (left_of p) f
   waits_first = rw next (Contains-head f rest)
 
   pub not_logged : Contains p.log.items f → ⊥
   not_logged = (k.sorted.waits f waits_first).2
 
-  pub parked_first : Contains p.taken f → Contains p.parked f
+  pub parked_first : Taken (state_of p) f → Contains p.parked f
   parked_first t =
-      elim (Contains-append_cases (take p.done p.log.items) p.parked f ((k.logged.same f).0 t))
+      elim (Contains-append_cases (take p.done p.log.items) p.parked f t)
       [ inl a ↦ absurd (not_logged (Contains-taken p.done p.log.items f a)) | inr b ↦ b ]
 
-  pub enabled_first : Enabled (system_of p.job.now) (Contains p.history) f
-  enabled_first = enabled_in p k f (k.sorted.waits f waits_first).0
+  pub enabled_first : Enabled (system_of p.job.now) (Contains p.matcher) f
+  enabled_first = (k.sorted.waits f waits_first).0
 
   pub not_idle : left_of p ≡ [] → ⊥
   not_idle e = Contains-nil f (rw e at waits_first)
+
+-- what has all that it needs, and is not ready and not to be sorted out, is in the log, and the log has nothing else
+pub begun_if : (p : Parts) → Invariant p → (f : Firing) → Contains p.log.items f ↔ (Enabled (system_of p.job.now) (Contains p.matcher) f × (Contains p.ready f → ⊥) × (Contains (left_of p) f → ⊥))
+begun_if p k f = (
+  (λ m. (k.sorted.logged f m, (λ r. (k.sorted.fit f r).1 (log_taken _ _ _ _ _ _ k.logged f m)), λ w. (k.sorted.waits f w).2 m)),
+  λ t. elim (k.sorted.all f t.0) [ inl r ↦ absurd (t.1 r) | inr s ↦ elim s [ inl m ↦ m | inr w ↦ absurd (t.2 w) ] ],
+)
 
 -- fewer firings were applied than may be taken
 pub below_limit : (p : Parts) → Invariant p → p.done < length p.log.items → p.done < p.limit
@@ -122,20 +117,41 @@ below_limit p k l =
     omega (arith, m.1, l)
 
 -- the set of taken firings in another order of changes
-pub same_taken : (job : JobParts) (log taken more ready left : FiringList) (matched : EntryList) → Same (Contains more) (Contains taken) → IsSorted job log taken ready left matched → IsSorted job log more ready left matched
-same_taken job log taken more ready left matched e s = record { logged = s.logged; fit = λ f m. ((s.fit f m).0, λ t. (s.fit f m).1 ((e f).0 t)); waits = s.waits; once = s.once; all = s.all }
-
-pub same_logged : (job : JobParts) (limit : ℕ) (log : FiringList) (done : ℕ) (taken more parked : FiringList) (history : EntryList) → Same (Contains more) (Contains taken) → IsLogged job limit log done taken parked history → IsLogged job limit log done more parked history
-same_logged job limit log done taken more parked history e l = record {
-  is = l.is;
-  place = l.place;
-  derivation = l.derivation;
-  apart = l.apart;
-  begun = l.begun;
-  same = λ f. ((λ m. (l.same f).0 ((e f).0 m)), λ m. (e f).1 ((l.same f).1 m));
-  lies = l.lies;
-}
+pub same_taken : (job : JobParts) (log taken more ready left : FiringList) (history : EntryList) → Same (Contains more) (Contains taken) → IsSorted job log taken ready left history → IsSorted job log more ready left history
+same_taken job log taken more ready left history e s = record { logged = s.logged; fit = λ f m. ((s.fit f m).0, λ t. (s.fit f m).1 ((e f).0 t)); waits = s.waits; once = s.once; all = s.all }
 
 pub not_both : (b : Bool) → b ≡ true → b ≡ false → ⊥
 not_both true p q = cc
 not_both false p q = cc
+
+-- where no more are parked than are being applied, no firing that was woken is parked
+pub none_waits : (p : Parts) → Invariant p → (f : Firing) → Contains (left_of p) f → length p.parked ≤ length p.log.items - p.done → Contains p.parked f → ⊥
+none_waits p k f woken few m = absurd (omega (arith, more, few, length-drop p.done p.log.items))
+  where
+    begun : FiringList
+    begun = drop p.done p.log.items
+
+    apart : Distinct begun
+    apart = Distinct-right (take p.done p.log.items) begun (rw take-append-drop k.logged.apart)
+
+    other : Contains begun f → ⊥
+    other b = (k.sorted.waits f woken).2 (Contains-dropped p.done p.log.items f b)
+
+    all : (g : Firing) → Contains (f ∷ begun) g → Contains p.parked g
+    all g h = elim (Contains-cons_cases f g begun h) [ inl e ↦ subst (λ (x : Firing). Contains p.parked x) e m | inr b ↦ k.logged.begun g b ]
+
+    more : length (f ∷ begun) ≤ length p.parked
+    more = no_more (f ∷ begun) p.parked (other, apart) all
+
+-- the firing that is being applied is parked
+pub parked_next : (p : Parts) → Invariant p → (f : Firing) → p.done < length p.log.items → f ≡ get_or p.log.items p.done f → Contains p.parked f
+parked_next p k f below at =
+    k.logged.begun f (rw (drop_more p.log.items p.done f below) (subst (λ (g : Firing). Contains (g ∷ drop (p.done + 1) p.log.items) f) at (Contains-head f (drop (p.done + 1) p.log.items))))
+
+-- a settled machine is what settling makes of it
+pub settles_itself : (p : Parts) → Invariant p → p.done ≡ length p.log.items → Settles (state_of p) (state_of p)
+settles_itself p k st = record { applies = Applies-refl (state_of p); settled = settled_there p k st; still = λ _. refl }
+
+-- the firing that is being applied is one of the job
+pub log_firing : (p : Parts) → Invariant p → (f : Firing) → p.done < length p.log.items → f ≡ get_or p.log.items p.done f → IsTrue ((system_of p.job.now).is_firing f)
+log_firing p k f below at = k.logged.is.firings f (Contains-append_right (take p.done p.log.items) p.parked f (parked_next p k f below at))

@@ -1,5 +1,5 @@
--- The steps by which a machine goes on, on what its matcher has and on what is ready.
-use Rattle.std.proofs.Common.{◌≡◌, ◌++◌, [], ◌∷◌, ◌⊎◌, inl, inr, subst, sym, ap, ◌∙◌, Some, None, Option}
+-- The steps by which a machine goes on, on its history and on what is ready.
+use Rattle.std.proofs.Common.{◌≡◌, ◌++◌, [], ◌∷◌, ◌⊎◌, inl, inr, subst, sym}
 use Rattle.std.specs.Prelude.{Contains, ◌↔◌}
 use Rattle.std.proofs.lemmas.List.Elements.{Contains-append_left, Contains-push, Contains-push_cases}
 use Rattle.u_system.proofs.Member.{Contains-nil, Contains-head, Contains-cons_cases, Contains-tail}
@@ -13,55 +13,22 @@ use Rattle.u_rule.specs.declared.firing.Firing.{Firing}
 use Rattle.u_rule.specs.Rule.{system_of}
 use Rattle.u_rule.specs.EntryOrder.{FiringList, EntryList, firing_cmp}
 use Rattle.u_rule.specs.ExactOrders.{firing_cmp_total}
-use Rattle.u_machine.specs.Invariant.{IsMatched, IsSorted}
+use Rattle.u_machine.specs.Invariant.{IsSorted}
 use Rattle.u_machine.proofs.Once.{enabled_with, Distinct-from_Rises}
 
-some_same : (a b : Entry) → Some a ≡ Some b → a ≡ b
-some_same a b h = cc
-
-pub late_waits : (late : Option Entry) (e : Entry) → late ≡ Some e → late ≡ None → ⊥
-late_waits late e p q = cc
-
--- an entry enters the history, and the matcher does not have it yet
-pub entered_late : (history matched new : EntryList) (late : Option Entry) (e : Entry) → IsMatched history matched late → late ≡ None → (Contains history e → ⊥) → IsWith history e new → IsMatched new matched (Some e)
-entered_late history matched new late e m none fresh w = record {
-  all = λ x. ((λ k. over x ((w x).0 k)), λ s. (w x).1 (back x s));
-  new = λ x p k. fresh ((m.all e).1 (inl (subst (λ (y : Entry). Contains matched y) (sym (some_same e x p)) k)));
-}
-  where
-    over : (x : Entry) → Contains history x ⊎ (e ≡ x) → Contains matched x ⊎ (Some e ≡ Some x)
-    over x (inl k) = elim ((m.all x).0 k) [ inl a ↦ inl a | inr p ↦ absurd (let q = none in cc) ]
-    over x (inr p) = inr (ap Some p)
-
-    back : (x : Entry) → Contains matched x ⊎ (Some e ≡ Some x) → Contains history x ⊎ (e ≡ x)
-    back x (inl a) = inl ((m.all x).1 (inl a))
-    back x (inr p) = inr (some_same e x p)
-
--- the matcher has it
-pub matched_now : (history matched more : EntryList) (late : Option Entry) (e : Entry) → IsMatched history matched late → late ≡ Some e → IsWith matched e more → IsMatched history more None
-matched_now history matched more late e m is w = record { all = λ x. ((λ k. inl ((w x).1 (over x ((m.all x).0 k)))), λ s. elim s [ inl k ↦ (m.all x).1 (back x ((w x).0 k)) | inr p ↦ absurd (cc) ]); new = λ x p. absurd (cc) }
-  where
-    over : (x : Entry) → Contains matched x ⊎ (late ≡ Some x) → Contains matched x ⊎ (e ≡ x)
-    over x (inl k) = inl k
-    over x (inr p) = inr (some_same e x (sym is ∙ p))
-
-    back : (x : Entry) → Contains matched x ⊎ (e ≡ x) → Contains matched x ⊎ (late ≡ Some x)
-    back x (inl k) = inl k
-    back x (inr p) = inr (is ∙ ap Some p)
-
-module _ (job : JobParts) (log taken ready left : FiringList) (matched : EntryList) (s : IsSorted job log taken ready left matched) where
-  -- the matcher gained an entry, and these are the firings that it enables
-  pub found_more : (e : Entry) (more : EntryList) (found : FiringList) → left ≡ [] → (Contains matched e → ⊥) → IsWith matched e more → ((f : Firing) → Contains found f ↔ (Contains ((system_of job).needs f) e × Enabled (system_of job) (Contains more) f)) → Rises firing_cmp found → IsSorted job log taken ready found more
+module _ (job : JobParts) (log taken ready left : FiringList) (history : EntryList) (s : IsSorted job log taken ready left history) where
+  -- the history gained an entry, and these are the firings that it enables
+  pub found_more : (e : Entry) (more : EntryList) (found : FiringList) → left ≡ [] → (Contains history e → ⊥) → IsWith history e more → ((f : Firing) → Contains found f ↔ (Contains ((system_of job).needs f) e × Enabled (system_of job) (Contains more) f)) → Rises firing_cmp found → IsSorted job log taken ready found more
   found_more e more found none fresh w exact r = record {
     logged = λ f m. grows f (s.logged f m);
     fit = λ f m. (grows f (s.fit f m).0, (s.fit f m).1);
     waits = λ f m. let p = (exact f).0 m in (p.1, (λ k. fresh ((s.fit f k).0.1 e p.0)), λ k. fresh ((s.logged f k).1 e p.0));
     once = Distinct-from_Rises firing_cmp firing_cmp_total found r;
-    all = λ f en. elim (enabled_with (system_of job) (Contains matched) (Contains more) e f (λ x. (w x).0) en) [ inl n ↦ inr (inr ((exact f).1 (n, en))) | inr k ↦ before f (s.all f k) ];
+    all = λ f en. elim (enabled_with (system_of job) (Contains history) (Contains more) e f (λ x. (w x).0) en) [ inl n ↦ inr (inr ((exact f).1 (n, en))) | inr k ↦ before f (s.all f k) ];
   }
     where
-      grows : (f : Firing) → Enabled (system_of job) (Contains matched) f → Enabled (system_of job) (Contains more) f
-      grows f = Enabled-mono (system_of job) (Contains matched) (Contains more) (λ x k. (w x).1 (inl k)) f
+      grows : (f : Firing) → Enabled (system_of job) (Contains history) f → Enabled (system_of job) (Contains more) f
+      grows f = Enabled-mono (system_of job) (Contains history) (Contains more) (λ x k. (w x).1 (inl k)) f
 
       before : (f : Firing) → Contains ready f ⊎ Contains log f ⊎ Contains left f → Contains ready f ⊎ Contains log f ⊎ Contains found f
       before f (inl a) = inl a
@@ -69,7 +36,7 @@ module _ (job : JobParts) (log taken ready left : FiringList) (matched : EntryLi
       before f (inr (inr c)) = absurd (Contains-nil f (rw none at c))
 
   -- the next one was not taken: it is ready
-  pub sorts_ready : (f : Firing) (rest more : FiringList) → left ≡ f ∷ rest → (Contains taken f → ⊥) → IsWith ready f more → IsSorted job log taken more rest matched
+  pub sorts_ready : (f : Firing) (rest more : FiringList) → left ≡ f ∷ rest → (Contains taken f → ⊥) → IsWith ready f more → IsSorted job log taken more rest history
   sorts_ready f rest more is new w = record {
     logged = s.logged;
     fit = λ g m. is_fit g ((w g).0 m);
@@ -81,9 +48,9 @@ module _ (job : JobParts) (log taken ready left : FiringList) (matched : EntryLi
       first : Contains left f
       first = rw is (Contains-head f rest)
 
-      is_fit : (g : Firing) → Contains ready g ⊎ (f ≡ g) → Enabled (system_of job) (Contains matched) g × (Contains taken g → ⊥)
+      is_fit : (g : Firing) → Contains ready g ⊎ (f ≡ g) → Enabled (system_of job) (Contains history) g × (Contains taken g → ⊥)
       is_fit g (inl k) = s.fit g k
-      is_fit g (inr e) = subst (λ (h : Firing). Enabled (system_of job) (Contains matched) h × (Contains taken h → ⊥)) e ((s.waits f first).0, new)
+      is_fit g (inr e) = subst (λ (h : Firing). Enabled (system_of job) (Contains history) h × (Contains taken h → ⊥)) e ((s.waits f first).0, new)
 
       not_ready : (g : Firing) → Contains rest g → (Contains ready g → ⊥) → Contains ready g ⊎ (f ≡ g) → ⊥
       not_ready g m no_more (inl k) = no_more k
@@ -95,9 +62,9 @@ module _ (job : JobParts) (log taken ready left : FiringList) (matched : EntryLi
       over g (inr (inr c)) = elim (Contains-cons_cases f g rest (rw is at c)) [ inl e ↦ inl ((w g).1 (inr e)) | inr k ↦ inr (inr k) ]
 
   -- the next one was taken: it goes to the end of the log
-  pub sorts_logged : (f : Firing) (rest : FiringList) → left ≡ f ∷ rest → IsSorted job (log ++ f ∷ []) taken ready rest matched
+  pub sorts_logged : (f : Firing) (rest : FiringList) → left ≡ f ∷ rest → IsSorted job (log ++ f ∷ []) taken ready rest history
   sorts_logged f rest is = record {
-    logged = λ g m. elim (Contains-push_cases log f g m) [ inl a ↦ s.logged g a | inr e ↦ subst (λ (h : Firing). Enabled (system_of job) (Contains matched) h) e (s.waits f first).0 ];
+    logged = λ g m. elim (Contains-push_cases log f g m) [ inl a ↦ s.logged g a | inr e ↦ subst (λ (h : Firing). Enabled (system_of job) (Contains history) h) e (s.waits f first).0 ];
     fit = s.fit;
     waits = λ g m. let p = s.waits g (rw is (Contains-tail f g rest m)) in (p.0, p.1, λ k. elim (Contains-push_cases log f g k) [ inl a ↦ p.2 a | inr e ↦ (rw is at s.once).0 (subst (λ (h : Firing). Contains rest h) (sym e) m) ]);
     once = (rw is at s.once).1;
@@ -115,7 +82,7 @@ module _ (job : JobParts) (log taken ready left : FiringList) (matched : EntryLi
           [ inl e ↦ inr (inl (subst (λ (h : Firing). Contains (log ++ f ∷ []) h) e (Contains-push log f))) | inr k ↦ inr (inr k) ]
 
   -- a firing is taken that is not ready
-  pub takes_early : (f : Firing) (more : FiringList) → (Contains ready f → ⊥) → IsWith taken f more → IsSorted job log more ready left matched
+  pub takes_early : (f : Firing) (more : FiringList) → (Contains ready f → ⊥) → IsWith taken f more → IsSorted job log more ready left history
   takes_early f more early w = record {
     logged = s.logged;
     fit = λ g m. ((s.fit g m).0, λ k. elim ((w g).0 k) [ inl a ↦ (s.fit g m).1 a | inr e ↦ early (subst (λ (h : Firing). Contains ready h) (sym e) m) ]);
@@ -125,9 +92,9 @@ module _ (job : JobParts) (log taken ready left : FiringList) (matched : EntryLi
   }
 
   -- a ready firing is taken, and goes to the end of the log
-  pub takes_ready : (f : Firing) (more less : FiringList) → left ≡ [] → Contains ready f → IsWith taken f more → IsWithout ready f less → IsSorted job (log ++ f ∷ []) more less left matched
+  pub takes_ready : (f : Firing) (more less : FiringList) → left ≡ [] → Contains ready f → IsWith taken f more → IsWithout ready f less → IsSorted job (log ++ f ∷ []) more less left history
   takes_ready f more less none was w v = record {
-    logged = λ g m. elim (Contains-push_cases log f g m) [ inl a ↦ s.logged g a | inr e ↦ subst (λ (h : Firing). Enabled (system_of job) (Contains matched) h) e (s.fit f was).0 ];
+    logged = λ g m. elim (Contains-push_cases log f g m) [ inl a ↦ s.logged g a | inr e ↦ subst (λ (h : Firing). Enabled (system_of job) (Contains history) h) e (s.fit f was).0 ];
     fit = λ g m. let p = s.fit g (v.less g m) in (p.0, λ k. elim ((w g).0 k) [ inl a ↦ p.1 a | inr e ↦ v.gone (subst (λ (h : Firing). Contains less h) (sym e) m) ]);
     waits = λ g m. absurd (Contains-nil g (rw none at m));
     once = s.once;

@@ -22,7 +22,7 @@ use Rattle.u_machine.specs.Invariant.{IsLogged}
 use Rattle.u_machine.proofs.Lists.{slice_get_at}
 use Rattle.u_machine.proofs.Once.{Distinct-join, Distinct-right, Distinct-from_Rises}
 
-module _ (job : JobParts) (limit : ℕ) (log : FiringList) (done : ℕ) (taken parked : FiringList) (history : EntryList) (l : IsLogged job limit log done taken parked history) where
+module _ (job : JobParts) (limit : ℕ) (log : FiringList) (done : ℕ) (parked : FiringList) (history : EntryList) (l : IsLogged job limit log done parked history) where
   -- the firings of the log were taken
   pub log_taken : (f : Firing) → Contains log f → Contains (take done log ++ parked) f
   log_taken f m =
@@ -33,7 +33,7 @@ module _ (job : JobParts) (limit : ℕ) (log : FiringList) (done : ℕ) (taken p
   held_in e h = Cl-held (system_of job) (Contains (take done log ++ parked)) log l.derivation log_taken e h
 
   -- an entry enters that a firing of the log gives
-  pub entered : (f : Firing) (e : Entry) (new : EntryList) → Contains log f → Contains ((system_of job).gives f) e → IsWith history e new → IsLogged job limit log done taken parked new
+  pub entered : (f : Firing) (e : Entry) (new : EntryList) → Contains log f → Contains ((system_of job).gives f) e → IsWith history e new → IsLogged job limit log done parked new
   entered f e new m g w = record {
     is = record {
       firings = l.is.firings;
@@ -47,7 +47,6 @@ module _ (job : JobParts) (limit : ℕ) (log : FiringList) (done : ℕ) (taken p
     derivation = l.derivation;
     apart = l.apart;
     begun = l.begun;
-    same = l.same;
     lies = λ x k. lies x ((w x).0 k);
   }
     where
@@ -56,60 +55,54 @@ module _ (job : JobParts) (limit : ℕ) (log : FiringList) (done : ℕ) (taken p
       lies x (inr p) = subst (Held (system_of job) log) p (inr (f, m, g))
 
   -- a parked firing that is enabled goes to the end of the log
-  pub begins : (f : Firing) → Contains parked f → (Contains log f → ⊥) → Enabled (system_of job) (Contains history) f → IsLogged job limit (log ++ f ∷ []) done taken parked history
+  pub begins : (f : Firing) → Contains parked f → (Contains log f → ⊥) → Enabled (system_of job) (Contains history) f → IsLogged job limit (log ++ f ∷ []) done parked history
   begins f k new en = record {
     is = rw shorter l.is;
     place = let a = length-append log (f ∷ []) in let b = l.place in omega arith;
     derivation = Derivation-push (system_of job) log f l.derivation (Enabled-mono (system_of job) (Contains history) (Held (system_of job) log) l.lies f en);
     apart = Distinct-push log f new l.apart;
     begun = λ g m. elim (Contains-push_cases (drop done log) f g (rw (drop-append-le done log (f ∷ []) l.place) at m)) [ inl a ↦ l.begun g a | inr p ↦ subst (λ (h : Firing). Contains parked h) p k ];
-    same = rw shorter l.same;
     lies = λ e h. Held-append_left (system_of job) log (f ∷ []) e (l.lies e h);
   }
     where
       shorter : take done (log ++ f ∷ []) ≡ take done log
       shorter = take-append-le done log (f ∷ []) l.place
 
-  -- a firing is taken and parked
-  pub parks : (f : Firing) (taken_new parked_new : FiringList) → (Contains (take done log ++ parked) f → ⊥) → IsTrue ((system_of job).is_firing f) → length (take done log) + length parked < limit → IsWith taken f taken_new → IsWith parked f parked_new → Rises firing_cmp parked_new → length parked_new ≡ length parked + 1 → IsLogged job limit log done taken_new parked_new history
-  parks f taken_new parked_new new is room t p r count = record {
-    is = record {
-      firings = λ g m. firing g (one_of g m);
-      derivation = l.is.derivation;
-      distinct = Distinct-join (take done log) parked_new (Distinct-left (take done log) parked l.is.distinct) (Distinct-from_Rises firing_cmp firing_cmp_total parked_new r) apart;
-      within = omega (arith, room, count);
-      has = l.is.has;
-      lies = λ e k. Cl-mono (system_of job) (Contains (take done log ++ parked)) (Contains (take done log ++ parked_new)) (λ g m. there g (inl m)) e (l.is.lies e k);
-    };
-    place = l.place;
-    derivation = l.derivation;
-    apart = l.apart;
-    begun = λ g m. (p g).1 (inl (l.begun g m));
-    same = λ g. ((λ m. there g (over g ((t g).0 m))), λ m. (t g).1 (back g (one_of g m)));
-    lies = l.lies;
-  }
+  -- the taken firings have one more
+  pub taken_more : (f : Firing) (parked_new : FiringList) → IsWith parked f parked_new → IsWith (take done log ++ parked) f (take done log ++ parked_new)
+  taken_more f parked_new p g = (to, back)
     where
-      one_of : (g : Firing) → Contains (take done log ++ parked_new) g → Contains (take done log ++ parked) g ⊎ (f ≡ g)
-      one_of g m =
+      to : Contains (take done log ++ parked_new) g → Contains (take done log ++ parked) g ⊎ (f ≡ g)
+      to m =
           elim (Contains-append_cases (take done log) parked_new g m) [
             | inl a ↦ inl (Contains-append_left (take done log) parked g a)
             | inr b ↦ elim ((p g).0 b) [ inl k ↦ inl (Contains-append_right (take done log) parked g k) | inr e ↦ inr e ]
           ]
 
-      there : (g : Firing) → Contains (take done log ++ parked) g ⊎ (f ≡ g) → Contains (take done log ++ parked_new) g
-      there g (inl m) =
+      back : Contains (take done log ++ parked) g ⊎ (f ≡ g) → Contains (take done log ++ parked_new) g
+      back (inl m) =
           elim (Contains-append_cases (take done log) parked g m)
           [ inl a ↦ Contains-append_left (take done log) parked_new g a | inr b ↦ Contains-append_right (take done log) parked_new g ((p g).1 (inl b)) ]
-      there g (inr e) = Contains-append_right (take done log) parked_new g ((p g).1 (inr e))
+      back (inr e) = Contains-append_right (take done log) parked_new g ((p g).1 (inr e))
 
-      over : (g : Firing) → Contains taken g ⊎ (f ≡ g) → Contains (take done log ++ parked) g ⊎ (f ≡ g)
-      over g (inl m) = inl ((l.same g).0 m)
-      over g (inr e) = inr e
-
-      back : (g : Firing) → Contains (take done log ++ parked) g ⊎ (f ≡ g) → Contains taken g ⊎ (f ≡ g)
-      back g (inl m) = inl ((l.same g).1 m)
-      back g (inr e) = inr e
-
+  -- a firing is taken and parked
+  pub parks : (f : Firing) (parked_new : FiringList) → (Contains (take done log ++ parked) f → ⊥) → IsTrue ((system_of job).is_firing f) → length (take done log) + length parked < limit → IsWith parked f parked_new → Rises firing_cmp parked_new → length parked_new ≡ length parked + 1 → IsLogged job limit log done parked_new history
+  parks f parked_new new is room p r count = record {
+    is = record {
+      firings = λ g m. firing g ((taken_more f parked_new p g).0 m);
+      derivation = l.is.derivation;
+      distinct = Distinct-join (take done log) parked_new (Distinct-left (take done log) parked l.is.distinct) (Distinct-from_Rises firing_cmp firing_cmp_total parked_new r) apart;
+      within = omega (arith, room, count);
+      has = l.is.has;
+      lies = λ e k. Cl-mono (system_of job) (Contains (take done log ++ parked)) (Contains (take done log ++ parked_new)) (λ g m. (taken_more f parked_new p g).1 (inl m)) e (l.is.lies e k);
+    };
+    place = l.place;
+    derivation = l.derivation;
+    apart = l.apart;
+    begun = λ g m. (p g).1 (inl (l.begun g m));
+    lies = l.lies;
+  }
+    where
       firing : (g : Firing) → Contains (take done log ++ parked) g ⊎ (f ≡ g) → IsTrue ((system_of job).is_firing g)
       firing g (inl m) = l.is.firings g m
       firing g (inr e) = subst (λ (h : Firing). IsTrue ((system_of job).is_firing h)) e is
@@ -123,24 +116,11 @@ module _ (job : JobParts) (limit : ℕ) (log : FiringList) (done : ℕ) (taken p
   parks_takes f parked_new p count = record {
     job = refl;
     limit = refl;
-    taken = λ g. (to g, back g);
+    taken = taken_more f parked_new p;
     count = omega (arith, count);
     log = ([], sym (append-nil (take done log)));
     history = λ e k. k;
   }
-    where
-      to : (g : Firing) → Contains (take done log ++ parked_new) g → Contains (take done log ++ parked) g ⊎ (f ≡ g)
-      to g m =
-          elim (Contains-append_cases (take done log) parked_new g m) [
-            | inl a ↦ inl (Contains-append_left (take done log) parked g a)
-            | inr b ↦ elim ((p g).0 b) [ inl k ↦ inl (Contains-append_right (take done log) parked g k) | inr e ↦ inr e ]
-          ]
-
-      back : (g : Firing) → Contains (take done log ++ parked) g ⊎ (f ≡ g) → Contains (take done log ++ parked_new) g
-      back g (inl m) =
-          elim (Contains-append_cases (take done log) parked g m)
-          [ inl a ↦ Contains-append_left (take done log) parked_new g a | inr b ↦ Contains-append_right (take done log) parked_new g ((p g).1 (inl b)) ]
-      back g (inr e) = Contains-append_right (take done log) parked_new g ((p g).1 (inr e))
 
   -- the firing that was being applied is applied
   module _ (f : Firing) (less : FiringList) (below : done < length log) (at : f ≡ get_or log done f) (w : IsWithout parked f less) where
@@ -189,7 +169,7 @@ module _ (job : JobParts) (limit : ℕ) (log : FiringList) (done : ℕ) (taken p
       history = λ e k. k;
     }
 
-    pub applied : Rises firing_cmp less → length parked ≡ length less + 1 → ((e : Entry) → Contains ((system_of job).gives f) e → Contains history e) → IsLogged job limit log (done + 1) taken less history
+    pub applied : Rises firing_cmp less → length parked ≡ length less + 1 → ((e : Entry) → Contains ((system_of job).gives f) e → Contains history e) → IsLogged job limit log (done + 1) less history
     applied r count all = record {
       is = record {
         firings = λ g m. l.is.firings g ((taken_still g).1 m);
@@ -203,7 +183,6 @@ module _ (job : JobParts) (limit : ℕ) (log : FiringList) (done : ℕ) (taken p
       derivation = l.derivation;
       apart = l.apart;
       begun = λ g m. elim (w.rest g (l.begun g (rw rest (Contains-tail f g (drop (done + 1) log) m)))) [ inl e ↦ absurd (later g e m) | inr k ↦ k ];
-      same = λ g. ((λ m. (taken_still g).0 ((l.same g).0 m)), λ m. (l.same g).1 ((taken_still g).1 m));
       lies = l.lies;
     }
       where

@@ -6,6 +6,7 @@ use Rattle.std.proofs.lemmas.List.{take_more}
 use Rattle.std.proofs.lemmas.List.Elements.{Contains-get_or, Contains-append_left, Contains-append_right, Contains-push, Contains-push_cases}
 use Rattle.u_rule.specs.declared.firing.Firing.{Firing}
 use Rattle.u_rule.specs.Rule.{system_of}
+use Rattle.u_sets.specs.Members.{GoesLast, IsWith}
 use Rattle.u_system.proofs.Apart.{Distinct-push}
 use Rattle.u_system.proofs.Member.{Contains-nil}
 use Rattle.u_machine.specs.declared.answer.Took.{Took}
@@ -19,6 +20,17 @@ use Rattle.u_machine.proofs.Lists.{Contains-taken}
 use Rattle.u_machine.proofs.Settled.{not_both}
 use Rattle.u_machine.specs.Taking.{AreFirings, AreNew, FoundNew, GainsNew, TakesAll, TakesSome, TakeAllAnswer}
 use Rattle.u_machine.proofs.Counting.{no_more}
+
+-- what goes last is put in
+pub goes_in : (old new : List Firing) (y : Firing) → GoesLast old y new → IsWith old y new
+goes_in old new y (inl (m, e)) x = (
+  (λ k. inl (subst (λ (xs : List Firing). Contains xs x) e k)),
+  λ s. elim s [ inl k ↦ subst (λ (xs : List Firing). Contains xs x) (sym e) k | inr q ↦ subst (λ (xs : List Firing). Contains xs x) (sym e) (subst (Contains old) q m) ],
+)
+goes_in old new y (inr (n, e)) x = (
+  (λ k. Contains-push_cases old y x (subst (λ (xs : List Firing). Contains xs x) e k)),
+  λ s. subst (λ (xs : List Firing). Contains xs x) (sym e) (elim s [ inl k ↦ Contains-append_left old (y ∷ []) x k | inr q ↦ subst (Contains (old ++ y ∷ [])) q (Contains-push old y) ]),
+)
 
 pub takes_none : (old new : State) → Applies old new → TakesAll old [] new
 takes_none old new p = record {

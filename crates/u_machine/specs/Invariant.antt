@@ -1,57 +1,55 @@
 -- How a machine is kept: its log runs ahead of what was applied, and the firings that an entry enabled
 -- are sorted out one after another.
-use Rattle.std.specs.Prelude.{◌≡◌, ℕ, ◌≤◌, [], ◌++◌, Option, Some, None, ◌⊎◌, ◌↔◌, length, take, drop, Contains, slice_get}
+use Rattle.std.specs.Prelude.{◌≡◌, ℕ, ◌≤◌, [], ◌∷◌, ◌++◌, Some, ◌⊎◌, length, take, drop, Contains, slice_get}
 use Rattle.u_check.specs.Jobs.{JobParts}
 use Rattle.u_rule.specs.Rule.{system_of}
 use Rattle.u_rule.specs.EntryOrder.{FiringList, EntryList}
 use Rattle.u_rule.specs.declared.entry.Entry.{Entry}
 use Rattle.u_rule.specs.declared.firing.Firing.{Firing}
-use Rattle.u_system.specs.Firing.{Held, Enabled, Derivation, Distinct, Same}
+use Rattle.u_system.specs.Firing.{Held, Enabled, Derivation, Distinct}
 use Rattle.u_machine.specs.State.{State, state, IsSound}
+use Rattle.u_machine.specs.Calls.{Takes}
 use Rattle.u_machine.specs.declared.parts.Parts.{Parts}
 
 -- The first `done` firings of the log were applied: all that they give has entered. The others of the
--- log are being applied, and count as parked until they are.
+-- log are being applied, and count as parked until they are. The matcher has the history.
 abbrev pub state_of : Parts → State
-state_of p = state p.job.now p.limit (take p.done p.log.items) p.parked p.history
+state_of p = state p.job.now p.limit (take p.done p.log.items) p.parked p.matcher
 
--- the firings of the matcher's last answer that are still to be sorted out
+-- the taken firings
+abbrev pub taken_of : Parts → FiringList
+taken_of p = take p.done p.log.items ++ p.parked
+
+-- the firings that the matcher woke and that are still to be sorted out
 abbrev pub left_of : Parts → FiringList
-left_of p = drop p.sorted p.found.items
+left_of p = p.found.items
 
--- the log, and the sets of taken and of parked firings
-pub record IsLogged (job : JobParts) (limit : ℕ) (log : FiringList) (done : ℕ) (taken parked : FiringList) (history : EntryList) : Type 0 where
+-- f is the first of them
+abbrev pub IsNext : Parts → Firing → Type 0
+IsNext p f = (rest : FiringList) × (left_of p ≡ f ∷ rest)
+
+-- the log, and the parked firings
+pub record IsLogged (job : JobParts) (limit : ℕ) (log : FiringList) (done : ℕ) (parked : FiringList) (history : EntryList) : Type 0 where
   pub is : IsSound (state job limit (take done log) parked history)
   pub place : done ≤ length log
   pub derivation : Derivation (system_of job) log
   pub apart : Distinct log
   pub begun : (f : Firing) → Contains (drop done log) f → Contains parked f
-  pub same : Same (Contains taken) (Contains (take done log ++ parked))
   pub lies : (e : Entry) → Contains history e → Held (system_of job) log e
 
--- the matcher has the entries of the history but one at most, which is `late`
-pub record IsMatched (history matched : EntryList) (late : Option Entry) : Type 0 where
-  pub all : (e : Entry) → Contains history e ↔ (Contains matched e ⊎ (late ≡ Some e))
-  pub new : (e : Entry) → late ≡ Some e → Contains matched e → ⊥
-
--- each firing that is enabled over the matched entries is ready, or in the log, or still to be sorted out
-pub record IsSorted (job : JobParts) (log taken ready left : FiringList) (matched : EntryList) : Type 0 where
-  pub logged : (f : Firing) → Contains log f → Enabled (system_of job) (Contains matched) f
-  pub fit : (f : Firing) → Contains ready f → Enabled (system_of job) (Contains matched) f × (Contains taken f → ⊥)
-  pub waits : (f : Firing) → Contains left f → Enabled (system_of job) (Contains matched) f × (Contains ready f → ⊥) × (Contains log f → ⊥)
+-- each firing that is enabled over the history is ready, or in the log, or still to be sorted out
+pub record IsSorted (job : JobParts) (log taken ready left : FiringList) (history : EntryList) : Type 0 where
+  pub logged : (f : Firing) → Contains log f → Enabled (system_of job) (Contains history) f
+  pub fit : (f : Firing) → Contains ready f → Enabled (system_of job) (Contains history) f × (Contains taken f → ⊥)
+  pub waits : (f : Firing) → Contains left f → Enabled (system_of job) (Contains history) f × (Contains ready f → ⊥) × (Contains log f → ⊥)
   pub once : Distinct left
-  pub all : (f : Firing) → Enabled (system_of job) (Contains matched) f → Contains ready f ⊎ Contains log f ⊎ Contains left f
+  pub all : (f : Firing) → Enabled (system_of job) (Contains history) f → Contains ready f ⊎ Contains log f ⊎ Contains left f
 
--- nothing is left to be matched or to be sorted out
-pub record IsIdle (left : FiringList) (late : Option Entry) : Type 0 where
-  pub sorted : left ≡ []
-  pub matched : late ≡ None
-
+-- what is kept: where nothing is being applied, nothing is left to be sorted out
 pub record Invariant (p : Parts) : Type 0 where
-  pub logged : IsLogged p.job.now p.limit p.log.items p.done p.taken p.parked p.history
-  pub matched : IsMatched p.history p.matcher p.late
-  pub sorted : IsSorted p.job.now p.log.items p.taken p.ready (left_of p) p.matcher
-  pub idle : p.done ≡ length p.log.items → IsIdle (left_of p) p.late
+  pub logged : IsLogged p.job.now p.limit p.log.items p.done p.parked p.matcher
+  pub sorted : IsSorted p.job.now p.log.items (taken_of p) p.ready (left_of p) p.matcher
+  pub idle : p.done ≡ length p.log.items → left_of p ≡ []
 
 -- the firing that is being applied gives the entry
 abbrev pub Gives : Parts → Entry → Type 0
@@ -66,3 +64,10 @@ pub record GoesOn (old new : Parts) : Type 0 where
   pub job : new.job.now ≡ old.job.now
   pub done : new.done ≡ old.done
   pub log : Lengthens old.log.items new.log.items
+
+-- the ready firing at that place is taken, and goes to the end of the log
+pub record Begins (old : Parts) (place : ℕ) (new : Parts) : Type 0 where
+  pub firing : Firing
+  pub at : slice_get old.ready place ≡ Some firing
+  pub takes : Takes (state_of old) firing (state_of new)
+  pub log : new.log.items ≡ old.log.items ++ firing ∷ []

@@ -1,10 +1,10 @@
 //! How ready firings are fired: the third of three things that a machine does with its parts, each of
 //! which has a file of its own.
-ghost use Rattle.std.specs.Prelude.{◌≡◌, ◌<◌, IfOk, IsTrue, IsFalse, length, slice_get, Some};
+ghost use Rattle.std.specs.Prelude.{◌≡◌, ◌<◌, IfOk, OnOk, OnErr, IsTrue, IsFalse, length, slice_get, Some};
 ghost use Rattle.u_rule.specs.declared.firing.Firing.{Firing};
-ghost use Rattle.u_machine.specs.State.{NothingReady, IsReady};
+ghost use Rattle.u_machine.specs.State.{NothingReady, IsReady, count_of};
 ghost use Rattle.u_machine.specs.Calls.{FireAnswer, RunAnswer};
-ghost use Rattle.u_machine.specs.Invariant.{state_of, Invariant};
+ghost use Rattle.u_machine.specs.Invariant.{state_of, Invariant, Begins};
 
 use crate::answer::{Ran, Refusal, Step};
 use crate::parts::Parts;
@@ -24,6 +24,24 @@ impl<'a> Parts<'a> {
         }
     }
 
+    /// The ready firing at that place begins to be applied. All that was begun before is applied.
+    fn begin_at(&mut self, place: usize) -> Result<(), AllocError>
+        requires kept { Invariant self.old }
+        requires settled { self.old.done ≡ length self.old.log.items }
+        requires ready { place < length self.old.ready }
+        requires room { count_of (state_of self.old) < self.old.limit }
+        ensures kept { Invariant self.new }
+        ensures ok { OnOk result (Begins self.old place self.new) }
+        ensures err { OnErr result (state_of self.new ≡ state_of self.old) }
+    {
+        if place == 0 {
+            return self.begin_least();
+        }
+        let firing = self.ready_at(place)?;
+        self.begin(firing)?;
+        Ok(())
+    }
+
     /// Applies one ready firing, and what becomes enabled by it and was taken.
     pub(crate) fn fire(&mut self, pick: usize) -> Result<Step, Refusal>
         requires { Invariant self.old }
@@ -39,8 +57,7 @@ impl<'a> Parts<'a> {
             return Err(Refusal::Full);
         }
         let place = self.log.len();
-        let firing = self.ready_at(pick % count)?;
-        self.take_new(&firing)?;
+        self.begin_at(pick % count)?;
         self.settle()?;
         Ok(Step::Fired(place))
     }

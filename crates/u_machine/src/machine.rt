@@ -92,7 +92,7 @@ impl<'a> Machine<'a> {
         ensures promise { KeepsItsPromise self.now }
     {
         // The contracts of `len` say that both rise.
-        let _entries = self.parts.history.len();
+        let _entries = self.parts.matcher.history().len();
         let _parked = self.parts.parked.len();
     }
 
@@ -116,14 +116,14 @@ impl<'a> Machine<'a> {
     pub fn history(&self) -> &History
         ensures { result.now ≡ self.now.history }
     {
-        &self.parts.history
+        self.parts.matcher.history()
     }
 
     /// The applied firings, in the order in which they were applied.
     pub fn applied(&self) -> &[Firing]
         ensures { result.now ≡ self.now.log }
     {
-        &self.parts.log[..self.parts.done]
+        &self.parts.log.as_slice()[..self.parts.done]
     }
 
     /// The firings that were taken and not applied, in order.

@@ -9,11 +9,11 @@ ghost use Rattle.u_system.specs.Firing.{Same};
 ghost use Rattle.u_machine.specs.Invariant.{state_of, Invariant};
 
 use std::alloc::{AllocError, Global};
+use std::collections::VecDeque;
 use u_check::Job;
-use u_history::History;
 use u_match::Matcher;
-use u_rule::{Entry, Firing, start};
-use u_sets::{HashedSet, OrderedSet};
+use u_rule::{Firing, start};
+use u_sets::OrderedSet;
 
 /// The parts of a machine.
 #[derive(Drop)]
@@ -26,19 +26,14 @@ pub(crate) struct Parts<'a> {
     pub(crate) log: Vec<Firing>,
     /// How many firings of the log were applied.
     pub(crate) done: usize,
-    pub(crate) taken: HashedSet<Firing>,
     /// The firings that were taken and not applied.
     pub(crate) parked: OrderedSet<Firing>,
     /// The firings that are enabled and not taken.
     pub(crate) ready: OrderedSet<Firing>,
-    /// The matcher's last answer.
-    pub(crate) found: Vec<Firing>,
-    /// How many firings of that answer were sorted out.
-    pub(crate) sorted: usize,
-    pub(crate) history: History,
+    /// Those that the last entry woke and that are still to be sorted out, in order.
+    pub(crate) found: VecDeque<Firing>,
+    /// The history, with what each of its entries may meet.
     pub(crate) matcher: Matcher,
-    /// The entry of the history that the matcher does not have yet.
-    pub(crate) late: Option<Entry>,
 }
 
 /// The set of these firings.
@@ -59,26 +54,20 @@ impl<'a> Parts<'a> {
         ensures state { IfOk result
             (λ p. state_of p ≡ state job.now limit [] [] ((system_of job.now).start ∷ [])) }
     {
-        let mut history = History::new(alloc);
-        history.insert(start(job))?;
-        let _count = history.len();
         let mut matcher = Matcher::new(alloc);
         let found = matcher.enter(job, &start(job))?;
         let ready = set_of(alloc, &found)?;
+        let _count = matcher.history().len();
         Ok(Parts {
             alloc,
             job,
             limit,
             log: Vec::new(alloc),
             done: 0,
-            taken: HashedSet::new(alloc),
             parked: OrderedSet::new(alloc),
             ready,
-            found: Vec::new(alloc),
-            sorted: 0,
-            history,
+            found: VecDeque::new(alloc),
             matcher,
-            late: None,
         })
     }
 

@@ -1,49 +1,19 @@
 //! How firings are taken, one or a list: the second of three things that a machine does with its
 //! parts, each of which has a file of its own.
-ghost use Rattle.std.specs.Prelude.{◌≡◌, ◌↔◌, ◌<◌, ◌≤◌, ◌+◌, ◌++◌, [], ◌∷◌, OnOk, OnErr, IfOk, IfSome, IfNone, IsTrue, IsFalse, Contains, length};
+ghost use Rattle.std.specs.Prelude.{◌≡◌, ◌↔◌, ◌<◌, ◌≤◌, ◌+◌, ◌++◌, [], ◌∷◌, OnOk, OnErr, IfOk, IfSome, IfNone, IsTrue, IsFalse, Contains, length, slice_get, Some};
 ghost use Rattle.u_rule.specs.Rule.{system_of};
-ghost use Rattle.u_rule.specs.EntryOrder.{firing_cmp};
-ghost use Rattle.u_system.specs.Firing.{Same};
-ghost use Rattle.u_sets.specs.Rising.{Rises};
-ghost use Rattle.u_sets.specs.Members.{IsWith};
 ghost use Rattle.u_machine.specs.State.{Taken, count_of};
 ghost use Rattle.u_machine.specs.Calls.{Takes, TakeAnswer};
-ghost use Rattle.u_machine.specs.Taking.{AreFirings, IsFirstOther, AreNew, GainsNew, TakeAllAnswer};
-ghost use Rattle.u_machine.specs.Invariant.{state_of, Invariant};
+ghost use Rattle.u_machine.specs.Taking.{AreFirings, IsFirstOther, AreNew, GainsNew, Fits, IsTooLong, TakeAllAnswer};
+ghost use Rattle.u_machine.specs.Invariant.{state_of, Invariant, Begins};
 
 use crate::answer::{ListRefusal, TakeRefusal, Took};
 use crate::parts::Parts;
 use crate::room::push_into_room;
-use std::alloc::{AllocError, Global};
+use std::alloc::AllocError;
 use u_check::Job;
 use u_rule::{Firing, is_firing};
-use u_sets::{HashedSet, OrderedSet};
-
-/// Puts copies of the firing into both sets, or into neither.
-pub fn put_in_both(
-    alloc: Global,
-    taken: &mut HashedSet<Firing>,
-    parked: &mut OrderedSet<Firing>,
-    firing: &Firing,
-) -> Result<(), AllocError>
-    requires taken { Contains taken.old firing.now → ⊥ }
-    requires parked { Contains parked.old firing.now → ⊥ }
-    ensures taken { OnOk result (IsWith taken.old firing.now taken.new) }
-    ensures parked { OnOk result (IsWith parked.old firing.now parked.new) }
-    ensures rises { OnOk result (Rises firing_cmp parked.new) }
-    ensures count { OnOk result (length parked.new ≡ length parked.old + 1) }
-    ensures still { OnErr result (Same (Contains taken.new) (Contains taken.old)) }
-    ensures err { OnErr result (parked.new ≡ parked.old) }
-{
-    let first = firing.copy(alloc)?;
-    let second = firing.copy(alloc)?;
-    taken.insert(first)?;
-    let Err(_) = parked.insert(second) else {
-        return Ok(());
-    };
-    taken.remove(firing);
-    Err(AllocError)
-}
+use u_sets::PlacedSet;
 
 /// The place of the first that is no firing of the job.
 fn first_other(job: &Job, firings: &[Firing]) -> Option<usize>
@@ -58,13 +28,63 @@ fn first_other(job: &Job, firings: &[Firing]) -> Option<usize>
     None
 }
 
+/// Whether the two are one firing.
+#[tactic(auto, using(crate::proofs::Once::same_firing))]
+fn is_same(left: &Firing, right: &Firing) -> bool
+    ensures { IsTrue result ↔ (left.now ≡ right.now) }
+{
+    left.cmp(right).is_eq()
+}
+
+/// Whether the firing is in the list.
+fn is_among(firings: &[Firing], firing: &Firing) -> bool
+    ensures { IsTrue result ↔ Contains firings.now firing.now }
+{
+    for other in firings {
+        if is_same(other, firing) {
+            return true;
+        }
+    }
+    false
+}
+
 impl<'a> Parts<'a> {
+    /// Whether the firing is still to be sorted out.
+    fn awaits(&self, firing: &Firing) -> bool
+        ensures { IsTrue result ↔ Contains self.now.found.items firing.now }
+    {
+        let (first, rest) = self.found.as_slices();
+        is_among(first, firing) || is_among(rest, firing)
+    }
+
+    /// Whether the firing was applied or is being applied. Each firing that has all that it needs is in
+    /// the log, or ready, or still to be sorted out, and the log has no others.
+    fn has_begun(&self, firing: &Firing) -> bool
+        requires { Invariant self.now }
+        ensures { IsTrue result ↔ Contains self.now.log.items firing.now }
+    {
+        let Ok(held) = self.matcher.has_all_of(self.job, firing) else {
+            return is_among(&self.log, firing);
+        };
+        if !held {
+            return false;
+        }
+        let is_ready = self.ready.contains(firing);
+        if is_ready {
+            return false;
+        }
+        if self.awaits(firing) {
+            return false;
+        }
+        true
+    }
+
     /// Whether the firing was taken.
     pub(crate) fn knows(&self, firing: &Firing) -> bool
         requires { Invariant self.now }
         ensures { IsTrue result ↔ Taken (state_of self.now) firing.now }
     {
-        self.taken.contains(firing)
+        self.has_begun(firing) || self.parked.contains(firing)
     }
 
     /// Whether no further firing may be taken. All that was begun is applied.
@@ -77,41 +97,134 @@ impl<'a> Parts<'a> {
         self.limit <= self.log.len() + self.parked.len()
     }
 
-    /// Takes a firing of the job that was not taken. Where it is ready, it begins to be applied. Answers
-    /// whether it does.
-    pub(crate) fn take_new(&mut self, firing: &Firing) -> Result<bool, AllocError>
+    /// A ready firing begins to be applied. All that was begun before is applied.
+    pub(crate) fn begin(&mut self, firing: Firing) -> Result<(), AllocError>
         requires kept { Invariant self.old }
         requires settled { self.old.done ≡ length self.old.log.items }
+        requires ready { Contains self.old.ready firing }
+        requires room { count_of (state_of self.old) < self.old.limit }
+        ensures kept { Invariant self.new }
+        ensures takes { OnOk result (Takes (state_of self.old) firing (state_of self.new)) }
+        ensures err { OnErr result (state_of self.new ≡ state_of self.old) }
+        ensures log { OnOk result (self.new.log.items ≡ self.old.log.items ++ firing ∷ []) }
+    {
+        let waiting = firing.copy(self.alloc)?;
+        self.log.reserve(1)?;
+        self.parked.insert(waiting)?;
+        self.ready.remove(&firing);
+        push_into_room(&mut self.log, firing);
+        Ok(())
+    }
+
+    /// The least ready firing begins to be applied, as in `begin`. It is found without comparing.
+    pub(crate) fn begin_least(&mut self) -> Result<(), AllocError>
+        requires kept { Invariant self.old }
+        requires settled { self.old.done ≡ length self.old.log.items }
+        requires ready { 0 < length self.old.ready }
+        requires room { count_of (state_of self.old) < self.old.limit }
+        ensures kept { Invariant self.new }
+        ensures ok { OnOk result (Begins self.old 0 self.new) }
+        ensures err { OnErr result (state_of self.new ≡ state_of self.old) }
+    {
+        let Some(least) = self.ready.first() else {
+            unreachable!();
+        };
+        let copy_of_least = least.copy(self.alloc)?;
+        self.log.reserve(1)?;
+        self.parked.insert(copy_of_least)?;
+        let Some(firing) = self.ready.pop_first() else {
+            unreachable!();
+        };
+        push_into_room(&mut self.log, firing);
+        Ok(())
+    }
+
+    /// Whether the firing is the least ready one.
+    fn is_least(&self, firing: &Firing) -> bool
+        ensures { IsTrue result ↔ (slice_get self.now.ready 0 ≡ Some firing.now) }
+    {
+        match self.ready.first() {
+            Some(least) => is_same(least, firing),
+            None => false,
+        }
+    }
+
+    /// Whether the firing is ready. The least one is looked at first.
+    fn is_ready(&self, firing: &Firing) -> bool
+        ensures { IsTrue result ↔ Contains self.now.ready firing.now }
+    {
+        if self.is_least(firing) {
+            return true;
+        }
+        self.ready.contains(firing)
+    }
+
+    /// A ready firing begins to be applied, as in `begin`. The least one is not looked for.
+    fn begin_ready(&mut self, firing: &Firing) -> Result<(), AllocError>
+        requires kept { Invariant self.old }
+        requires settled { self.old.done ≡ length self.old.log.items }
+        requires ready { Contains self.old.ready firing.now }
+        requires room { count_of (state_of self.old) < self.old.limit }
+        ensures kept { Invariant self.new }
+        ensures takes { OnOk result (Takes (state_of self.old) firing.now (state_of self.new)) }
+        ensures err { OnErr result (state_of self.new ≡ state_of self.old) }
+        ensures log { OnOk result (self.new.log.items ≡ self.old.log.items ++ firing.now ∷ []) }
+    {
+        if self.is_least(firing) {
+            self.begin_least()?;
+            return Ok(());
+        }
+        let copy = firing.copy(self.alloc)?;
+        self.begin(copy)?;
+        Ok(())
+    }
+
+    /// Takes a ready firing and applies it, and what becomes enabled by it and was taken. All that was
+    /// begun before is applied.
+    fn take_ready(&mut self, firing: &Firing) -> Result<Took, TakeRefusal>
+        requires kept { Invariant self.old }
+        requires settled { self.old.done ≡ length self.old.log.items }
+        requires ready { Contains self.old.ready firing.now }
+        ensures kept { Invariant self.new }
+        ensures answer { TakeAnswer (state_of self.old) firing.now result (state_of self.new) }
+    {
+        if self.is_full() {
+            return Err(TakeRefusal::Full);
+        }
+        self.begin_ready(firing)?;
+        self.settle()?;
+        Ok(Took::Taken)
+    }
+
+    /// Parks a firing of the job that was not taken and is not ready. All that was begun before is
+    /// applied.
+    fn park(&mut self, firing: &Firing) -> Result<(), AllocError>
+        requires kept { Invariant self.old }
         requires new { Taken (state_of self.old) firing.now → ⊥ }
+        requires unready { Contains self.old.ready firing.now → ⊥ }
         requires firing { IsTrue ((system_of self.old.job.now).is_firing firing.now) }
         requires room { count_of (state_of self.old) < self.old.limit }
         ensures kept { Invariant self.new }
         ensures takes { OnOk result (Takes (state_of self.old) firing.now (state_of self.new)) }
         ensures err { OnErr result (state_of self.new ≡ state_of self.old) }
-        ensures begins { IfOk result (λ b. Contains self.old.ready firing.now → IsTrue b) }
-        ensures begun { IfOk result
-            (λ b. IsTrue b → self.new.log.items ≡ self.old.log.items ++ firing.now ∷ []) }
-        ensures parked { IfOk result
-            (λ b. IsFalse b
-            → (Contains self.new.parked firing.now × (self.new.done ≡ length self.new.log.items))) }
+        ensures parked { OnOk result (Contains self.new.parked firing.now) }
+        ensures still { (self.new.done ≡ self.old.done) × (self.new.log ≡ self.old.log) }
     {
-        let logged = firing.copy(self.alloc)?;
-        self.log.reserve(1)?;
-        put_in_both(self.alloc, &mut self.taken, &mut self.parked, firing)?;
-        if !self.ready.remove(firing) {
-            return Ok(false);
-        }
-        push_into_room(&mut self.log, logged);
-        Ok(true)
+        let copy = firing.copy(self.alloc)?;
+        self.parked.insert(copy)?;
+        Ok(())
     }
 
-    /// Takes the firing, unless it was taken.
-    pub(crate) fn take(&mut self, firing: &Firing) -> Result<Took, TakeRefusal>
-        requires { Invariant self.old }
+    /// Takes the firing, unless it was taken. All that was begun before is applied.
+    fn take_settled(&mut self, firing: &Firing) -> Result<Took, TakeRefusal>
+        requires kept { Invariant self.old }
+        requires settled { self.old.done ≡ length self.old.log.items }
         ensures kept { Invariant self.new }
         ensures answer { TakeAnswer (state_of self.old) firing.now result (state_of self.new) }
     {
-        self.settle()?;
+        if self.is_ready(firing) {
+            return self.take_ready(firing);
+        }
         if self.knows(firing) {
             return Ok(Took::Known);
         }
@@ -121,16 +234,22 @@ impl<'a> Parts<'a> {
         if self.is_full() {
             return Err(TakeRefusal::Full);
         }
-        let begun = self.take_new(firing)?;
-        if !begun {
-            return Ok(Took::Parked);
-        }
+        self.park(firing)?;
+        Ok(Took::Parked)
+    }
+
+    /// Takes the firing, unless it was taken.
+    pub(crate) fn take(&mut self, firing: &Firing) -> Result<Took, TakeRefusal>
+        requires { Invariant self.old }
+        ensures kept { Invariant self.new }
+        ensures answer { TakeAnswer (state_of self.old) firing.now result (state_of self.new) }
+    {
         self.settle()?;
-        Ok(Took::Taken)
+        self.take_settled(firing)
     }
 
     /// Puts a copy of the firing into the set, unless the firing was taken.
-    fn add_new(&self, news: &mut OrderedSet<Firing>, firing: &Firing) -> Result<(), AllocError>
+    fn add_new(&self, news: &mut PlacedSet<Firing>, firing: &Firing) -> Result<(), AllocError>
         requires { Invariant self.now }
         ensures { OnOk result (GainsNew (state_of self.now) firing.now news.old news.new) }
     {
@@ -142,11 +261,11 @@ impl<'a> Parts<'a> {
     }
 
     /// Those of the list that were not taken.
-    fn new_of(&self, firings: &[Firing]) -> Result<OrderedSet<Firing>, AllocError>
+    fn new_of(&self, firings: &[Firing]) -> Result<PlacedSet<Firing>, AllocError>
         requires { Invariant self.now }
         ensures { IfOk result (λ s. AreNew (state_of self.now) firings.now s) }
     {
-        let mut news = OrderedSet::new(self.alloc);
+        let mut news = PlacedSet::new(self.alloc);
         for firing in firings {
             self.add_new(&mut news, firing)?;
         }
@@ -164,6 +283,22 @@ impl<'a> Parts<'a> {
         more <= self.limit - self.log.len() - self.parked.len()
     }
 
+    /// Whether those of the list may be taken that were not. They are counted only where the whole list
+    /// would be too long. All that was begun is applied.
+    fn may_take(&self, firings: &[Firing]) -> Result<bool, AllocError>
+        requires kept { Invariant self.now }
+        requires settled { self.now.done ≡ length self.now.log.items }
+        ensures fits { IfOk result (λ b. IsTrue b → Fits (state_of self.now) firings.now) }
+        ensures long { IfOk result (λ b. IsFalse b → IsTooLong (state_of self.now) firings.now) }
+    {
+        if self.has_room(firings.len()) {
+            return Ok(true);
+        }
+        let news = self.new_of(firings)?;
+        let fits = self.has_room(news.len());
+        Ok(fits)
+    }
+
     /// Takes the firings of the list in their order.
     pub(crate) fn take_all(&mut self, firings: &[Firing]) -> Result<(), ListRefusal>
         requires { Invariant self.old }
@@ -174,8 +309,8 @@ impl<'a> Parts<'a> {
         if let Some(place) = first_other(self.job, firings) {
             return Err(ListRefusal::NotAFiring(place));
         }
-        let news = self.new_of(firings)?;
-        if !self.has_room(news.len()) {
+        let fits = self.may_take(firings)?;
+        if !fits {
             return Err(ListRefusal::Full);
         }
         for firing in firings {

@@ -2,7 +2,7 @@ use Rattle.std.proofs.Common.{◌≡◌, ◌∙◌, sym, Contains}
 use Rattle.std.proofs.lemmas.Bool.{false≢true}
 use Rattle.u_rule.specs.Rule.{system_of}
 use Rattle.u_rule.specs.declared.firing.Firing.{Firing}
-use Rattle.u_match.proofs.Steps.{nothing, renamed}
+use Rattle.u_match.proofs.Steps.{nothing, same_firing}
 use Rattle.u_match.proofs.Wakes.{added, left_out}
 use Rattle.u_trace.proofs.causing.keep.Goals as goal
 
@@ -16,4 +16,4 @@ pub returns-clause-ok : goal.returns-clause-ok
 returns-clause-ok c =
     let gives : Firing → Type 0 = λ (f : Firing). Contains ((system_of c.args.job.now).gives f) c.args.entry.now in
     added gives c.args.firing.now c.args.found.now.items c.place_in.new.list.items (c.in_ok-given.ensures.0 c.if-not-given.false)
-    (renamed c.in_ok-copy.copy c.args.firing.now c.args.found.now.items c.place_in.new.list.items c.in_ok-copy.ensures c.in_ok-place_in.ensures.ok)
+    (same_firing c.in_ok-copy.copy c.args.firing.now c.args.found.now.items c.place_in.new.list.items c.in_ok-copy.ensures c.in_ok-place_in.ensures.ok)

@@ -1,21 +1,29 @@
-use Rattle.std.proofs.Common.{◌≡◌, ap, length, arith, length-append, [], ◌∷◌, ◌++◌, sym, subst, drop, ◌+◌}
+use Rattle.std.proofs.Common.{◌≡◌, ap, length, arith, length-append, [], ◌∷◌, ◌++◌, sym, subst, take, ◌∙◌}
+use Rattle.std.proofs.lemmas.List.{take-append-le}
 use Rattle.u_rule.specs.EntryOrder.{FiringList}
 use Rattle.u_machine.specs.Invariant.{IsLogged, IsSorted}
-use Rattle.u_machine.proofs.Settled.{not_logged, parked_first, enabled_first}
+use Rattle.u_machine.proofs.Settled.{not_logged, enabled_first}
 use Rattle.u_machine.proofs.Steps.{begins}
 use Rattle.u_machine.proofs.Sorting.{sorts_logged}
 use Rattle.u_machine.proofs.parts.Parts.begin_next.Goals as goal
+use Rattle.u_machine.proofs.parts.Parts.begin_next.Goals.{After-push_into_room}
+
+logs : (c : After-push_into_room) → c.push_into_room.new.list.items ≡ c.args.self.now.log.items ++ c.in-Some.firing ∷ []
+logs c = c.push_into_room.ensures.items ∙ ap (λ (l : FiringList). l ++ c.in-Some.firing ∷ []) c.reserve.ensures.items
 
 pub returns-clause-kept : goal.returns-clause-kept
 returns-clause-kept c =
     let k = c.requires.kept in
-    let n = c.requires.next in
     let m = c.args.self.now in
-    let l : c.push.new.self.items ≡ m.log.items ++ c.args.firing ∷ [] = c.in_ok-push.ensures.items in
+    let f = c.in-Some.firing in
+    let rest = c.pop_front.new.self.items in
+    let n = c.in-Some.ensures.items in
+    let l = logs c in
+    let s : take m.done (m.log.items ++ f ∷ []) ≡ take m.done m.log.items = take-append-le m.done m.log.items (f ∷ []) k.logged.place in
     record {
-      logged = subst (λ (log : FiringList). IsLogged m.job.now m.limit log m.done m.taken m.parked m.history) (sym l)
-          (begins _ _ _ _ _ _ _ k.logged c.args.firing (parked_first m k c.args.firing _ n c.requires.taken) (not_logged m k c.args.firing _ n) (enabled_first m k c.args.firing _ n));
-      matched = k.matched;
-      sorted = subst (λ (log : FiringList). IsSorted m.job.now log m.taken m.ready (drop (m.sorted + 1) m.found.items) m.matcher) (sym l) (sorts_logged _ _ _ _ _ _ k.sorted c.args.firing _ n);
-      idle = λ e. let a = length-append m.log.items (c.args.firing ∷ []) in let b = k.logged.place in let d = ap length l in absurd (omega (arith, e));
+      logged = subst (λ (log : FiringList). IsLogged m.job.now m.limit log m.done m.parked m.matcher) (sym l)
+          (begins _ _ _ _ _ _ k.logged f (c.requires.taken f (rest, n)) (not_logged m k f rest n) (enabled_first m k f rest n));
+      sorted = subst (λ (log : FiringList). IsSorted m.job.now log (take m.done log ++ m.parked) m.ready rest m.matcher) (sym l)
+          (rw s (sorts_logged _ _ _ _ _ _ k.sorted f rest n));
+      idle = λ e. let a = length-append m.log.items (f ∷ []) in let b = k.logged.place in let d = ap length l in absurd (omega (arith, e));
     }

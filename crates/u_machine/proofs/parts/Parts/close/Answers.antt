@@ -1,18 +1,21 @@
 use Rattle.u_machine.proofs.Lists.{slice_get_at}
-use Rattle.u_machine.proofs.Steps.{applied, applied_more, was_parked}
+use Rattle.u_machine.proofs.Settled.{same_taken, parked_next}
+use Rattle.u_machine.proofs.Steps.{applied, applied_more, taken_still}
 use Rattle.u_machine.proofs.parts.Parts.close.Goals as goal
+
+pub take_out-requires : goal.take_out-requires
+take_out-requires c = parked_next c.args.self.now c.requires.kept c.index.result.now c.requires.some c.index.ensures
 
 pub returns-clause-kept : goal.returns-clause-kept
 returns-clause-kept c =
     let k = c.requires.kept in
     let f = c.index.result.now in
+    let at = c.index.ensures in
     let m = c.args.self.now in
-    let was = was_parked _ _ _ _ _ _ _ k.logged f c.remove.new.self c.requires.some c.index.ensures c.remove.ensures.without in
     record {
-      logged = applied _ _ _ _ _ _ _ k.logged f c.remove.new.self c.requires.some c.index.ensures c.remove.ensures.without c.remove.ensures.rises (c.remove.ensures.count (c.remove.ensures.was.1 was))
-          (λ e g. c.requires.all e (f, slice_get_at m.log.items m.done f c.requires.some c.index.ensures, g));
-      matched = k.matched;
-      sorted = k.sorted;
+      logged = applied _ _ _ _ _ _ k.logged f c.take_out.new.self c.requires.some at c.take_out.ensures.without c.take_out.ensures.rises c.take_out.ensures.count
+          (λ e g. c.requires.all e (f, slice_get_at m.log.items m.done f c.requires.some at, g));
+      sorted = same_taken _ _ _ _ _ _ _ (λ g. let t = taken_still _ _ _ _ _ _ k.logged f c.take_out.new.self c.requires.some at c.take_out.ensures.without g in (t.1, t.0)) k.sorted;
       idle = λ e. c.requires.idle;
     }
 
@@ -20,5 +23,5 @@ pub returns-clause-applies : goal.returns-clause-applies
 returns-clause-applies c =
     let k = c.requires.kept in
     let f = c.index.result.now in
-    let was = was_parked _ _ _ _ _ _ _ k.logged f c.remove.new.self c.requires.some c.index.ensures c.remove.ensures.without in
-    applied_more _ _ _ _ _ _ _ k.logged f c.remove.new.self c.requires.some c.index.ensures c.remove.ensures.without (c.remove.ensures.count (c.remove.ensures.was.1 was))
+    let at = c.index.ensures in
+    applied_more _ _ _ _ _ _ k.logged f c.take_out.new.self c.requires.some at c.take_out.ensures.without c.take_out.ensures.count

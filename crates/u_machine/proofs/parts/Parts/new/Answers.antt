@@ -4,34 +4,33 @@ use Rattle.u_rule.specs.declared.entry.Entry.{Entry}
 use Rattle.u_rule.specs.declared.firing.Firing.{Firing}
 use Rattle.std.specs.Prelude.{Contains, ◌↔◌}
 use Rattle.u_system.specs.Firing.{Enabled, Same}
-use Rattle.u_rule.specs.EntryOrder.{EntryList, FiringList}
+use Rattle.u_rule.specs.EntryOrder.{entry_cmp, EntryList, FiringList}
+use Rattle.u_sets.specs.Rising.{Rises}
 use Rattle.u_sets.specs.Members.{IsWith}
 use Rattle.u_machine.specs.State.{state}
-use Rattle.u_machine.proofs.Fresh.{only_one, fresh_log, fresh_matched, fresh_sorted}
+use Rattle.u_machine.proofs.Fresh.{only_one, fresh_log, fresh_sorted}
 use Rattle.u_machine.proofs.parts.Parts.new.Goals as goal
 
-held : (c : goal.After-drop-found-2) → c.insert.new.self ≡ start_of c.args.job.now ∷ []
-held c =
-    only_one c.insert.new.self (start_of c.args.job.now) c.len-count.ensures.rises
-    (subst (λ (xs : EntryList). IsWith xs (start_of c.args.job.now) c.insert.new.self) c.new-history.ensures (subst (λ (e : Entry). IsWith c.new-history.result e c.insert.new.self) c.start.ensures.start c.in_ok-insert.ensures.ok))
-
-matched : (c : goal.After-drop-found-2) → IsWith [] (start_of c.args.job.now) c.enter.new.self
-matched c =
+starts : (c : goal.After-drop-found-2) → IsWith [] (start_of c.args.job.now) c.enter.new.self
+starts c =
     subst (λ (xs : EntryList). IsWith xs (start_of c.args.job.now) c.enter.new.self) c.new-matcher.ensures
-    (subst (λ (e : Entry). IsWith c.new-matcher.result e c.enter.new.self) c.start-2.ensures.start c.in_ok-found.ensures.ok)
+    (subst (λ (e : Entry). IsWith c.new-matcher.result e c.enter.new.self) c.start.ensures.start c.in_ok-found.ensures.ok)
+
+held : (c : goal.After-drop-found-2) → c.enter.new.self ≡ start_of c.args.job.now ∷ []
+held c =
+    only_one c.enter.new.self (start_of c.args.job.now) (subst (λ (xs : EntryList). Rises entry_cmp xs) c.history.ensures c.len-count.ensures.rises) (starts c)
 
 pub returns-clause-kept : goal.returns-clause-kept
 returns-clause-kept c = record {
-  logged = rw (c.new.ensures.items, c.new-2.ensures, c.new-3.ensures, held c) (fresh_log c.args.job.now c.args.limit);
-  matched = rw (held c) (fresh_matched c.args.job.now c.args.limit c.enter.new.self (matched c));
-  sorted = rw (c.new.ensures.items, c.new-2.ensures, c.new-4.ensures.items)
-      (fresh_sorted c.args.job.now c.args.limit c.enter.new.self c.in_ok-found.found.items c.in_ok-ready.ready (matched c)
-      (subst (λ (e : Entry). (f : Firing) → Contains c.in_ok-found.found.items f ↔ (Contains ((system_of c.args.job.now).needs f) e × Enabled (system_of c.args.job.now) (Contains c.enter.new.self) f)) c.start-2.ensures.start c.in_ok-found.ensures.exact)
+  logged = rw (c.new.ensures.items, c.new-2.ensures, held c) (fresh_log c.args.job.now c.args.limit);
+  sorted = rw (c.new.ensures.items, c.new-2.ensures, c.new-3.ensures.items)
+      (fresh_sorted c.args.job.now c.args.limit c.enter.new.self c.in_ok-found.found.items c.in_ok-ready.ready (starts c)
+      (subst (λ (e : Entry). (f : Firing) → Contains c.in_ok-found.found.items f ↔ (Contains ((system_of c.args.job.now).needs f) e × Enabled (system_of c.args.job.now) (Contains c.enter.new.self) f)) c.start.ensures.start c.in_ok-found.ensures.exact)
       (subst (λ (fs : FiringList). Same (Contains c.in_ok-ready.ready) (Contains fs)) c.deref.ensures.value c.in_ok-ready.ensures));
-  idle = λ e. record { sorted = rw c.new-4.ensures.items refl; matched = refl };
+  idle = λ e. rw c.new-3.ensures.items refl;
 }
 
 pub returns-clause-state : goal.returns-clause-state
 returns-clause-state c =
-    ap (λ (parked : FiringList). state c.args.job.now c.args.limit [] parked c.insert.new.self) c.new-3.ensures
+    ap (λ (parked : FiringList). state c.args.job.now c.args.limit [] parked c.enter.new.self) c.new-2.ensures
     ∙ ap (λ (h : EntryList). state c.args.job.now c.args.limit [] [] h) (held c)

@@ -1,5 +1,5 @@
-use Rattle.std.proofs.Common.{◌≡◌, ◌-◌, length}
-use Rattle.u_machine.specs.Invariant.{state_of, Invariant, GoesOn}
+use Rattle.std.proofs.Common.{◌≡◌, length}
+use Rattle.u_machine.specs.Invariant.{state_of, left_of, Invariant, GoesOn}
 use Rattle.u_machine.proofs.parts.Parts.sort_all.Given as goal
 
 abbrev pub invariant-loop-self : goal.invariant-loop-self
@@ -7,8 +7,7 @@ invariant-loop-self l = record {
   kept : Invariant l.self;
   same : state_of l.self ≡ state_of l.fn.self;
   goes : GoesOn l.fn.self l.self;
-  late : l.self.late ≡ l.fn.self.late;
 }
 
 abbrev pub decreases-loop-self : goal.decreases-loop-self
-decreases-loop-self l = length l.self.found.items - l.self.sorted
+decreases-loop-self l = length (left_of l.self)

@@ -1,4 +1,4 @@
-use Rattle.std.proofs.Common.{◌≡◌, ◌∙◌, ap, ◌≤◌, length, arith, subst, List, Err, take, inl, inr, true}
+use Rattle.std.proofs.Common.{◌≡◌, ◌∙◌, ap, ◌≤◌, length, arith, subst, List, Err, take, inl, inr}
 use Rattle.std.specs.Prelude.{Result}
 use Rattle.std.proofs.lemmas.List as lists
 use Rattle.u_rule.specs.declared.firing.Firing.{Firing}
@@ -7,21 +7,25 @@ use Rattle.u_machine.specs.declared.answer.Took.{Took}
 use Rattle.u_machine.specs.declared.answer.TakeRefusal.{TakeRefusal}
 use Rattle.u_machine.specs.declared.answer.TakeRefusal.TheVariants as untaken
 use Rattle.u_machine.specs.Calls.{TakeAnswer}
-use Rattle.u_machine.specs.Taking.{IsFirstOther, AreFirings, AreNew, Fits, TakesAll}
+use Rattle.u_machine.specs.Taking.{IsFirstOther, AreFirings, Fits, TakesAll}
 use Rattle.u_machine.specs.Invariant.{state_of}
 use Rattle.u_machine.proofs.States.{Applies-refl}
 use Rattle.u_machine.proofs.Settled.{settled_there, settled_back, settles, stays_unsettled}
 use Rattle.u_machine.proofs.TakenLists.{takes_none, takes_next, takes_after, part_taken, never_full, never_other, next_place, new_before, all_no_memory}
 use Rattle.u_machine.proofs.parts.Parts.take_all.Goals as goal
-use Rattle.u_machine.proofs.parts.Parts.take_all.Goals.{After-has_room, After-take}
+use Rattle.u_machine.proofs.parts.Parts.take_all.Goals.{After-may_take, After-take}
 
 -- all of the list are firings of the job
-are_firings : (c : After-has_room) → AreFirings c.args.self.now.job.now c.args.firings.now
+are_firings : (c : After-may_take) → AreFirings c.args.self.now.job.now c.args.firings.now
 are_firings c = subst (λ (j : JobParts). AreFirings j c.args.firings.now) c.settle.ensures.applies.job c.in_default.ensures.none
 
--- those that are new
-news_before : (c : After-has_room) → AreNew (state_of c.args.self.now) c.args.firings.now c.in_ok-news.news
-news_before c = new_before (state_of c.args.self.now) (state_of c.settle.new.self) c.args.firings.now c.in_ok-news.news c.settle.ensures.applies c.in_ok-news.ensures
+-- what fits after settling fitted before
+fits_before : (c : After-may_take) → Fits (state_of c.settle.new.self) c.args.firings.now → Fits (state_of c.args.self.now) c.args.firings.now
+fits_before c (news, are, room) =
+    let p = c.settle.ensures.applies in
+    let w = p.count in
+    let v = p.limit in
+    (news, new_before (state_of c.args.self.now) (state_of c.settle.new.self) c.args.firings.now news p are, omega (arith, room, w, v))
 
 -- settling failed: an earlier call had left something
 pub returns-in_err-settle-clause-answer : goal.returns-in_err-settle-clause-answer
@@ -36,34 +40,23 @@ returns-in-Some-clause-answer c = (
 )
 
 -- the new ones could not be counted
-pub returns-in_err-news-clause-answer : goal.returns-in_err-news-clause-answer
-returns-in_err-news-clause-answer c =
-    all_no_memory (state_of c.args.self.now) (state_of c.settle.new.self) c.args.firings.now _ c.from_residual-in_err-news.ensures.1
+pub returns-in_err-fits-clause-answer : goal.returns-in_err-fits-clause-answer
+returns-in_err-fits-clause-answer c =
+    all_no_memory (state_of c.args.self.now) (state_of c.settle.new.self) c.args.firings.now _ c.from_residual-in_err-fits.ensures.1
     (inr (
       subst (λ (j : JobParts). AreFirings j c.args.firings.now) c.settle.ensures.applies.job c.in_default.ensures.none,
       inl (settles c.args.self.now c.settle.new.self c.requires c.settle.ensures.applies c.settle.ensures.kept c.in_ok-settle.ensures.ok c.settle.ensures.still),
     ))
 
--- the new ones fit
-fits : (c : After-has_room) → c.has_room.result ≡ true → Fits (state_of c.args.self.now) c.args.firings.now
-fits c t =
+pub returns-then-not-fits-clause-answer : goal.returns-then-not-fits-clause-answer
+returns-then-not-fits-clause-answer c =
+    let a = (goal.at.returns-then-not-fits-clause-answer c).After-may_take in
     let p = c.settle.ensures.applies in
-    let n = c.has_room.ensures.room t in
+    let (news, are, room) = c.in_ok-fits.ensures.long c.if-not-fits.true in
     let w = p.count in
-    let v = p.limit in
-    let k = c.len.ensures.len in
-    (c.in_ok-news.news, news_before c, omega (arith, n, w, v, k))
-
-pub returns-then-not-has_room-clause-answer : goal.returns-then-not-has_room-clause-answer
-returns-then-not-has_room-clause-answer c =
-    let a = (goal.at.returns-then-not-has_room-clause-answer c).After-has_room in
-    let p = c.settle.ensures.applies in
-    let n = c.has_room.ensures.full c.if-not-has_room.true in
-    let w = p.count in
-    let v = p.limit in
-    let k = c.len.ensures.len in (
+    let v = p.limit in (
       are_firings a,
-      (c.in_ok-news.news, news_before a, omega (arith, n, w, v, k)),
+      (news, new_before (state_of c.args.self.now) (state_of c.settle.new.self) c.args.firings.now news p are, omega (arith, room, w, v)),
       settles c.args.self.now c.settle.new.self c.requires p c.settle.ensures.kept c.in_ok-settle.ensures.ok c.settle.ensures.still,
     )
 
@@ -80,23 +73,23 @@ answer_is c r e = subst (λ (x : Result Took TakeRefusal). TakeAnswer (state_of 
 -- one of the list could not be taken or applied
 pub returns-in-Err-NoMemory-clause-answer : goal.returns-in-Err-NoMemory-clause-answer
 returns-in-Err-NoMemory-clause-answer c =
-    let a = (goal.at.returns-in-Err-NoMemory-clause-answer c).After-has_room in
+    let a = (goal.at.returns-in-Err-NoMemory-clause-answer c).After-may_take in
     let b = (goal.at.returns-in-Err-NoMemory-clause-answer c).After-take in
     let (k, l, t) = part_taken (state_of c.settle.new.self) (state_of c.loop-firing.self) (state_of c.take.new.self) c.args.firings.now c.loop-firing.firing-index c.firing-item.result c.loop-firing-test.true c.firing-item.is c.loop-firing.invariant.takes (answer_is b (Err untaken.NoMemory) (c.in-Err-NoMemory.is ∙ ap Err c.in-Err-NoMemory.field-0-is)) in
-    inr (are_firings a, inr (fits a c.if-not-has_room.false, (k, l, takes_after (state_of c.args.self.now) (state_of c.settle.new.self) (state_of c.take.new.self) (take k c.args.firings.now) c.settle.ensures.applies t)))
+    inr (are_firings a, inr (fits_before a (c.in_ok-fits.ensures.fits c.if-not-fits.false), (k, l, takes_after (state_of c.args.self.now) (state_of c.settle.new.self) (state_of c.take.new.self) (take k c.args.firings.now) c.settle.ensures.applies t)))
 
 pub unreachable-requires : goal.unreachable-requires
 unreachable-requires c =
     let b = (goal.at.unreachable-requires c).After-take in
-    never_other (state_of c.settle.new.self) (state_of c.loop-firing.self) (state_of c.take.new.self) c.args.firings.now c.in_ok-news.news c.loop-firing.firing-index c.firing-item.result c.loop-firing-test.true c.firing-item.is c.loop-firing.invariant.kept.logged.is c.loop-firing.invariant.takes c.in_ok-news.ensures c.in_default.ensures.none
+    let (news, are, room) = c.in_ok-fits.ensures.fits c.if-not-fits.false in
+    never_other (state_of c.settle.new.self) (state_of c.loop-firing.self) (state_of c.take.new.self) c.args.firings.now news c.loop-firing.firing-index c.firing-item.result c.loop-firing-test.true c.firing-item.is c.loop-firing.invariant.kept.logged.is c.loop-firing.invariant.takes are c.in_default.ensures.none
     (answer_is b (Err untaken.NotAFiring) (c.in-Err-NotAFiring.is ∙ ap Err c.in-Err-NotAFiring.field-0-is))
 
 pub unreachable-requires-in-Err-Full : goal.unreachable-requires-in-Err-Full
 unreachable-requires-in-Err-Full c =
     let b = (goal.at.unreachable-requires-in-Err-Full c).After-take in
-    let n = c.has_room.ensures.room c.if-not-has_room.false in
-    let k = c.len.ensures.len in
-    never_full (state_of c.settle.new.self) (state_of c.loop-firing.self) (state_of c.take.new.self) c.args.firings.now c.in_ok-news.news c.loop-firing.firing-index c.firing-item.result c.loop-firing-test.true c.firing-item.is c.loop-firing.invariant.kept.logged.is c.loop-firing.invariant.takes c.in_ok-news.ensures (omega (arith, n, k))
+    let (news, are, room) = c.in_ok-fits.ensures.fits c.if-not-fits.false in
+    never_full (state_of c.settle.new.self) (state_of c.loop-firing.self) (state_of c.take.new.self) c.args.firings.now news c.loop-firing.firing-index c.firing-item.result c.loop-firing-test.true c.firing-item.is c.loop-firing.invariant.kept.logged.is c.loop-firing.invariant.takes are room
     (answer_is b (Err untaken.Full) (c.in-Err-Full.is ∙ ap Err c.in-Err-Full.field-0-is))
 
 pub loop-firing-preserved : goal.loop-firing-preserved
@@ -112,11 +105,11 @@ loop-firing-preserved c =
 
 pub returns-clause-answer : goal.returns-clause-answer
 returns-clause-answer c =
-    let a = (goal.at.returns-clause-answer c).After-has_room in
+    let a = (goal.at.returns-clause-answer c).After-may_take in
     let i = c.loop-firing.invariant in
     let h : length c.args.firings.now ≤ c.loop-firing.firing-index = omega arith in (
       are_firings a,
-      fits a c.if-not-has_room.false,
+      fits_before a (c.in_ok-fits.ensures.fits c.if-not-fits.false),
       takes_after (state_of c.args.self.now) (state_of c.settle.new.self) (state_of c.loop-firing.self) c.args.firings.now c.settle.ensures.applies
           (subst (λ (fs : List Firing). TakesAll (state_of c.settle.new.self) fs (state_of c.loop-firing.self)) (lists.take_all c.loop-firing.firing-index c.args.firings.now h) i.takes),
       i.settled,

@@ -1,0 +1,47 @@
+use Rattle.std.proofs.Common.{◌≡◌, ◌∙◌, ◌+◌, length, ◌++◌, [], ◌∷◌, subst, sym, ap}
+use Rattle.std.specs.Prelude.{Contains, slice_get}
+use Rattle.u_rule.specs.EntryOrder.{FiringList}
+use Rattle.u_rule.specs.declared.firing.Firing.{Firing}
+use Rattle.u_sets.specs.Members.{IsWith}
+use Rattle.u_system.proofs.Member.{Contains-head}
+use Rattle.u_machine.proofs.Beginning.{unparked, begun_logged, begun_sorted, begun_idle, begun_takes}
+use Rattle.u_machine.proofs.Lists.{first_is}
+use Rattle.u_machine.proofs.parts.Parts.begin_least.Goals as goal
+use Rattle.u_machine.proofs.parts.Parts.begin_least.Goals.{After-push_into_room}
+
+copied : (c : After-push_into_room) → c.in_ok-copy_of_least.copy_of_least ≡ c.in-Some-pop_first.firing
+copied c = c.in_ok-copy_of_least.ensures ∙ first_is c.args.self.now.ready c.pop_first.new.self c.in-Some.least.now c.in-Some-pop_first.firing c.in-Some.ensures c.in-Some-pop_first.ensures.some
+
+was : (c : After-push_into_room) → Contains c.args.self.now.ready c.in-Some-pop_first.firing
+was c = subst (λ (fs : FiringList). Contains fs c.in-Some-pop_first.firing) (sym c.in-Some-pop_first.ensures.some) (Contains-head c.in-Some-pop_first.firing c.pop_first.new.self)
+
+with_it : (c : After-push_into_room) → IsWith c.args.self.now.parked c.in-Some-pop_first.firing c.insert.new.self
+with_it c = subst (λ (f : Firing). IsWith c.args.self.now.parked f c.insert.new.self) (copied c) c.in_ok-insert.ensures.ok
+
+one_more : (c : After-push_into_room) → length c.insert.new.self ≡ length c.args.self.now.parked + 1
+one_more c =
+    c.in_ok-insert.ensures.count
+    (c.in_ok-insert.ensures.new.1 (λ m. unparked c.args.self.now c.requires.kept c.in-Some-pop_first.firing (was c) (subst (λ (f : Firing). Contains c.args.self.now.parked f) (copied c) m)))
+
+logs : (c : After-push_into_room) → c.push_into_room.new.list.items ≡ c.args.self.now.log.items ++ c.in-Some-pop_first.firing ∷ []
+logs c = c.push_into_room.ensures.items ∙ ap (λ (l : FiringList). l ++ c.in-Some-pop_first.firing ∷ []) c.reserve.ensures.items
+
+pub returns-clause-kept : goal.returns-clause-kept
+returns-clause-kept c =
+    let k = c.requires.kept in
+    let m = c.args.self.now in
+    let f = c.in-Some-pop_first.firing in
+    record {
+      logged = begun_logged m k f (was c) c.requires.settled c.requires.room c.insert.new.self c.pop_first.new.self c.push_into_room.new.list.items (with_it c) c.in_ok-insert.ensures.rises (one_more c) (logs c) c.in-Some-pop_first.ensures.without;
+      sorted = begun_sorted m k f (was c) c.requires.settled c.requires.room c.insert.new.self c.pop_first.new.self c.push_into_room.new.list.items (with_it c) c.in_ok-insert.ensures.rises (one_more c) (logs c) c.in-Some-pop_first.ensures.without;
+      idle = begun_idle m k f (was c) c.requires.settled c.requires.room c.insert.new.self c.pop_first.new.self c.push_into_room.new.list.items (with_it c) c.in_ok-insert.ensures.rises (one_more c) (logs c) c.in-Some-pop_first.ensures.without;
+    }
+
+pub returns-clause-ok : goal.returns-clause-ok
+returns-clause-ok c = record {
+  firing = c.in-Some-pop_first.firing;
+  at = ap (λ (fs : FiringList). slice_get fs 0) c.in-Some-pop_first.ensures.some;
+  takes = begun_takes c.args.self.now c.requires.kept c.in-Some-pop_first.firing (was c) c.requires.settled c.requires.room c.insert.new.self c.pop_first.new.self c.push_into_room.new.list.items (with_it c) c.in_ok-insert.ensures.rises (one_more c) (logs c)
+      c.in-Some-pop_first.ensures.without;
+  log = logs c;
+}
