@@ -6,12 +6,16 @@
 # programs/nested.u, each with about a thousand, ten thousand and a hundred thousand firings. For each
 # run a row says the argument, the firings, the seconds, how many times as long as the run above it took,
 # and the greatest memory in KiB (where /usr/bin/time is there). A run of ten times as many firings may
-# take 13 times as long, and the sum of 9998, with 99995 firings, may take a second; what takes less than
-# 20 milliseconds is not compared, since starting the program counts there.
+# take 13 times as long; what takes less than 20 milliseconds is not compared, since starting the program
+# counts there.
+#
+# Firings: a hundred thousand of each of the three, the best of five, and a million of a longer sum, beside
+# a loop of plain hashing that is timed first (awk, a million look-ups in a table of a hundred thousand).
+# A run may take as many times as long as that loop, and as much memory, as a row says.
 #
 # Checkpoints: the sums of 998 and of 9998 are run, saved after all their firings and restored from that,
 # the best of three each. Saving may take 13 times as long for ten times the bytes, and restoring the
-# longer one half as long again as running it.
+# longer one twice as long as running it.
 #
 # Traces: the answer of the sum of 9998 is traced, which may take three times as long as running it; the
 # story has every firing that the answer rests on.
@@ -111,10 +115,47 @@ table 'sum of'
 for size in 98 998 9998; do
     timed "$top/programs/sum.u" "$size" $((10 * size + 15))
 done
-if [ "$spent" -ge 1000000 ]; then
-    echo 'the sum of 9998 took a second or more' >&2
-    failed=1
-fi
+
+# The microseconds that a loop of plain hashing takes, the best of three.
+hashing() {
+    local start took turn
+    loop=''
+    for turn in 1 2 3; do
+        start=$(now)
+        awk 'BEGIN { for (i = 0; i < 1000000; i++) table[(i * 7919) % 100003] += i }'
+        took=$(($(now) - start))
+        if [ -z "$loop" ] || [ "$took" -lt "$loop" ]; then loop=$took; fi
+    done
+}
+
+# Times so many firings of a program, the best of five runs. They may take at most $4 hundredths of the
+# time of the loop of plain hashing, and $5 KiB.
+timed_firings() {
+    local best='' most=0 turn
+    for turn in 1 2 3 4 5; do
+        start=$(now)
+        if [ -x /usr/bin/time ]; then
+            /usr/bin/time -q -f %M -o "$temp/memory" \
+                "$binary" run "$1" "$2" --firings "$3" >"$temp/report"
+        else
+            "$binary" run "$1" "$2" --firings "$3" >"$temp/report"
+        fi
+        spent=$(($(now) - start))
+        memory=$(cat -- "$temp/memory" 2>/dev/null)
+        if [ -z "$best" ] || [ "$spent" -lt "$best" ]; then best=$spent; fi
+        if [ "${memory:-0}" -gt "$most" ]; then most=$memory; fi
+    done
+    printf '%12s %10s %8s %8s %10s\n' "$(basename -- "$1" .u) $2" "$(sed -n 's/^firings //p' "$temp/report")" \
+        "$(seconds "$best")" "$(awk -v a="$best" -v b="$loop" 'BEGIN { printf "%.2f", a / b }')" "$most"
+    if [ $((best * 100)) -gt $((loop * $4)) ]; then
+        echo "$3 firings of $1 took more than $4 hundredths of the time of plain hashing" >&2
+        failed=1
+    fi
+    if [ "$most" -gt "$5" ]; then
+        echo "$3 firings of $1 took more than $5 KiB" >&2
+        failed=1
+    fi
+}
 
 # Runs a command three times, and leaves the microseconds that the shortest run took in `spent`. It has to
 # end with status 0.
@@ -149,8 +190,8 @@ timed_checkpoint() {
     timed_command restore "$top/programs/sum.u" "$argument" "$temp/checkpoint"
     printf '%12s %10s %8s %8s %8s\n' "$argument" "$bytes" "$(seconds "$running")" \
         "$(seconds "$saving")" "$(seconds "$spent")"
-    if [ "$argument" = 9998 ] && [ "$spent" -gt $((running * 3 / 2)) ]; then
-        echo "restoring the sum of $argument took more than 1.5 times as long as running it" >&2
+    if [ "$argument" = 9998 ] && [ "$spent" -gt $((running * 2)) ]; then
+        echo "restoring the sum of $argument took more than twice as long as running it" >&2
         failed=1
     fi
     if [ "$saved_before" -gt 0 ] &&
@@ -194,6 +235,13 @@ timed_world() {
         failed=1
     fi
 }
+
+hashing
+printf '%12s %10s %8s %8s %10s\n' 'run of' firings seconds hashings KiB
+timed_firings "$top/programs/sum.u" 9998 100000 90 90000
+timed_firings "$top/programs/fibonacci.u" 19 100000 135 90000
+timed_firings "$top/programs/nested.u" 147 100000 100 90000
+timed_firings "$top/programs/sum.u" 99998 1000000 1150 900000
 
 saved_before=0 bytes_before=0
 printf '%12s %10s %8s %8s %8s\n' 'sum of' bytes run save restore

@@ -72,10 +72,12 @@ sum_tried() {
     sed -n "s/^$1 //p" "$room/sums"
 }
 
-# Copies crates to a tree of their own, with what is built of them in another tree.
+# Copies crates to a tree of their own, with what is built of them in another tree: as hard links where
+# the third word is `link`, since a library is large and each crate that is tried has those below it.
 copy_tree() {
-    local to=$1 from=$2 name part
-    shift 2
+    local to=$1 from=$2 name part how=-Rp
+    [ "$3" = copy ] || how=-Rlp
+    shift 3
     mkdir -p -- "$to/crates"
     [ ! -f HANDLES ] || cp -- HANDLES "$to/"
     for name in "$@"; do
@@ -85,7 +87,7 @@ copy_tree() {
             [ ! -d "crates/$name/$part" ] || cp -R -- "crates/$name/$part" "$to/crates/$name/"
         done
         [ ! -d "$from/crates/$name/out/rlib" ] ||
-            cp -Rp -- "$from/crates/$name/out/rlib" "$to/crates/$name/out/"
+            cp "$how" -- "$from/crates/$name/out/rlib" "$to/crates/$name/out/"
     done
 }
 
@@ -124,8 +126,8 @@ build_below() {
     done
 }
 
-# Tries the edits of a crate in its own copy, and leaves what was said of them in NAME.said. `rt` lets
-# nobody else work in the folders of a crate and of those below it.
+# Tries the edits of a crate in its own copy, which goes then, and leaves what was said of them in
+# NAME.said. `rt` lets nobody else work in the folders of a crate and of those below it.
 try() {
     local status=0
     cd -- "$1/$2" || return
@@ -135,6 +137,7 @@ try() {
         status=$?
     fi
     echo "$status" >"$1/$2.status"
+    cd -- "$1" && rm -rf -- "${1:?}/$2"
     echo "$2: tried"
 }
 export -f try
@@ -192,7 +195,7 @@ if [ -n "$names" ]; then
         edits_of "$name" >"$room/$name.wanted"
     done
     # shellcheck disable=SC2046
-    copy_tree "$room/libraries" . $(cd crates && echo *)
+    copy_tree "$room/libraries" . copy $(cd crates && echo *)
     [ -z "$fresh" ] || mark_as_built
     built=''
     for name in $names; do
@@ -201,7 +204,7 @@ if [ -n "$names" ]; then
         seen=''
         below "$name"
         # shellcheck disable=SC2086
-        copy_tree "$room/$name" "$room/libraries" $seen
+        copy_tree "$room/$name" "$room/libraries" link $seen
         rm -rf -- "$room/$name/crates/$name/out"
         cp -R -- "tests/edits/$name" "$room/$name/crates/$name/must-fail"
     done

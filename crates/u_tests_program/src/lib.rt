@@ -11,6 +11,8 @@ mod check_tests;
 #[cfg(test)]
 mod linkage_tests;
 #[cfg(test)]
+mod names_tests;
+#[cfg(test)]
 mod operator_tests;
 #[cfg(test)]
 mod plain_texts;
