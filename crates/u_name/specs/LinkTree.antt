@@ -8,7 +8,7 @@ use Rattle.u_name.specs.declared.context.Step.TheVariants.{Loop, Call}
 use Rattle.u_name.specs.declared.context.Node.{Node}
 use Rattle.u_name.specs.declared.context.Node.TheVariants as nodes
 use Rattle.u_name.specs.Context.{Tree, Top, InLoop, InCall}
-use Rattle.u_name.specs.Path.{kinds, path}
+use Rattle.u_name.specs.Path.{path}
 use Rattle.u_name.specs.Digest.{digest}
 
 -- what a loop or a call makes in an outer context
@@ -28,9 +28,8 @@ node_tree nodes.Root = Top
 node_tree (nodes.Loop outer block number initiation) = InLoop outer.now block.now number initiation
 node_tree (nodes.Call outer block statement initiation) = InCall outer.now block.now statement initiation
 
--- beside the parts of a context stand its own kinds, path and digest
+-- beside the parts of a context stand its own path and digest
 pub record IsBeside (inner : Inner) : Type 0 where
-  pub kinds : inner.kinds.items ≡ kinds (inner_tree inner)
   pub path : inner.path.items ≡ path (inner_tree inner)
   pub digest : inner.digest ≡ digest (inner_tree inner)
 

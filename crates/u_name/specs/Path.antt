@@ -1,5 +1,5 @@
--- What contexts are compared by: the kinds of their loops and calls from the innermost outwards, and the words of these from
--- the outermost inwards.
+-- What contexts are compared by: the kinds of their loops and calls from the innermost outwards, a 0, and the words of these
+-- from the outermost inwards.
 use Rattle.std.specs.Prelude.{ℕ, List, [], ◌∷◌, ◌++◌}
 use Rattle.u_name.specs.declared.context.Step.{Step}
 use Rattle.u_name.specs.declared.context.Step.TheVariants.{Loop, Call}
@@ -13,10 +13,14 @@ kinds (InLoop outer block number initiation) = 1 ∷ kinds outer
 kinds (InCall outer block statement initiation) = 2 ∷ kinds outer
 
 -- three words of each loop and call
+abbrev pub frames : Tree → List ℕ
+frames Top = []
+frames (InLoop outer block number initiation) = frames outer ++ words block number initiation
+frames (InCall outer block statement initiation) = frames outer ++ words block statement initiation
+
+-- a 0 is less than each kind, so fewer kinds come first
 abbrev pub path : Tree → List ℕ
-path Top = []
-path (InLoop outer block number initiation) = path outer ++ words block number initiation
-path (InCall outer block statement initiation) = path outer ++ words block statement initiation
+path t = kinds t ++ 0 ∷ frames t
 
 -- the kind, and the number of the loop or of the statement
 abbrev pub kind_by : Step → ℕ

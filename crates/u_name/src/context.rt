@@ -7,14 +7,14 @@ ghost use Rattle.std.specs.Cmp.Rules.{comparing, hashing};
 ghost use Rattle.std.specs.Ordering.{eq_by_cmp, as_partial_cmp};
 ghost use Rattle.std.proofs.lemmas.Cmp.{eq_by_cmp_equiv};
 ghost use Rattle.u_name.specs.LinkTree.{tree_by, inner_tree, node_tree, IsBeside};
-ghost use Rattle.u_name.specs.Path.{kinds, path, kind_by, number_by};
+ghost use Rattle.u_name.specs.Path.{path, kind_by, number_by};
 ghost use Rattle.u_name.specs.Digest.{digest, next_digest, mark_by};
 ghost use Rattle.u_name.specs.ContextOrder.{context_cmp};
 ghost use Rattle.u_name.specs.ContextLaws.{context_cmp_total};
 ghost use Rattle.u_name.specs.ContextHash.{context_hash, hashes_alike};
 
 use crate::block_name::BlockName;
-use crate::path::{CALL, LOOP, kind_before, words_behind};
+use crate::path::{CALL, LOOP, path_around};
 use std::alloc::{AllocError, Global};
 use std::cmp::Ordering;
 use std::hash::{Hash, Hasher};
@@ -39,8 +39,8 @@ enum Link {
 }
 
 /// A loop's or a call's context: what it is made of, and beside that what it is compared by (the kinds
-/// of its loops and calls, the innermost first, and the words of these, the outermost first) and what
-/// it is hashed by.
+/// of its loops and calls, the innermost first, a 0, and the words of these, the outermost first) and
+/// what it is hashed by.
 #[cycle(context)]
 #[derive(Drop)]
 struct Inner {
@@ -49,7 +49,6 @@ struct Inner {
     block: BlockName,
     initiation: u32,
     digest: u64,
-    kinds: Vec<u8>,
     path: Vec<u64>,
 }
 
@@ -154,7 +153,7 @@ fn next_digest(outer: u64, mark: u64) -> u64
 
 impl Inner {
     /// What the context has that a loop or a call makes in the outer one.
-    #[tactic(auto, unfolding(crate::specs::Digest::digest))]
+    #[tactic(auto, unfolding(crate::specs::Digest::digest), using(crate::proofs::PathOrder::path_by))]
     fn new(
         alloc: Global,
         outer: Context,
@@ -165,8 +164,8 @@ impl Inner {
         ensures { IfOk result
             (λ i. (inner_tree i ≡ tree_by step outer block initiation) × IsBeside i) }
     {
-        let kinds = kind_before(alloc, step.kind(), outer.kinds())?;
-        let path = words_behind(alloc, outer.path(), &block, step.number(), initiation)?;
+        let kind = step.kind();
+        let path = path_around(alloc, kind, outer.path(), &block, step.number(), initiation)?;
         let digest = next_digest(outer.digest(), step.mark(initiation));
         Ok(Inner {
             outer,
@@ -174,13 +173,12 @@ impl Inner {
             block,
             initiation,
             digest,
-            kinds,
             path,
         })
     }
 
     /// Kinds first, from the innermost outwards, and then the words from the outermost inwards.
-    #[tactic(auto, using(crate::proofs::PathOrder::by_paths, crate::proofs::PathOrder::by_kinds))]
+    #[tactic(auto, using(crate::proofs::PathOrder::by_paths))]
     fn compare(&self, other: &Inner) -> Ordering
         requires own { IsBeside self.now }
         requires own_in { IsContext (inner_tree self.now) }
@@ -188,10 +186,7 @@ impl Inner {
         requires others_in { IsContext (inner_tree other.now) }
         ensures { result ≡ context_cmp (inner_tree self.now) (inner_tree other.now) }
     {
-        match self.kinds.cmp(&other.kinds) {
-            Ordering::Equal => self.path.cmp(&other.path),
-            unequal => unequal,
-        }
+        self.path.cmp(&other.path)
     }
 
     /// Whether they are the same. Where the digests differ, nothing else is looked at.
@@ -296,22 +291,12 @@ impl Context {
         })
     }
 
-    /// The kinds of the loops and calls that it is in, the innermost first.
-    fn kinds(&self) -> &[u8]
-        ensures { result.now ≡ kinds self.now }
-    {
-        match &self.link {
-            Link::Root => &[],
-            Link::Inner(inner) => &inner.kinds,
-        }
-    }
-
-    /// The words of the loops and calls that it is in, the outermost first.
+    /// What it is compared by.
     fn path(&self) -> &[u64]
         ensures { result.now ≡ path self.now }
     {
         match &self.link {
-            Link::Root => &[],
+            Link::Root => &[0],
             Link::Inner(inner) => &inner.path,
         }
     }
@@ -328,14 +313,14 @@ impl Context {
     }
 
     /// How many loops and calls it is in, 0 to 64.
-    #[tactic(auto, using(crate::proofs::PathOrder::kinds_deep))]
+    #[tactic(auto, using(crate::proofs::PathOrder::path_deep))]
     pub fn depth(&self) -> u32
         ensures value { result ≡ depth self.now }
         ensures bound { IsContext self.now }
     {
         // Brings in that the context is at most 64 deep.
         let _ = self.node();
-        self.kinds().len() as u32
+        (self.path().len() / 4) as u32
     }
 
     /// An equal context, which shares all with this one.
@@ -347,6 +332,18 @@ impl Context {
             Link::Inner(inner) => Link::Inner(Arc::try_clone(inner)?),
         };
         Ok(Context { link })
+    }
+
+    /// Lets the context share all with the other one, where the two are equal. It stays what it is.
+    pub(crate) fn share(&mut self, other: &Context)
+        ensures { self.new ≡ self.old }
+    {
+        if !self.is_same(other) {
+            return;
+        }
+        if let Ok(shared) = other.copy() {
+            *self = shared;
+        }
     }
 
     /// Kinds first, and for the same kind the outer contexts. The parts are compared only where those

@@ -1,5 +1,5 @@
-//! What contexts are compared by: the kinds of their loops and calls from the innermost outwards, and
-//! then the words of these from the outermost inwards. Both lie in one place each, so that a comparison
+//! What contexts are compared by: the kinds of their loops and calls from the innermost outwards, a 0,
+//! and then the words of these from the outermost inwards. All lie in one place, so that a comparison
 //! need not go from context to context.
 //!
 //! A loop or a call has three words, which go by block, number and initiation as plain numbers do: the
@@ -16,31 +16,22 @@ pub(crate) const LOOP: u8 = 1;
 /// The kind of a call's context.
 pub(crate) const CALL: u8 = 2;
 
-/// The kinds with another one before them.
-pub(crate) fn kind_before(alloc: Global, kind: u8, kinds: &[u8]) -> Result<Vec<u8>, AllocError>
-    ensures { IfOk result (λ v. v.items ≡ kind ∷ kinds.now) }
-{
-    let mut all = Vec::new(alloc);
-    all.reserve_exact(kinds.len())?;
-    all.push(kind)?;
-    all.extend_from_slice(kinds)?;
-    Ok(all)
-}
-
-/// The words of loops and calls with those of another one behind them.
-pub(crate) fn words_behind(
+/// What a context is compared by, which is in a context that is compared by the numbers `outer`.
+pub(crate) fn path_around(
     alloc: Global,
-    path: &[u64],
+    kind: u8,
+    outer: &[u64],
     block: &BlockName,
     number: u16,
     initiation: u32,
 ) -> Result<Vec<u64>, AllocError>
-    ensures { IfOk result (λ v. v.items ≡ path.now ++ words block.now number initiation) }
+    ensures { IfOk result (λ v. v.items ≡ kind ∷ (outer.now ++ words block.now number initiation)) }
 {
     let (high, low) = block.words();
     let mut all = Vec::new(alloc);
-    all.reserve_exact(path.len() + 3)?;
-    all.extend_from_slice(path)?;
+    all.reserve_exact(outer.len() + 4)?;
+    all.push(u64::from(kind))?;
+    all.extend_from_slice(outer)?;
     all.push(high)?;
     all.push(low)?;
     all.push(last_word(number, initiation))?;
