@@ -313,6 +313,7 @@ fn line_of(alloc: Global, bytes: &[u8]) -> Result<Vec<u8>, AllocError>
     ensures { IfOk result (λ v. v.items ≡ line bytes.now) }
 {
     let mut line = Vec::new(alloc);
+    line.reserve_exact(bytes.len().saturating_add(1))?;
     line.extend_from_slice(bytes)?;
     line.push(b'\n')?;
     Ok(line)
