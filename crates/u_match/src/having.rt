@@ -135,11 +135,11 @@ pub(crate) fn has_all_of(history: &History, job: &Job, firing: &Firing) -> Resul
     ensures { IfOk result
         (λ b. IsTrue b ↔ Enabled (system_of job.now) (Contains history.now) firing.now) }
 {
-    if !is_firing(job, firing) {
-        return Ok(false);
-    }
     let there = has_tokens(history, &firing.activity, 1, firing.values.as_slice())?;
     if !there {
+        return Ok(false);
+    }
+    if !is_firing(job, firing) {
         return Ok(false);
     }
     let read = has_read(history, firing)?;

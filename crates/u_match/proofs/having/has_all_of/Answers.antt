@@ -12,9 +12,8 @@ has_read-requires c = reads_its_cell c.args.job.now c.args.firing.now (sym c.is_
 
 pub returns-then-not-there : goal.returns-then-not-there
 returns-then-not-there c =
-    let s = enabled_if c.args.job.now c.args.firing.now (Contains c.args.history.now) (sym c.is_firing.ensures ∙ c.if-not-is_firing.false) in
     let h = subst (λ (vs : ValueList). IsTrue c.in_ok-there.there ↔ Within (Contains c.args.history.now) (tokens_from c.args.firing.now.activity 1 vs)) c.as_slice.ensures.values c.in_ok-there.ensures in
-    ((λ t. absurd (cc)), λ en. absurd (false≢true (sym c.if-not-there.true ∙ h.1 (s.0 en).0)))
+    ((λ t. absurd (cc)), λ en. absurd (false≢true (sym c.if-not-there.true ∙ h.1 ((enabled_if c.args.job.now c.args.firing.now (Contains c.args.history.now) en.0).0 en).0)))
 
 pub returns : goal.returns
 returns c =
