@@ -149,28 +149,19 @@ impl<'a> Parts<'a> {
         }
     }
 
-    /// Whether the firing is ready. The least one is looked at first.
-    fn is_ready(&self, firing: &Firing) -> bool
-        ensures { IsTrue result ↔ Contains self.now.ready firing.now }
-    {
-        if self.is_least(firing) {
-            return true;
-        }
-        self.ready.contains(firing)
-    }
-
     /// A ready firing begins to be applied, as in `begin`. The least one is not looked for.
-    fn begin_ready(&mut self, firing: &Firing) -> Result<(), AllocError>
+    fn begin_ready(&mut self, firing: &Firing, is_least: bool) -> Result<(), AllocError>
         requires kept { Invariant self.old }
         requires settled { self.old.done ≡ length self.old.log.items }
         requires ready { Contains self.old.ready firing.now }
+        requires least { IsTrue is_least → slice_get self.old.ready 0 ≡ Some firing.now }
         requires room { count_of (state_of self.old) < self.old.limit }
         ensures kept { Invariant self.new }
         ensures takes { OnOk result (Takes (state_of self.old) firing.now (state_of self.new)) }
         ensures err { OnErr result (state_of self.new ≡ state_of self.old) }
         ensures log { OnOk result (self.new.log.items ≡ self.old.log.items ++ firing.now ∷ []) }
     {
-        if self.is_least(firing) {
+        if is_least {
             self.begin_least()?;
             return Ok(());
         }
@@ -181,17 +172,18 @@ impl<'a> Parts<'a> {
 
     /// Takes a ready firing and applies it, and what becomes enabled by it and was taken. All that was
     /// begun before is applied.
-    fn take_ready(&mut self, firing: &Firing) -> Result<Took, TakeRefusal>
+    fn take_ready(&mut self, firing: &Firing, is_least: bool) -> Result<Took, TakeRefusal>
         requires kept { Invariant self.old }
         requires settled { self.old.done ≡ length self.old.log.items }
         requires ready { Contains self.old.ready firing.now }
+        requires least { IsTrue is_least → slice_get self.old.ready 0 ≡ Some firing.now }
         ensures kept { Invariant self.new }
         ensures answer { TakeAnswer (state_of self.old) firing.now result (state_of self.new) }
     {
         if self.is_full() {
             return Err(TakeRefusal::Full);
         }
-        self.begin_ready(firing)?;
+        self.begin_ready(firing, is_least)?;
         self.settle()?;
         Ok(Took::Taken)
     }
@@ -215,15 +207,19 @@ impl<'a> Parts<'a> {
         Ok(())
     }
 
-    /// Takes the firing, unless it was taken. All that was begun before is applied.
+    /// Takes the firing, unless it was taken. All that was begun before is applied. The least ready one
+    /// is looked at first.
     fn take_settled(&mut self, firing: &Firing) -> Result<Took, TakeRefusal>
         requires kept { Invariant self.old }
         requires settled { self.old.done ≡ length self.old.log.items }
         ensures kept { Invariant self.new }
         ensures answer { TakeAnswer (state_of self.old) firing.now result (state_of self.new) }
     {
-        if self.is_ready(firing) {
-            return self.take_ready(firing);
+        if self.is_least(firing) {
+            return self.take_ready(firing, true);
+        }
+        if self.ready.contains(firing) {
+            return self.take_ready(firing, false);
         }
         if self.knows(firing) {
             return Ok(Took::Known);

@@ -7,8 +7,8 @@ use Rattle.u_machine.proofs.parts.Parts.begin_ready.Goals as goal
 use Rattle.u_machine.proofs.parts.Parts.begin_ready.Goals.{In_ok-begin_least}
 
 -- the one that begins is the least
-same : (c : In_ok-begin_least) → c.is_least.result ≡ true → c.in_ok-begin_least.ensures.ok.firing ≡ c.args.firing.now
-same c t = let e : Some c.in_ok-begin_least.ensures.ok.firing ≡ Some c.args.firing.now = sym c.in_ok-begin_least.ensures.ok.at ∙ c.is_least.ensures.0 t in cc
+same : (c : In_ok-begin_least) → c.args.is_least ≡ true → c.in_ok-begin_least.ensures.ok.firing ≡ c.args.firing.now
+same c t = let e : Some c.in_ok-begin_least.ensures.ok.firing ≡ Some c.args.firing.now = sym c.in_ok-begin_least.ensures.ok.at ∙ c.requires.least t in cc
 
 pub returns-then-is_least-clause-takes : goal.returns-then-is_least-clause-takes
 returns-then-is_least-clause-takes c = subst (λ (f : Firing). Takes (state_of c.args.self.now) f (state_of c.begin_least.new.self)) (same (goal.at.returns-then-is_least-clause-takes c).In_ok-begin_least c.if-is_least.true) c.in_ok-begin_least.ensures.ok.takes

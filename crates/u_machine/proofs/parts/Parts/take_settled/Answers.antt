@@ -5,6 +5,7 @@ use Rattle.u_machine.specs.Calls.{IsNew}
 use Rattle.u_machine.specs.Invariant.{state_of}
 use Rattle.u_machine.proofs.States.{Applies-refl}
 use Rattle.u_machine.proofs.Settled.{settled_there, settles_itself, not_both}
+use Rattle.u_machine.proofs.Lists.{slice_get_Contains}
 use Rattle.u_machine.proofs.Replies.{take_no_memory}
 use Rattle.u_machine.proofs.parts.Parts.take_settled.Goals as goal
 use Rattle.u_machine.proofs.parts.Parts.take_settled.Goals.{After-is_full}
@@ -13,10 +14,10 @@ unknown : (c : After-is_full) → Taken (state_of c.args.self.now) c.args.firing
 unknown c t = not_both c.knows.result (c.knows.ensures.1 t) c.if-knows.false
 
 unready : (c : After-is_full) → Contains c.args.self.now.ready c.args.firing.now → ⊥
-unready c m = not_both c.is_ready.result (c.is_ready.ensures.1 m) c.if-is_ready.false
+unready c m = not_both c.contains.result (c.contains.ensures.1 m) c.if-contains.false
 
 pub take_ready-requires-clause-ready : goal.take_ready-requires-clause-ready
-take_ready-requires-clause-ready c = c.is_ready.ensures.0 c.if-is_ready.true
+take_ready-requires-clause-ready c = slice_get_Contains c.args.self.now.ready 0 c.args.firing.now (c.is_least.ensures.0 c.if-is_least.true)
 
 pub returns-then-knows-clause-answer : goal.returns-then-knows-clause-answer
 returns-then-knows-clause-answer c = (c.knows.ensures.0 c.if-knows.true, settles_itself c.args.self.now c.requires.kept c.requires.settled)
