@@ -1,5 +1,5 @@
 //! The text of a checkpoint, read line by line.
-ghost use Rattle.std.specs.Prelude.{◌≡◌, ◌↔◌, ◌∷◌, [], ℕ, ◌<◌, List, length, take, IsTrue, MatchResult};
+ghost use Rattle.std.specs.Prelude.{◌≡◌, ◌↔◌, ◌∷◌, [], ◌++◌, ℕ, ◌<◌, List, length, take, IsTrue, MatchResult};
 ghost use Rattle.u_rule.specs.declared.firing.Firing.{Firing};
 ghost use Rattle.u_rule.specs.FiringReading.{IsFiringOf};
 ghost use Rattle.u_text.specs.Pieces.{pieces};
@@ -44,6 +44,20 @@ fn firing_in(alloc: Global, line: &[u8], number: usize) -> Result<Firing, Checkp
     }
 }
 
+/// Adds the firing. Where its context is that of the one before it, they share it: mostly neighbours
+/// in a checkpoint belong to one context.
+fn add(firings: &mut Vec<Firing>, mut firing: Firing) -> Result<(), CheckpointError>
+    ensures { MatchResult result
+        (λ _. firings.new.items ≡ firings.old.items ++ firing ∷ [])
+        (λ error. error ≡ errors.NoMemory) }
+{
+    if let Some(before) = firings.last() {
+        firing.activity.share_context(&before.activity);
+    }
+    firings.push(firing)?;
+    Ok(())
+}
+
 /// The checkpoint of these firings, of which all lines were read. Nothing may stand behind them.
 fn closed(firings: Vec<Firing>, bytes: &[u8]) -> Result<Checkpoint, CheckpointError>
     requires { AreRead firings.items }
@@ -84,7 +98,7 @@ fn read_firings(alloc: Global, bytes: &[u8]) -> Result<Checkpoint, CheckpointErr
             return closed(firings, others);
         }
         match firing_in(alloc, line, number) {
-            Ok(firing) => firings.push(firing)?,
+            Ok(firing) => add(&mut firings, firing)?,
             Err(error) => return Err(error),
         }
         rest = others;
