@@ -3,7 +3,8 @@
 
 It looks at /proc four times a second, and knows each process of the prover by the crate that it is given
 and by the folder that it works in. When it is told to end (SIGTERM) it prints a line
-'time: CRATE PART SECONDS' for each crate and each of the parts `proof`, `tests` and `edits`.
+'time: CRATE PART SECONDS' for each crate and each of the parts `proof`, `tests` and `edits`, and `changed`
+for what began after it was told (SIGUSR1) that the wrong bodies of crates that changed are tried now.
 """
 import os
 import signal
@@ -19,6 +20,9 @@ PROVERS = ("rattle", "antt")
 # The process that started this one: the gate.
 GATE = str(os.getppid())
 
+# Whether the wrong bodies of crates that changed are tried now.
+changed = False
+
 # For each process, by its number and the moment at which it started: crate, part, seconds.
 found = {}
 
@@ -30,6 +34,8 @@ def text_of(path):
 
 def part_of(words, folder):
     """Which part of the gate a process of the prover works at."""
+    if changed:
+        return "changed"
     if "/rt-edit-" in folder:
         return "edits"
     return "tests" if "--test" in words else "proof"
@@ -77,7 +83,13 @@ def end(*_):
     os._exit(0)
 
 
+def go_on(*_):
+    global changed
+    changed = True
+
+
 signal.signal(signal.SIGTERM, end)
+signal.signal(signal.SIGUSR1, go_on)
 while True:
     for name in os.listdir("/proc"):
         if name.isdigit():
