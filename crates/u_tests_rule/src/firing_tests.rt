@@ -48,25 +48,27 @@ const DEEPEST: &str = "\
 
 /// In the deepest context, for which the star stands, nothing is called or entered.
 const DEEPEST_FIRINGS: &str = "\
-firing *.main.3.1 @main 4
+f *.main.3.1 @main 4
 t *.main.3.1 1 @main
 t *.main.3.1 2 4
 gives
 x *.main.3.1 deep
-firing *.main.3.1 @none 4
+
+f *.main.3.1 @none 4
 t *.main.3.1 1 @none
 t *.main.3.1 2 4
 gives
 x *.main.3.1 kind
-firing *.main.6.1 4
+
+f *.main.6.1 4
 t *.main.6.1 1 4
 gives
 x *.main.6.1 deep
-firing *.main.4.1 4
+
+f *.main.4.1 4
 t *.main.4.1 1 4
 gives
-t *.main.5.1 1 4
-";
+t *.main.5.1 1 4";
 
 #[test]
 fn the_deepest_context_calls_and_enters_nothing(rt: HostRuntime) -> Result<(), Fail> {

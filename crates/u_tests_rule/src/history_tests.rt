@@ -1,32 +1,43 @@
 //! Worked histories: their texts, their reports, what they list, and what they merge to.
 use crate::derived::derived;
 use crate::report_rows::{REPORT_ROWS, Report};
-use crate::worked_entries::Line::{Answer, Token};
-use crate::worked_entries::{Line, cell_of, has_text, history_of};
+use crate::worked_histories::{has_text, history_of};
 use std::alloc::{AllocError, Global};
 use std::test::Fail;
 use u_history::{Counts, History, report_text};
+use u_name::Cell;
 use u_plain::examples::{DOUBLE, TWO_WRITERS, job};
 use u_plain::worked::name_of;
 use u_rule::{RuleError, Written};
 use u_value::Value;
 
-/// Whether the report is as the row says.
-fn reports(alloc: Global, row: &Report) -> Result<bool, AllocError> {
-    let history = history_of(alloc, row.3)?;
+/// Whether the report of the history is as the row says.
+fn is_reported(alloc: Global, history: &History, row: &Report) -> Result<bool, AllocError> {
     let counts = Counts {
         firings: row.1,
         parked: row.2,
         entries: history.len(),
     };
-    let text = report_text(alloc, row.0, counts, &history.outcome()?)?;
+    let outcome = history.outcome()?;
+    let text = report_text(alloc, row.0, counts, &outcome)?;
     Ok(text.as_slice() == row.4.as_bytes())
+}
+
+/// Whether it is so for the history of the row's entries.
+fn is_row_reported(alloc: Global, row: &Report) -> Result<bool, AllocError> {
+    let history = history_of(alloc, row.3)?;
+    is_reported(alloc, &history, row)
+}
+
+/// The rows. A proof that calls this knows none of them, and so is short.
+fn rows() -> &'static [Report] {
+    REPORT_ROWS
 }
 
 #[test]
 fn reports_list_what_a_history_says(rt: HostRuntime) -> Result<(), Fail> {
-    for row in REPORT_ROWS {
-        assert!(rt; reports(rt.alloc(), row)?);
+    for row in rows() {
+        assert!(rt; is_row_reported(rt.alloc(), row)?);
     }
     Ok(())
 }
@@ -126,7 +137,7 @@ fn put_writes(
     index: u16,
     out: &mut Vec<u8>,
 ) -> Result<(), AllocError> {
-    let cell = cell_of(alloc, maker, index)?;
+    let cell = Cell::new(name_of(alloc, maker.as_bytes())?, u32::from(index));
     let writes = history.writes(&cell)?;
     put_pairs(out, &writes)
 }
@@ -156,46 +167,59 @@ fn the_two_writers_give_two_values_and_two_writes(rt: HostRuntime) -> Result<(),
 }
 
 /// Some of the lines of the double's history.
-const SOME: &[Line] = &[
-    Token("-.main.3.1", 1, "8"),
-    Token("-.main.1.1", 1, "4"),
-    Token("-.main.2.1", 2, "4"),
-];
+const SOME: &str = "t -.main.3.1 1 8\nt -.main.1.1 1 4\nt -.main.2.1 2 4\n";
 
 /// The other lines, and one of the same.
-const OTHERS: &[Line] = &[
-    Answer("8"),
-    Token("-.main.2.1", 1, "4"),
-    Token("-.main.1.1", 1, "4"),
-];
+const OTHERS: &str = "a 8\nt -.main.2.1 1 4\nt -.main.1.1 1 4\n";
 
 /// The lines of two sets, and the text of both together.
-const MERGES: &[(&[Line], &[Line], &str)] = &[
+const MERGES: &[(&str, &str, &str)] = &[
     (SOME, OTHERS, DOUBLED),
     (OTHERS, SOME, DOUBLED),
-    (&[Answer("1")], &[Answer("1")], "a 1\n"),
-    (&[Answer("1")], &[], "a 1\n"),
-    (&[], &[Answer("1")], "a 1\n"),
-    (&[], &[], ""),
+    ("a 1\n", "a 1\n", "a 1\n"),
+    ("a 1\n", "", "a 1\n"),
+    ("", "a 1\n", "a 1\n"),
+    ("", "", ""),
 ];
 
-/// Merges the set of these lines in, and then a copy of all, which changes nothing.
-fn merge_in(alloc: Global, history: &mut History, lines: &[Line]) -> Result<(), AllocError> {
-    history.merge(&history_of(alloc, lines)?)?;
+/// Merges the set of these lines in.
+fn merge_lines(alloc: Global, history: &mut History, lines: &str) -> Result<(), AllocError> {
+    let other = history_of(alloc, lines)?;
+    history.merge(&other)
+}
+
+/// Merges a copy of the set in, which changes nothing.
+fn merge_same(history: &mut History) -> Result<(), AllocError> {
     let same = history.copy()?;
     history.merge(&same)
 }
 
+/// Merges the set of these lines in, and then a copy of all, and looks for the text.
+fn becomes(
+    alloc: Global,
+    history: &mut History,
+    lines: &str,
+    wanted: &str,
+) -> Result<bool, AllocError> {
+    merge_lines(alloc, history, lines)?;
+    merge_same(history)?;
+    has_text(alloc, history, wanted)
+}
+
 /// Whether the two sets merge to that text.
-fn merges(alloc: Global, left: &[Line], right: &[Line], wanted: &str) -> Result<bool, AllocError> {
+fn merges(alloc: Global, left: &str, right: &str, wanted: &str) -> Result<bool, AllocError> {
     let mut history = history_of(alloc, left)?;
-    merge_in(alloc, &mut history, right)?;
-    has_text(alloc, &history, wanted)
+    becomes(alloc, &mut history, right, wanted)
+}
+
+/// The rows. A proof that calls this knows none of them, and so is short.
+fn merge_rows() -> &'static [(&'static str, &'static str, &'static str)] {
+    MERGES
 }
 
 #[test]
 fn sets_merge_in_both_orders(rt: HostRuntime) -> Result<(), Fail> {
-    for (left, right, wanted) in MERGES {
+    for (left, right, wanted) in merge_rows() {
         assert!(rt; merges(rt.alloc(), left, right, wanted)?);
     }
     Ok(())

@@ -28,6 +28,6 @@ mod report_rows;
 #[cfg(test)]
 mod structure_rows;
 #[cfg(test)]
-mod worked_entries;
-#[cfg(test)]
 mod worked_firings;
+#[cfg(test)]
+mod worked_histories;

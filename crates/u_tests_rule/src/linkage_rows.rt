@@ -1,77 +1,90 @@
 //! Firings of the double, of a loop and of calls.
 //!
-//! Each has a line for the firing: its activity, its values, and behind `by` who wrote what it
-//! reads. Below stand the entries that it needs, and those that it gives, or that it is no firing.
+//! Each begins with the firing's text. Below stand the entries that it needs, and those that it
+//! gives, or that it is no firing; an empty line parts it from the next one.
 
 /// The double sends its argument to both ports, and adds. Addition has two values, and reads no
 /// write.
 pub const DOUBLE_FIRINGS: &str = "\
-firing -.main.1.1 4
+f -.main.1.1 4
 t -.main.1.1 1 4
 gives
 t -.main.2.1 1 4
 t -.main.2.1 2 4
-firing -.main.2.1 4 4
+
+f -.main.2.1 4 4
 t -.main.2.1 1 4
 t -.main.2.1 2 4
 gives
 t -.main.3.1 1 8
-firing -.main.2.1 4 4 by -.main.1.1 4
+
+f -.main.2.1 4 4 by -.main.1.1 4
 no firing
-firing -.main.2.1 4
+
+f -.main.2.1 4
 no firing
-firing -.main.99.1 4
-no firing
-";
+
+f -.main.99.1 4
+no firing";
 
 /// In the sum a loop is entered, turned and left, and a `switch` sends to one of two lists. The
 /// loop's statements stand in the loop that `main` enters, and nowhere else.
 pub const LOOP_FIRINGS: &str = "\
-firing -.main.3.1 4
+f -.main.3.1 4
 t -.main.3.1 1 4
 gives
 t -.main.4.1 1 0
-firing -.main.4.1 0
+
+f -.main.4.1 0
 t -.main.4.1 1 0
 gives
 t (-.main.L1.1).main.9.1 1 0
 t (-.main.L1.1).main.12.1 1 0
-firing (-.main.L1.1).main.14.2 3
+
+f (-.main.L1.1).main.14.2 3
 t (-.main.L1.1).main.14.2 1 3
 gives
 t (-.main.L1.1).main.9.3 1 3
 t (-.main.L1.1).main.12.3 1 3
-firing (-.main.L1.1).main.14.4294967295 3
+
+f (-.main.L1.1).main.14.4294967295 3
 t (-.main.L1.1).main.14.4294967295 1 3
 gives
 x (-.main.L1.1).main.14.4294967295 initiation
-firing (-.main.L1.1).main.15.5 6
+
+f (-.main.L1.1).main.15.5 6
 t (-.main.L1.1).main.15.5 1 6
 gives
 t (-.main.L1.1).main.16.1 1 6
-firing (-.main.L1.1).main.16.1 6
+
+f (-.main.L1.1).main.16.1 6
 t (-.main.L1.1).main.16.1 1 6
 gives
 t -.main.17.1 1 6
-firing -.main.17.1 6
+
+f -.main.17.1 6
 t -.main.17.1 1 6
 gives
 a 6
-firing (-.main.L1.1).main.12.2 6 true
+
+f (-.main.L1.1).main.12.2 6 true
 t (-.main.L1.1).main.12.2 1 6
 t (-.main.L1.1).main.12.2 2 true
 gives
-firing (-.main.L1.1).main.12.2 6 false
+
+f (-.main.L1.1).main.12.2 6 false
 t (-.main.L1.1).main.12.2 1 6
 t (-.main.L1.1).main.12.2 2 false
 gives
 t (-.main.L1.1).main.15.2 1 6
-firing (-.main.L1.1).main.12.2 6 7
+
+f (-.main.L1.1).main.12.2 6 7
 t (-.main.L1.1).main.12.2 1 6
 t (-.main.L1.1).main.12.2 2 7
 gives
 x (-.main.L1.1).main.12.2 kind
-firing (-.main.L1.1).main.13.7 4
+
+f (-.main.L1.1).main.13.7 4
 t (-.main.L1.1).main.13.7 1 4
 gives
 t (-.main.L1.1).main.5.8 1 4
@@ -79,65 +92,81 @@ t (-.main.L1.1).main.6.8 2 4
 t (-.main.L1.1).main.7.8 1 4
 t (-.main.L1.1).main.8.8 1 4
 t (-.main.L1.1).main.9.8 2 4
-firing -.main.13.7 4
+
+f -.main.13.7 4
 no firing
-firing (-.main.L1.1).main.17.1 4
+
+f (-.main.L1.1).main.17.1 4
 no firing
-firing (-.main.L2.1).main.13.7 4
+
+f (-.main.L2.1).main.13.7 4
 no firing
-firing (-.fact.L1.1).main.13.7 4
+
+f (-.fact.L1.1).main.13.7 4
 no firing
-firing (-.main.L1.2).main.13.7 4
+
+f (-.main.L1.2).main.13.7 4
 no firing
-firing -.main.3.2 4
-no firing
-";
+
+f -.main.3.2 4
+no firing";
 
 /// In the factorial a call begins, and comes back. A procedure stands only where an `apply` calls
 /// it.
 pub const CALL_FIRINGS: &str = "\
-firing -.main.3.1 @fact 4
+f -.main.3.1 @fact 4
 t -.main.3.1 1 @fact
 t -.main.3.1 2 4
 gives
 t (-.main.3.1).fact.1.1 1 4
-firing -.main.3.1 @none 4
+
+f -.main.3.1 @none 4
 t -.main.3.1 1 @none
 t -.main.3.1 2 4
 gives
 x -.main.3.1 kind
-firing -.main.3.1 true 4
+
+f -.main.3.1 true 4
 t -.main.3.1 1 true
 t -.main.3.1 2 4
 gives
 x -.main.3.1 kind
-firing ((-.main.3.1).fact.7.1).rec.8.1 6
+
+f ((-.main.3.1).fact.7.1).rec.8.1 6
 t ((-.main.3.1).fact.7.1).rec.8.1 1 6
 gives
 t (-.main.3.1).fact.8.1 1 6
-firing (-.main.3.1).fact.8.1 24
+
+f (-.main.3.1).fact.8.1 24
 t (-.main.3.1).fact.8.1 1 24
 gives
 t (-.main.3.1).fact.9.1 1 24
-firing ((-.main.3.1).fact.7.1).one.3.1 4
+
+f ((-.main.3.1).fact.7.1).one.3.1 4
 t ((-.main.3.1).fact.7.1).one.3.1 1 4
 gives
 t (-.main.3.1).fact.8.1 1 4
-firing (-.main.3.1).fact.5.1 4 4
+
+f (-.main.3.1).fact.5.1 4 4
 t (-.main.3.1).fact.5.1 1 4
 t (-.main.3.1).fact.5.1 2 4
 gives
 t (-.main.3.1).fact.6.1 1 true
-firing ((-.main.3.1).fact.6.1).one.3.1 4
+
+f ((-.main.3.1).fact.6.1).one.3.1 4
 no firing
-firing ((-.main.3.1).fact.7.2).one.3.1 4
+
+f ((-.main.3.1).fact.7.2).one.3.1 4
 no firing
-firing ((-.main.2.1).fact.7.1).one.3.1 4
+
+f ((-.main.2.1).fact.7.1).one.3.1 4
 no firing
-firing (-.fact.7.1).one.3.1 4
+
+f (-.fact.7.1).one.3.1 4
 no firing
-firing (-.main.3.1).fact.5.2 4 4
+
+f (-.main.3.1).fact.5.2 4 4
 no firing
-firing -.fact.5.1 4 4
-no firing
-";
+
+f -.fact.5.1 4 4
+no firing";

@@ -1,14 +1,11 @@
 //! Worked entries: what each answers as it enters.
-use crate::worked_entries::Line::{Answer, Fault, Token, Write};
-use crate::worked_entries::{Line, entry_of};
 use std::alloc::{AllocError, Global};
 use std::test::Fail;
 use u_check::Job;
 use u_match::Matcher;
 use u_plain::examples::{DOUBLE, TWO_WRITERS, job};
-use u_plain::worked::put_firing;
+use u_plain::worked::{entry_of, put_firing};
 use u_rule::{Entry, Firing};
-use u_value::FaultKind;
 
 const PROGRAM: &[u8] = b"\
 u-program 1\n\
@@ -22,65 +19,59 @@ block main\n\
 7 0 fetch -> 5.1\n\
 ";
 
-/// A structure of three cells.
-const STRUCTURE: &str = "&-.main.2.1#3";
-
-/// An entry, and what it answers.
-type Row = (Line, &'static str);
+/// The text of an entry, and of what it answers.
+type Row = (&'static str, &'static str);
 
 /// The double fires once both of its ports have a token.
 const DOUBLED: &[Row] = &[
-    (Token("-.main.1.1", 1, "4"), "f -.main.1.1 4\n"),
-    (Token("-.main.2.1", 1, "4"), ""),
-    (Token("-.main.2.1", 2, "4"), "f -.main.2.1 4 4\n"),
+    ("t -.main.1.1 1 4", "f -.main.1.1 4\n"),
+    ("t -.main.2.1 1 4", ""),
+    ("t -.main.2.1 2 4", "f -.main.2.1 4 4\n"),
 ];
 
 /// A deferred read fires once its cell is written.
 const DEFERRED: &[Row] = &[
-    (Token("-.main.9.1", 1, "&-.main.6.1#1"), ""),
-    (Token("-.main.9.1", 2, "0"), ""),
+    ("t -.main.9.1 1 &-.main.6.1#1", ""),
+    ("t -.main.9.1 2 0", ""),
     (
-        Write("-.main.6.1", 0, "-.main.8.1", "20"),
+        "w -.main.6.1[0] -.main.8.1 20",
         "f -.main.9.1 &-.main.6.1#1 0 by -.main.8.1 20\n",
     ),
 ];
 
 /// The last port makes the firing.
 const LAST_PORTS: &[Row] = &[
-    (Token("-.main.5.1", 1, "7"), "f -.main.5.1 7\n"),
-    (Token("-.main.6.1", 1, "3"), ""),
-    (Token("-.main.6.1", 2, "4"), "f -.main.6.1 3 4\n"),
-    (Token("-.main.3.1", 2, "0"), ""),
-    (Token("-.main.3.1", 3, "9"), ""),
+    ("t -.main.5.1 1 7", "f -.main.5.1 7\n"),
+    ("t -.main.6.1 1 3", ""),
+    ("t -.main.6.1 2 4", "f -.main.6.1 3 4\n"),
+    ("t -.main.3.1 2 0", ""),
+    ("t -.main.3.1 3 9", ""),
     (
-        Token("-.main.3.1", 1, STRUCTURE),
+        "t -.main.3.1 1 &-.main.2.1#3",
         "f -.main.3.1 &-.main.2.1#3 0 9\n",
     ),
 ];
 
 /// Each value of a port makes a firing.
 const MANY_VALUES: &[Row] = &[
-    (Token("-.main.6.1", 1, "5"), ""),
-    (Token("-.main.6.1", 1, "3"), ""),
+    ("t -.main.6.1 1 5", ""),
+    ("t -.main.6.1 1 3", ""),
+    ("t -.main.6.1 2 4", "f -.main.6.1 3 4\nf -.main.6.1 5 4\n"),
+    ("t -.main.6.1 1 1", "f -.main.6.1 1 4\n"),
     (
-        Token("-.main.6.1", 2, "4"),
-        "f -.main.6.1 3 4\nf -.main.6.1 5 4\n",
-    ),
-    (Token("-.main.6.1", 1, "1"), "f -.main.6.1 1 4\n"),
-    (
-        Token("-.main.6.1", 2, "1"),
+        "t -.main.6.1 2 1",
         "f -.main.6.1 1 1\nf -.main.6.1 3 1\nf -.main.6.1 5 1\n",
     ),
 ];
 
 /// A write wakes each read that waits.
 const TWO_READS: &[Row] = &[
-    (Token("-.main.4.1", 1, STRUCTURE), ""),
-    (Token("-.main.4.1", 2, "2"), ""),
-    (Token("-.main.7.1", 2, "2"), ""),
-    (Token("-.main.7.1", 1, STRUCTURE), ""),
+    ("t -.main.4.1 1 &-.main.2.1#3", ""),
+    ("t -.main.4.1 2 2", ""),
+    ("t -.main.7.1 2 2", ""),
+    ("t -.main.7.1 1 &-.main.2.1#3", ""),
     (
-        Write("-.main.2.1", 2, "-.main.3.1", "20"),
+        "w -.main.2.1[2] -.main.3.1 20",
         "\
 f -.main.4.1 &-.main.2.1#3 2 by -.main.3.1 20
 f -.main.7.1 &-.main.2.1#3 2 by -.main.3.1 20
@@ -90,38 +81,29 @@ f -.main.7.1 &-.main.2.1#3 2 by -.main.3.1 20
 
 /// A read sees each write of its cell.
 const TWO_WRITES: &[Row] = &[
-    (Write("-.main.2.1", 2, "-.main.3.1", "21"), ""),
-    (Write("-.main.2.1", 2, "-.main.3.1", "20"), ""),
-    (Token("-.main.4.1", 1, STRUCTURE), ""),
+    ("w -.main.2.1[2] -.main.3.1 21", ""),
+    ("w -.main.2.1[2] -.main.3.1 20", ""),
+    ("t -.main.4.1 1 &-.main.2.1#3", ""),
     (
-        Token("-.main.4.1", 2, "2"),
+        "t -.main.4.1 2 2",
         "\
 f -.main.4.1 &-.main.2.1#3 2 by -.main.3.1 20
 f -.main.4.1 &-.main.2.1#3 2 by -.main.3.1 21
 ",
     ),
-    (Token("-.main.4.1", 2, "1"), ""),
+    ("t -.main.4.1 2 1", ""),
 ];
 
 /// A read out of bounds does not wait.
 const OUT_OF_BOUNDS: &[Row] = &[
-    (Token("-.main.4.1", 1, STRUCTURE), ""),
-    (
-        Token("-.main.4.1", 2, "3"),
-        "f -.main.4.1 &-.main.2.1#3 3\n",
-    ),
-    (
-        Token("-.main.4.1", 2, "true"),
-        "f -.main.4.1 &-.main.2.1#3 true\n",
-    ),
-    (Write("-.main.2.1", 2, "-.main.3.1", "20"), ""),
+    ("t -.main.4.1 1 &-.main.2.1#3", ""),
+    ("t -.main.4.1 2 3", "f -.main.4.1 &-.main.2.1#3 3\n"),
+    ("t -.main.4.1 2 true", "f -.main.4.1 &-.main.2.1#3 true\n"),
+    ("w -.main.2.1[2] -.main.3.1 20", ""),
 ];
 
 /// A fault and an answer wake nothing.
-const ENDS: &[Row] = &[
-    (Fault("-.main.4.1", FaultKind::Bounds), ""),
-    (Answer("7"), ""),
-];
+const ENDS: &[Row] = &[("x -.main.4.1 bounds", ""), ("a 7", "")];
 
 /// The programs, each with entries that enter one after another.
 const SEQUENCES: &[(&[u8], &[Row])] = &[
@@ -135,6 +117,11 @@ const SEQUENCES: &[(&[u8], &[Row])] = &[
     (PROGRAM, ENDS),
 ];
 
+/// The sequences. A proof that calls this knows none of them, and so is short.
+fn sequences() -> &'static [(&'static [u8], &'static [Row])] {
+    SEQUENCES
+}
+
 /// Appends the firings, a line each.
 fn put_firings(out: &mut Vec<u8>, firings: &[Firing]) -> Result<(), AllocError> {
     for firing in firings {
@@ -143,41 +130,58 @@ fn put_firings(out: &mut Vec<u8>, firings: &[Firing]) -> Result<(), AllocError> 
     Ok(())
 }
 
-/// Appends what the entry answers as it enters.
-fn put_answer(
+/// Whether the text lists the firings.
+fn are_listed(alloc: Global, firings: &[Firing], text: &str) -> Result<bool, AllocError> {
+    let mut out = Vec::new(alloc);
+    put_firings(&mut out, firings)?;
+    Ok(out.as_slice() == text.as_bytes())
+}
+
+/// Whether the entry answers the firings that the text lists, as it enters.
+fn answers(
+    alloc: Global,
     matcher: &mut Matcher,
     job: &Job,
     entry: &Entry,
-    out: &mut Vec<u8>,
-) -> Result<(), AllocError> {
+    text: &str,
+) -> Result<bool, AllocError> {
     let answer = matcher.enter(job, entry)?;
-    put_firings(out, &answer)
+    are_listed(alloc, &answer, text)
 }
 
 /// Whether the entry of the row enters and answers what it has to.
 fn enters(alloc: Global, matcher: &mut Matcher, job: &Job, row: &Row) -> Result<bool, AllocError> {
     let entry = entry_of(alloc, row.0)?;
-    let mut out = Vec::new(alloc);
-    put_answer(matcher, job, &entry, &mut out)?;
-    Ok(out.as_slice() == row.1.as_bytes() && matcher.contains(&entry))
+    Ok(answers(alloc, matcher, job, &entry, row.1)? && matcher.contains(&entry))
 }
 
-/// Whether it is so for each row of the sequence, in a new matcher.
-fn all_enter(alloc: Global, program: &[u8], rows: &[Row]) -> Result<bool, AllocError> {
-    let job = job(alloc, program, 4)?;
-    let mut matcher = Matcher::new(alloc);
+/// Whether it is so for each of the rows, one after another, and the matcher then has as many
+/// entries.
+fn all_enter(
+    alloc: Global,
+    matcher: &mut Matcher,
+    job: &Job,
+    rows: &[Row],
+) -> Result<bool, AllocError> {
     for row in rows {
-        if !enters(alloc, &mut matcher, &job, row)? {
+        if !enters(alloc, matcher, job, row)? {
             return Ok(false);
         }
     }
     Ok(matcher.len() == rows.len())
 }
 
+/// Whether it is so for the rows and the program, in a new matcher.
+fn is_right(alloc: Global, program: &[u8], rows: &[Row]) -> Result<bool, AllocError> {
+    let job = job(alloc, program, 4)?;
+    let mut matcher = Matcher::new(alloc);
+    all_enter(alloc, &mut matcher, &job, rows)
+}
+
 #[test]
 fn entries_answer_the_firings_that_they_enable(rt: HostRuntime) -> Result<(), Fail> {
-    for (program, rows) in SEQUENCES {
-        assert!(rt; all_enter(rt.alloc(), program, rows)?);
+    for (program, rows) in sequences() {
+        assert!(rt; is_right(rt.alloc(), program, rows)?);
     }
     Ok(())
 }

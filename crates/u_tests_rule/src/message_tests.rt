@@ -4,7 +4,8 @@ use crate::plain_messages::judge;
 use std::alloc::{AllocError, Global};
 use std::test::Fail;
 use u_delta::{Mark, Message, ReadError, delta, read_message, write_message};
-use u_rule::{Firing, TextError};
+use u_plain::worked::firing_of;
+use u_rule::Firing;
 
 /// Whether the message is written so.
 fn is_written(alloc: Global, message: &Message, text: &[u8]) -> bool {
@@ -71,48 +72,53 @@ fn first_other(alloc: Global, text: &str, byte: u8) -> Result<Option<usize>, All
 }
 
 /// A log of so many firings.
-fn log_of(alloc: Global, count: usize) -> Result<Vec<Firing>, TextError> {
-    let firing = Firing::read(alloc, b"f -.main.3.1 8")?;
+fn log_of(alloc: Global, count: usize) -> Result<Vec<Firing>, AllocError> {
     let mut log = Vec::new(alloc);
     for _firing in 0..count {
-        log.push(firing.copy(alloc)?)
-            .map_err(|_| TextError::NoMemory)?;
+        log.push(firing_of(alloc, "f -.main.3.1 8")?)?;
     }
     Ok(log)
 }
 
-/// Where the delta of that log for that mark starts, and how many firings it has.
+/// Where the delta of the log for that mark starts, and how many firings it has.
+fn part_behind(
+    alloc: Global,
+    log: &[Firing],
+    life: u64,
+    mark: Mark,
+) -> Result<(u64, usize), AllocError> {
+    let delta = delta(alloc, log, 1, 2, life, mark)?;
+    Ok((delta.start, delta.firings.as_slice().len()))
+}
+
+/// The same of a log of so many firings, and a mark of that life and that count.
 fn part_of(
     alloc: Global,
     count: usize,
     life: u64,
     mark: [u64; 2],
-) -> Result<(u64, usize), TextError> {
-    let log = log_of(alloc, count)?;
+) -> Result<(u64, usize), AllocError> {
     let mark = Mark {
         life: mark[0],
         count: mark[1],
     };
-    let delta = delta(alloc, &log, 1, 2, life, mark)?;
-    Ok((delta.start, delta.firings.as_slice().len()))
+    let log = log_of(alloc, count)?;
+    part_behind(alloc, &log, life, mark)
 }
 
-/// The text of the delta of the log of those lines for a receiver with that mark.
-fn delta_text(
-    alloc: Global,
-    lines: [&str; 3],
-    life: u64,
-    mark: Mark,
-) -> Result<Vec<u8>, TextError> {
+/// The log of the firings that the text lists.
+fn log_of_lines(alloc: Global, text: &str) -> Result<Vec<Firing>, AllocError> {
     let mut log = Vec::new(alloc);
-    for line in lines {
-        log.push(Firing::read(alloc, line.as_bytes())?)
-            .map_err(|_| TextError::NoMemory)?;
+    for line in text.lines() {
+        log.push(firing_of(alloc, line)?)?;
     }
-    let delta = delta(alloc, &log, 1, 2, life, mark)?;
-    let mut text = Vec::new(alloc);
-    write_message(&Message::Delta(delta), &mut text)?;
-    Ok(text)
+    Ok(log)
+}
+
+/// Whether the delta of the log for that mark has that text, where the replica lives once.
+fn is_rest(alloc: Global, log: &[Firing], mark: Mark, text: &str) -> Result<bool, AllocError> {
+    let message = Message::Delta(delta(alloc, log, 1, 2, 1, mark)?);
+    Ok(is_written(alloc, &message, text.as_bytes()))
 }
 
 #[test]
@@ -170,9 +176,9 @@ fn deltas_start_behind_the_mark(rt: HostRuntime) -> Result<(), Fail> {
 
 #[test]
 fn a_delta_is_the_rest_of_the_log(rt: HostRuntime) -> Result<(), Fail> {
-    let lines = ["f -.main.1.1 4", "f -.main.2.1 4 4", "f -.main.3.1 8"];
+    let text = "f -.main.1.1 4\nf -.main.2.1 4 4\nf -.main.3.1 8\n";
     let mark = Mark { life: 1, count: 1 };
-    let text = delta_text(rt.alloc(), lines, 1, mark)?;
-    assert!(rt; text.as_slice() == DELTA.as_bytes());
+    let log = log_of_lines(rt.alloc(), text)?;
+    assert!(rt; is_rest(rt.alloc(), &log, mark, DELTA)?);
     Ok(())
 }

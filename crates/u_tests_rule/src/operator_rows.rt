@@ -1,7 +1,7 @@
 //! Firings of operators.
 //!
-//! Each has a line for the firing: its activity, its values, and behind `by` who wrote what it
-//! reads. Below stand the entries that it needs, and those that it gives, or that it is no firing.
+//! Each begins with the firing's text. Below stand the entries that it needs, and those that it
+//! gives, or that it is no firing; an empty line parts it from the next one.
 
 /// Each operator has a statement, which sends to the one `end`.
 pub const OPERATORS: &[u8] = b"\
@@ -28,102 +28,120 @@ block main\n\
 
 /// A firing of each operator, and its faults.
 pub const OPERATOR_FIRINGS: &str = "\
-firing -.main.3.1 4
+f -.main.3.1 4
 t -.main.3.1 1 4
 gives
 t -.main.17.1 1 4
-firing -.main.4.1 true
+
+f -.main.4.1 true
 t -.main.4.1 1 true
 gives
 t -.main.17.1 1 false
-firing -.main.4.1 4
+
+f -.main.4.1 4
 t -.main.4.1 1 4
 gives
 x -.main.4.1 kind
-firing -.main.5.1 &-.main.1.1#10
+
+f -.main.5.1 &-.main.1.1#10
 t -.main.5.1 1 &-.main.1.1#10
 gives
 t -.main.17.1 1 10
-firing -.main.6.1 7 3
+
+f -.main.6.1 7 3
 t -.main.6.1 1 7
 t -.main.6.1 2 3
 gives
 t -.main.17.1 1 10
-firing -.main.7.1 7 3
+
+f -.main.7.1 7 3
 t -.main.7.1 1 7
 t -.main.7.1 2 3
 gives
 t -.main.17.1 1 4
-firing -.main.8.1 7 3
+
+f -.main.8.1 7 3
 t -.main.8.1 1 7
 t -.main.8.1 2 3
 gives
 t -.main.17.1 1 21
-firing -.main.9.1 7 3
+
+f -.main.9.1 7 3
 t -.main.9.1 1 7
 t -.main.9.1 2 3
 gives
 t -.main.17.1 1 2
-firing -.main.10.1 7 3
+
+f -.main.10.1 7 3
 t -.main.10.1 1 7
 t -.main.10.1 2 3
 gives
 t -.main.17.1 1 1
-firing -.main.6.1 9223372036854775807 1
+
+f -.main.6.1 9223372036854775807 1
 t -.main.6.1 1 9223372036854775807
 t -.main.6.1 2 1
 gives
 x -.main.6.1 overflow
-firing -.main.9.1 4 0
+
+f -.main.9.1 4 0
 t -.main.9.1 1 4
 t -.main.9.1 2 0
 gives
 x -.main.9.1 zero
-firing -.main.11.1 3 3
+
+f -.main.11.1 3 3
 t -.main.11.1 1 3
 t -.main.11.1 2 3
 gives
 t -.main.17.1 1 false
-firing -.main.12.1 3 3
+
+f -.main.12.1 3 3
 t -.main.12.1 1 3
 t -.main.12.1 2 3
 gives
 t -.main.17.1 1 true
-firing -.main.13.1 3 3
+
+f -.main.13.1 3 3
 t -.main.13.1 1 3
 t -.main.13.1 2 3
 gives
 t -.main.17.1 1 true
-firing -.main.14.1 true false
+
+f -.main.14.1 true false
 t -.main.14.1 1 true
 t -.main.14.1 2 false
 gives
 t -.main.17.1 1 false
-firing -.main.15.1 true false
+
+f -.main.15.1 true false
 t -.main.15.1 1 true
 t -.main.15.1 2 false
 gives
 t -.main.17.1 1 true
-firing -.main.16.1 true 5 7
+
+f -.main.16.1 true 5 7
 t -.main.16.1 1 true
 t -.main.16.1 2 5
 t -.main.16.1 3 7
 gives
 t -.main.17.1 1 5
-firing -.main.16.1 false 5 7
+
+f -.main.16.1 false 5 7
 t -.main.16.1 1 false
 t -.main.16.1 2 5
 t -.main.16.1 3 7
 gives
 t -.main.17.1 1 7
-firing -.main.16.1 1 5 7
+
+f -.main.16.1 1 5 7
 t -.main.16.1 1 1
 t -.main.16.1 2 5
 t -.main.16.1 3 7
 gives
 x -.main.16.1 kind
-firing -.main.17.1 16
+
+f -.main.17.1 16
 t -.main.17.1 1 16
 gives
-a 16
-";
+a 16";

@@ -1,12 +1,9 @@
 //! Histories with their reports, byte by byte.
-use crate::worked_entries::Line;
-use crate::worked_entries::Line::{Answer, Fault, Token, Write};
 use u_history::Ending;
-use u_value::FaultKind;
 
 /// The state of a run, how many firings and parked firings there are, the entries of its history,
-/// and the report.
-pub type Report = (Ending, usize, usize, &'static [Line], &'static str);
+/// a line each, and the report.
+pub type Report = (Ending, usize, usize, &'static str, &'static str);
 
 /// A history for each verdict, and histories whose cells and ports clash, or do not.
 pub const REPORT_ROWS: &[Report] = &[
@@ -15,7 +12,7 @@ pub const REPORT_ROWS: &[Report] = &[
         Ending::Paused,
         0,
         1,
-        &[],
+        "",
         "state paused\nfirings 0\nparked 1\nentries 0\nverdict none\n",
     ),
     // one answer, put in twice
@@ -23,7 +20,7 @@ pub const REPORT_ROWS: &[Report] = &[
         Ending::Quiet,
         3,
         0,
-        &[Answer("8"), Answer("8")],
+        "a 8\na 8\n",
         "state quiet\nfirings 3\nparked 0\nentries 1\nanswer 8\nverdict answer 8\n",
     ),
     // a fault goes before the answer
@@ -31,7 +28,7 @@ pub const REPORT_ROWS: &[Report] = &[
         Ending::Quiet,
         2,
         0,
-        &[Answer("8"), Fault("-.main.2.1", FaultKind::Overflow)],
+        "a 8\nx -.main.2.1 overflow\n",
         "\
 state quiet
 firings 2
@@ -47,7 +44,7 @@ verdict faulted
         Ending::Quiet,
         2,
         0,
-        &[Answer("20"), Answer("-30")],
+        "a 20\na -30\n",
         "state quiet\nfirings 2\nparked 0\nentries 2\nanswer -30\nanswer 20\nverdict clashed\n",
     ),
     // two writes of one cell, and the tokens and answers that reads of it give
@@ -55,16 +52,16 @@ verdict faulted
         Ending::Quiet,
         12,
         0,
-        &[
-            Answer("20"),
-            Answer("10"),
-            Write("-.main.6.1", 0, "-.main.8.1", "20"),
-            Token("-.main.10.1", 1, "20"),
-            Token("-.main.8.1", 3, "20"),
-            Write("-.main.6.1", 0, "-.main.7.1", "10"),
-            Token("-.main.10.1", 1, "10"),
-            Token("-.main.7.1", 3, "10"),
-        ],
+        "\
+a 20
+a 10
+w -.main.6.1[0] -.main.8.1 20
+t -.main.10.1 1 20
+t -.main.8.1 3 20
+w -.main.6.1[0] -.main.7.1 10
+t -.main.10.1 1 10
+t -.main.7.1 3 10
+",
         "\
 state quiet
 firings 12
@@ -84,13 +81,13 @@ verdict clashed
         Ending::Quiet,
         4,
         0,
-        &[
-            Answer("10"),
-            Fault("-.main.2.1", FaultKind::Zero),
-            Write("-.main.6.1", 0, "-.main.8.1", "10"),
-            Write("-.main.6.1", 0, "-.main.7.1", "10"),
-            Write("-.main.6.1", 1, "-.main.7.1", "10"),
-        ],
+        "\
+a 10
+x -.main.2.1 zero
+w -.main.6.1[0] -.main.8.1 10
+w -.main.6.1[0] -.main.7.1 10
+w -.main.6.1[1] -.main.7.1 10
+",
         "\
 state quiet
 firings 4
@@ -108,12 +105,12 @@ verdict clashed
         Ending::Quiet,
         4,
         0,
-        &[
-            Write("-.main.6.1", 0, "-.main.8.1", "20"),
-            Write("-.main.6.1", 0, "-.main.7.1", "30"),
-            Write("-.main.6.1", 0, "-.main.7.1", "10"),
-            Write("-.main.6.1", 1, "-.main.7.1", "10"),
-        ],
+        "\
+w -.main.6.1[0] -.main.8.1 20
+w -.main.6.1[0] -.main.7.1 30
+w -.main.6.1[0] -.main.7.1 10
+w -.main.6.1[1] -.main.7.1 10
+",
         "\
 state quiet
 firings 4
@@ -130,12 +127,12 @@ verdict clashed
         Ending::Quiet,
         4,
         0,
-        &[
-            Answer("10"),
-            Write("-.main.6.1", 0, "-.main.7.1", "10"),
-            Write("-.main.6.1", 0, "-.main.7.1", "10"),
-            Write("-.main.6.1", 1, "-.main.7.1", "10"),
-        ],
+        "\
+a 10
+w -.main.6.1[0] -.main.7.1 10
+w -.main.6.1[0] -.main.7.1 10
+w -.main.6.1[1] -.main.7.1 10
+",
         "state quiet\nfirings 4\nparked 0\nentries 3\nanswer 10\nverdict answer 10\n",
     ),
     // three values at one port, and a token at the next
@@ -143,13 +140,13 @@ verdict clashed
         Ending::Quiet,
         4,
         0,
-        &[
-            Token("-.main.6.1", 1, "20"),
-            Token("-.main.6.1", 1, "10"),
-            Token("-.main.6.1", 1, "20"),
-            Token("-.main.6.1", 1, "-30"),
-            Token("-.main.6.1", 2, "10"),
-        ],
+        "\
+t -.main.6.1 1 20
+t -.main.6.1 1 10
+t -.main.6.1 1 20
+t -.main.6.1 1 -30
+t -.main.6.1 2 10
+",
         "\
 state quiet
 firings 4
@@ -166,7 +163,7 @@ verdict clashed
         Ending::Paused,
         4,
         0,
-        &[Token("-.main.6.1", 1, "20"), Token("-.main.6.1", 2, "10")],
+        "t -.main.6.1 1 20\nt -.main.6.1 2 10\n",
         "state paused\nfirings 4\nparked 0\nentries 2\nverdict none\n",
     ),
 ];

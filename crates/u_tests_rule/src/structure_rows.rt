@@ -1,7 +1,7 @@
 //! Firings of structures.
 //!
-//! Each has a line for the firing: its activity, its values, and behind `by` who wrote what it
-//! reads. Below stand the entries that it needs, and those that it gives, or that it is no firing.
+//! Each begins with the firing's text. Below stand the entries that it needs, and those that it
+//! gives, or that it is no firing; an empty line parts it from the next one.
 
 /// It makes a structure, writes a cell and reads a cell.
 pub const STRUCTURES: &[u8] = b"\
@@ -17,123 +17,149 @@ block main\n\
 /// A structure has the name of its activity. A `store` writes a cell. A `fetch` reads a write where
 /// its values name a cell, and only there; nothing else reads one.
 pub const STRUCTURE_FIRINGS: &str = "\
-firing -.main.2.1 0
+f -.main.2.1 0
 t -.main.2.1 1 0
 gives
 t -.main.5.1 1 &-.main.2.1#0
-firing -.main.2.1 1000000
+
+f -.main.2.1 1000000
 t -.main.2.1 1 1000000
 gives
 t -.main.5.1 1 &-.main.2.1#1000000
-firing -.main.2.1 -1
+
+f -.main.2.1 -1
 t -.main.2.1 1 -1
 gives
 x -.main.2.1 length
-firing -.main.2.1 1000001
+
+f -.main.2.1 1000001
 t -.main.2.1 1 1000001
 gives
 x -.main.2.1 length
-firing -.main.2.1 true
+
+f -.main.2.1 true
 t -.main.2.1 1 true
 gives
 x -.main.2.1 kind
-firing -.main.3.1 &-.main.2.1#3 0 @main
+
+f -.main.3.1 &-.main.2.1#3 0 @main
 t -.main.3.1 1 &-.main.2.1#3
 t -.main.3.1 2 0
 t -.main.3.1 3 @main
 gives
 w -.main.2.1[0] -.main.3.1 @main
-firing -.main.3.1 &-.main.2.1#3 2 @main
+
+f -.main.3.1 &-.main.2.1#3 2 @main
 t -.main.3.1 1 &-.main.2.1#3
 t -.main.3.1 2 2
 t -.main.3.1 3 @main
 gives
 w -.main.2.1[2] -.main.3.1 @main
-firing -.main.3.1 &-.main.2.1#3 3 @main
+
+f -.main.3.1 &-.main.2.1#3 3 @main
 t -.main.3.1 1 &-.main.2.1#3
 t -.main.3.1 2 3
 t -.main.3.1 3 @main
 gives
 x -.main.3.1 bounds
-firing -.main.3.1 &-.main.2.1#0 0 @main
+
+f -.main.3.1 &-.main.2.1#0 0 @main
 t -.main.3.1 1 &-.main.2.1#0
 t -.main.3.1 2 0
 t -.main.3.1 3 @main
 gives
 x -.main.3.1 bounds
-firing -.main.3.1 &-.main.2.1#3 -1 @main
+
+f -.main.3.1 &-.main.2.1#3 -1 @main
 t -.main.3.1 1 &-.main.2.1#3
 t -.main.3.1 2 -1
 t -.main.3.1 3 @main
 gives
 x -.main.3.1 bounds
-firing -.main.3.1 true -1 @main
+
+f -.main.3.1 true -1 @main
 t -.main.3.1 1 true
 t -.main.3.1 2 -1
 t -.main.3.1 3 @main
 gives
 x -.main.3.1 kind
-firing -.main.4.1 &-.main.2.1#3 2 by -.main.3.1 20
+
+f -.main.4.1 &-.main.2.1#3 2 by -.main.3.1 20
 t -.main.4.1 1 &-.main.2.1#3
 t -.main.4.1 2 2
 w -.main.2.1[2] -.main.3.1 20
 gives
 t -.main.5.1 1 20
-firing -.main.4.1 &-.main.2.1#3 3
+
+f -.main.4.1 &-.main.2.1#3 3
 t -.main.4.1 1 &-.main.2.1#3
 t -.main.4.1 2 3
 gives
 x -.main.4.1 bounds
-firing -.main.4.1 &-.main.2.1#3 -1
+
+f -.main.4.1 &-.main.2.1#3 -1
 t -.main.4.1 1 &-.main.2.1#3
 t -.main.4.1 2 -1
 gives
 x -.main.4.1 bounds
-firing -.main.4.1 &-.main.2.1#3 false
+
+f -.main.4.1 &-.main.2.1#3 false
 t -.main.4.1 1 &-.main.2.1#3
 t -.main.4.1 2 false
 gives
 x -.main.4.1 kind
-firing -.main.4.1 &-.main.2.1#3 0 by -.main.3.1 20
+
+f -.main.4.1 &-.main.2.1#3 0 by -.main.3.1 20
 t -.main.4.1 1 &-.main.2.1#3
 t -.main.4.1 2 0
 w -.main.2.1[0] -.main.3.1 20
 gives
 t -.main.5.1 1 20
-firing -.main.4.1 &-.main.2.1#3 0
+
+f -.main.4.1 &-.main.2.1#3 0
 no firing
-firing -.main.4.1 &-.main.2.1#3 2
+
+f -.main.4.1 &-.main.2.1#3 2
 no firing
-firing -.main.4.1 &-.main.2.1#3 3 by -.main.3.1 20
+
+f -.main.4.1 &-.main.2.1#3 3 by -.main.3.1 20
 no firing
-firing -.main.4.1 &-.main.2.1#3 -1 by -.main.3.1 20
+
+f -.main.4.1 &-.main.2.1#3 -1 by -.main.3.1 20
 no firing
-firing -.main.4.1 3 0
+
+f -.main.4.1 3 0
 t -.main.4.1 1 3
 t -.main.4.1 2 0
 gives
 x -.main.4.1 kind
-firing -.main.4.1 3 0 by -.main.3.1 20
+
+f -.main.4.1 3 0 by -.main.3.1 20
 no firing
-firing -.main.4.1 &-.main.2.1#3 true
+
+f -.main.4.1 &-.main.2.1#3 true
 t -.main.4.1 1 &-.main.2.1#3
 t -.main.4.1 2 true
 gives
 x -.main.4.1 kind
-firing -.main.4.1 &-.main.2.1#3 true by -.main.3.1 20
+
+f -.main.4.1 &-.main.2.1#3 true by -.main.3.1 20
 no firing
-firing -.main.3.1 &-.main.2.1#3 0 7
+
+f -.main.3.1 &-.main.2.1#3 0 7
 t -.main.3.1 1 &-.main.2.1#3
 t -.main.3.1 2 0
 t -.main.3.1 3 7
 gives
 w -.main.2.1[0] -.main.3.1 7
-firing -.main.3.1 &-.main.2.1#3 0 7 by -.main.3.1 20
+
+f -.main.3.1 &-.main.2.1#3 0 7 by -.main.3.1 20
 no firing
-firing -.main.2.1 3
+
+f -.main.2.1 3
 t -.main.2.1 1 3
 gives
 t -.main.5.1 1 &-.main.2.1#3
-firing -.main.2.1 3 by -.main.3.1 20
-no firing
-";
+
+f -.main.2.1 3 by -.main.3.1 20
+no firing";

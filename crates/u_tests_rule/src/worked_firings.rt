@@ -2,29 +2,14 @@
 use std::alloc::{AllocError, Global};
 use u_check::Job;
 use u_plain::examples::job;
-use u_plain::worked::firing_with;
+use u_plain::worked::firing_of;
 use u_rule::{Entry, Firing, RuleError, gives, needs};
 
-/// What stands before and behind the first such mark; all and nothing, where there is none.
-fn cut<'a>(text: &'a str, mark: &str) -> (&'a str, &'a str) {
-    text.split_once(mark).unwrap_or((text, ""))
-}
-
-/// The firing of the line: its activity, its values, and behind `by` the write that it reads.
-fn firing_of(alloc: Global, line: &str) -> Result<Firing, AllocError> {
-    let (record, by) = cut(line, " by ");
-    let (writer, written) = cut(by, " ");
-    let (name, values) = cut(record, " ");
-    let (first, others) = cut(values, " ");
-    let (second, third) = cut(others, " ");
-    firing_with(alloc, name, [first, second, third], [writer, written])
-}
-
-/// Appends the entries, a line each.
-fn put_lines(out: &mut Vec<u8>, entries: &[Entry]) -> Result<(), AllocError> {
+/// Appends the entries, each on a line of its own behind what stands there.
+fn put_entries(out: &mut Vec<u8>, entries: &[Entry]) -> Result<(), AllocError> {
     for entry in entries {
-        entry.write_text(out)?;
         out.push(b'\n')?;
+        entry.write_text(out)?;
     }
     Ok(())
 }
@@ -38,11 +23,11 @@ fn put_needs(
 ) -> Result<bool, RuleError> {
     match needs(alloc, job, firing) {
         Ok(needed) => {
-            put_lines(out, &needed)?;
+            put_entries(out, &needed)?;
             Ok(true)
         }
         Err(RuleError::NotAFiring) => {
-            out.extend_from_slice(b"no firing\n")?;
+            out.extend_from_slice(b"\nno firing")?;
             Ok(false)
         }
         Err(RuleError::NoMemory) => Err(RuleError::NoMemory),
@@ -56,41 +41,52 @@ fn put_gives(
     firing: &Firing,
     out: &mut Vec<u8>,
 ) -> Result<(), RuleError> {
-    out.extend_from_slice(b"gives\n")?;
+    out.extend_from_slice(b"\ngives")?;
     let given = gives(alloc, job, firing)?;
-    put_lines(out, &given)?;
+    put_entries(out, &given)?;
     Ok(())
 }
 
-/// Appends what the firing of the line needs and gives.
-fn put_both(alloc: Global, job: &Job, line: &str, out: &mut Vec<u8>) -> Result<(), RuleError> {
-    let firing = firing_of(alloc, line)?;
-    if put_needs(alloc, job, &firing, out)? {
-        put_gives(alloc, job, &firing, out)?;
+/// Appends the text of the firing, and what it needs and gives.
+fn put_all(alloc: Global, job: &Job, firing: &Firing, out: &mut Vec<u8>) -> Result<(), RuleError> {
+    firing.write_text(out)?;
+    if put_needs(alloc, job, firing, out)? {
+        put_gives(alloc, job, firing, out)?;
     }
     Ok(())
 }
 
-/// Whether the firing of the line needs and gives the lines that are wanted.
-fn fires(alloc: Global, job: &Job, line: &str, wanted: &str) -> Result<bool, RuleError> {
+/// Whether the firing needs and gives what stands in the row behind its text.
+fn fires(alloc: Global, job: &Job, firing: &Firing, row: &str) -> Result<bool, RuleError> {
     let mut out = Vec::new(alloc);
-    put_both(alloc, job, line, &mut out)?;
-    Ok(out.as_slice() == wanted.as_bytes())
+    put_all(alloc, job, firing, &mut out)?;
+    Ok(out.as_slice() == row.as_bytes())
+}
+
+/// Whether it is so for the firing of the row's first line.
+fn is_right(alloc: Global, job: &Job, row: &str) -> Result<bool, RuleError> {
+    let (line, _) = row.split_once("\n").unwrap_or((row, ""));
+    let firing = firing_of(alloc, line)?;
+    fires(alloc, job, &firing, row)
+}
+
+/// How many of the text's rows are right, up to the first one that is not.
+fn count_right(alloc: Global, job: &Job, text: &str) -> Result<usize, RuleError> {
+    let mut count: usize = 0;
+    for row in text.split("\n\n") {
+        if !is_right(alloc, job, row)? {
+            return Ok(count);
+        }
+        count = count.saturating_add(1);
+    }
+    Ok(count)
 }
 
 /// How many of the text's firings need and give what stands below them, up to the first one that
 /// does not.
 pub fn how_many_fire(alloc: Global, program: &[u8], text: &str) -> Result<usize, RuleError> {
     let job = job(alloc, program, 4)?;
-    let mut count = 0;
-    for row in text.split("firing ").skip(1) {
-        let (line, wanted) = cut(row, "\n");
-        if !fires(alloc, &job, line, wanted)? {
-            return Ok(count);
-        }
-        count = count.saturating_add(1);
-    }
-    Ok(count)
+    count_right(alloc, &job, text)
 }
 
 /// The text, with the name in place of each star.
