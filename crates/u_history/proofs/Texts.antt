@@ -3,18 +3,6 @@ use Rattle.std.proofs.Common.{◌≡◌, ℕ, ◌+◌, ◌<◌, List, [], ◌∷
 use Rattle.std.proofs.lemmas.List.{take_more, take_all}
 use Rattle.u_history.specs.Report.{texts}
 
-pub join2 : (o a b n1 n2 : List ℕ) → n1 ≡ o ++ a → n2 ≡ n1 ++ b → n2 ≡ o ++ (a ++ b)
-join2 o a b n1 n2 p q = rw (q, p) (append_assoc o a b)
-
-pub join3 : (o a b c n1 n2 n3 : List ℕ) → n1 ≡ o ++ a → n2 ≡ n1 ++ b → n3 ≡ n2 ++ c → n3 ≡ o ++ (a ++ (b ++ c))
-join3 o a b c n1 n2 n3 p q r = rw (r, q, p) (simp append_assoc)
-
-pub join5 : (o a b c d e n1 n2 n3 n4 n5 : List ℕ) → n1 ≡ o ++ a → n2 ≡ n1 ++ b → n3 ≡ n2 ++ c → n4 ≡ n3 ++ d → n5 ≡ n4 ++ e → n5 ≡ o ++ (a ++ (b ++ (c ++ (d ++ e))))
-join5 o a b c d e n1 n2 n3 n4 n5 p q r s t = rw (t, s, r, q, p) (simp append_assoc)
-
-pub join7 : (o a b c d e f g n1 n2 n3 n4 n5 n6 n7 : List ℕ) → n1 ≡ o ++ a → n2 ≡ n1 ++ b → n3 ≡ n2 ++ c → n4 ≡ n3 ++ d → n5 ≡ n4 ++ e → n6 ≡ n5 ++ f → n7 ≡ n6 ++ g → n7 ≡ o ++ (a ++ (b ++ (c ++ (d ++ (e ++ (f ++ g))))))
-join7 o a b c d e f g n1 n2 n3 n4 n5 n6 n7 p q r s t u v = rw (v, u, t, s, r, q, p) (simp append_assoc)
-
 module _ {X : Type 0} (f : X → List ℕ) where
   texts_append : (xs : List X) (x : X) → texts f (xs ++ x ∷ []) ≡ texts f xs ++ f x
   texts_append [] x = append-nil (f x)

@@ -53,7 +53,7 @@ fn put_number(out: &mut Vec<u8>, number: usize) -> Result<(), AllocError>
 }
 
 /// Puts a word, a number and a newline at the end.
-#[tactic(auto, unfolding(crate::specs::Report::count_line), using(crate::proofs::Texts::join3))]
+#[tactic(auto, unfolding(crate::specs::Report::count_line))]
 fn put_count(out: &mut Vec<u8>, word: &[u8], number: usize) -> Result<(), AllocError>
     ensures { OnOk result (out.new.items ≡ out.old.items ++ count_line word.now number) }
 {
@@ -72,7 +72,7 @@ fn put_state(out: &mut Vec<u8>, state: Ending) -> Result<(), AllocError>
     }
 }
 
-#[tactic(auto, unfolding(crate::specs::Report::counts_text), using(crate::proofs::Texts::join3))]
+#[tactic(auto, unfolding(crate::specs::Report::counts_text))]
 fn put_counts(out: &mut Vec<u8>, counts: Counts) -> Result<(), AllocError>
     ensures { OnOk result
         (out.new.items
@@ -83,7 +83,7 @@ fn put_counts(out: &mut Vec<u8>, counts: Counts) -> Result<(), AllocError>
     put_count(out, b"entries ", counts.entries)
 }
 
-#[tactic(auto, unfolding(crate::specs::Report::answer_line), using(crate::proofs::Texts::join3))]
+#[tactic(auto, unfolding(crate::specs::Report::answer_line))]
 fn put_answer(out: &mut Vec<u8>, answer: &Value) -> Result<(), AllocError>
     ensures { OnOk result (out.new.items ≡ out.old.items ++ answer_line answer.now) }
 {
@@ -92,7 +92,7 @@ fn put_answer(out: &mut Vec<u8>, answer: &Value) -> Result<(), AllocError>
     put(out, b"\n")
 }
 
-#[tactic(auto, unfolding(crate::specs::Report::cell_line), using(crate::proofs::Texts::join7))]
+#[tactic(auto, unfolding(crate::specs::Report::cell_line))]
 fn put_pair(out: &mut Vec<u8>, cell: &Cell, pair: &Written) -> Result<(), AllocError>
     ensures { OnOk result (out.new.items ≡ out.old.items ++ cell_line cell.now pair.now) }
 {
@@ -114,7 +114,7 @@ fn put_pairs(out: &mut Vec<u8>, cell: &Cell, pairs: &[Written]) -> Result<(), Al
     Ok(())
 }
 
-#[tactic(auto, unfolding(crate::specs::Report::port_line), using(crate::proofs::Texts::join7))]
+#[tactic(auto, unfolding(crate::specs::Report::port_line))]
 fn put_value(out: &mut Vec<u8>, activity: &Name, port: u8, value: &Value) -> Result<(), AllocError>
     ensures { OnOk result (out.new.items ≡ out.old.items ++ port_line activity.now port value.now) }
 {
@@ -142,7 +142,7 @@ fn put_values(
     Ok(())
 }
 
-#[tactic(auto, unfolding(crate::specs::Report::fault_line), using(crate::proofs::Texts::join5))]
+#[tactic(auto, unfolding(crate::specs::Report::fault_line))]
 fn put_fault(out: &mut Vec<u8>, fault: &Fault) -> Result<(), AllocError>
     ensures { OnOk result (out.new.items ≡ out.old.items ++ fault_line fault.now) }
 {
@@ -205,7 +205,7 @@ fn put_faults(out: &mut Vec<u8>, faults: &[Fault]) -> Result<(), AllocError>
     Ok(())
 }
 
-#[tactic(auto, using(crate::proofs::Texts::join2))]
+#[tactic(auto)]
 fn put_answer_verdict(out: &mut Vec<u8>, answer: &Value) -> Result<(), AllocError>
     ensures { OnOk result
         (out.new.items ≡ out.old.items ++ (codes "verdict " ++ answer_line answer.now)) }
@@ -227,7 +227,7 @@ fn put_verdict(out: &mut Vec<u8>, verdict: Verdict<'_>) -> Result<(), AllocError
     }
 }
 
-#[tactic(auto, unfolding(crate::specs::Report::outcome_text), using(crate::proofs::Texts::join5))]
+#[tactic(auto, unfolding(crate::specs::Report::outcome_text))]
 fn put_outcome(out: &mut Vec<u8>, outcome: &Outcome) -> Result<(), AllocError>
     ensures { OnOk result (out.new.items ≡ out.old.items ++ outcome_text_of outcome.now) }
 {
@@ -238,7 +238,7 @@ fn put_outcome(out: &mut Vec<u8>, outcome: &Outcome) -> Result<(), AllocError>
     put_verdict(out, outcome.verdict())
 }
 
-#[tactic(auto, unfolding(crate::specs::Report::report_text), using(crate::proofs::Texts::join3))]
+#[tactic(auto, unfolding(crate::specs::Report::report_text))]
 fn put_report(
     out: &mut Vec<u8>,
     state: Ending,

@@ -59,7 +59,6 @@ fn push_call(
 }
 
 /// Appends the text of the context. On an error a part of it may stand there.
-#[tactic(auto, using(u_text::proofs::AppendingLaws::extends_same, u_text::proofs::AppendingLaws::extends_by, u_text::proofs::AppendingLaws::extends_behind, crate::proofs::Written::in_loop_more, crate::proofs::Written::in_call_more, crate::proofs::Written::root_text))]
 fn push_context(out: &mut Vec<u8>, context: &Context) -> Result<(), AllocError>
     ensures ok { OnOk result (out.new.items ≡ out.old.items ++ context_text context.now) }
     ensures err { OnErr result (Extends out.old.items out.new.items) }

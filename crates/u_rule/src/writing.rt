@@ -16,7 +16,6 @@ use u_text::{cut_back, push_behind, push_spaced};
 use u_value::Value;
 
 /// Appends a space and the text of the value. On an error a part of it may stand there.
-#[tactic(auto, using(u_text::proofs::AppendingLaws::extends_same, u_text::proofs::AppendingLaws::extends_by, u_text::proofs::AppendingLaws::extends_behind, std::proofs::Common::append_assoc))]
 fn push_value(out: &mut Vec<u8>, value: &Value) -> Result<(), AllocError>
     ensures ok { OnOk result (out.new.items ≡ out.old.items ++ (32 ∷ value_text value.now)) }
     ensures err { OnErr result (Extends out.old.items out.new.items) }
@@ -26,7 +25,6 @@ fn push_value(out: &mut Vec<u8>, value: &Value) -> Result<(), AllocError>
 }
 
 /// Appends the text of the token. On an error a part of it may stand there.
-#[tactic(auto, using(u_text::proofs::AppendingLaws::extends_same, u_text::proofs::AppendingLaws::extends_by, u_text::proofs::AppendingLaws::extends_behind, crate::proofs::Texts::join4))]
 fn push_token(out: &mut Vec<u8>, token: &Token) -> Result<(), AllocError>
     ensures ok { OnOk result (out.new.items ≡ out.old.items ++ token_text token.now) }
     ensures err { OnErr result (Extends out.old.items out.new.items) }
@@ -38,7 +36,6 @@ fn push_token(out: &mut Vec<u8>, token: &Token) -> Result<(), AllocError>
 }
 
 /// Appends the text of the write. On an error a part of it may stand there.
-#[tactic(auto, using(u_text::proofs::AppendingLaws::extends_same, u_text::proofs::AppendingLaws::extends_by, u_text::proofs::AppendingLaws::extends_behind, crate::proofs::Texts::join5))]
 fn push_write(out: &mut Vec<u8>, write: &Write) -> Result<(), AllocError>
     ensures ok { OnOk result (out.new.items ≡ out.old.items ++ write_text write.now) }
     ensures err { OnErr result (Extends out.old.items out.new.items) }
@@ -51,7 +48,6 @@ fn push_write(out: &mut Vec<u8>, write: &Write) -> Result<(), AllocError>
 }
 
 /// Appends the text of the fault. On an error a part of it may stand there.
-#[tactic(auto, using(u_text::proofs::AppendingLaws::extends_same, u_text::proofs::AppendingLaws::extends_by, u_text::proofs::AppendingLaws::extends_behind, crate::proofs::Texts::join3))]
 fn push_fault(out: &mut Vec<u8>, fault: &Fault) -> Result<(), AllocError>
     ensures ok { OnOk result (out.new.items ≡ out.old.items ++ fault_text fault.now) }
     ensures err { OnErr result (Extends out.old.items out.new.items) }
@@ -62,7 +58,7 @@ fn push_fault(out: &mut Vec<u8>, fault: &Fault) -> Result<(), AllocError>
 }
 
 /// Appends the text of the entry. On an error a part of it may stand there.
-#[tactic(auto, unfolding(crate::specs::EntryText::entry_text), using(u_text::proofs::AppendingLaws::extends_same, u_text::proofs::AppendingLaws::extends_by, u_text::proofs::AppendingLaws::extends_behind, std::proofs::Common::append_assoc))]
+#[tactic(auto, unfolding(crate::specs::EntryText::entry_text))]
 fn push_entry(out: &mut Vec<u8>, entry: &Entry) -> Result<(), AllocError>
     ensures ok { OnOk result (out.new.items ≡ out.old.items ++ entry_text entry.now) }
     ensures err { OnErr result (Extends out.old.items out.new.items) }
@@ -91,7 +87,7 @@ fn push_values(out: &mut Vec<u8>, values: &[Value]) -> Result<(), AllocError>
 }
 
 /// Appends ` by WRITER VALUE` where there is a write. On an error a part of it may stand there.
-#[tactic(auto, using(u_text::proofs::AppendingLaws::extends_same, u_text::proofs::AppendingLaws::extends_by, u_text::proofs::AppendingLaws::extends_behind, crate::proofs::Texts::join3, crate::proofs::Lists::nothing_more))]
+#[tactic(auto, using(crate::proofs::Lists::nothing_more))]
 fn push_written(out: &mut Vec<u8>, write: &Option<Written>) -> Result<(), AllocError>
     ensures ok { OnOk result (out.new.items ≡ out.old.items ++ written_text write.now) }
     ensures err { OnErr result (Extends out.old.items out.new.items) }
@@ -107,7 +103,7 @@ fn push_written(out: &mut Vec<u8>, write: &Option<Written>) -> Result<(), AllocE
 }
 
 /// Appends the text of the firing. On an error a part of it may stand there.
-#[tactic(auto, unfolding(crate::specs::FiringText::firing_text), using(u_text::proofs::AppendingLaws::extends_same, u_text::proofs::AppendingLaws::extends_by, u_text::proofs::AppendingLaws::extends_behind, crate::proofs::Texts::join4))]
+#[tactic(auto, unfolding(crate::specs::FiringText::firing_text))]
 fn push_firing(out: &mut Vec<u8>, firing: &Firing) -> Result<(), AllocError>
     ensures ok { OnOk result (out.new.items ≡ out.old.items ++ firing_text firing.now) }
     ensures err { OnErr result (Extends out.old.items out.new.items) }
