@@ -1,7 +1,7 @@
 #!/usr/bin/env python3
 """Adds up the processor time of the prover while the gate runs.
 
-It looks at /proc four times a second, and knows each process of the prover by the crate that it is given
+It looks at /proc once a second, and knows each process of the prover by the crate that it is given
 and by the folder that it works in. When it is told to end (SIGTERM) it prints a line
 'time: CRATE PART SECONDS' for each crate and each of the parts `proof`, `tests` and `edits`, and `changed`
 for what began after it was told (SIGUSR1) that the wrong bodies of crates that changed are tried now.
@@ -12,7 +12,7 @@ import sys
 import time
 
 TICKS = os.sysconf("SC_CLK_TCK")
-EVERY = 0.25
+EVERY = 1.0
 
 # How the prover's processes are called; one of them changes its name while it runs.
 PROVERS = ("rattle", "antt")
