@@ -1,113 +1,98 @@
 //! The plain programs beside a machine: what is enabled, what is held, and all that can be derived.
-use std::alloc::{AllocError, Global};
+use crate::stepping::scanned_of;
+use std::alloc::Global;
 use u_check::Job;
 use u_history::History;
 use u_machine::{Machine, Step};
-use u_plain::{are_among, are_firings, are_in, enabled, held, ready_firings, whole};
+use u_plain::{are_among, are_firings, are_in, enabled, held, whole};
 use u_rule::{Entry, Firing};
-use u_sets::OrderedSet;
+
+/// Whether both lists have the same entries.
+fn are_same(left: &[Entry], right: &[Entry]) -> bool {
+    are_in(left, right) && are_in(right, left)
+}
 
 /// Whether the scan finds these firings over the history, each of them once.
-fn is_scanned(
-    alloc: Global,
-    job: &Job,
-    history: &History,
-    plain: &[Firing],
-) -> Result<bool, AllocError> {
-    let none = OrderedSet::new(alloc);
-    let scanned = ready_firings(alloc, job, history, &none)?;
-    Ok(plain.len() == scanned.len() && are_among(plain, &scanned) && are_among(&scanned, plain))
+fn are_scanned(alloc: Global, job: &Job, history: &History, plain: &[Firing]) -> bool {
+    match scanned_of(alloc, job, history) {
+        Ok(found) => {
+            plain.len() == found.len() && are_among(plain, &found) && are_among(&found, plain)
+        }
+        Err(_) => false,
+    }
 }
 
 /// Whether the plain program and the scan find the same firings, each of them once.
-fn finds_the_same(
-    alloc: Global,
-    job: &Job,
-    history: &History,
-    entries: &[Entry],
-) -> Result<bool, AllocError> {
-    let plain = enabled(alloc, job, entries)?;
-    is_scanned(alloc, job, history, &plain)
+fn finds_the_same(alloc: Global, job: &Job, history: &History, entries: &[Entry]) -> bool {
+    match enabled(alloc, job, entries) {
+        Ok(plain) => are_scanned(alloc, job, history, &plain),
+        Err(_) => false,
+    }
 }
 
 /// Whether these entries are just what the firings hold.
-fn is_held_by(
-    alloc: Global,
-    job: &Job,
-    firings: &[Firing],
-    entries: &[Entry],
-) -> Result<bool, AllocError> {
+fn are_held_by(alloc: Global, job: &Job, firings: &[Firing], entries: &[Entry]) -> bool {
     if !are_firings(job, firings) {
-        return Ok(false);
+        return false;
     }
-    let plain = held(alloc, job, firings)?;
-    Ok(are_in(&plain, entries) && are_in(entries, &plain))
+    match held(alloc, job, firings) {
+        Ok(plain) => are_same(&plain, entries),
+        Err(_) => false,
+    }
 }
 
-/// Both, of the entries of the machine's history.
-fn entries_agree(
-    alloc: Global,
-    job: &Job,
-    machine: &Machine<'_>,
-    entries: &[Entry],
-) -> Result<bool, AllocError> {
-    let finds = finds_the_same(alloc, job, machine.history(), entries)?;
-    let holds = is_held_by(alloc, job, machine.applied(), entries)?;
-    Ok(finds && holds)
-}
-
-/// Both, of the machine as it is.
-fn state_agrees(alloc: Global, job: &Job, machine: &Machine<'_>) -> Result<bool, AllocError> {
-    let entries = machine.history().entries()?;
-    entries_agree(alloc, job, machine, &entries)
+/// Whether both are so of the machine as it is.
+fn state_agrees(alloc: Global, job: &Job, machine: &Machine<'_>) -> bool {
+    match machine.history().entries() {
+        Ok(entries) => {
+            finds_the_same(alloc, job, machine.history(), &entries)
+                && are_held_by(alloc, job, machine.applied(), &entries)
+        }
+        Err(_) => false,
+    }
 }
 
 /// Whether the two agree before each firing, until the machine is quiet.
-fn steps_agree(alloc: Global, job: &Job, machine: &mut Machine<'_>) -> Result<bool, AllocError> {
+fn steps_agree(alloc: Global, job: &Job, machine: &mut Machine<'_>) -> bool {
     for _step in 0..40 {
-        if !state_agrees(alloc, job, machine)? {
-            return Ok(false);
+        if !state_agrees(alloc, job, machine) {
+            return false;
         }
         match machine.fire(0) {
-            Ok(Step::Quiet) => return Ok(true),
+            Ok(Step::Quiet) => return true,
             Ok(Step::Fired(_)) => {}
-            Err(_) => return Err(AllocError),
+            Err(_) => return false,
         }
     }
-    Ok(false)
+    false
 }
 
 /// Whether these many rounds are too few to find all that can be derived.
-fn is_cut_short(alloc: Global, job: &Job, rounds: usize) -> Result<bool, AllocError> {
-    let found = whole(alloc, job, rounds)?;
-    Ok(found.is_none())
+fn is_cut_short(alloc: Global, job: &Job, rounds: usize) -> bool {
+    match whole(alloc, job, rounds) {
+        Ok(found) => found.is_none(),
+        Err(_) => false,
+    }
 }
 
 /// Whether these entries are all that can be derived, found in so many rounds.
-fn is_whole(
-    alloc: Global,
-    job: &Job,
-    entries: &[Entry],
-    rounds: usize,
-) -> Result<bool, AllocError> {
-    match whole(alloc, job, rounds)? {
-        None => Ok(false),
-        Some(plain) => Ok(are_in(&plain, entries) && are_in(entries, &plain)),
+fn is_whole(alloc: Global, job: &Job, entries: &[Entry], rounds: usize) -> bool {
+    match whole(alloc, job, rounds) {
+        Ok(Some(plain)) => are_same(&plain, entries),
+        _ => false,
     }
 }
 
-/// The same of the machine's history, which fewer rounds don't find.
-fn ends_whole(
-    alloc: Global,
-    job: &Job,
-    machine: &Machine<'_>,
-    rounds: usize,
-) -> Result<bool, AllocError> {
-    if !is_cut_short(alloc, job, rounds.saturating_sub(1))? {
-        return Ok(false);
+/// Whether the machine's history is all that can be derived, found in so many rounds and in no
+/// fewer.
+fn ends_whole(alloc: Global, job: &Job, machine: &Machine<'_>, rounds: usize) -> bool {
+    match machine.history().entries() {
+        Ok(entries) => {
+            is_cut_short(alloc, job, rounds.saturating_sub(1))
+                && is_whole(alloc, job, &entries, rounds)
+        }
+        Err(_) => false,
     }
-    let entries = machine.history().entries()?;
-    is_whole(alloc, job, &entries, rounds)
 }
 
 /// Whether the machine agrees with the plain programs before each firing, until it is quiet with so
@@ -118,16 +103,10 @@ pub fn agrees_with_the_plain(
     job: &Job,
     machine: &mut Machine<'_>,
     counts: [usize; 3],
-) -> Result<bool, AllocError> {
+) -> bool {
     let [firings, entries, rounds] = counts;
-    if !steps_agree(alloc, job, machine)? {
-        return Ok(false);
-    }
-    if machine.applied().len() != firings || machine.history().len() != entries {
-        return Ok(false);
-    }
-    if rounds == 0 {
-        return Ok(true);
-    }
-    ends_whole(alloc, job, machine, rounds)
+    steps_agree(alloc, job, machine)
+        && machine.applied().len() == firings
+        && machine.history().len() == entries
+        && (rounds == 0 || ends_whole(alloc, job, machine, rounds))
 }

@@ -1,10 +1,9 @@
 //! The commands over bytes: what the built program can't show, and runs of programs that have no
 //! file.
 use crate::torn::Torn;
-use std::alloc::{AllocError, Global};
+use std::alloc::Global;
 use std::io;
 use std::io::Read;
-use std::test::Fail;
 use u_cli::{
     CommandError, FIRING_LIMIT, INPUT_LIMIT, STORED_PROGRAM, argument_of, check_text, firings_of,
     number_of, read_input, run_text, trace_text, world_text, write_whole,
@@ -26,8 +25,10 @@ const LENGTH_OF_A_NUMBER: &[u8] =
 /// The report of the double of 4.
 const EIGHT: &[u8] = b"state quiet\nfirings 3\nparked 0\nentries 5\nanswer 8\nverdict answer 8\n";
 
-/// Programs on the words of their arguments, each with its report and status.
-const RUNS: &[(&[u8], &[u8], &[u8], u8)] = &[
+/// A program, the word of its argument, the report of the run and its status.
+type Run = (&'static [u8], &'static [u8], &'static [u8], u8);
+
+const RUNS: &[Run] = &[
     (STORED_PROGRAM, b"4", EIGHT, 0),
     (
         EQUAL_WRITERS,
@@ -49,36 +50,36 @@ const RUNS: &[(&[u8], &[u8], &[u8], u8)] = &[
     ),
 ];
 
-/// Whether a run of the program on the argument writes this report, with this status.
-fn reports(
-    alloc: Global,
-    program: &[u8],
-    argument: &[u8],
-    report: &[u8],
-    status: u8,
-) -> Result<bool, CommandError> {
+/// The runs. A proof that calls this knows none of them, and so is short.
+fn runs() -> &'static [Run] {
+    RUNS
+}
+
+/// Whether the run writes the report, with the status.
+fn reports(alloc: Global, run: &Run) -> bool {
+    let (program, argument, report, status) = run;
     let mut out = Vec::new(alloc);
-    let ended = run_text(alloc, program, argument, FIRING_LIMIT, &mut out)?;
-    Ok(ended == status && out.as_slice() == report)
+    run_text(alloc, program, argument, FIRING_LIMIT, &mut out) == Ok(*status)
+        && out.as_slice() == *report
 }
 
 /// Whether a check of the program writes this line.
-fn checks(alloc: Global, program: &[u8], line: &[u8]) -> Result<bool, CommandError> {
+fn checks(alloc: Global, program: &[u8], line: &[u8]) -> bool {
     let mut out = Vec::new(alloc);
-    let ended = check_text(alloc, program, &mut out)?;
-    Ok(ended == 0 && out.as_slice() == line)
+    check_text(alloc, program, &mut out) == Ok(0) && out.as_slice() == line
 }
 
 #[test]
-fn programs_are_run_and_checked(rt: HostRuntime) -> Result<(), Fail> {
-    assert!(rt; STORED_PROGRAM == DOUBLE);
-    for (program, argument, report, status) in RUNS {
-        let is_so = reports(rt.alloc(), program, argument, report, *status)?;
-        assert!(rt; is_so, "{report:?}");
+fn programs_are_run(rt: HostRuntime) {
+    for run in runs() {
+        assert!(rt; reports(rt.alloc(), run), "{run:?}");
     }
-    let is_so = checks(rt.alloc(), EQUAL_WRITERS, b"checked 1 10\n")?;
-    assert!(rt; is_so);
-    Ok(())
+}
+
+#[test]
+fn a_program_is_checked(rt: HostRuntime) {
+    assert!(rt; STORED_PROGRAM == DOUBLE);
+    assert!(rt; checks(rt.alloc(), EQUAL_WRITERS, b"checked 1 10\n"));
 }
 
 /// How many of so many bytes are read.
@@ -89,10 +90,8 @@ fn length_read(alloc: Global, length: u64) -> Result<usize, CommandError> {
 
 #[test]
 fn an_input_is_read_up_to_its_greatest_length(rt: HostRuntime) {
-    let greatest = length_read(rt.alloc(), 67_108_864);
-    assert!(rt; matches!(greatest, Ok(INPUT_LIMIT)));
-    let greater = length_read(rt.alloc(), 67_108_865);
-    assert!(rt; matches!(greater, Err(CommandError::InputTooLong)));
+    assert!(rt; length_read(rt.alloc(), 67_108_864) == Ok(INPUT_LIMIT));
+    assert!(rt; length_read(rt.alloc(), 67_108_865) == Err(CommandError::InputTooLong));
 }
 
 /// Whether an input that fails behind so many bytes is told.
@@ -103,42 +102,65 @@ fn tells_of_reads(alloc: Global, count: usize) -> bool {
     )
 }
 
-/// Whether a run, a check and a plain output are told to fail behind so many bytes, all of which
-/// were written.
-fn tells_of_writes(alloc: Global, count: usize) -> bool {
-    let mut run = Torn { left: count };
-    let mut check = Torn { left: count };
-    let mut plain = Torn { left: count };
-    let ran = run_text(alloc, STORED_PROGRAM, b"4", 100, &mut run);
-    let checked = check_text(alloc, STORED_PROGRAM, &mut check);
-    matches!(ran, Err(CommandError::NotWritten))
-        && matches!(checked, Err(CommandError::NotWritten))
-        && write_whole(&mut plain, EIGHT).is_err()
-        && run.left == 0
-        && check.left == 0
-        && plain.left == 0
+/// Whether the output was told to fail, once all bytes that it takes were written.
+fn is_told(told: &Result<u8, CommandError>, torn: &Torn) -> bool {
+    matches!(told, Err(CommandError::NotWritten)) && torn.left == 0
 }
 
-/// Whether a trace and a world are told to fail behind so many bytes, all of which were written.
-fn tells_of_longer_writes(alloc: Global, count: usize) -> bool {
-    let mut trace = Torn { left: count };
-    let mut world = Torn { left: count };
-    let traced = trace_text(alloc, STORED_PROGRAM, b"4", b"a 8", &mut trace);
-    let told = world_text(alloc, STORED_PROGRAM, b"4", 2, 1, 10, &mut world);
-    matches!(traced, Err(CommandError::NotWritten))
-        && matches!(told, Err(CommandError::NotWritten))
-        && trace.left == 0
-        && world.left == 0
+/// Whether a run is told to fail behind so many bytes, all of which were written.
+fn tells_of_a_run(alloc: Global, count: usize) -> bool {
+    let mut torn = Torn { left: count };
+    let told = run_text(alloc, STORED_PROGRAM, b"4", 100, &mut torn);
+    is_told(&told, &torn)
+}
+
+/// The same of a check.
+fn tells_of_a_check(alloc: Global, count: usize) -> bool {
+    let mut torn = Torn { left: count };
+    let told = check_text(alloc, STORED_PROGRAM, &mut torn);
+    is_told(&told, &torn)
+}
+
+/// The same of a trace.
+fn tells_of_a_trace(alloc: Global, count: usize) -> bool {
+    let mut torn = Torn { left: count };
+    let told = trace_text(alloc, STORED_PROGRAM, b"4", b"a 8", &mut torn);
+    is_told(&told, &torn)
+}
+
+/// The same of a world.
+fn tells_of_a_world(alloc: Global, count: usize) -> bool {
+    let mut torn = Torn { left: count };
+    let told = world_text(alloc, STORED_PROGRAM, b"4", 2, 1, 10, &mut torn);
+    is_told(&told, &torn)
+}
+
+/// The same of a plain output.
+fn tells_of_an_output(count: usize) -> bool {
+    let mut torn = Torn { left: count };
+    write_whole(&mut torn, EIGHT).is_err() && torn.left == 0
+}
+
+/// Whether all these outputs are told to fail.
+fn tells_of_writes(alloc: Global, count: usize) -> bool {
+    tells_of_a_run(alloc, count)
+        && tells_of_a_check(alloc, count)
+        && tells_of_a_trace(alloc, count)
+        && tells_of_a_world(alloc, count)
+        && tells_of_an_output(count)
 }
 
 #[test]
-fn torn_inputs_and_outputs_are_told(rt: HostRuntime) {
+fn torn_inputs_are_told(rt: HostRuntime) {
     for count in [0, 1, 4095, 4096, 4097, 10_000] {
         assert!(rt; tells_of_reads(rt.alloc(), count), "{count} bytes");
     }
+}
+
+#[test]
+fn torn_outputs_are_told(rt: HostRuntime) {
     for count in [0, 1, 11] {
         assert!(rt; tells_of_writes(rt.alloc(), count), "{count} bytes");
-        assert!(rt; tells_of_longer_writes(rt.alloc(), count), "{count} bytes");
     }
 }
 
@@ -189,15 +211,38 @@ const NUMBERS_FROM_ZERO: &[(&str, u64, Option<u64>)] = &[
     ("5 ", 9, None),
 ];
 
+/// The words for arguments. A proof that calls this knows none of them, and so is short.
+fn arguments() -> &'static [(&'static [u8], Option<i64>)] {
+    ARGUMENTS
+}
+
+/// The words for numbers of firings.
+fn numbers() -> &'static [(&'static str, Option<usize>)] {
+    NUMBERS
+}
+
+/// The words for numbers from 0 on.
+fn numbers_from_zero() -> &'static [(&'static str, u64, Option<u64>)] {
+    NUMBERS_FROM_ZERO
+}
+
 #[test]
-fn words_are_numbers(rt: HostRuntime) {
-    for (word, number) in ARGUMENTS {
+fn words_are_arguments(rt: HostRuntime) {
+    for (word, number) in arguments() {
         assert!(rt; argument_of(word) == *number, "{word:?}");
     }
-    for (word, number) in NUMBERS {
+}
+
+#[test]
+fn words_are_numbers_of_firings(rt: HostRuntime) {
+    for (word, number) in numbers() {
         assert!(rt; firings_of(word) == *number, "{word}");
     }
-    for (word, most, number) in NUMBERS_FROM_ZERO {
+}
+
+#[test]
+fn words_are_numbers_from_zero(rt: HostRuntime) {
+    for (word, most, number) in numbers_from_zero() {
         assert!(rt; *most >= 9 && number_of(word, *most) == *number, "{word}");
     }
 }
@@ -225,17 +270,25 @@ const FAULTS: &[(CommandError, &str, u8)] = &[
     (CommandError::NotWritten, "not written", 5),
 ];
 
+/// The faults. A proof that calls this knows none of them, and so is short.
+fn faults() -> &'static [(CommandError, &'static str, u8)] {
+    FAULTS
+}
+
 /// Whether the fault is printed so.
-fn prints(alloc: Global, fault: &CommandError, text: &str) -> Result<bool, AllocError> {
-    let printed = format!(in alloc; "{fault}")?;
-    Ok(printed.as_str() == text)
+fn prints(alloc: Global, fault: &CommandError, text: &str) -> bool {
+    match format!(in alloc; "{fault}") {
+        Ok(printed) => printed.as_str() == text,
+        Err(_) => false,
+    }
 }
 
 #[test]
-fn faults_are_printed(rt: HostRuntime) -> Result<(), Fail> {
-    for (fault, text, status) in FAULTS {
-        let is_so = prints(rt.alloc(), fault, text)?;
-        assert!(rt; is_so && fault.status() == *status, "{text}");
+fn faults_are_printed(rt: HostRuntime) {
+    for (fault, text, status) in faults() {
+        assert!(rt;
+            prints(rt.alloc(), fault, text) && fault.status() == *status,
+            "{text}"
+        );
     }
-    Ok(())
 }

@@ -1,13 +1,13 @@
 //! The firings of a machine that ran, given to other machines in other orders, with forged ones.
-use crate::calls::firing_of;
 use crate::queue::is_queued;
-use crate::stepping::{steps_agree, taken_of};
+use crate::stepping::{add_taken, steps_agree};
 use std::alloc::{AllocError, Global};
 use u_check::Job;
+use u_history::History;
 use u_machine::{Machine, Ran, TakeRefusal, Took};
 use u_plain::shuffling::shuffled;
-use u_plain::worked::add_firing;
-use u_rule::Firing;
+use u_plain::worked::firing_of;
+use u_rule::{Entry, Firing};
 use u_sets::OrderedSet;
 
 /// How another machine gets the firings.
@@ -25,51 +25,73 @@ pub enum Way {
     InSteps(usize),
 }
 
-/// Adds a firing that the run never makes, of the first statement of `main` on another number than
-/// the argument, and what is no firing, since no example has a statement of that number.
+/// A firing that the run never makes, of the first statement of `main` on another number than the
+/// argument, and what is no firing, since no example has a statement of that number.
+const FORGED: [&str; 2] = ["f -.main.1.1 -7", "f -.main.999.1 -7"];
+
+/// Adds the forged firings.
 fn add_forged(alloc: Global, list: &mut OrderedSet<Firing>) -> Result<(), AllocError> {
-    add_firing(alloc, list, &firing_of(alloc, "-.main.1.1", "-7")?)?;
-    add_firing(alloc, list, &firing_of(alloc, "-.main.999.1", "-7")?)?;
+    for text in FORGED.as_slice() {
+        list.insert(firing_of(alloc, text)?)?;
+    }
     Ok(())
 }
 
-/// The firings that the machine took, and two forged ones.
-fn offered(alloc: Global, machine: &Machine<'_>) -> Result<OrderedSet<Firing>, AllocError> {
-    let mut list = taken_of(alloc, machine)?;
-    add_forged(alloc, &mut list)?;
-    Ok(list)
+/// Whether all these entries are held.
+fn are_held(history: &History, entries: &[Entry]) -> bool {
+    for entry in entries {
+        if !history.contains(entry) {
+            return false;
+        }
+    }
+    true
 }
 
 /// Whether both have the same entries.
-fn is_same_history(one: &Machine<'_>, other: &Machine<'_>) -> Result<bool, AllocError> {
+fn is_same_history(one: &Machine<'_>, other: &Machine<'_>) -> bool {
     one.agrees_with(other);
-    for entry in &one.history().entries()? {
-        if !other.history().contains(entry) {
-            return Ok(false);
+    match one.history().entries() {
+        Ok(entries) => {
+            entries.len() == other.history().len() && are_held(other.history(), &entries)
         }
+        Err(_) => false,
     }
-    Ok(one.history().len() == other.history().len())
 }
 
-/// Whether it parks the firing.
+/// Whether it parks the firing, which it doesn't know.
 fn parks(machine: &mut Machine<'_>, firing: &Firing) -> bool {
-    matches!(machine.take(firing), Ok(Took::Parked))
+    !machine.knows(firing) && machine.take(firing) == Ok(Took::Parked)
+}
+
+/// Whether it parks each of the firings from the last one on.
+fn parks_all(machine: &mut Machine<'_>, firings: &[Firing]) -> bool {
+    for firing in firings.iter().rev() {
+        if !parks(machine, firing) {
+            return false;
+        }
+    }
+    machine.applied().is_empty()
 }
 
 /// Whether it parks each of the firings from the last one on, and applies them all once the first
 /// one comes.
 fn takes_backwards(machine: &mut Machine<'_>, firings: &[Firing]) -> bool {
-    let Some((first, later)) = firings.split_first() else {
-        return false;
-    };
-    for firing in later.iter().rev() {
-        if machine.knows(firing) || !parks(machine, firing) {
-            return false;
+    match firings.split_first() {
+        Some((first, later)) => {
+            parks_all(machine, later)
+                && machine.take(first) == Ok(Took::Taken)
+                && machine.applied().len() == firings.len()
         }
+        None => false,
     }
-    let is_empty = machine.applied().is_empty();
-    let took = machine.take(first);
-    is_empty && matches!(took, Ok(Took::Taken)) && machine.applied().len() == firings.len()
+}
+
+/// Whether it took these firings and applied them first in, first out, all but the first of them
+/// parked before.
+fn is_in_queue(alloc: Global, job: &Job, machine: &Machine<'_>) -> bool {
+    let mut taken = OrderedSet::new(alloc);
+    add_taken(alloc, machine, &mut taken).is_ok()
+        && is_queued(alloc, job, &taken, machine.applied())
 }
 
 /// Whether it takes the list, and then the same list again.
@@ -97,14 +119,13 @@ fn answers_to(
     Some([taken, known, refused])
 }
 
-/// The places of a list of that length, each of them twice.
-fn each_twice(alloc: Global, count: usize) -> Result<Vec<usize>, AllocError> {
+/// The places of a list of that length, each of them twice, in the random order of that seed.
+fn each_twice(alloc: Global, count: usize, seed: u64) -> Result<Vec<usize>, AllocError> {
     let mut places = Vec::new(alloc);
-    for place in 0..count {
-        places.push(place)?;
-        places.push(place)?;
+    for place in 0..count.saturating_mul(2) {
+        places.push(place / 2)?;
     }
-    Ok(places)
+    shuffled(alloc, places, seed)
 }
 
 /// Whether it takes each of the list once and knows it then, but for one that is refused twice,
@@ -114,92 +135,83 @@ fn takes_shuffled(
     machine: &mut Machine<'_>,
     list: &OrderedSet<Firing>,
     seed: u64,
-) -> Result<bool, AllocError> {
+) -> bool {
     let new = list.len().saturating_sub(1);
-    let places = shuffled(alloc, each_twice(alloc, list.len())?, seed)?;
-    let answers = answers_to(machine, list, &places);
-    Ok(answers == Some([new, new, 2]) && machine.parked().len() == 1)
-}
-
-/// Whether it parks all but the first of the firings, and then applies them first in, first out.
-fn queues(
-    alloc: Global,
-    job: &Job,
-    machine: &mut Machine<'_>,
-    firings: &[Firing],
-) -> Result<bool, AllocError> {
-    if !takes_backwards(machine, firings) {
-        return Ok(false);
+    match each_twice(alloc, list.len(), seed) {
+        Ok(places) => {
+            answers_to(machine, list, &places) == Some([new, new, 2]) && machine.parked().len() == 1
+        }
+        Err(_) => false,
     }
-    let taken = taken_of(alloc, machine)?;
-    is_queued(alloc, job, &taken, machine.applied())
 }
 
 /// Whether the machine that gets the firings of the other one in that way does as it has to, and
-/// ends with the history of that one.
+/// ends with the history of that one; of steps, whether each of them agrees.
 fn agrees(
     alloc: Global,
-    job: &Job,
     machine: &mut Machine<'_>,
     first: &Machine<'_>,
     list: &OrderedSet<Firing>,
     way: Way,
     seed: u64,
-) -> Result<bool, AllocError> {
-    let takes = match way {
-        Way::Backwards => queues(alloc, job, machine, first.applied())?,
-        Way::AsAList => takes_twice(machine, first.applied()),
-        _ => takes_shuffled(alloc, machine, list, seed)?,
-    };
-    Ok(takes && is_same_history(first, machine)?)
+) -> bool {
+    let job = first.job();
+    match way {
+        Way::Backwards => {
+            takes_backwards(machine, first.applied())
+                && is_in_queue(alloc, job, machine)
+                && is_same_history(first, machine)
+        }
+        Way::AsAList => takes_twice(machine, first.applied()) && is_same_history(first, machine),
+        Way::Shuffled => {
+            takes_shuffled(alloc, machine, list, seed) && is_same_history(first, machine)
+        }
+        Way::InSteps(steps) => steps_agree(alloc, job, machine, list, seed, steps),
+    }
 }
 
-/// The same of a new machine; and where it gets them in steps, whether each step agrees.
+/// The same of a new machine.
 fn agrees_anew(
     alloc: Global,
-    job: &Job,
     first: &Machine<'_>,
     list: &OrderedSet<Firing>,
     way: Way,
     seed: u64,
-) -> Result<bool, AllocError> {
-    let mut machine = Machine::new(alloc, job, 1000)?;
-    match way {
-        Way::InSteps(steps) => steps_agree(alloc, job, &mut machine, list, seed, steps),
-        _ => agrees(alloc, job, &mut machine, first, list, way, seed),
+) -> bool {
+    match Machine::new(alloc, first.job(), 1000) {
+        Ok(mut machine) => agrees(alloc, &mut machine, first, list, way, seed),
+        Err(_) => false,
     }
 }
 
 /// The same with each of so many seeds.
 fn each_agrees(
     alloc: Global,
-    job: &Job,
     first: &Machine<'_>,
     list: &OrderedSet<Firing>,
     way: Way,
     seeds: u64,
-) -> Result<bool, AllocError> {
+) -> bool {
     for seed in 0..seeds {
-        if !agrees_anew(alloc, job, first, list, way, seed)? {
-            return Ok(false);
+        if !agrees_anew(alloc, first, list, way, seed) {
+            return false;
         }
     }
-    Ok(true)
+    true
+}
+
+/// The same, where the list is the firings that the machine took, and the forged ones.
+fn each_agrees_with(alloc: Global, machine: &Machine<'_>, way: Way, seeds: u64) -> bool {
+    let mut list = OrderedSet::new(alloc);
+    add_taken(alloc, machine, &mut list).is_ok()
+        && add_forged(alloc, &mut list).is_ok()
+        && each_agrees(alloc, machine, &list, way, seeds)
 }
 
 /// Whether the machine runs until it is quiet, with more than two firings, and so many other ones
 /// that get them in that way do as they have to.
-pub fn agrees_again(
-    alloc: Global,
-    job: &Job,
-    machine: &mut Machine<'_>,
-    way: Way,
-    seeds: u64,
-) -> Result<bool, AllocError> {
-    let is_quiet = matches!(machine.run(1000), Ok(Ran::Quiet));
-    if !is_quiet || machine.applied().len() < 3 {
-        return Ok(false);
-    }
-    let list = offered(alloc, machine)?;
-    each_agrees(alloc, job, machine, &list, way, seeds)
+pub fn agrees_again(alloc: Global, machine: &mut Machine<'_>, way: Way, seeds: u64) -> bool {
+    machine.run(1000) == Ok(Ran::Quiet)
+        && machine.applied().len() > 2
+        && each_agrees_with(alloc, machine, way, seeds)
 }

@@ -1,11 +1,8 @@
 //! The tests of causes and stories, on worked programs.
 
-mod acts;
-mod answers;
-mod entries;
-mod machines;
+pub mod answers;
 mod replays;
 mod rows;
 mod runs;
-mod scans;
+pub mod scans;
 mod trace_tests;

@@ -2,7 +2,7 @@
 //! plain scan.
 
 mod cut_tests;
-mod cuts;
+pub mod cuts;
 mod histories;
 mod history_tests;
 mod scan;

@@ -1,8 +1,8 @@
 //! Stories, told to new machines.
-use std::alloc::{AllocError, Global};
+use std::alloc::Global;
 use u_machine::Machine;
 use u_rule::{Entry, Firing};
-use u_trace::{TraceError, story};
+use u_trace::story;
 
 /// Whether the machine takes the firings as a list, parks none, applies them in their order, and
 /// then holds the entry.
@@ -14,26 +14,18 @@ fn takes(machine: &mut Machine<'_>, firings: &[Firing], entry: &Entry) -> bool {
 }
 
 /// Whether a new machine of the same job does so.
-fn is_retold(
-    alloc: Global,
-    machine: &Machine<'_>,
-    told: &[Firing],
-    entry: &Entry,
-) -> Result<bool, AllocError> {
-    let mut other = Machine::new(alloc, machine.job(), 1000)?;
-    Ok(takes(&mut other, told, entry))
+fn is_retold(alloc: Global, machine: &Machine<'_>, told: &[Firing], entry: &Entry) -> bool {
+    match Machine::new(alloc, machine.job(), 1000) {
+        Ok(mut other) => takes(&mut other, told, entry),
+        Err(_) => false,
+    }
 }
 
 /// Whether a new machine that takes the story of the entry alone applies all of it, and then holds
 /// the entry.
-pub fn story_holds(
-    alloc: Global,
-    machine: &Machine<'_>,
-    entry: &Entry,
-) -> Result<bool, AllocError> {
+pub fn story_holds(alloc: Global, machine: &Machine<'_>, entry: &Entry) -> bool {
     match story(alloc, machine, entry) {
         Ok(told) => is_retold(alloc, machine, &told, entry),
-        Err(TraceError::NotHeld) => Ok(false),
-        Err(TraceError::NoMemory) => Err(AllocError),
+        Err(_) => false,
     }
 }

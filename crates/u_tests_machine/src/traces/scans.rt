@@ -1,20 +1,19 @@
 //! Causes, beside a plain scan of the history.
+use crate::stepping::scanned_of;
 use crate::traces::replays::story_holds;
-use std::alloc::{AllocError, Global};
+use std::alloc::Global;
 use std::slice;
 use u_check::Job;
 use u_machine::Machine;
-use u_plain::{are_in, ready_firings};
-use u_rule::{Entry, Firing, RuleError, gives};
-use u_sets::OrderedSet;
-use u_trace::{TraceError, causes};
+use u_plain::are_in;
+use u_rule::{Entry, Firing, gives};
+use u_trace::causes;
 
-/// Whether the firing gives the entry.
-fn does_give(alloc: Global, job: &Job, firing: &Firing, entry: &Entry) -> Result<bool, AllocError> {
+/// Whether the firing gives the entry. `None` where there is no memory.
+fn does_give(alloc: Global, job: &Job, firing: &Firing, entry: &Entry) -> Option<bool> {
     match gives(alloc, job, firing) {
-        Ok(given) => Ok(are_in(&given, slice::from_ref(entry))),
-        Err(RuleError::NotAFiring) => Ok(false),
-        Err(RuleError::NoMemory) => Err(AllocError),
+        Ok(given) => Some(are_in(&given, slice::from_ref(entry))),
+        Err(_) => None,
     }
 }
 
@@ -25,79 +24,55 @@ fn are_those(
     scanned: &[Firing],
     entry: &Entry,
     found: &[Firing],
-) -> Result<bool, AllocError> {
+) -> bool {
     let mut rest = found.iter();
     for firing in scanned {
-        if does_give(alloc, job, firing, entry)? && rest.next() != Some(firing) {
-            return Ok(false);
+        match does_give(alloc, job, firing, entry) {
+            Some(true) if rest.next() == Some(firing) => {}
+            Some(false) => {}
+            _ => return false,
         }
     }
-    Ok(rest.next().is_none())
+    rest.next().is_none()
 }
 
 /// Whether the causes of the entry are those of the scanned firings that give it.
-fn causes_hold(
-    alloc: Global,
-    machine: &Machine<'_>,
-    scanned: &[Firing],
-    entry: &Entry,
-) -> Result<bool, AllocError> {
+fn causes_hold(alloc: Global, machine: &Machine<'_>, scanned: &[Firing], entry: &Entry) -> bool {
     let job = machine.job();
     match causes(alloc, job, machine.history(), entry) {
         Ok(found) => are_those(alloc, job, scanned, entry, &found),
-        Err(TraceError::NotHeld) => Ok(false),
-        Err(TraceError::NoMemory) => Err(AllocError),
+        Err(_) => false,
     }
 }
 
 /// Whether the causes and the story of each of the entries are right.
-fn all_hold(
-    alloc: Global,
-    machine: &Machine<'_>,
-    scanned: &[Firing],
-    entries: &[Entry],
-) -> Result<bool, AllocError> {
+fn all_hold(alloc: Global, machine: &Machine<'_>, scanned: &[Firing], entries: &[Entry]) -> bool {
     for entry in entries {
-        let is_caused = causes_hold(alloc, machine, scanned, entry)?;
-        let is_told = story_holds(alloc, machine, entry)?;
-        if !is_caused || !is_told {
-            return Ok(false);
+        if !causes_hold(alloc, machine, scanned, entry) || !story_holds(alloc, machine, entry) {
+            return false;
         }
     }
-    Ok(true)
-}
-
-/// The firings that the scan finds enabled over the machine's history, in order.
-fn scanned_of(alloc: Global, machine: &Machine<'_>) -> Result<Vec<Firing>, AllocError> {
-    let none = OrderedSet::new(alloc);
-    ready_firings(alloc, machine.job(), machine.history(), &none)
+    true
 }
 
 /// The same of the entries of the machine's history, beside these firings.
-fn history_holds(
-    alloc: Global,
-    machine: &Machine<'_>,
-    scanned: &[Firing],
-) -> Result<bool, AllocError> {
-    let entries = machine.history().entries()?;
-    all_hold(alloc, machine, scanned, &entries)
+fn history_holds(alloc: Global, machine: &Machine<'_>, scanned: &[Firing]) -> bool {
+    match machine.history().entries() {
+        Ok(entries) => all_hold(alloc, machine, scanned, &entries),
+        Err(_) => false,
+    }
 }
 
 /// The same, beside all firings that the scan finds.
-fn is_traced(alloc: Global, machine: &Machine<'_>) -> Result<bool, AllocError> {
-    let scanned = scanned_of(alloc, machine)?;
-    history_holds(alloc, machine, &scanned)
+fn is_traced(alloc: Global, machine: &Machine<'_>) -> bool {
+    match scanned_of(alloc, machine.job(), machine.history()) {
+        Ok(scanned) => history_holds(alloc, machine, &scanned),
+        Err(_) => false,
+    }
 }
 
 /// Whether the machine fires so many times, or until nothing is ready, and the causes and the story
 /// of each entry of its history are right then.
-pub fn is_traced_after(
-    alloc: Global,
-    machine: &mut Machine<'_>,
-    firings: usize,
-) -> Result<bool, AllocError> {
-    if machine.run(firings).is_err() {
-        return Ok(false);
-    }
-    is_traced(alloc, machine)
+pub fn is_traced_after(alloc: Global, machine: &mut Machine<'_>, firings: usize) -> bool {
+    machine.run(firings).is_ok() && is_traced(alloc, machine)
 }

@@ -3,8 +3,10 @@
 //! Nothing here is searched by halves: whether a port has a token, and a cell a write, is looked
 //! for among all entries. They are in order, so their activities are too, each with its tokens
 //! together.
+use crate::waits::histories::is_said;
 use std::alloc::{AllocError, Global};
-use u_check::ports_of;
+use u_check::{Job, ports_of};
+use u_history::History;
 use u_name::{Cell, Name};
 use u_program::{Block, Kind, Program, Statement};
 use u_rule::{Entry, cell_at};
@@ -67,17 +69,10 @@ fn ports_of_activity(entries: &[Entry], activity: &Name, count: usize) -> [[bool
     let first = has_token(entries, activity, 1);
     let second = has_token(entries, activity, 2);
     let third = has_token(entries, activity, 3);
+    let [one, two, three] = [count >= 1, count >= 2, count >= 3];
     [
-        [
-            count >= 1 && first,
-            count >= 2 && second,
-            count >= 3 && third,
-        ],
-        [
-            count >= 1 && !first,
-            count >= 2 && !second,
-            count >= 3 && !third,
-        ],
+        [one & first, two & second, three & third],
+        [one & !first, two & !second, three & !third],
     ]
 }
 
@@ -155,18 +150,24 @@ fn add_cells(
     Ok(())
 }
 
-/// A line for each cell that the activity, one of a `fetch`, reads in vain.
+/// The line of the activity, one of a `fetch`, which reads the cell in vain.
+fn put_cell(out: &mut Vec<u8>, activity: &Name, cell: &Cell) -> Result<(), AllocError> {
+    out.extend_from_slice(b"reads ")?;
+    activity.write_text(out)?;
+    out.push(b' ')?;
+    cell.write_text(out)?;
+    out.push(b'\n')?;
+    Ok(())
+}
+
+/// Such a line for each of the cells.
 fn put_cells(
     out: &mut Vec<u8>,
     activity: &Name,
     cells: &OrderedSet<Cell>,
 ) -> Result<(), AllocError> {
     for cell in cells.iter() {
-        out.extend_from_slice(b"reads ")?;
-        activity.write_text(out)?;
-        out.push(b' ')?;
-        cell.write_text(out)?;
-        out.push(b'\n')?;
+        put_cell(out, activity, cell)?;
     }
     Ok(())
 }
@@ -187,7 +188,10 @@ fn put_reads(
 
 /// Whether the entry before that place is a token of the activity.
 fn goes_on(entries: &[Entry], place: usize, activity: &Name) -> bool {
-    match place.checked_sub(1).and_then(|before| entries.get(before)) {
+    let Some(before) = place.checked_sub(1) else {
+        return false;
+    };
+    match entries.get(before) {
         Some(Entry::Token(token)) => token.activity() == activity,
         _ => false,
     }
@@ -242,9 +246,18 @@ fn put_all_reads(
 }
 
 /// The lines of what waits over the entries, which are in order.
-pub fn scanned(alloc: Global, program: &Program, entries: &[Entry]) -> Result<Vec<u8>, AllocError> {
+fn put_all(
+    alloc: Global,
+    out: &mut Vec<u8>,
+    program: &Program,
+    entries: &[Entry],
+) -> Result<(), AllocError> {
+    put_activities(out, program, entries)?;
+    put_all_reads(alloc, out, program, entries)
+}
+
+/// Whether what waits over the history, which has these entries, is what the scan finds.
+pub fn is_scanned(alloc: Global, job: &Job, history: &History, entries: &[Entry]) -> bool {
     let mut out = Vec::new(alloc);
-    put_activities(&mut out, program, entries)?;
-    put_all_reads(alloc, &mut out, program, entries)?;
-    Ok(out)
+    put_all(alloc, &mut out, job.program(), entries).is_ok() && is_said(alloc, job, history, &out)
 }
