@@ -92,9 +92,9 @@ fn fire_agrees(alloc: Global, job: &Job, machine: &mut Machine<'_>, pick: usize)
         && fire_agrees_beside(alloc, job, machine, &taken, pick)
 }
 
-/// Whether each firing is the one that the number picks of those that the scan finds ready, until
-/// the machine is quiet after so many.
-pub fn fires_as_the_scan_says(
+/// Whether each of so many firings is the one that the number picks of those that the scan finds
+/// ready.
+fn all_fire(
     alloc: Global,
     job: &Job,
     machine: &mut Machine<'_>,
@@ -106,7 +106,20 @@ pub fn fires_as_the_scan_says(
             return false;
         }
     }
-    fire_agrees(alloc, job, machine, pick) && machine.applied().len() == firings
+    true
+}
+
+/// The same, until the machine is quiet after so many.
+pub fn fires_as_the_scan_says(
+    alloc: Global,
+    job: &Job,
+    machine: &mut Machine<'_>,
+    pick: usize,
+    firings: usize,
+) -> bool {
+    all_fire(alloc, job, machine, pick, firings)
+        && fire_agrees(alloc, job, machine, pick)
+        && machine.applied().len() == firings
 }
 
 /// Whether the firing is among the parked ones of the machine.

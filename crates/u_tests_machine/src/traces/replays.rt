@@ -1,15 +1,26 @@
 //! Stories, told to new machines.
+use crate::stepping::is_at;
 use std::alloc::Global;
 use u_machine::Machine;
 use u_rule::{Entry, Firing};
 use u_trace::story;
+
+/// Whether these are the firings, in the same order.
+fn are_those(list: &[Firing], firings: &[Firing]) -> bool {
+    for (place, firing) in firings.iter().enumerate() {
+        if !is_at(list, place, firing) {
+            return false;
+        }
+    }
+    list.len() == firings.len()
+}
 
 /// Whether the machine takes the firings as a list, parks none, applies them in their order, and
 /// then holds the entry.
 fn takes(machine: &mut Machine<'_>, firings: &[Firing], entry: &Entry) -> bool {
     machine.take_all(firings).is_ok()
         && machine.parked().len() == 0
-        && machine.applied() == firings
+        && are_those(machine.applied(), firings)
         && machine.history().contains(entry)
 }
 

@@ -1,5 +1,5 @@
 //! Causes, beside a plain scan of the history.
-use crate::stepping::scanned_of;
+use crate::stepping::{is_at, scanned_of};
 use crate::traces::replays::story_holds;
 use std::alloc::Global;
 use std::slice;
@@ -25,15 +25,20 @@ fn are_those(
     entry: &Entry,
     found: &[Firing],
 ) -> bool {
-    let mut rest = found.iter();
+    let mut place = 0usize;
     for firing in scanned {
         match does_give(alloc, job, firing, entry) {
-            Some(true) if rest.next() == Some(firing) => {}
+            Some(true) => {
+                if !is_at(found, place, firing) {
+                    return false;
+                }
+                place = place.saturating_add(1);
+            }
             Some(false) => {}
-            _ => return false,
+            None => return false,
         }
     }
-    rest.next().is_none()
+    place == found.len()
 }
 
 /// Whether the causes of the entry are those of the scanned firings that give it.
