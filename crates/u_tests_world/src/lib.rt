@@ -3,13 +3,13 @@
 #![tactic(auto)]
 
 #[cfg(test)]
+mod acts;
+#[cfg(test)]
 mod lists;
 #[cfg(test)]
 mod looks;
 #[cfg(test)]
 mod replicas;
-#[cfg(test)]
-mod rows;
 #[cfg(test)]
 mod stories;
 #[cfg(test)]

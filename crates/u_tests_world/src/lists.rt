@@ -1,12 +1,11 @@
 //! The tests of worlds on random lists of events, beside a plain world.
 
-mod acts;
 mod beside;
 mod closing;
 mod drawing;
 mod drawing_tests;
-mod events;
 mod exchange;
+mod held;
 mod list_tests;
 mod listing;
 mod lists;

@@ -1,7 +1,18 @@
-//! Looks at the replicas of a world.
-use u_delta::Mark;
+//! Looks at worlds and at replicas, and texts of what replicas have and send.
+use std::alloc::{AllocError, Global};
+use u_check::Job;
+use u_delta::{Ask, Mark, Message, write_message};
+use u_plain::worked::text_of;
 use u_replica::Replica;
 use u_world::World;
+
+/// A new world of so many replicas, if there can be so many.
+pub fn world_of<'a>(alloc: Global, job: &'a Job, count: u8, limit: usize) -> Option<World<'a>> {
+    if count < 1 || count > 8 {
+        return None;
+    }
+    World::new(alloc, job, count, limit).ok()
+}
 
 /// The replica of that number, if there is one.
 pub fn replica_of<'w, 'a>(world: &'w World<'a>, number: u8) -> Option<&'w Replica<'a>> {
@@ -19,8 +30,8 @@ pub fn mark_of(replica: &Replica<'_>, peer: u8) -> Option<Mark> {
     Some(replica.mark(peer))
 }
 
-/// Whether the replica has so many applied firings, parked firings and entries.
-fn has_counts(replica: &Replica<'_>, counts: [usize; 3]) -> bool {
+/// Whether the replica is settled, and has so many applied firings, parked firings and entries.
+pub fn has(replica: &Replica<'_>, counts: [usize; 3]) -> bool {
     let [applied, parked, entries] = counts;
     let machine = replica.machine();
     machine.is_settled()
@@ -29,27 +40,49 @@ fn has_counts(replica: &Replica<'_>, counts: [usize; 3]) -> bool {
         && machine.history().len() == entries
 }
 
-/// Whether the replica of that number is there and has so many applied firings, parked firings and
-/// entries.
-pub fn has(world: &World<'_>, number: u8, counts: [usize; 3]) -> bool {
-    match replica_of(world, number) {
-        Some(replica) => has_counts(replica, counts),
-        None => false,
+/// Whether this is that text, and not want of memory.
+pub fn is_text(text: Result<Vec<u8>, AllocError>, wanted: &[u8]) -> bool {
+    match text {
+        Ok(text) => text.as_slice() == wanted,
+        Err(_) => false,
     }
 }
 
-/// Whether the replica of that number is there, and its mark for the peer says that.
-pub fn has_mark(world: &World<'_>, number: u8, peer: u8, life: u64, count: u64) -> bool {
-    match replica_of(world, number) {
-        Some(replica) => mark_of(replica, peer) == Some(Mark { life, count }),
-        None => false,
+/// Whether both are the same text.
+pub fn are_same(left: Result<Vec<u8>, AllocError>, right: Result<Vec<u8>, AllocError>) -> bool {
+    match left {
+        Ok(left) => is_text(right, &left),
+        Err(_) => false,
     }
 }
 
-/// Whether the replica of that number is there, and lives that life.
-pub fn has_life(world: &World<'_>, number: u8, life: u64) -> bool {
-    match replica_of(world, number) {
-        Some(replica) => replica.life() == life,
-        None => false,
+/// The text of the replica's history.
+pub fn held_text(alloc: Global, replica: &Replica<'_>) -> Result<Vec<u8>, AllocError> {
+    text_of(alloc, replica.machine().history())
+}
+
+/// Whether the histories of both have the same text.
+pub fn is_like(alloc: Global, replica: &Replica<'_>, other: &Replica<'_>) -> bool {
+    are_same(held_text(alloc, replica), held_text(alloc, other))
+}
+
+/// The text of the message.
+fn message_text(alloc: Global, message: &Message) -> Result<Vec<u8>, AllocError> {
+    let mut out = Vec::new(alloc);
+    write_message(message, &mut out)?;
+    Ok(out)
+}
+
+/// The text of the replica's ask of the peer. Where that is no number of a peer, it is want of memory.
+pub fn ask_text(alloc: Global, replica: &Replica<'_>, peer: u8) -> Result<Vec<u8>, AllocError> {
+    if peer < 1 || peer > 8 || peer == replica.number() {
+        return Err(AllocError);
     }
+    message_text(alloc, &Message::Ask(replica.ask(peer)))
+}
+
+/// The text of the replica's answer to the ask.
+pub fn answer_text(alloc: Global, replica: &Replica<'_>, ask: Ask) -> Result<Vec<u8>, AllocError> {
+    let message = Message::Delta(replica.answer(&ask)?);
+    message_text(alloc, &message)
 }

@@ -1,13 +1,14 @@
 //! A world beside a plain one: what has to be the same.
-use crate::lists::acts::Act;
+use crate::acts::Act;
 use crate::lists::closing::is_closed;
+use crate::lists::held::is_held;
 use crate::lists::plain_replica::{PlainReplica, Stage};
 use crate::lists::plain_world::{PlainWorld, Sent};
 use crate::lists::table::Table;
-use crate::lists::texts::put_message;
-use crate::looks::replica_of;
+use crate::lists::texts::message_text;
+use crate::looks::{answer_text, are_same, ask_text, is_text, mark_of, replica_of};
 use std::alloc::{AllocError, Global};
-use u_delta::{Ask, Message, write_message};
+use u_delta::Ask;
 use u_history::History;
 use u_machine::Machine;
 use u_replica::Replica;
@@ -43,7 +44,7 @@ fn is_parked(table: &Table, plain: &PlainReplica, parked: &OrderedSet<Firing>) -
 fn is_history(table: &Table, plain: &PlainReplica, history: &History) -> bool {
     let mut count = 0usize;
     for (number, entry) in table.entries.iter().enumerate() {
-        if plain.holds(number) {
+        if is_held(&plain.held, number) {
             count = count.saturating_add(1);
             if !history.contains(entry) {
                 return false;
@@ -63,10 +64,10 @@ fn machine_agrees(table: &Table, plain: &PlainReplica, machine: &Machine<'_>) ->
 
 /// Whether the mark for the peer is the plain replica's. No replica has one for itself.
 fn mark_agrees(plain: &PlainReplica, replica: &Replica<'_>, peer: u8) -> bool {
-    if peer < 1 || peer > 8 || peer == replica.number() {
-        return true;
+    match mark_of(replica, peer) {
+        Some(mark) => mark == plain.mark(peer),
+        None => true,
     }
-    replica.mark(peer) == plain.mark(peer)
 }
 
 /// Whether the replica has the number, and the plain one's life and marks.
@@ -86,31 +87,23 @@ pub fn replica_agrees(
     world: &World<'_>,
     plain: &PlainWorld,
     number: u8,
-) -> Result<bool, AllocError> {
-    let (Some(replica), Some(plain)) = (replica_of(world, number), plain.replica(number)) else {
-        return Ok(false);
-    };
-    if !is_closed(alloc, table, plain)? {
-        return Ok(false);
+) -> bool {
+    match (replica_of(world, number), plain.replica(number)) {
+        (Some(replica), Some(plain)) => {
+            is_closed(alloc, table, plain)
+                && head_agrees(plain, replica, number)
+                && machine_agrees(table, plain, replica.machine())
+        }
+        _ => false,
     }
-    Ok(head_agrees(plain, replica, number) && machine_agrees(table, plain, replica.machine()))
 }
 
-/// Whether the message has the text of the last one that the plain world sent.
-fn is_last_sent(
-    alloc: Global,
-    table: &Table,
-    plain: &PlainWorld,
-    message: &Message,
-) -> Result<bool, AllocError> {
-    let Some(sent) = plain.sent.last() else {
-        return Ok(false);
-    };
-    let mut text = Vec::new(alloc);
-    write_message(message, &mut text)?;
-    let mut wanted = Vec::new(alloc);
-    put_message(alloc, table, sent, &mut wanted)?;
-    Ok(text.as_slice() == wanted.as_slice())
+/// The text of the last message that the plain world sent. Where there is none, it is want of memory.
+fn last_sent(alloc: Global, table: &Table, plain: &PlainWorld) -> Result<Vec<u8>, AllocError> {
+    match plain.sent.last() {
+        Some(sent) => message_text(alloc, table, sent),
+        None => Err(AllocError),
+    }
 }
 
 /// Whether the replica's ask is the last message of the plain world.
@@ -121,14 +114,14 @@ fn ask_agrees(
     plain: &PlainWorld,
     asker: u8,
     asked: u8,
-) -> Result<bool, AllocError> {
-    let Some(replica) = replica_of(world, asker) else {
-        return Ok(false);
-    };
-    if asked < 1 || asked > 8 || asked == replica.number() {
-        return Ok(false);
+) -> bool {
+    match replica_of(world, asker) {
+        Some(replica) => are_same(
+            ask_text(alloc, replica, asked),
+            last_sent(alloc, table, plain),
+        ),
+        None => false,
     }
-    is_last_sent(alloc, table, plain, &Message::Ask(replica.ask(asked)))
 }
 
 /// Whether the replica's answer to the ask is the last message of the plain world.
@@ -138,21 +131,22 @@ fn answer_agrees(
     world: &World<'_>,
     plain: &PlainWorld,
     ask: Ask,
-) -> Result<bool, AllocError> {
-    let Some(replica) = replica_of(world, ask.asked) else {
-        return Ok(false);
-    };
-    let message = Message::Delta(replica.answer(&ask)?);
-    is_last_sent(alloc, table, plain, &message)
+) -> bool {
+    match replica_of(world, ask.asked) {
+        Some(replica) => are_same(
+            answer_text(alloc, replica, ask),
+            last_sent(alloc, table, plain),
+        ),
+        None => false,
+    }
 }
 
 /// Whether the replica would save the bytes that the plain one saved.
-fn save_agrees(world: &World<'_>, plain: &PlainWorld, number: u8) -> Result<bool, AllocError> {
-    let (Some(replica), Some(plain)) = (replica_of(world, number), plain.replica(number)) else {
-        return Ok(false);
-    };
-    let bytes = replica.save()?;
-    Ok(bytes.as_slice() == plain.text.as_slice())
+fn save_agrees(world: &World<'_>, plain: &PlainWorld, number: u8) -> bool {
+    match (replica_of(world, number), plain.replica(number)) {
+        (Some(replica), Some(plain)) => is_text(replica.save(), &plain.text),
+        _ => false,
+    }
 }
 
 /// Whether the delivery of that message did the same in both worlds.
@@ -162,11 +156,11 @@ fn delivery_agrees(
     world: &World<'_>,
     plain: &PlainWorld,
     message: usize,
-) -> Result<bool, AllocError> {
+) -> bool {
     match plain.sent.get(message) {
         Some(Sent::Ask(ask)) => answer_agrees(alloc, table, world, plain, *ask),
         Some(Sent::Part(part)) => replica_agrees(alloc, table, world, plain, part.receiver),
-        None => Ok(false),
+        None => false,
     }
 }
 
@@ -178,7 +172,7 @@ pub fn shows_the_same(
     world: &World<'_>,
     plain: &PlainWorld,
     act: Act,
-) -> Result<bool, AllocError> {
+) -> bool {
     match act {
         Act::Fire(number, _) | Act::Merge(number, _) | Act::Restart(number, _) => {
             replica_agrees(alloc, table, world, plain, number)
@@ -186,6 +180,7 @@ pub fn shows_the_same(
         Act::Save(number) => save_agrees(world, plain, number),
         Act::Ask(asker, asked) => ask_agrees(alloc, table, world, plain, asker, asked),
         Act::Deliver(message) => delivery_agrees(alloc, table, world, plain, message),
+        Act::Take(..) | Act::Bytes(..) => false,
     }
 }
 
@@ -196,11 +191,11 @@ pub fn all_agree(
     world: &World<'_>,
     plain: &PlainWorld,
     count: u8,
-) -> Result<bool, AllocError> {
+) -> bool {
     for number in 1..=count {
-        if !replica_agrees(alloc, table, world, plain, number)? {
-            return Ok(false);
+        if !replica_agrees(alloc, table, world, plain, number) {
+            return false;
         }
     }
-    Ok(world.count() == usize::from(count))
+    world.count() == usize::from(count)
 }

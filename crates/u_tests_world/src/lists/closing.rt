@@ -1,23 +1,8 @@
 //! The closure of what a plain replica took, by exhaustion.
+use crate::lists::held::{are_held, hold};
 use crate::lists::plain_replica::{PlainReplica, Stage};
 use crate::lists::table::Table;
 use std::alloc::{AllocError, Global};
-
-/// Whether all these entries are held.
-fn are_held(held: &[bool], entries: &[usize]) -> bool {
-    entries.iter().all(|entry| held.get(*entry) == Some(&true))
-}
-
-/// The entry is held. Answers whether it was not.
-fn hold(held: &mut Vec<bool>, entry: usize) -> bool {
-    match held.get_mut(entry) {
-        Some(place) if !*place => {
-            *place = true;
-            true
-        }
-        _ => false,
-    }
-}
 
 /// All that the firing gives is held. Answers whether any of it was not.
 fn give(table: &Table, held: &mut Vec<bool>, firing: usize) -> bool {
@@ -42,18 +27,13 @@ fn give_all(table: &Table, replica: &PlainReplica, held: &mut Vec<bool>) -> bool
     is_new
 }
 
-/// What the start token and the taken firings hold, once nothing new comes of them.
-fn closure(alloc: Global, table: &Table, replica: &PlainReplica) -> Result<Vec<bool>, AllocError> {
-    let mut held = Vec::new(alloc);
-    for entry in 0..table.entries.len() {
-        held.push(entry == table.start)?;
-    }
+/// All that comes of the held entries and the taken firings is held, once nothing new comes.
+fn close(table: &Table, replica: &PlainReplica, held: &mut Vec<bool>) {
     for _round in 0..table.entries.len() {
-        if !give_all(table, replica, &mut held) {
-            return Ok(held);
+        if !give_all(table, replica, held) {
+            return;
         }
     }
-    Ok(held)
 }
 
 /// Whether these entries are what the replica holds, and of the firings that it took it applied those
@@ -73,8 +53,22 @@ fn is_closed_over(table: &Table, replica: &PlainReplica, held: &[bool]) -> bool 
     replica.held.as_slice() == held
 }
 
+/// The same of what comes of these entries.
+fn is_closure(table: &Table, replica: &PlainReplica, held: &mut Vec<bool>) -> bool {
+    hold(held, table.start);
+    close(table, replica, held);
+    is_closed_over(table, replica, held)
+}
+
 /// Whether the replica holds the closure of what it took, and applied what is enabled over it.
-pub fn is_closed(alloc: Global, table: &Table, replica: &PlainReplica) -> Result<bool, AllocError> {
-    let held = closure(alloc, table, replica)?;
-    Ok(is_closed_over(table, replica, &held))
+pub fn is_closed(alloc: Global, table: &Table, replica: &PlainReplica) -> bool {
+    match nothing_held(alloc, table) {
+        Ok(mut held) => is_closure(table, replica, &mut held),
+        Err(_) => false,
+    }
+}
+
+/// Of each entry that it is not held.
+fn nothing_held(alloc: Global, table: &Table) -> Result<Vec<bool>, AllocError> {
+    [false].as_slice().repeat(alloc, table.entries.len())
 }

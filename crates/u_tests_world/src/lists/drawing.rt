@@ -3,13 +3,11 @@
 //! Each event takes four words of the generator. The first says of eight kinds which it is, the second
 //! of which replica, the third of which other replica, and the fourth what is picked. Where there is
 //! no other replica, or no message, the replica fires.
-use crate::lists::acts::Act;
-use crate::lists::events::{act_of, event_of};
+use crate::acts::Act;
 use rand_core::SeedableRng;
 use rand_core::utils::NextWord;
 use rand_pcg::Lcg64Xsh32;
 use std::alloc::{AllocError, Global};
-use u_world::Event;
 
 /// The word modulo the number, which is not 0.
 fn modulo(word: u32, number: u32) -> u32 {
@@ -69,43 +67,32 @@ fn send(act: Act, asks: &mut Vec<bool>) -> Result<(), AllocError> {
     Ok(())
 }
 
-/// Adds so many events, and what they send.
+/// Adds so many acts, and what they send.
 fn add_drawn(
     random: &mut Lcg64Xsh32,
     replicas: u8,
     count: usize,
     asks: &mut Vec<bool>,
-    events: &mut Vec<Event>,
+    acts: &mut Vec<Act>,
 ) -> Result<(), AllocError> {
-    for _event in 0..count {
+    for _act in 0..count {
         let act = drawn(next_words(random), replicas, asks.len());
         send(act, asks)?;
-        events.push(event_of(act))?;
+        acts.push(act)?;
     }
     Ok(())
 }
 
-/// The list of so many events that the rule draws from the seed, for one to eight replicas.
-pub fn drawn_events(
+/// The list of so many acts that the rule draws from the seed, for one to eight replicas.
+pub fn drawn_acts(
     alloc: Global,
     seed: u64,
     replicas: u8,
     count: usize,
-) -> Result<Vec<Event>, AllocError> {
+) -> Result<Vec<Act>, AllocError> {
     let mut random = Lcg64Xsh32::seed_from_u64(seed);
     let mut asks = Vec::new(alloc);
-    let mut events = Vec::new(alloc);
-    add_drawn(&mut random, replicas, count, &mut asks, &mut events)?;
-    Ok(events)
-}
-
-/// Whether the list begins with the events of these acts.
-pub fn begins_with(events: &[Event], acts: &[Act]) -> bool {
-    for (place, act) in acts.iter().enumerate() {
-        match events.get(place) {
-            Some(event) if act_of(event) == Some(*act) => {}
-            _ => return false,
-        }
-    }
-    true
+    let mut acts = Vec::new(alloc);
+    add_drawn(&mut random, replicas, count, &mut asks, &mut acts)?;
+    Ok(acts)
 }

@@ -1,11 +1,10 @@
 //! Replicas that ask each other until nothing is new.
-use crate::lists::acts::Act;
+use crate::acts::Act;
 use crate::lists::lists::act_agrees;
 use crate::lists::plain_world::PlainWorld;
 use crate::lists::table::Table;
-use crate::looks::replica_of;
-use std::alloc::{AllocError, Global};
-use u_plain::worked::text_of;
+use crate::looks::{is_like, replica_of};
+use std::alloc::Global;
 use u_world::World;
 
 /// One replica asks another, gets the answer, and receives it. Answers whether the two worlds agree.
@@ -16,52 +15,30 @@ fn round(
     plain: &mut PlainWorld,
     asker: u8,
     asked: u8,
-) -> Result<bool, AllocError> {
+) -> bool {
     let ask = plain.sent.len();
-    let acts = [
-        Act::Ask(asker, asked),
-        Act::Deliver(ask),
-        Act::Deliver(ask.saturating_add(1)),
-    ];
-    for act in acts.as_slice() {
-        if !act_agrees(alloc, table, world, plain, *act)? {
-            return Ok(false);
-        }
-    }
-    Ok(true)
+    let answer = ask.saturating_add(1);
+    act_agrees(alloc, table, world, plain, Act::Ask(asker, asked))
+        && act_agrees(alloc, table, world, plain, Act::Deliver(ask))
+        && act_agrees(alloc, table, world, plain, Act::Deliver(answer))
 }
 
-/// One replica asks each other one of so many.
-fn ask_all(
-    alloc: Global,
-    table: &Table,
-    world: &mut World<'_>,
-    plain: &mut PlainWorld,
-    asker: u8,
-    replicas: u8,
-) -> Result<bool, AllocError> {
-    for asked in 1..=replicas {
-        if asked != asker && !round(alloc, table, world, plain, asker, asked)? {
-            return Ok(false);
-        }
-    }
-    Ok(true)
-}
-
-/// Each of so many replicas asks each other one.
+/// Each of so many replicas, eight at most, asks each other one.
 fn each_asks_all(
     alloc: Global,
     table: &Table,
     world: &mut World<'_>,
     plain: &mut PlainWorld,
     replicas: u8,
-) -> Result<bool, AllocError> {
-    for asker in 1..=replicas {
-        if !ask_all(alloc, table, world, plain, asker, replicas)? {
-            return Ok(false);
+) -> bool {
+    for pair in 0u8..64 {
+        let (asker, asked) = (pair / 8 + 1, pair % 8 + 1);
+        let is_pair = asker <= replicas && asked <= replicas && asker != asked;
+        if is_pair && !round(alloc, table, world, plain, asker, asked) {
+            return false;
         }
     }
-    Ok(true)
+    true
 }
 
 /// Each of so many replicas asks each other one, until nothing is taken, ten times at most. Answers
@@ -72,53 +49,33 @@ pub fn exchange(
     world: &mut World<'_>,
     plain: &mut PlainWorld,
     replicas: u8,
-) -> Result<bool, AllocError> {
+) -> bool {
     for _turn in 0..10 {
-        let before = plain.count_taken()?;
-        if !each_asks_all(alloc, table, world, plain, replicas)? {
-            return Ok(false);
+        let before = plain.count_taken();
+        if !each_asks_all(alloc, table, world, plain, replicas) {
+            return false;
         }
-        if plain.count_taken()? == before {
-            return Ok(true);
-        }
-    }
-    Ok(false)
-}
-
-/// Whether the history of the replica has that text.
-fn holds_text(
-    alloc: Global,
-    world: &World<'_>,
-    number: u8,
-    wanted: &[u8],
-) -> Result<bool, AllocError> {
-    let Some(replica) = replica_of(world, number) else {
-        return Ok(false);
-    };
-    let text = text_of(alloc, replica.machine().history())?;
-    Ok(text.as_slice() == wanted)
-}
-
-/// Whether the histories of so many replicas have that text.
-fn hold_text(
-    alloc: Global,
-    world: &World<'_>,
-    replicas: u8,
-    wanted: &[u8],
-) -> Result<bool, AllocError> {
-    for number in 1..=replicas {
-        if !holds_text(alloc, world, number, wanted)? {
-            return Ok(false);
+        if plain.count_taken() == before {
+            return true;
         }
     }
-    Ok(true)
+    false
+}
+
+/// Whether the histories of the two replicas have the same text.
+fn are_like(alloc: Global, world: &World<'_>, number: u8, other: u8) -> bool {
+    match (replica_of(world, number), replica_of(world, other)) {
+        (Some(replica), Some(other)) => is_like(alloc, replica, other),
+        _ => false,
+    }
 }
 
 /// Whether the histories of so many replicas have the same text.
-pub fn hold_the_same(alloc: Global, world: &World<'_>, replicas: u8) -> Result<bool, AllocError> {
-    let Some(replica) = replica_of(world, 1) else {
-        return Ok(false);
-    };
-    let text = text_of(alloc, replica.machine().history())?;
-    hold_text(alloc, world, replicas, &text)
+pub fn hold_the_same(alloc: Global, world: &World<'_>, replicas: u8) -> bool {
+    for number in 1..=replicas {
+        if !are_like(alloc, world, number, 1) {
+            return false;
+        }
+    }
+    true
 }

@@ -5,12 +5,39 @@ use std::alloc::{AllocError, Global};
 use u_check::Job;
 use u_history::History;
 use u_plain::ready_firings;
-use u_rule::{Entry, Firing, RuleError, gives, needs, start};
+use u_rule::{Entry, Firing, gives, needs, start};
 use u_sets::OrderedSet;
 
-/// Nothing but want of memory can come of a firing that is one of the job.
-fn memory_of(_: RuleError) -> AllocError {
-    AllocError
+/// The entries that the firing needs, in the order of its values. Nothing but want of memory can come
+/// of a firing that is one of the job.
+fn needed_by(alloc: Global, job: &Job, firing: &Firing) -> Result<Vec<Entry>, AllocError> {
+    match needs(alloc, job, firing) {
+        Ok(entries) => Ok(entries),
+        Err(_) => Err(AllocError),
+    }
+}
+
+/// The entries that the firing gives.
+fn given_by(alloc: Global, job: &Job, firing: &Firing) -> Result<Vec<Entry>, AllocError> {
+    match gives(alloc, job, firing) {
+        Ok(entries) => Ok(entries),
+        Err(_) => Err(AllocError),
+    }
+}
+
+/// Lets a copy of the entry enter.
+fn enter(history: &mut History, entry: &Entry) -> Result<(), AllocError> {
+    let copy = entry.copy()?;
+    history.insert(copy)?;
+    Ok(())
+}
+
+/// Lets these entries enter.
+fn enter_all(history: &mut History, entries: &[Entry]) -> Result<(), AllocError> {
+    for entry in entries {
+        enter(history, entry)?;
+    }
+    Ok(())
 }
 
 /// Lets what the firing gives enter.
@@ -20,15 +47,12 @@ fn enter_given(
     history: &mut History,
     firing: &Firing,
 ) -> Result<(), AllocError> {
-    let given = gives(alloc, job, firing).map_err(memory_of)?;
-    for entry in given.iter() {
-        history.insert(entry.copy()?)?;
-    }
-    Ok(())
+    let given = given_by(alloc, job, firing)?;
+    enter_all(history, &given)
 }
 
 /// Lets what these firings give enter.
-fn enter_all(
+fn fire_all(
     alloc: Global,
     job: &Job,
     history: &mut History,
@@ -46,19 +70,19 @@ fn enabled_over(alloc: Global, job: &Job, history: &History) -> Result<Vec<Firin
     ready_firings(alloc, job, history, &none)
 }
 
-/// Lets what is enabled over the history give its entries. Answers whether any of them is new.
-fn goes_on(alloc: Global, job: &Job, history: &mut History) -> Result<bool, AllocError> {
-    let before = history.len();
+/// Lets what is enabled over the history give its entries.
+fn go_on(alloc: Global, job: &Job, history: &mut History) -> Result<(), AllocError> {
     let enabled = enabled_over(alloc, job, history)?;
-    enter_all(alloc, job, history, &enabled)?;
-    Ok(history.len() > before)
+    fire_all(alloc, job, history, &enabled)
 }
 
 /// Puts in all that can be derived from the job, in a thousand rounds at most.
 fn derive_all(alloc: Global, job: &Job, history: &mut History) -> Result<(), AllocError> {
     history.insert(start(job))?;
     for _round in 0..1000 {
-        if !goes_on(alloc, job, history)? {
+        let before = history.len();
+        go_on(alloc, job, history)?;
+        if history.len() == before {
             return Ok(());
         }
     }
@@ -75,6 +99,12 @@ fn number_of(entries: &[Entry], entry: &Entry) -> usize {
     entries.len()
 }
 
+/// The number of the start token.
+fn start_in(entries: &[Entry], job: &Job) -> usize {
+    let entry = start(job);
+    number_of(entries, &entry)
+}
+
 /// The numbers of these entries.
 fn numbers_of(alloc: Global, entries: &[Entry], some: &[Entry]) -> Result<Vec<usize>, AllocError> {
     let mut numbers = Vec::new(alloc);
@@ -84,40 +114,36 @@ fn numbers_of(alloc: Global, entries: &[Entry], some: &[Entry]) -> Result<Vec<us
     Ok(numbers)
 }
 
-/// The text of the firing, with a newline behind it.
-fn line_of(alloc: Global, firing: &Firing) -> Result<Vec<u8>, AllocError> {
-    let mut line = Vec::new(alloc);
-    firing.write_text(&mut line)?;
-    line.push(b'\n')?;
-    Ok(line)
+/// Adds the numbers of these entries, if there was memory for them.
+fn add_numbers(
+    alloc: Global,
+    entries: &[Entry],
+    some: Result<Vec<Entry>, AllocError>,
+    all: &mut Vec<Vec<usize>>,
+) -> Result<(), AllocError> {
+    let some = some?;
+    let numbers = numbers_of(alloc, entries, &some)?;
+    all.push(numbers)?;
+    Ok(())
 }
 
-/// The numbers of the entries that the firing needs, in the order of its values.
-fn needed_by(
-    alloc: Global,
-    job: &Job,
-    entries: &[Entry],
-    firing: &Firing,
-) -> Result<Vec<usize>, AllocError> {
-    let needed = needs(alloc, job, firing).map_err(memory_of)?;
-    numbers_of(alloc, entries, &needed)
-}
-
-/// The numbers of the entries that the firing gives.
-fn given_by(
-    alloc: Global,
-    job: &Job,
-    entries: &[Entry],
-    firing: &Firing,
-) -> Result<Vec<usize>, AllocError> {
-    let given = gives(alloc, job, firing).map_err(memory_of)?;
-    numbers_of(alloc, entries, &given)
+/// Lists what each firing needs and gives.
+fn connect(table: &mut Table, job: &Job) -> Result<(), AllocError> {
+    let alloc = table.alloc;
+    for firing in table.firings.iter() {
+        let needed = needed_by(alloc, job, firing);
+        add_numbers(alloc, &table.entries, needed, &mut table.needs)?;
+        let given = given_by(alloc, job, firing);
+        add_numbers(alloc, &table.entries, given, &mut table.gives)?;
+    }
+    Ok(())
 }
 
 /// Lists the entries of the history, and the firings that are enabled over them.
 fn list(table: &mut Table, job: &Job, history: &History) -> Result<(), AllocError> {
     table.entries = history.entries()?;
     table.firings = enabled_over(table.alloc, job, history)?;
+    table.start = start_in(&table.entries, job);
     Ok(())
 }
 
@@ -128,25 +154,10 @@ fn derive(table: &mut Table, job: &Job) -> Result<(), AllocError> {
     list(table, job, &history)
 }
 
-/// Lists what each firing needs and gives, and its text.
-fn fill(table: &mut Table, job: &Job) -> Result<(), AllocError> {
-    for firing in table.firings.iter() {
-        table.texts.push(line_of(table.alloc, firing)?)?;
-        table
-            .needs
-            .push(needed_by(table.alloc, job, &table.entries, firing)?)?;
-        table
-            .gives
-            .push(given_by(table.alloc, job, &table.entries, firing)?)?;
-    }
-    table.start = number_of(&table.entries, &start(job));
-    Ok(())
-}
-
 /// The table of the job.
 pub fn table_of(alloc: Global, job: &Job) -> Result<Table, AllocError> {
     let mut table = Table::empty(alloc);
     derive(&mut table, job)?;
-    fill(&mut table, job)?;
+    connect(&mut table, job)?;
     Ok(table)
 }

@@ -1,18 +1,20 @@
 //! Lists of events over a world and a plain one.
-use crate::lists::acts::Act;
+use crate::acts::{Act, answers};
 use crate::lists::beside::{all_agree, shows_the_same};
-use crate::lists::events::{act_of, event_of};
 use crate::lists::exchange::{exchange, hold_the_same};
 use crate::lists::plain_world::PlainWorld;
 use crate::lists::table::Table;
-use std::alloc::{AllocError, Global};
+use crate::looks::world_of;
+use std::alloc::Global;
 use std::slice;
 use u_check::Job;
-use u_world::{Event, World};
+use u_world::World;
 
 /// What goes wrong first.
-#[derive(Clone, Copy, PartialEq, Eq, Debug)]
+#[derive(Clone, Copy, Debug)]
 pub enum Wrong {
+    /// There is no memory, or no world of so many replicas.
+    World,
     /// The event at that place of the list.
     Event(usize),
     /// After the list some replica is not as the plain one.
@@ -23,12 +25,6 @@ pub enum Wrong {
     Histories,
 }
 
-/// Whether the world does the act.
-fn runs(world: &mut World<'_>, act: Act) -> bool {
-    let event = event_of(act);
-    world.run(slice::from_ref(&event)).is_ok()
-}
-
 /// Whether both worlds do the act, and it does the same.
 pub fn act_agrees(
     alloc: Global,
@@ -36,11 +32,10 @@ pub fn act_agrees(
     world: &mut World<'_>,
     plain: &mut PlainWorld,
     act: Act,
-) -> Result<bool, AllocError> {
-    if !runs(world, act) || !plain.step(table, act)? {
-        return Ok(false);
-    }
-    shows_the_same(alloc, table, world, plain, act)
+) -> bool {
+    answers(alloc, world, slice::from_ref(&act), Ok(()))
+        && plain.does(table, act)
+        && shows_the_same(alloc, table, world, plain, act)
 }
 
 /// The act; where it is a restart, the bytes that are kept are counted round and round, so that most
@@ -55,79 +50,86 @@ fn torn(plain: &PlainWorld, act: Act) -> Act {
     }
 }
 
-/// Whether both worlds do the event, and it does the same.
-fn event_agrees(
-    alloc: Global,
-    table: &Table,
-    world: &mut World<'_>,
-    plain: &mut PlainWorld,
-    event: &Event,
-    tears: bool,
-) -> Result<bool, AllocError> {
-    let Some(act) = act_of(event) else {
-        return Ok(false);
-    };
-    let act = if tears { torn(plain, act) } else { act };
-    act_agrees(alloc, table, world, plain, act)
-}
-
-/// The place of the first event that the worlds don't do alike.
+/// The place of the first act that the worlds don't do alike.
 fn first_wrong(
     alloc: Global,
     table: &Table,
     world: &mut World<'_>,
     plain: &mut PlainWorld,
-    events: &[Event],
+    acts: &[Act],
     tears: bool,
-) -> Result<Option<usize>, AllocError> {
-    for (place, event) in events.iter().enumerate() {
-        if !event_agrees(alloc, table, world, plain, event, tears)? {
-            return Ok(Some(place));
+) -> Option<usize> {
+    for (place, act) in acts.iter().enumerate() {
+        let act = if tears { torn(plain, *act) } else { *act };
+        if !act_agrees(alloc, table, world, plain, act) {
+            return Some(place);
         }
     }
-    Ok(None)
+    None
 }
 
-/// What goes wrong first in the events, and then as so many replicas exchange all that they have.
+/// What goes wrong after the list, as so many replicas exchange all that they have.
+fn wrong_behind(
+    alloc: Global,
+    table: &Table,
+    world: &mut World<'_>,
+    plain: &mut PlainWorld,
+    replicas: u8,
+) -> Option<Wrong> {
+    if !all_agree(alloc, table, world, plain, replicas) {
+        return Some(Wrong::Replica);
+    }
+    if !exchange(alloc, table, world, plain, replicas) {
+        return Some(Wrong::Exchange);
+    }
+    if !hold_the_same(alloc, world, replicas) {
+        return Some(Wrong::Histories);
+    }
+    None
+}
+
+/// What goes wrong first in the acts, and then behind them.
 fn wrong_over(
     alloc: Global,
     table: &Table,
     world: &mut World<'_>,
     plain: &mut PlainWorld,
-    events: &[Event],
+    acts: &[Act],
     replicas: u8,
     tears: bool,
-) -> Result<Option<Wrong>, AllocError> {
-    if let Some(place) = first_wrong(alloc, table, world, plain, events, tears)? {
-        return Ok(Some(Wrong::Event(place)));
+) -> Option<Wrong> {
+    match first_wrong(alloc, table, world, plain, acts, tears) {
+        Some(place) => Some(Wrong::Event(place)),
+        None => wrong_behind(alloc, table, world, plain, replicas),
     }
-    if !all_agree(alloc, table, world, plain, replicas)? {
-        return Ok(Some(Wrong::Replica));
-    }
-    if !exchange(alloc, table, world, plain, replicas)? {
-        return Ok(Some(Wrong::Exchange));
-    }
-    if !hold_the_same(alloc, world, replicas)? {
-        return Ok(Some(Wrong::Histories));
-    }
-    Ok(None)
 }
 
-/// The same of a new world of the job.
+/// The same with a new plain world.
+fn wrong_beside(
+    alloc: Global,
+    table: &Table,
+    world: &mut World<'_>,
+    acts: &[Act],
+    replicas: u8,
+    tears: bool,
+) -> Option<Wrong> {
+    match PlainWorld::new(alloc, table, replicas) {
+        Ok(mut plain) => wrong_over(alloc, table, world, &mut plain, acts, replicas, tears),
+        Err(_) => Some(Wrong::World),
+    }
+}
+
+/// The same with a new world of the job.
 pub fn wrong_in(
     alloc: Global,
     job: &Job,
     table: &Table,
-    events: &[Event],
+    acts: &[Act],
     replicas: u8,
     tears: bool,
-) -> Result<Option<Wrong>, AllocError> {
-    if replicas < 1 || replicas > 8 {
-        return Err(AllocError);
+) -> Option<Wrong> {
+    match world_of(alloc, job, replicas, 1000) {
+        Some(mut world) => wrong_beside(alloc, table, &mut world, acts, replicas, tears),
+        None => Some(Wrong::World),
     }
-    let mut world = World::new(alloc, job, replicas, 1000)?;
-    let mut plain = PlainWorld::new(alloc, table, replicas)?;
-    wrong_over(
-        alloc, table, &mut world, &mut plain, events, replicas, tears,
-    )
 }

@@ -1,12 +1,14 @@
 //! One replica of a plain world. It goes over all firings of its job again and again, and has nothing
 //! else to find those that are ready.
+use crate::acts::Act;
+use crate::lists::held::{are_held, hold};
 use crate::lists::table::Table;
 use crate::lists::texts::{checkpoint_text, whole_firing_lines};
 use std::alloc::{AllocError, Global};
 use u_delta::{Ask, Mark};
 
 /// What became of a firing.
-#[derive(Clone, Copy, PartialEq, Eq, Debug)]
+#[derive(Clone, Copy, PartialEq, Eq)]
 pub enum Stage {
     /// It was not taken.
     New,
@@ -69,20 +71,13 @@ impl PlainReplica {
     /// Forgets all but what it saved, and begins its next life.
     fn begin(&mut self, table: &Table) -> Result<(), AllocError> {
         self.life = self.life.saturating_add(1);
-        self.marks = Vec::new(self.alloc);
-        self.stages = Vec::new(self.alloc);
-        self.log = Vec::new(self.alloc);
-        self.held = Vec::new(self.alloc);
-        for _peer in 0..8 {
-            self.marks.push(Mark { life: 0, count: 0 })?;
-        }
-        for _firing in 0..table.count() {
-            self.stages.push(Stage::New)?;
-        }
-        for _entry in 0..table.entries.len() {
-            self.held.push(false)?;
-        }
-        self.hold(table.start);
+        self.log.clear();
+        self.marks = [Mark { life: 0, count: 0 }]
+            .as_slice()
+            .repeat(self.alloc, 8)?;
+        self.stages = [Stage::New].as_slice().repeat(self.alloc, table.count())?;
+        self.held = [false].as_slice().repeat(self.alloc, table.entries.len())?;
+        hold(&mut self.held, table.start);
         Ok(())
     }
 
@@ -108,24 +103,9 @@ impl PlainReplica {
         }
     }
 
-    /// Whether the entry is held.
-    pub fn holds(&self, entry: usize) -> bool {
-        self.held.get(entry) == Some(&true)
-    }
-
-    /// The entry is held.
-    fn hold(&mut self, entry: usize) {
-        if let Some(place) = self.held.get_mut(entry) {
-            *place = true;
-        }
-    }
-
     /// Whether all is held that the firing needs.
     fn is_enabled(&self, table: &Table, firing: usize) -> bool {
-        table
-            .needs_of(firing)
-            .iter()
-            .all(|entry| self.holds(*entry))
+        are_held(&self.held, table.needs_of(firing))
     }
 
     /// Where the firing is parked and enabled it goes to the end of the log.
@@ -139,10 +119,9 @@ impl PlainReplica {
 
     /// The entry enters, if it is new, and the parked firings that it wakes go to the log in order.
     fn enter(&mut self, table: &Table, entry: usize) -> Result<(), AllocError> {
-        if self.holds(entry) {
+        if !hold(&mut self.held, entry) {
             return Ok(());
         }
-        self.hold(entry);
         for firing in 0..table.count() {
             self.log_if_due(table, firing)?;
         }
@@ -163,7 +142,7 @@ impl PlainReplica {
 
     /// Takes the firing, unless it was taken, and applies all that is enabled then, first in, first
     /// out.
-    pub fn take(&mut self, table: &Table, firing: usize) -> Result<(), AllocError> {
+    fn take(&mut self, table: &Table, firing: usize) -> Result<(), AllocError> {
         if self.stage(firing) != Stage::New {
             return Ok(());
         }
@@ -210,11 +189,22 @@ impl PlainReplica {
     }
 
     /// Fires what is picked.
-    pub fn fire(&mut self, table: &Table, pick: usize) -> Result<(), AllocError> {
+    fn fire(&mut self, table: &Table, pick: usize) -> Result<(), AllocError> {
         match self.picked(table, pick)? {
             Some(firing) => self.take(table, firing),
             None => Ok(()),
         }
+    }
+
+    /// How many firings it took.
+    pub fn count(&self) -> usize {
+        let mut count = 0usize;
+        for stage in self.stages.iter() {
+            if *stage != Stage::New {
+                count = count.saturating_add(1);
+            }
+        }
+        count
     }
 
     /// All firings that it took: the log, and then the parked ones in order.
@@ -232,14 +222,14 @@ impl PlainReplica {
     }
 
     /// Saves all that it took.
-    pub fn save(&mut self, table: &Table) -> Result<(), AllocError> {
+    fn save(&mut self, table: &Table) -> Result<(), AllocError> {
         self.saved = self.all()?;
         self.text = checkpoint_text(self.alloc, table, &self.saved)?;
         Ok(())
     }
 
     /// Starts again in its next life, from the whole lines of so many bytes of what it saved.
-    pub fn restart(&mut self, table: &Table, keep: usize) -> Result<(), AllocError> {
+    fn restart(&mut self, table: &Table, keep: usize) -> Result<(), AllocError> {
         self.begin(table)?;
         let lines = whole_firing_lines(&self.text, keep);
         for place in 0..lines {
@@ -250,6 +240,16 @@ impl PlainReplica {
             self.take(table, firing)?;
         }
         Ok(())
+    }
+
+    /// Fires, saves or starts again. Another act is answered by want of memory.
+    pub fn does(&mut self, table: &Table, act: Act) -> Result<(), AllocError> {
+        match act {
+            Act::Fire(_, pick) => self.fire(table, pick),
+            Act::Save(_) => self.save(table),
+            Act::Restart(_, keep) => self.restart(table, keep),
+            _ => Err(AllocError),
+        }
     }
 
     /// How much it has of the log of that replica.

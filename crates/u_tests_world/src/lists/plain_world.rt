@@ -1,9 +1,9 @@
 //! A plain world: replicas, and what they sent to each other.
-use crate::lists::acts::Act;
+use crate::acts::Act;
 use crate::lists::plain_replica::{Part, PlainReplica};
 use crate::lists::table::Table;
 use std::alloc::{AllocError, Global};
-use u_delta::Ask;
+use u_delta::{Ask, Mark};
 
 /// What was sent.
 #[derive(Drop)]
@@ -27,6 +27,14 @@ pub struct PlainWorld {
 /// The place of the replica with that number.
 fn place_of(number: u8) -> usize {
     usize::from(number).wrapping_sub(1)
+}
+
+/// The one that the part is sent to receives it.
+fn receives(replicas: &mut Vec<PlainReplica>, table: &Table, part: &Part) -> bool {
+    match replicas.get_mut(place_of(part.receiver)) {
+        Some(replica) => replica.receive(table, part).is_ok(),
+        None => false,
+    }
 }
 
 impl PlainWorld {
@@ -54,102 +62,100 @@ impl PlainWorld {
         self.replicas.get(place_of(number))
     }
 
-    /// The replica to which the message of that place goes, if it is a part of a log.
-    pub fn receiver_of(&self, message: usize) -> Option<u8> {
-        match self.sent.get(message) {
-            Some(Sent::Part(part)) => Some(part.receiver),
-            _ => None,
-        }
-    }
-
     /// How many firings the replicas took, together.
-    pub fn count_taken(&self) -> Result<usize, AllocError> {
+    pub fn count_taken(&self) -> usize {
         let mut count = 0usize;
         for replica in self.replicas.iter() {
-            count = count.saturating_add(replica.all()?.len());
+            count = count.saturating_add(replica.count());
         }
-        Ok(count)
+        count
     }
 
     /// One replica asks another.
-    fn ask(&mut self, asker: u8, asked: u8) -> Result<bool, AllocError> {
-        let Some(replica) = self.replicas.get(place_of(asker)) else {
-            return Ok(false);
+    fn asks(&mut self, asker: u8, asked: u8) -> bool {
+        let Some(replica) = self.replica(asker) else {
+            return false;
         };
-        let mark = replica.mark(asked);
-        self.sent.push(Sent::Ask(Ask {
+        let Mark { life, count } = replica.mark(asked);
+        let ask = Ask {
             asker,
             asked,
-            life: mark.life,
-            count: mark.count,
-        }))?;
-        Ok(true)
+            life,
+            count,
+        };
+        self.sent.push(Sent::Ask(ask)).is_ok()
+    }
+
+    /// What the replica answers that is asked.
+    fn answer_to(&self, ask: Ask) -> Result<Part, AllocError> {
+        match self.replica(ask.asked) {
+            Some(replica) => replica.part_for(ask),
+            None => Err(AllocError),
+        }
     }
 
     /// The replica that is asked answers.
-    fn answer(&mut self, ask: Ask) -> Result<bool, AllocError> {
-        let Some(replica) = self.replicas.get(place_of(ask.asked)) else {
-            return Ok(false);
-        };
-        let part = replica.part_for(ask)?;
-        self.sent.push(Sent::Part(part))?;
-        Ok(true)
+    fn answers(&mut self, ask: Ask) -> bool {
+        match self.answer_to(ask) {
+            Ok(part) => self.sent.push(Sent::Part(part)).is_ok(),
+            Err(_) => false,
+        }
     }
 
     /// A message is delivered.
-    fn deliver(&mut self, table: &Table, message: usize) -> Result<bool, AllocError> {
+    fn delivers(&mut self, table: &Table, message: usize) -> bool {
         match self.sent.get(message) {
             Some(Sent::Ask(ask)) => {
                 let ask = *ask;
-                self.answer(ask)
+                self.answers(ask)
             }
-            Some(Sent::Part(part)) => match self.replicas.get_mut(place_of(part.receiver)) {
-                Some(replica) => {
-                    replica.receive(table, part)?;
-                    Ok(true)
-                }
-                None => Ok(false),
-            },
-            None => Ok(false),
+            Some(Sent::Part(part)) => receives(&mut self.replicas, table, part),
+            None => false,
+        }
+    }
+
+    /// All firings that the replica took.
+    fn all_of(&self, number: u8) -> Result<Vec<usize>, AllocError> {
+        match self.replica(number) {
+            Some(replica) => replica.all(),
+            None => Err(AllocError),
+        }
+    }
+
+    /// The replica takes these firings.
+    fn takes(&mut self, table: &Table, number: u8, firings: &[usize]) -> bool {
+        match self.replicas.get_mut(place_of(number)) {
+            Some(replica) => replica.take_all(table, firings).is_ok(),
+            None => false,
         }
     }
 
     /// The first replica takes all that the second took.
-    fn merge(&mut self, table: &Table, number: u8, other: u8) -> Result<bool, AllocError> {
-        let Some(other) = self.replicas.get(place_of(other)) else {
-            return Ok(false);
-        };
-        let all = other.all()?;
-        let Some(replica) = self.replicas.get_mut(place_of(number)) else {
-            return Ok(false);
-        };
-        replica.take_all(table, &all)?;
-        Ok(true)
+    fn merges(&mut self, table: &Table, number: u8, other: u8) -> bool {
+        match self.all_of(other) {
+            Ok(all) => self.takes(table, number, &all),
+            Err(_) => false,
+        }
     }
 
     /// A replica fires, saves or starts again.
-    fn step_alone(&mut self, table: &Table, number: u8, act: Act) -> Result<bool, AllocError> {
-        let Some(replica) = self.replicas.get_mut(place_of(number)) else {
-            return Ok(false);
-        };
-        match act {
-            Act::Fire(_, pick) => replica.fire(table, pick)?,
-            Act::Save(_) => replica.save(table)?,
-            Act::Restart(_, keep) => replica.restart(table, keep)?,
-            _ => return Ok(false),
+    fn does_alone(&mut self, table: &Table, number: u8, act: Act) -> bool {
+        match self.replicas.get_mut(place_of(number)) {
+            Some(replica) => replica.does(table, act).is_ok(),
+            None => false,
         }
-        Ok(true)
     }
 
     /// Does the act. Answers whether it can be done.
-    pub fn step(&mut self, table: &Table, act: Act) -> Result<bool, AllocError> {
+    pub fn does(&mut self, table: &Table, act: Act) -> bool {
         match act {
-            Act::Ask(asker, asked) => self.ask(asker, asked),
-            Act::Deliver(message) => self.deliver(table, message),
-            Act::Merge(number, other) => self.merge(table, number, other),
+            Act::Ask(asker, asked) => self.asks(asker, asked),
+            Act::Deliver(message) => self.delivers(table, message),
+            Act::Merge(number, other) => self.merges(table, number, other),
             Act::Fire(number, _) | Act::Save(number) | Act::Restart(number, _) => {
-                self.step_alone(table, number, act)
+                self.does_alone(table, number, act)
             }
+            Act::Take(..) | Act::Bytes(..) => false,
         }
     }
 }

@@ -1,6 +1,7 @@
 //! The ready firings of replicas. What is ready at a replica shows where it fires each number that
 //! picks, each time in a world of its own that came there by the same events.
-use crate::looks::replica_of;
+use crate::acts::{Act, answers};
+use crate::looks::{replica_of, world_of};
 use std::alloc::{AllocError, Global};
 use std::slice;
 use u_check::Job;
@@ -9,7 +10,7 @@ use u_plain::ready_firings;
 use u_plain::worked::add_firing;
 use u_rule::Firing;
 use u_sets::OrderedSet;
-use u_world::{Event, World};
+use u_world::World;
 
 /// Adds copies of the firings that the machine took.
 fn add_taken(
@@ -26,20 +27,24 @@ fn add_taken(
     Ok(())
 }
 
-/// The firings that the scan finds ready at the replica of that number, in order.
-fn scanned(
+/// The firings that the scan finds ready at the machine, in order.
+fn scanned(alloc: Global, job: &Job, machine: &Machine<'_>) -> Result<Vec<Firing>, AllocError> {
+    let mut taken = OrderedSet::new(alloc);
+    add_taken(alloc, machine, &mut taken)?;
+    ready_firings(alloc, job, machine.history(), &taken)
+}
+
+/// The same of the replica of that number.
+fn scanned_at(
     alloc: Global,
     job: &Job,
     world: &World<'_>,
     number: u8,
 ) -> Result<Vec<Firing>, AllocError> {
-    let Some(replica) = replica_of(world, number) else {
-        return Err(AllocError);
-    };
-    let machine = replica.machine();
-    let mut taken = OrderedSet::new(alloc);
-    add_taken(alloc, machine, &mut taken)?;
-    ready_firings(alloc, job, machine.history(), &taken)
+    match replica_of(world, number) {
+        Some(replica) => scanned(alloc, job, replica.machine()),
+        None => Err(AllocError),
+    }
 }
 
 /// The applied firings of the replica of that number.
@@ -52,13 +57,10 @@ fn applied<'w>(world: &'w World<'_>, number: u8) -> &'w [Firing] {
 
 /// Whether the replica of that number applies the picked one of these firings, or nothing if there is
 /// none.
-fn fires(world: &mut World<'_>, number: u8, pick: usize, ready: &[Firing]) -> bool {
+fn fires(alloc: Global, world: &mut World<'_>, number: u8, pick: usize, ready: &[Firing]) -> bool {
     let before = applied(world, number).len();
-    let event = Event::Fire {
-        replica: number,
-        pick,
-    };
-    if world.run(slice::from_ref(&event)).is_err() {
+    let act = Act::Fire(number, pick);
+    if !answers(alloc, world, slice::from_ref(&act), Ok(())) {
         return false;
     }
     let behind = applied(world, number).get(before);
@@ -68,83 +70,78 @@ fn fires(world: &mut World<'_>, number: u8, pick: usize, ready: &[Firing]) -> bo
     }
 }
 
-/// Whether in a new world, after the events, each of the two replicas fires as it has to.
+/// Whether in a new world, after the acts, each of the two replicas fires as it has to.
 fn both_fire(
     alloc: Global,
     job: &Job,
-    events: &[Event],
+    acts: &[Act],
     pick: usize,
     first: &[Firing],
     second: &[Firing],
-) -> Result<bool, AllocError> {
-    let mut world = World::new(alloc, job, 2, 1000)?;
-    Ok(
-        world.run(events).is_ok()
-            && fires(&mut world, 1, pick, first)
-            && fires(&mut world, 2, pick, second),
-    )
+) -> bool {
+    match world_of(alloc, job, 2, 1000) {
+        Some(mut world) => {
+            answers(alloc, &mut world, acts, Ok(()))
+                && fires(alloc, &mut world, 1, pick, first)
+                && fires(alloc, &mut world, 2, pick, second)
+        }
+        None => false,
+    }
 }
 
 /// The same with each number that picks up to one more than there are firings.
 fn both_fire_each(
     alloc: Global,
     job: &Job,
-    events: &[Event],
+    acts: &[Act],
     first: &[Firing],
     second: &[Firing],
-) -> Result<bool, AllocError> {
+) -> bool {
     for pick in 0..=first.len().max(second.len()) {
-        if !both_fire(alloc, job, events, pick, first, second)? {
-            return Ok(false);
+        if !both_fire(alloc, job, acts, pick, first, second) {
+            return false;
         }
     }
-    Ok(true)
+    true
 }
 
-/// Whether what is ready at the two replicas of the world after the events is what the scan finds.
+/// Whether what is ready at the two replicas of the world after the acts is what the scan finds.
 fn agrees_after(
     alloc: Global,
     job: &Job,
     world: &World<'_>,
-    events: &[Event],
+    acts: &[Act],
 ) -> Result<bool, AllocError> {
-    let first = scanned(alloc, job, world, 1)?;
-    let second = scanned(alloc, job, world, 2)?;
-    both_fire_each(alloc, job, events, &first, &second)
+    let first = scanned_at(alloc, job, world, 1)?;
+    let second = scanned_at(alloc, job, world, 2)?;
+    Ok(both_fire_each(alloc, job, acts, &first, &second))
 }
 
-/// The first events of the list, up to the one at that place.
-fn up_to(events: &[Event], place: usize) -> &[Event] {
-    match events.split_at_checked(place.saturating_add(1)) {
+/// The first acts of the list, up to the one at that place.
+fn up_to(acts: &[Act], place: usize) -> &[Act] {
+    match acts.split_at_checked(place.saturating_add(1)) {
         Some((first, _)) => first,
-        None => events,
+        None => acts,
     }
 }
 
-/// The place of the first event after which what is ready at one of the two replicas of the new world
+/// The place of the first act after which what is ready at one of the two replicas of the new world
 /// is not what the scan finds.
-fn first_wrong(
-    alloc: Global,
-    job: &Job,
-    world: &mut World<'_>,
-    events: &[Event],
-) -> Result<Option<usize>, AllocError> {
-    for (place, event) in events.iter().enumerate() {
-        if world.run(slice::from_ref(event)).is_err()
-            || !agrees_after(alloc, job, world, up_to(events, place))?
+fn first_wrong(alloc: Global, job: &Job, world: &mut World<'_>, acts: &[Act]) -> Option<usize> {
+    for (place, act) in acts.iter().enumerate() {
+        if !answers(alloc, world, slice::from_ref(act), Ok(()))
+            || agrees_after(alloc, job, world, up_to(acts, place)) != Ok(true)
         {
-            return Ok(Some(place));
+            return Some(place);
         }
     }
-    Ok(None)
+    None
 }
 
-/// The same of a new world of the job with two replicas.
-pub fn first_unready(
-    alloc: Global,
-    job: &Job,
-    events: &[Event],
-) -> Result<Option<usize>, AllocError> {
-    let mut world = World::new(alloc, job, 2, 1000)?;
-    first_wrong(alloc, job, &mut world, events)
+/// The same of a new world of the job with two replicas; 0 where there is none.
+pub fn first_unready(alloc: Global, job: &Job, acts: &[Act]) -> Option<usize> {
+    match world_of(alloc, job, 2, 1000) {
+        Some(mut world) => first_wrong(alloc, job, &mut world, acts),
+        None => Some(0),
+    }
 }

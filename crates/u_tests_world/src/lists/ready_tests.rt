@@ -1,5 +1,5 @@
 //! The ready firings after each event of random lists.
-use crate::lists::drawing::drawn_events;
+use crate::lists::drawing::drawn_acts;
 use crate::lists::ready::first_unready;
 use std::alloc::{AllocError, Global};
 use std::test::Fail;
@@ -7,25 +7,22 @@ use u_check::Job;
 use u_plain::examples::{SUM, TWO_WRITERS, job};
 
 /// The place of the first event of the list of that seed after which something else is ready than the
-/// scan finds.
-fn first_unready_of(alloc: Global, job: &Job, seed: u64) -> Result<Option<usize>, AllocError> {
-    let events = drawn_events(alloc, seed, 2, 100)?;
-    first_unready(alloc, job, &events)
+/// scan finds; 0 where there is no list.
+fn unready_in(alloc: Global, job: &Job, seed: u64) -> Option<usize> {
+    match drawn_acts(alloc, seed, 2, 100) {
+        Ok(acts) => first_unready(alloc, job, &acts),
+        Err(_) => Some(0),
+    }
 }
 
 /// The first seed with such a place, of the seeds from the first one to the last one.
-fn first_bad(
-    alloc: Global,
-    job: &Job,
-    first: u64,
-    last: u64,
-) -> Result<Option<(u64, usize)>, AllocError> {
+fn first_bad(alloc: Global, job: &Job, first: u64, last: u64) -> Option<(u64, usize)> {
     for seed in first..=last {
-        if let Some(place) = first_unready_of(alloc, job, seed)? {
-            return Ok(Some((seed, place)));
+        if let Some(place) = unready_in(alloc, job, seed) {
+            return Some((seed, place));
         }
     }
-    Ok(None)
+    None
 }
 
 /// The same of the program on the argument.
@@ -37,7 +34,7 @@ fn first_bad_of(
     last: u64,
 ) -> Result<Option<(u64, usize)>, AllocError> {
     let job = job(alloc, text, argument)?;
-    first_bad(alloc, &job, first, last)
+    Ok(first_bad(alloc, &job, first, last))
 }
 
 #[test]

@@ -9,8 +9,6 @@ pub struct Table {
     pub alloc: Global,
     /// The firings.
     pub firings: Vec<Firing>,
-    /// The text of each firing, with a newline behind it.
-    pub texts: Vec<Vec<u8>>,
     /// The entries.
     pub entries: Vec<Entry>,
     /// The numbers of the entries that each firing needs.
@@ -27,7 +25,6 @@ impl Table {
         Table {
             alloc,
             firings: Vec::new(alloc),
-            texts: Vec::new(alloc),
             entries: Vec::new(alloc),
             needs: Vec::new(alloc),
             gives: Vec::new(alloc),

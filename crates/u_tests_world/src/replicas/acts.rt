@@ -1,7 +1,8 @@
 //! The acts of stories: what a replica does, and what it has to answer.
-use crate::replicas::looks::{has, has_marks, holds, is_like};
+use crate::looks::{ask_text, has, held_text, is_like, is_text};
+use crate::replicas::looks::has_marks;
 use crate::replicas::restarting::{restarts, restarts_changed};
-use crate::replicas::sending::{answers, asks, obeys, receives};
+use crate::replicas::sending::{answered, obeys, receives};
 use crate::replicas::stage::{Stage, finds, lengthens, posts, saves, tears};
 use crate::replicas::taking::{takes, takes_backwards};
 use std::alloc::Global;
@@ -68,12 +69,12 @@ pub enum Act {
 /// Whether the act that changes nothing is answered as it says.
 fn shows(alloc: Global, replica: &Replica<'_>, other: &Replica<'_>, act: Act) -> bool {
     match act {
-        Act::Asks(peer, text) => asks(alloc, replica, peer, text),
-        Act::Answers(ask, text) => answers(alloc, replica, ask, text),
+        Act::Asks(peer, text) => is_text(ask_text(alloc, replica, peer), text.as_bytes()),
+        Act::Answers(ask, text) => is_text(answered(alloc, replica, ask), text.as_bytes()),
         Act::Is(number, life) => replica.number() == number && replica.life() == life,
         Act::Has(counts) => has(replica, counts),
         Act::Marks(rows) => has_marks(replica, rows),
-        Act::Holds(text) => holds(alloc, replica, text),
+        Act::Holds(text) => is_text(held_text(alloc, replica), text.as_bytes()),
         Act::IsLikeTheOther => is_like(alloc, replica, other),
         _ => false,
     }

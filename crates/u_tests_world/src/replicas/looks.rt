@@ -1,19 +1,7 @@
-//! What a replica has.
-use std::alloc::Global;
+//! The marks that a replica has.
+use crate::looks::mark_of;
 use u_delta::Mark;
-use u_history::History;
-use u_plain::worked::text_of;
 use u_replica::Replica;
-
-/// Whether it is settled, and has so many applied firings, parked firings and entries.
-pub fn has(replica: &Replica<'_>, counts: [usize; 3]) -> bool {
-    let [applied, parked, entries] = counts;
-    let machine = replica.machine();
-    machine.is_settled()
-        && machine.applied().len() == applied
-        && machine.parked().len() == parked
-        && machine.history().len() == entries
-}
 
 /// The mark for the peer in the rows.
 fn mark_in(rows: &[(u8, u64, u64)], peer: u8) -> Mark {
@@ -30,10 +18,10 @@ fn mark_in(rows: &[(u8, u64, u64)], peer: u8) -> Mark {
 
 /// Whether its mark for the peer is that of the rows. It has none for itself.
 fn has_mark(replica: &Replica<'_>, rows: &[(u8, u64, u64)], peer: u8) -> bool {
-    if !(1..=8).contains(&peer) || peer == replica.number() {
-        return true;
+    match mark_of(replica, peer) {
+        Some(mark) => mark == mark_in(rows, peer),
+        None => true,
     }
-    replica.mark(peer) == mark_in(rows, peer)
 }
 
 /// Whether its marks are those of the rows, and it knows nothing of all others.
@@ -44,25 +32,4 @@ pub fn has_marks(replica: &Replica<'_>, rows: &[(u8, u64, u64)]) -> bool {
         }
     }
     true
-}
-
-/// Whether the history has that text.
-fn has_text(alloc: Global, history: &History, text: &[u8]) -> bool {
-    match text_of(alloc, history) {
-        Ok(out) => out.as_slice() == text,
-        Err(_) => false,
-    }
-}
-
-/// Whether its history has that text.
-pub fn holds(alloc: Global, replica: &Replica<'_>, text: &str) -> bool {
-    has_text(alloc, replica.machine().history(), text.as_bytes())
-}
-
-/// Whether the two histories have the same text.
-pub fn is_like(alloc: Global, replica: &Replica<'_>, other: &Replica<'_>) -> bool {
-    match text_of(alloc, other.machine().history()) {
-        Ok(text) => has_text(alloc, replica.machine().history(), &text),
-        Err(_) => false,
-    }
 }

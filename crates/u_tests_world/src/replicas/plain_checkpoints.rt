@@ -4,7 +4,7 @@ use std::alloc::{AllocError, Global};
 use u_rule::Firing;
 
 /// What is said of some bytes. Lines are counted from 1.
-#[derive(Clone, Copy, PartialEq, Eq, Debug)]
+#[derive(Clone, Copy, PartialEq, Eq)]
 pub enum Judgement {
     /// They are the checkpoint of so many firings.
     Whole(usize),
@@ -34,7 +34,7 @@ fn is_end(alloc: Global, line: &[u8], count: usize) -> Result<bool, AllocError> 
 }
 
 /// Whether the firing is written so.
-pub fn has_text(alloc: Global, firing: &Firing, text: &[u8]) -> bool {
+fn has_text(alloc: Global, firing: &Firing, text: &[u8]) -> bool {
     let mut out = Vec::new(alloc);
     firing.write_text(&mut out).is_ok() && out.as_slice() == text
 }
@@ -84,16 +84,25 @@ fn at_end(had: Had, rest: &[u8], number: usize) -> Judgement {
     }
 }
 
-/// What is said of the lines, each of which ended with a newline, and of the bytes behind them.
-pub fn judge(alloc: Global, lines: &[&[u8]], rest: &[u8]) -> Judgement {
+/// The bytes from the one place to before the other.
+fn part(bytes: &[u8], from: usize, to: usize) -> &[u8] {
+    bytes.get(from..to).unwrap_or(b"")
+}
+
+/// What is said of the bytes.
+pub fn judge(alloc: Global, bytes: &[u8]) -> Judgement {
     let mut had = Had::Nothing;
     let mut number = 1usize;
-    for line in lines {
-        match with_line_of(alloc, had, line, number) {
-            Ok(now) => had = now,
-            Err(judgement) => return judgement,
+    let mut start = 0usize;
+    for (place, byte) in bytes.iter().enumerate() {
+        if *byte == b'\n' {
+            match with_line_of(alloc, had, part(bytes, start, place), number) {
+                Ok(now) => had = now,
+                Err(judgement) => return judgement,
+            }
+            start = place.saturating_add(1);
+            number = number.saturating_add(1);
         }
-        number = number.saturating_add(1);
     }
-    at_end(had, rest, number)
+    at_end(had, part(bytes, start, bytes.len()), number)
 }

@@ -1,26 +1,29 @@
 //! The reader of checkpoints beside the plain one.
-use crate::replicas::plain_checkpoints::{Judgement, has_text, judge};
+use crate::replicas::plain_checkpoints::{Judgement, judge};
 use std::alloc::{AllocError, Global};
+use u_plain::worked::put_firing;
 use u_replica::{Checkpoint, CheckpointError, Ending, read_checkpoint};
 use u_rule::Firing;
 
-/// Whether the lines behind the first one begin with the texts of the firings.
-fn have_texts(alloc: Global, firings: &[Firing], lines: &[&[u8]]) -> bool {
-    let mut rest = lines.iter();
-    let _first = rest.next();
+/// Adds the first line of a checkpoint, and the line of each of these firings.
+fn put_front(firings: &[Firing], out: &mut Vec<u8>) -> Result<(), AllocError> {
+    out.extend_from_slice(b"u-history 1\n")?;
     for firing in firings {
-        match rest.next() {
-            Some(line) if has_text(alloc, firing, line) => {}
-            _ => return false,
-        }
+        put_firing(out, firing)?;
     }
-    true
+    Ok(())
+}
+
+/// Whether the bytes begin with these lines. Where there is no firing, none has to be there.
+fn begin_with(alloc: Global, bytes: &[u8], firings: &[Firing]) -> bool {
+    let mut front = Vec::new(alloc);
+    put_front(firings, &mut front).is_ok() && (firings.is_empty() || bytes.starts_with(&front))
 }
 
 /// What the reader says that read this, where it read the firings of the lines.
-fn said_of(alloc: Global, checkpoint: &Checkpoint, lines: &[&[u8]]) -> Option<Judgement> {
+fn said_of(alloc: Global, checkpoint: &Checkpoint, bytes: &[u8]) -> Option<Judgement> {
     let firings = checkpoint.firings.as_slice();
-    if !have_texts(alloc, firings, lines) {
+    if !begin_with(alloc, bytes, firings) {
         return None;
     }
     Some(match checkpoint.ending {
@@ -30,27 +33,23 @@ fn said_of(alloc: Global, checkpoint: &Checkpoint, lines: &[&[u8]]) -> Option<Ju
 }
 
 /// What the reader says of the bytes, where it reads no other firings than those of the lines.
-fn said(alloc: Global, bytes: &[u8], lines: &[&[u8]]) -> Option<Judgement> {
+fn said(alloc: Global, bytes: &[u8]) -> Option<Judgement> {
     match read_checkpoint(alloc, bytes) {
-        Ok(checkpoint) => said_of(alloc, &checkpoint, lines),
+        Ok(checkpoint) => said_of(alloc, &checkpoint, bytes),
         Err(CheckpointError::BadLine(line)) => Some(Judgement::BadLine(line)),
         Err(CheckpointError::TooLong(line)) => Some(Judgement::TooLong(line)),
         Err(CheckpointError::NoMemory) => None,
     }
 }
 
-/// What both readers say of the bytes, whose lines and rest are these, where they say the same.
-fn both_said(alloc: Global, bytes: &[u8], lines: &[&[u8]], rest: &[u8]) -> Option<Judgement> {
-    let judgement = judge(alloc, lines, rest);
-    (said(alloc, bytes, lines) == Some(judgement)).then_some(judgement)
-}
-
 /// What both readers say of the bytes, where they say the same.
 pub fn both_say(alloc: Global, bytes: &[u8]) -> Option<Judgement> {
-    let pieces: Result<Vec<&[u8]>, _> = bytes.split(|byte| *byte == b'\n').collect(alloc);
-    let pieces = pieces.ok()?;
-    let (rest, lines) = pieces.split_last()?;
-    both_said(alloc, bytes, lines, rest)
+    let judgement = judge(alloc, bytes);
+    if said(alloc, bytes) == Some(judgement) {
+        Some(judgement)
+    } else {
+        None
+    }
 }
 
 /// The text with this byte in that place.

@@ -1,5 +1,5 @@
 //! Replicas that start again from what was saved, as it is and with a changed byte.
-use crate::replicas::looks::is_like;
+use crate::looks::is_like;
 use crate::replicas::readers::with_byte;
 use crate::replicas::stage::Stage;
 use std::alloc::Global;

@@ -1,6 +1,7 @@
 //! What replicas ask and answer, and what they receive, each message as a text.
-use std::alloc::Global;
-use u_delta::{Ask, Delta, Message, read_message, write_message};
+use crate::looks::answer_text;
+use std::alloc::{AllocError, Global};
+use u_delta::{Delta, Message, read_message};
 use u_machine::{Command, ListRefusal};
 use u_replica::{Answer, Call, Replica};
 
@@ -8,14 +9,6 @@ use u_replica::{Answer, Call, Replica};
 fn delta_of(alloc: Global, text: &[u8]) -> Option<Delta> {
     match read_message(alloc, text) {
         Ok(Message::Delta(delta)) => Some(delta),
-        _ => None,
-    }
-}
-
-/// The ask of that text.
-fn ask_of(alloc: Global, text: &str) -> Option<Ask> {
-    match read_message(alloc, text.as_bytes()) {
-        Ok(Message::Ask(ask)) => Some(ask),
         _ => None,
     }
 }
@@ -66,35 +59,10 @@ pub fn obeys(
     }
 }
 
-/// The text of the message.
-fn written(alloc: Global, message: &Message) -> Option<Vec<u8>> {
-    let mut out = Vec::new(alloc);
-    write_message(message, &mut out).ok()?;
-    Some(out)
-}
-
-/// Whether its ask of that peer has that text.
-pub fn asks(alloc: Global, replica: &Replica<'_>, peer: u8, text: &str) -> bool {
-    if !(1..=8).contains(&peer) || peer == replica.number() {
-        return false;
-    }
-    match written(alloc, &Message::Ask(replica.ask(peer))) {
-        Some(out) => out.as_slice() == text.as_bytes(),
-        None => false,
-    }
-}
-
-/// The text of its answer to the ask of that text.
-pub fn answer_text(alloc: Global, replica: &Replica<'_>, text: &str) -> Option<Vec<u8>> {
-    let ask = ask_of(alloc, text)?;
-    let delta = replica.answer(&ask).ok()?;
-    written(alloc, &Message::Delta(delta))
-}
-
-/// Whether its answer to the ask of the first text has the second.
-pub fn answers(alloc: Global, replica: &Replica<'_>, ask: &str, text: &str) -> bool {
-    match answer_text(alloc, replica, ask) {
-        Some(out) => out.as_slice() == text.as_bytes(),
-        None => false,
+/// The text of its answer to the ask of that text. Where that is no ask, it is want of memory.
+pub fn answered(alloc: Global, replica: &Replica<'_>, text: &str) -> Result<Vec<u8>, AllocError> {
+    match read_message(alloc, text.as_bytes()) {
+        Ok(Message::Ask(ask)) => answer_text(alloc, replica, ask),
+        _ => Err(AllocError),
     }
 }

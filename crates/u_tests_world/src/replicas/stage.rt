@@ -1,5 +1,5 @@
 //! What a story keeps beside its replicas: a save, and a delta under way.
-use crate::replicas::sending::answer_text;
+use crate::replicas::sending::answered;
 use std::alloc::Global;
 use u_replica::Replica;
 
@@ -30,12 +30,12 @@ impl Stage {
 
 /// Whether its answer to the ask of the first text begins with the second. It goes to the post.
 pub fn posts(stage: &mut Stage, replica: &Replica<'_>, ask: &str, front: &str) -> bool {
-    match answer_text(stage.alloc, replica, ask) {
-        Some(out) => {
+    match answered(stage.alloc, replica, ask) {
+        Ok(out) => {
             stage.post = out;
             stage.post.starts_with(front.as_bytes())
         }
-        None => false,
+        Err(_) => false,
     }
 }
 

@@ -1,7 +1,7 @@
 //! Stories of two replicas, numbers 1 and 2.
 use crate::replicas::acts::{Act, is_so};
 use crate::replicas::stage::Stage;
-use std::alloc::{AllocError, Global};
+use std::alloc::Global;
 use u_check::Job;
 use u_plain::examples::job;
 use u_replica::Replica;
@@ -70,38 +70,37 @@ fn wrong_on(
     wrong_among(&mut stage, first, second, story.acts)
 }
 
-/// The same with a new second replica.
-fn wrong_with(
-    alloc: Global,
-    story: &Story,
-    first: &mut Replica<'_>,
-    job: &Job,
-) -> Result<Option<usize>, AllocError> {
-    let mut second = Replica::new(alloc, job, story.limit, 2)?;
-    Ok(wrong_on(alloc, story, first, &mut second))
+/// The same with a new second replica; 0 where there is no memory for it.
+fn wrong_with(alloc: Global, story: &Story, first: &mut Replica<'_>, job: &Job) -> Option<usize> {
+    match Replica::new(alloc, job, story.limit, 2) {
+        Ok(mut second) => wrong_on(alloc, story, first, &mut second),
+        Err(_) => Some(0),
+    }
 }
 
 /// The same with new replicas.
-fn wrong_of(
-    alloc: Global,
-    story: &Story,
-    first: &Job,
-    second: &Job,
-) -> Result<Option<usize>, AllocError> {
-    let mut replica = Replica::new(alloc, first, story.limit, 1)?;
-    wrong_with(alloc, story, &mut replica, second)
+fn wrong_of(alloc: Global, story: &Story, first: &Job, second: &Job) -> Option<usize> {
+    match Replica::new(alloc, first, story.limit, 1) {
+        Ok(mut first) => wrong_with(alloc, story, &mut first, second),
+        Err(_) => Some(0),
+    }
 }
 
 /// The same with the second job.
-fn wrong_beside(alloc: Global, story: &Story, first: &Job) -> Result<Option<usize>, AllocError> {
+fn wrong_beside(alloc: Global, story: &Story, first: &Job) -> Option<usize> {
     let (text, argument) = story.second;
-    let second = job(alloc, text, argument)?;
-    wrong_of(alloc, story, first, &second)
+    match job(alloc, text, argument) {
+        Ok(second) => wrong_of(alloc, story, first, &second),
+        Err(_) => Some(0),
+    }
 }
 
-/// The place of the story's first act that is answered otherwise than it says.
-pub fn first_wrong(alloc: Global, story: &Story) -> Result<Option<usize>, AllocError> {
+/// The place of the story's first act that is answered otherwise than it says; 0 where there is no
+/// memory for its replicas.
+pub fn first_wrong(alloc: Global, story: &Story) -> Option<usize> {
     let (text, argument) = story.first;
-    let first = job(alloc, text, argument)?;
-    wrong_beside(alloc, story, &first)
+    match job(alloc, text, argument) {
+        Ok(first) => wrong_beside(alloc, story, &first),
+        Err(_) => Some(0),
+    }
 }
