@@ -46,13 +46,12 @@ fn go_on(alloc: Global, job: &Job, history: &mut History) -> Result<bool, RuleEr
     Ok(history.len() > before)
 }
 
-/// All that can be derived from the job.
-pub fn derived(alloc: Global, job: &Job) -> Result<History, RuleError> {
-    let mut history = History::new(alloc);
+/// Adds all that can be derived from the job.
+pub fn derive_all(alloc: Global, job: &Job, history: &mut History) -> Result<(), RuleError> {
     history.insert(start(job))?;
     for _round in 0..1000 {
-        if !go_on(alloc, job, &mut history)? {
-            return Ok(history);
+        if !go_on(alloc, job, history)? {
+            return Ok(());
         }
     }
     Err(RuleError::NoMemory)

@@ -1,32 +1,43 @@
 //! Worked histories: their texts, their reports, what they list, and what they merge to.
-use crate::derived::derived;
+use crate::derived::derive_all;
 use crate::report_rows::{REPORT_ROWS, Report};
-use crate::worked_histories::{has_text, history_of};
+use crate::worked_histories::{has_text, put_lines};
 use std::alloc::{AllocError, Global};
 use std::test::Fail;
-use u_history::{Counts, History, report_text};
+use u_check::Job;
+use u_history::{Counts, History, Outcome, report_text};
 use u_name::Cell;
 use u_plain::examples::{DOUBLE, TWO_WRITERS, job};
 use u_plain::worked::name_of;
-use u_rule::{RuleError, Written};
+use u_rule::Written;
 use u_value::Value;
 
-/// Whether the report of the history is as the row says.
-fn is_reported(alloc: Global, history: &History, row: &Report) -> Result<bool, AllocError> {
+/// Whether the report of the outcome is as the row says. Want of memory is a no, as in all that
+/// follows.
+fn has_report(alloc: Global, counts: Counts, outcome: &Outcome, row: &Report) -> bool {
+    match report_text(alloc, row.0, counts, outcome) {
+        Ok(text) => text.as_slice() == row.4.as_bytes(),
+        Err(_) => false,
+    }
+}
+
+/// Whether it is so for the outcome of the history.
+fn is_reported(alloc: Global, history: &History, row: &Report) -> bool {
     let counts = Counts {
         firings: row.1,
         parked: row.2,
         entries: history.len(),
     };
-    let outcome = history.outcome()?;
-    let text = report_text(alloc, row.0, counts, &outcome)?;
-    Ok(text.as_slice() == row.4.as_bytes())
+    match history.outcome() {
+        Ok(outcome) => has_report(alloc, counts, &outcome, row),
+        Err(_) => false,
+    }
 }
 
 /// Whether it is so for the history of the row's entries.
-fn is_row_reported(alloc: Global, row: &Report) -> Result<bool, AllocError> {
-    let history = history_of(alloc, row.3)?;
-    is_reported(alloc, &history, row)
+fn is_row_reported(alloc: Global, row: &Report) -> bool {
+    let mut history = History::new(alloc);
+    put_lines(alloc, &mut history, row.3).is_ok() && is_reported(alloc, &history, row)
 }
 
 /// The rows. A proof that calls this knows none of them, and so is short.
@@ -37,7 +48,7 @@ fn rows() -> &'static [Report] {
 #[test]
 fn reports_list_what_a_history_says(rt: HostRuntime) -> Result<(), Fail> {
     for row in rows() {
-        assert!(rt; is_row_reported(rt.alloc(), row)?);
+        assert!(rt; is_row_reported(rt.alloc(), row));
     }
     Ok(())
 }
@@ -75,23 +86,24 @@ a 10
 a 20
 ";
 
-/// All that can be derived from the program on the argument.
-fn whole_of(alloc: Global, program: &[u8], argument: i64) -> Result<History, RuleError> {
-    let job = job(alloc, program, argument)?;
-    derived(alloc, &job)
+/// Whether all that can be derived from the job has that text.
+fn derives(alloc: Global, job: &Job, wanted: &str) -> bool {
+    let mut history = History::new(alloc);
+    derive_all(alloc, job, &mut history).is_ok() && has_text(alloc, &history, wanted)
 }
 
-/// Whether all that can be derived has that text.
-fn runs_to(alloc: Global, program: &[u8], argument: i64, wanted: &str) -> Result<bool, RuleError> {
-    let history = whole_of(alloc, program, argument)?;
-    let is_so = has_text(alloc, &history, wanted)?;
-    Ok(is_so)
+/// Whether it is so for the program on the argument.
+fn runs_to(alloc: Global, program: &[u8], argument: i64, wanted: &str) -> bool {
+    match job(alloc, program, argument) {
+        Ok(job) => derives(alloc, &job, wanted),
+        Err(_) => false,
+    }
 }
 
 #[test]
 fn whole_histories_have_these_lines(rt: HostRuntime) -> Result<(), Fail> {
     for (program, argument, text) in [(DOUBLE, 4, DOUBLED), (TWO_WRITERS, 0, WRITTEN_TWICE)] {
-        assert!(rt; runs_to(rt.alloc(), program, argument, text)?);
+        assert!(rt; runs_to(rt.alloc(), program, argument, text));
     }
     Ok(())
 }
@@ -151,18 +163,23 @@ fn put_listed(alloc: Global, history: &History, out: &mut Vec<u8>) -> Result<(),
     Ok(())
 }
 
-/// What the history of the two writers lists there.
-fn listed(alloc: Global) -> Result<Vec<u8>, RuleError> {
-    let history = whole_of(alloc, TWO_WRITERS, 0)?;
+/// Whether the history lists these lines there.
+fn lists(alloc: Global, history: &History, lines: &[u8]) -> bool {
     let mut out = Vec::new(alloc);
-    put_listed(alloc, &history, &mut out)?;
-    Ok(out)
+    put_listed(alloc, history, &mut out).is_ok() && out.as_slice() == lines
+}
+
+/// Whether all that can be derived from the job lists these lines there.
+fn derives_lists(alloc: Global, job: &Job, lines: &[u8]) -> bool {
+    let mut history = History::new(alloc);
+    derive_all(alloc, job, &mut history).is_ok() && lists(alloc, &history, lines)
 }
 
 #[test]
 fn the_two_writers_give_two_values_and_two_writes(rt: HostRuntime) -> Result<(), Fail> {
     let lines = b"10\n20\n-.main.7.1 10\n-.main.8.1 20\n";
-    assert!(rt; listed(rt.alloc())?.as_slice() == lines.as_slice());
+    let job = job(rt.alloc(), TWO_WRITERS, 0)?;
+    assert!(rt; derives_lists(rt.alloc(), &job, lines));
     Ok(())
 }
 
@@ -182,34 +199,27 @@ const MERGES: &[(&str, &str, &str)] = &[
     ("", "", ""),
 ];
 
-/// Merges the set of these lines in.
-fn merge_lines(alloc: Global, history: &mut History, lines: &str) -> Result<(), AllocError> {
-    let other = history_of(alloc, lines)?;
-    history.merge(&other)
+/// Merges the set of these lines in. Returns whether that was done.
+fn merge_lines(alloc: Global, history: &mut History, lines: &str) -> bool {
+    let mut other = History::new(alloc);
+    put_lines(alloc, &mut other, lines).is_ok() && history.merge(&other).is_ok()
 }
 
-/// Merges a copy of the set in, which changes nothing.
-fn merge_same(history: &mut History) -> Result<(), AllocError> {
-    let same = history.copy()?;
-    history.merge(&same)
+/// Merges a copy of the set in, which changes nothing. Returns whether that was done.
+fn merge_same(history: &mut History) -> bool {
+    match history.copy() {
+        Ok(same) => history.merge(&same).is_ok(),
+        Err(_) => false,
+    }
 }
 
-/// Merges the set of these lines in, and then a copy of all, and looks for the text.
-fn becomes(
-    alloc: Global,
-    history: &mut History,
-    lines: &str,
-    wanted: &str,
-) -> Result<bool, AllocError> {
-    merge_lines(alloc, history, lines)?;
-    merge_same(history)?;
-    has_text(alloc, history, wanted)
-}
-
-/// Whether the two sets merge to that text.
-fn merges(alloc: Global, left: &str, right: &str, wanted: &str) -> Result<bool, AllocError> {
-    let mut history = history_of(alloc, left)?;
-    becomes(alloc, &mut history, right, wanted)
+/// Whether the two sets merge to that text, and a copy of both in it changes nothing.
+fn merges(alloc: Global, left: &str, right: &str, wanted: &str) -> bool {
+    let mut history = History::new(alloc);
+    put_lines(alloc, &mut history, left).is_ok()
+        && merge_lines(alloc, &mut history, right)
+        && merge_same(&mut history)
+        && has_text(alloc, &history, wanted)
 }
 
 /// The rows. A proof that calls this knows none of them, and so is short.
@@ -220,7 +230,7 @@ fn merge_rows() -> &'static [(&'static str, &'static str, &'static str)] {
 #[test]
 fn sets_merge_in_both_orders(rt: HostRuntime) -> Result<(), Fail> {
     for (left, right, wanted) in merge_rows() {
-        assert!(rt; merges(rt.alloc(), left, right, wanted)?);
+        assert!(rt; merges(rt.alloc(), left, right, wanted));
     }
     Ok(())
 }

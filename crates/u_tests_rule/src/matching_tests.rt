@@ -1,7 +1,7 @@
 //! Histories of worked programs, whose entries enter a matcher in random orders: each entry answers
 //! the firings that need it and whose other needs have entered.
-use crate::derived::{derived, enabled_over};
-use std::alloc::Global;
+use crate::derived::{derive_all, enabled_over};
+use std::alloc::{AllocError, Global};
 use std::test::Fail;
 use u_check::Job;
 use u_history::History;
@@ -70,47 +70,69 @@ fn is_right(
 fn entries_agree(
     alloc: Global,
     job: &Job,
+    matcher: &mut Matcher,
     entries: &[Entry],
     all: &[Firing],
 ) -> Result<bool, RuleError> {
-    let mut matcher = Matcher::new(alloc);
     for entry in entries {
         let answer = matcher.enter(job, entry)?;
-        if !is_right(alloc, job, &matcher, entry, all, &answer)? {
+        if !is_right(alloc, job, matcher, entry, all, &answer)? {
             return Ok(false);
         }
     }
     Ok(true)
 }
 
-/// Whether it is so in each of the random orders.
-fn orders_agree(
+/// Whether it is so in a new matcher. Want of memory is a no, as in all that follows.
+fn agree_anew(alloc: Global, job: &Job, entries: &[Entry], all: &[Firing]) -> bool {
+    let mut matcher = Matcher::new(alloc);
+    matches!(
+        entries_agree(alloc, job, &mut matcher, entries, all),
+        Ok(true)
+    )
+}
+
+/// Whether it is so in the random order of that number.
+fn order_agrees(
     alloc: Global,
     job: &Job,
     history: &History,
     all: &[Firing],
-) -> Result<bool, RuleError> {
-    for seed in 0..ORDERS {
-        let entries = shuffled(alloc, history.entries()?, seed)?;
-        if !entries_agree(alloc, job, &entries, all)? {
-            return Ok(false);
-        }
-    }
-    Ok(true)
+    seed: u64,
+) -> Result<bool, AllocError> {
+    let entries = shuffled(alloc, history.entries()?, seed)?;
+    Ok(agree_anew(alloc, job, &entries, all))
 }
 
-/// Whether it is so for all that can be derived from the program on the argument.
-fn program_agrees(alloc: Global, program: &[u8], argument: i64) -> Result<bool, RuleError> {
-    let job = job(alloc, program, argument)?;
-    let history = derived(alloc, &job)?;
-    let all = enabled_over(alloc, &job, &history)?;
-    Ok(!all.is_empty() && orders_agree(alloc, &job, &history, &all)?)
+/// Whether it is so in each of the random orders.
+fn orders_agree(alloc: Global, job: &Job, history: &History, all: &[Firing]) -> bool {
+    for seed in 0..ORDERS {
+        if !matches!(order_agrees(alloc, job, history, all, seed), Ok(true)) {
+            return false;
+        }
+    }
+    true
+}
+
+/// Whether it is so for the firings that are enabled over the history, of which there are some.
+fn history_agrees(alloc: Global, job: &Job, history: &History) -> bool {
+    match enabled_over(alloc, job, history) {
+        Ok(all) => !all.is_empty() && orders_agree(alloc, job, history, &all),
+        Err(_) => false,
+    }
+}
+
+/// Whether it is so for all that can be derived from the job.
+fn job_agrees(alloc: Global, job: &Job) -> bool {
+    let mut history = History::new(alloc);
+    derive_all(alloc, job, &mut history).is_ok() && history_agrees(alloc, job, &history)
 }
 
 #[test]
 fn each_entry_answers_what_it_wakes(rt: HostRuntime) -> Result<(), Fail> {
     for (program, argument) in &EXAMPLES {
-        assert!(rt; program_agrees(rt.alloc(), program, *argument)?);
+        let job = job(rt.alloc(), program, *argument)?;
+        assert!(rt; job_agrees(rt.alloc(), &job));
     }
     Ok(())
 }
