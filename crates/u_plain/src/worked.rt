@@ -1,23 +1,14 @@
-//! Worked names, values, entries and firings, read from texts, and texts of firings and histories.
+//! Worked names, entries and firings, read from texts, and texts of firings and histories.
 use std::alloc::{AllocError, Global};
 use u_history::History;
 use u_name::Name;
 use u_rule::{Entry, Firing};
 use u_sets::OrderedSet;
-use u_value::Value;
 
 /// The name of that text. Another text is answered by want of memory.
 pub fn name_of(alloc: Global, text: &[u8]) -> Result<Name, AllocError> {
     match Name::read(alloc, text) {
         Ok(name) => Ok(name),
-        Err(_) => Err(AllocError),
-    }
-}
-
-/// The value of that text. Another text is answered by want of memory.
-pub fn value_of(alloc: Global, text: &str) -> Result<Value, AllocError> {
-    match Value::read(alloc, text.as_bytes()) {
-        Ok(value) => Ok(value),
         Err(_) => Err(AllocError),
     }
 }
@@ -42,6 +33,14 @@ pub fn firing_of(alloc: Global, text: &str) -> Result<Firing, AllocError> {
 pub fn put_firing(out: &mut Vec<u8>, firing: &Firing) -> Result<(), AllocError> {
     firing.write_text(out)?;
     out.push(b'\n')?;
+    Ok(())
+}
+
+/// A line for each of the firings.
+pub fn put_firings(out: &mut Vec<u8>, firings: &[Firing]) -> Result<(), AllocError> {
+    for firing in firings {
+        put_firing(out, firing)?;
+    }
     Ok(())
 }
 

@@ -12,7 +12,8 @@ use u_rule::{Entry, Firing, gives, start};
 use u_sets::OrderedSet;
 
 /// How much of the log was due, once this firing is looked at: it is due if all its needs are held
-/// and it was not due before. `None` where the log has another one in its place.
+/// and it was not due before. `None` where the log has another one in its place, and where
+/// there is no memory.
 fn due_with(
     alloc: Global,
     job: &Job,

@@ -12,8 +12,8 @@ use u_plain::worked::name_of;
 use u_rule::Written;
 use u_value::Value;
 
-/// Whether the report of the outcome is as the row says. Want of memory is a no, as in all that
-/// follows.
+/// Whether the report of the outcome is as the row says. Want of memory is a no, as in all checks
+/// below.
 fn has_report(alloc: Global, counts: Counts, outcome: &Outcome, row: &Report) -> bool {
     match report_text(alloc, row.0, counts, outcome) {
         Ok(text) => text.as_slice() == row.4.as_bytes(),

@@ -4,7 +4,7 @@ use std::test::Fail;
 use u_check::Job;
 use u_match::Matcher;
 use u_plain::examples::{DOUBLE, TWO_WRITERS, job};
-use u_plain::worked::{entry_of, put_firing};
+use u_plain::worked::{entry_of, put_firings};
 use u_rule::{Entry, Firing};
 
 const PROGRAM: &[u8] = b"\
@@ -120,14 +120,6 @@ const SEQUENCES: &[(&[u8], &[Row])] = &[
 /// The sequences. A proof that calls this knows none of them, and so is short.
 fn sequences() -> &'static [(&'static [u8], &'static [Row])] {
     SEQUENCES
-}
-
-/// Appends the firings, a line each.
-fn put_firings(out: &mut Vec<u8>, firings: &[Firing]) -> Result<(), AllocError> {
-    for firing in firings {
-        put_firing(out, firing)?;
-    }
-    Ok(())
 }
 
 /// Whether the text lists the firings.

@@ -83,7 +83,7 @@ fn entries_agree(
     Ok(true)
 }
 
-/// Whether it is so in a new matcher. Want of memory is a no, as in all that follows.
+/// Whether it is so in a new matcher. Want of memory is a no, as in all checks below.
 fn agree_anew(alloc: Global, job: &Job, entries: &[Entry], all: &[Firing]) -> bool {
     let mut matcher = Matcher::new(alloc);
     matches!(

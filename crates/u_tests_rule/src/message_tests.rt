@@ -115,7 +115,7 @@ fn log_of_lines(alloc: Global, text: &str) -> Result<Vec<Firing>, AllocError> {
     Ok(log)
 }
 
-/// Whether the delta of the log for that mark has that text, where the replica lives once.
+/// Whether the delta of the log for that mark has that text, in the first life of the replica.
 fn is_rest(alloc: Global, log: &[Firing], mark: Mark, text: &str) -> Result<bool, AllocError> {
     let message = Message::Delta(delta(alloc, log, 1, 2, 1, mark)?);
     Ok(is_written(alloc, &message, text.as_bytes()))

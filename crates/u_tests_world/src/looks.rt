@@ -6,7 +6,7 @@ use u_plain::worked::text_of;
 use u_replica::Replica;
 use u_world::World;
 
-/// A new world of so many replicas, if there can be so many.
+/// A new world of so many replicas, if there can be so many and there is memory for them.
 pub fn world_of<'a>(alloc: Global, job: &'a Job, count: u8, limit: usize) -> Option<World<'a>> {
     if count < 1 || count > 8 {
         return None;

@@ -1,20 +1,12 @@
 //! What is answered of the causes and of the story of an entry, beside what has to be answered.
 use std::alloc::{AllocError, Global};
 use u_machine::Machine;
-use u_plain::worked::{entry_of, put_firing};
+use u_plain::worked::{entry_of, put_firings};
 use u_rule::{Entry, Firing};
 use u_trace::{TraceError, causes, story};
 
 /// The lines of the firings that have to be answered, or why none are.
 pub type Wanted = Result<&'static str, TraceError>;
-
-/// A line for each of the firings.
-fn put_firings(out: &mut Vec<u8>, firings: &[Firing]) -> Result<(), AllocError> {
-    for firing in firings {
-        put_firing(out, firing)?;
-    }
-    Ok(())
-}
 
 /// Whether these are the lines of the firings.
 fn are_lines(alloc: Global, firings: &[Firing], text: &str) -> bool {

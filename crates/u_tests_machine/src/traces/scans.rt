@@ -9,7 +9,8 @@ use u_plain::are_in;
 use u_rule::{Entry, Firing, gives};
 use u_trace::causes;
 
-/// Whether the firing gives the entry. `None` where there is no memory.
+/// Whether the firing gives the entry. `None` where it is no firing, or there is no
+/// memory.
 fn does_give(alloc: Global, job: &Job, firing: &Firing, entry: &Entry) -> Option<bool> {
     match gives(alloc, job, firing) {
         Ok(given) => Some(are_in(&given, slice::from_ref(entry))),

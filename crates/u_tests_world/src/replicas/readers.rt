@@ -1,17 +1,14 @@
 //! The reader of checkpoints beside the plain one.
 use crate::replicas::plain_checkpoints::{Judgement, judge};
 use std::alloc::{AllocError, Global};
-use u_plain::worked::put_firing;
+use u_plain::worked::put_firings;
 use u_replica::{Checkpoint, CheckpointError, Ending, read_checkpoint};
 use u_rule::Firing;
 
 /// Adds the first line of a checkpoint, and the line of each of these firings.
 fn put_front(firings: &[Firing], out: &mut Vec<u8>) -> Result<(), AllocError> {
     out.extend_from_slice(b"u-history 1\n")?;
-    for firing in firings {
-        put_firing(out, firing)?;
-    }
-    Ok(())
+    put_firings(out, firings)
 }
 
 /// Whether the bytes begin with these lines. Where there is no firing, none has to be there.

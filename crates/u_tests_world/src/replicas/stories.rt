@@ -95,8 +95,8 @@ fn wrong_beside(alloc: Global, story: &Story, first: &Job) -> Option<usize> {
     }
 }
 
-/// The place of the story's first act that is answered otherwise than it says; 0 where there is no
-/// memory for its replicas.
+/// The place of the story's first act that is answered otherwise than it says; 0 where its replicas
+/// can't be made.
 pub fn first_wrong(alloc: Global, story: &Story) -> Option<usize> {
     let (text, argument) = story.first;
     match job(alloc, text, argument) {

@@ -16,23 +16,23 @@ fn wrong_in(alloc: Global, stories: &[Story]) -> Option<(&'static str, usize)> {
     None
 }
 
-/// The stories of seven topics.
-fn stories_of(topic: usize) -> &'static [Story] {
-    match topic {
-        0 => taking(),
-        1 => merging(),
-        2 => saving(),
-        3 => sending(),
-        4 => marks(),
-        5 => restoring(),
-        _ => changed(),
-    }
+/// The stories, by what they are about.
+fn topics() -> [&'static [Story]; 7] {
+    [
+        taking(),
+        merging(),
+        saving(),
+        sending(),
+        marks(),
+        restoring(),
+        changed(),
+    ]
 }
 
 #[test]
 fn each_act_of_each_story_is_answered_as_it_says(rt: HostRuntime) {
-    for topic in 0..7 {
-        let wrong = wrong_in(rt.alloc(), stories_of(topic));
+    for stories in topics() {
+        let wrong = wrong_in(rt.alloc(), stories);
         assert!(rt; wrong.is_none(), "{wrong:?}");
     }
 }
