@@ -11,6 +11,7 @@ pub mod Needed
 pub mod Fresh
 pub mod Runs
 pub mod Counting
+pub mod Early
 pub mod TakenLists
 pub mod Replies
 pub mod Obeying

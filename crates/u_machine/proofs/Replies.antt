@@ -1,8 +1,9 @@
 -- What the calls of a machine answer, from what they do to its parts.
 use Rattle.std.proofs.Common.{◌≡◌, ◌%◌, inl, inr, sym, ◌∙◌, arith, subst, length, Some, Ok, Err, ℕ, take, ◌++◌, ◌∷◌, [], false}
-use Rattle.std.specs.Prelude.{slice_get, IsTrue, Contains, Result}
+use Rattle.std.specs.Prelude.{slice_get, IsTrue, Contains, Result, IfOk, IfErr}
 use Rattle.std.specs.Result.{IsErrAnd}
 use Rattle.std.proofs.lemmas.List.{take_all}
+use Rattle.std.proofs.lemmas.List.Elements.{Contains-append_right}
 use Rattle.u_rule.specs.declared.firing.Firing.{Firing}
 use Rattle.u_rule.specs.Rule.{system_of}
 use Rattle.u_rule.specs.EntryOrder.{FiringList, firing_cmp}
@@ -39,6 +40,11 @@ applied_has log f mid done new e l d = slice_get_Contains (take done new) (lengt
 pub take_no_memory : (old new : State) (f : Firing) (r : Result Took TakeRefusal) → IsErrAnd r (λ e. e ≡ NoMemory) → TakeAnswer old f (Err NoMemory) new → TakeAnswer old f r new
 take_no_memory old new f (Ok t) h w = absurd h
 take_no_memory old new f (Err e) h w = subst (λ (x : TakeRefusal). TakeAnswer old f (Err x) new) (sym h) w
+
+-- what is answered for a firing that is refused unless it is parked
+pub known_or : (m : State) (f : Firing) (refusal : TakeRefusal) (r : Result Took TakeRefusal) → IfOk r (λ t. (t ≡ took.Known) × Contains m.parked f) → IfErr r (λ e. (e ≡ refusal) × (Contains m.parked f → ⊥)) → Settles m m → ((Contains m.parked f → ⊥) → TakeAnswer m f (Err refusal) m) → TakeAnswer m f r m
+known_or m f refusal (Ok t) (e, p) _ s _ = subst (λ (x : Took). TakeAnswer m f (Ok x) m) (sym e) (Contains-append_right m.log m.parked f p, s)
+known_or m f refusal (Err t) _ (e, unparked) s refused = subst (λ (x : TakeRefusal). TakeAnswer m f (Err x) m) (sym e) (refused unparked)
 
 pub settles_trans : (a b c : State) → Settles a b → Settles b c → Settles a c
 settles_trans a b c p q = record { applies = applies_trans a b c p.applies q.applies; settled = q.settled; still = λ st. q.still p.settled ∙ p.still st }

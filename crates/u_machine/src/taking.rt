@@ -1,11 +1,12 @@
 //! How firings are taken, one or a list: the second of three things that a machine does with its
 //! parts, each of which has a file of its own.
-ghost use Rattle.std.specs.Prelude.{◌≡◌, ◌↔◌, ◌<◌, ◌≤◌, ◌+◌, ◌++◌, [], ◌∷◌, OnOk, OnErr, IfOk, IfSome, IfNone, IsTrue, IsFalse, Contains, length, slice_get, Some};
+ghost use Rattle.std.specs.Prelude.{◌≡◌, ◌↔◌, ◌<◌, ◌≤◌, ◌+◌, ◌++◌, [], ◌∷◌, OnOk, OnErr, IfOk, IfErr, Ok, IfSome, IfNone, IsTrue, IsFalse, Contains, length, slice_get, Some};
 ghost use Rattle.u_rule.specs.Rule.{system_of};
 ghost use Rattle.u_machine.specs.State.{Taken, count_of};
 ghost use Rattle.u_machine.specs.Calls.{Takes, TakeAnswer};
 ghost use Rattle.u_machine.specs.Taking.{AreFirings, IsFirstOther, AreNew, GainsNew, Fits, IsTooLong, TakeAllAnswer};
 ghost use Rattle.u_machine.specs.Invariant.{state_of, Invariant, Begins};
+ghost use Rattle.u_machine.specs.declared.answer.Took.TheVariants as answers;
 
 use crate::answer::{ListRefusal, TakeRefusal, Took};
 use crate::parts::Parts;
@@ -188,23 +189,61 @@ impl<'a> Parts<'a> {
         Ok(Took::Taken)
     }
 
-    /// Parks a firing of the job that was not taken and is not ready. All that was begun before is
-    /// applied.
-    fn park(&mut self, firing: &Firing) -> Result<(), AllocError>
+    /// Parks a firing of the job that is neither applied nor ready, unless it is parked already. All
+    /// that was begun before is applied.
+    fn park(&mut self, firing: &Firing) -> Result<Took, AllocError>
         requires kept { Invariant self.old }
-        requires new { Taken (state_of self.old) firing.now → ⊥ }
+        requires settled { self.old.done ≡ length self.old.log.items }
+        requires unapplied { Contains self.old.log.items firing.now → ⊥ }
         requires unready { Contains self.old.ready firing.now → ⊥ }
         requires firing { IsTrue ((system_of self.old.job.now).is_firing firing.now) }
         requires room { count_of (state_of self.old) < self.old.limit }
         ensures kept { Invariant self.new }
-        ensures takes { OnOk result (Takes (state_of self.old) firing.now (state_of self.new)) }
-        ensures err { OnErr result (state_of self.new ≡ state_of self.old) }
-        ensures parked { OnOk result (Contains self.new.parked firing.now) }
-        ensures still { (self.new.done ≡ self.old.done) × (self.new.log ≡ self.old.log) }
+        ensures answer { IfOk result
+            (λ t. TakeAnswer (state_of self.old) firing.now (Ok t) (state_of self.new)) }
+        ensures err { OnErr result (self.new ≡ self.old) }
     {
         let copy = firing.copy(self.alloc)?;
-        self.parked.insert(copy)?;
-        Ok(())
+        let is_new = self.parked.insert(copy)?;
+        if is_new {
+            return Ok(Took::Parked);
+        }
+        Ok(Took::Known)
+    }
+
+    /// The refusal, unless the firing is parked and so was taken.
+    fn unless_parked(&self, firing: &Firing, refusal: TakeRefusal) -> Result<Took, TakeRefusal>
+        ensures known { IfOk result
+            (λ t. (t ≡ answers.Known) × Contains self.now.parked firing.now) }
+        ensures refused { IfErr result
+            (λ e. (e ≡ refusal) × (Contains self.now.parked firing.now → ⊥)) }
+    {
+        if self.parked.contains(firing) {
+            Ok(Took::Known)
+        } else {
+            Err(refusal)
+        }
+    }
+
+    /// Takes a firing of the job that is neither applied nor ready, unless it is parked already. It is
+    /// looked for among the parked ones only where it can't be put there. All that was begun before is
+    /// applied.
+    fn take_early(&mut self, firing: &Firing) -> Result<Took, TakeRefusal>
+        requires kept { Invariant self.old }
+        requires settled { self.old.done ≡ length self.old.log.items }
+        requires unapplied { Contains self.old.log.items firing.now → ⊥ }
+        requires unready { Contains self.old.ready firing.now → ⊥ }
+        requires firing { IsTrue ((system_of self.old.job.now).is_firing firing.now) }
+        ensures kept { Invariant self.new }
+        ensures answer { TakeAnswer (state_of self.old) firing.now result (state_of self.new) }
+    {
+        if self.is_full() {
+            return self.unless_parked(firing, TakeRefusal::Full);
+        }
+        match self.park(firing) {
+            Ok(took) => Ok(took),
+            Err(AllocError) => self.unless_parked(firing, TakeRefusal::NoMemory),
+        }
     }
 
     /// Takes the firing, unless it was taken. All that was begun before is applied. The least ready one
@@ -221,17 +260,13 @@ impl<'a> Parts<'a> {
         if self.ready.contains(firing) {
             return self.take_ready(firing, false);
         }
-        if self.knows(firing) {
+        if self.has_begun(firing) {
             return Ok(Took::Known);
         }
         if !is_firing(self.job, firing) {
             return Err(TakeRefusal::NotAFiring);
         }
-        if self.is_full() {
-            return Err(TakeRefusal::Full);
-        }
-        self.park(firing)?;
-        Ok(Took::Parked)
+        self.take_early(firing)
     }
 
     /// Takes the firing, unless it was taken.

@@ -1,34 +1,53 @@
-use Rattle.std.proofs.Common.{◌≡◌, ◌+◌, length, ◌++◌, subst, take, refl, inr}
+use Rattle.std.proofs.Common.{◌≡◌, ◌+◌, ◌++◌, length, take, subst, refl, inr}
 use Rattle.std.specs.Prelude.{Contains}
 use Rattle.std.proofs.lemmas.List.Elements.{Contains-append_right}
 use Rattle.u_rule.specs.declared.firing.Firing.{Firing}
 use Rattle.u_sets.specs.Members.{IsWith}
 use Rattle.u_machine.proofs.Steps.{parks, parks_takes, taken_more}
 use Rattle.u_machine.proofs.Sorting.{takes_early}
+use Rattle.u_machine.proofs.Early.{untaken, early_is_new}
+use Rattle.u_machine.proofs.Settled.{settled_there, settles_itself, not_both}
 use Rattle.u_machine.proofs.parts.Parts.park.Goals as goal
-use Rattle.u_machine.proofs.parts.Parts.park.Goals.{In_ok-insert}
+use Rattle.u_machine.proofs.parts.Parts.park.Goals.{In_ok-is_new, Then-is_new}
 
-with_it : (c : In_ok-insert) → IsWith c.args.self.now.parked c.args.firing.now c.insert.new.self
-with_it c = subst (λ (f : Firing). IsWith c.args.self.now.parked f c.insert.new.self) c.in_ok-copy.ensures c.in_ok-insert.ensures.ok
+with_it : (c : In_ok-is_new) → IsWith c.args.self.now.parked c.args.firing.now c.insert.new.self
+with_it c = subst (λ (f : Firing). IsWith c.args.self.now.parked f c.insert.new.self) c.in_ok-copy.ensures c.in_ok-is_new.ensures.ok
 
-one_more : (c : In_ok-insert) → length c.insert.new.self ≡ length c.args.self.now.parked + 1
-one_more c =
-    c.in_ok-insert.ensures.count
-    (c.in_ok-insert.ensures.new.1 (λ m. c.requires.new (Contains-append_right (take c.args.self.now.done c.args.self.now.log.items) c.args.self.now.parked c.args.firing.now (subst (λ (f : Firing). Contains c.args.self.now.parked f) c.in_ok-copy.ensures m))))
+-- the firing was put in
+module _ (c : Then-is_new) where
+  added : IsWith c.args.self.now.parked c.args.firing.now c.insert.new.self
+  added = with_it (goal.at.returns-then-is_new-clause-kept c).In_ok-is_new
 
-pub returns-clause-kept : goal.returns-clause-kept
-returns-clause-kept c =
+  unparked : Contains c.args.self.now.parked c.args.firing.now → ⊥
+  unparked m = c.in_ok-is_new.ensures.new.0 c.if-is_new.true (rw c.in_ok-copy.ensures m)
+
+  one_more : length c.insert.new.self ≡ length c.args.self.now.parked + 1
+  one_more = c.in_ok-is_new.ensures.count c.if-is_new.true
+
+pub returns-then-is_new-clause-kept : goal.returns-then-is_new-clause-kept
+returns-then-is_new-clause-kept c =
     let k = c.requires.kept in
     let m = c.args.self.now in
     let f = c.args.firing.now in
     record {
-      logged = parks _ _ _ _ _ _ k.logged f c.insert.new.self c.requires.new c.requires.firing c.requires.room (with_it c) c.in_ok-insert.ensures.rises (one_more c);
-      sorted = takes_early _ _ _ _ _ _ k.sorted f (take m.done m.log.items ++ c.insert.new.self) c.requires.unready (taken_more _ _ _ _ _ _ k.logged f c.insert.new.self (with_it c));
+      logged = parks _ _ _ _ _ _ k.logged f c.insert.new.self (untaken m f c.requires.unapplied (unparked c)) c.requires.firing c.requires.room (added c) c.in_ok-is_new.ensures.rises (one_more c);
+      sorted = takes_early _ _ _ _ _ _ k.sorted f (take m.done m.log.items ++ c.insert.new.self) c.requires.unready (taken_more _ _ _ _ _ _ k.logged f c.insert.new.self (added c));
       idle = k.idle;
     }
 
-pub returns-clause-takes : goal.returns-clause-takes
-returns-clause-takes c = parks_takes _ _ _ _ _ _ c.requires.kept.logged c.args.firing.now c.insert.new.self (with_it c) (one_more c)
+pub returns-then-is_new-clause-answer : goal.returns-then-is_new-clause-answer
+returns-then-is_new-clause-answer c = (
+  early_is_new c.args.self.now c.args.firing.now c.requires.unapplied (unparked c) c.requires.firing c.requires.room,
+  parks_takes _ _ _ _ _ _ c.requires.kept.logged c.args.firing.now c.insert.new.self (added c) (one_more c),
+  (added c c.args.firing.now).1 (inr refl),
+  settled_there _ (returns-then-is_new-clause-kept c) c.requires.settled,
+)
 
-pub returns-clause-parked : goal.returns-clause-parked
-returns-clause-parked c = (with_it c c.args.firing.now).1 (inr refl)
+pub returns-clause-answer : goal.returns-clause-answer
+returns-clause-answer c =
+    let m = c.args.self.now in
+    let same = c.in_ok-is_new.ensures.still (λ t. not_both c.in_ok-is_new.is_new t c.if-is_new.false) in
+    let has = (with_it (goal.at.returns-clause-answer c).In_ok-is_new c.args.firing.now).1 (inr refl) in (
+      Contains-append_right (take m.done m.log.items) m.parked c.args.firing.now (rw same at has),
+      rw same (settles_itself m c.requires.kept c.requires.settled),
+    )

@@ -1,7 +1,5 @@
-use Rattle.std.proofs.Common.{◌≡◌, ◌∷◌, [], ◌++◌, inl, inr, sym, subst, false}
-use Rattle.std.specs.Prelude.{Contains}
-use Rattle.u_rule.specs.declared.firing.Firing.{Firing}
-use Rattle.u_machine.specs.Calls.{IsNew, Takes}
+use Rattle.std.proofs.Common.{◌≡◌, inl, inr, false}
+use Rattle.u_machine.specs.Calls.{IsNew}
 use Rattle.u_machine.specs.Invariant.{state_of}
 use Rattle.u_machine.proofs.States.{Applies-refl, takes_between}
 use Rattle.u_machine.proofs.Beginning.{new_if_ready}
