@@ -1,32 +1,27 @@
 -- When a machine is settled, and what is ready then.
-use Rattle.std.proofs.Common.{◌≡◌, ◌<◌, ◌≤◌, ◌+◌, ◌-◌, ◌⊎◌, inl, inr, refl, length, take, drop, subst, arith, [], ℕ, get_or, ap, zero, suc, ◌∷◌, length-take, Bool, true, false}
-use Rattle.std.specs.Prelude.{Contains, ◌↔◌, IsTrue}
+use Rattle.std.proofs.Common.{◌≡◌, ◌<◌, ◌≤◌, ◌+◌, ◌-◌, ◌⊎◌, inl, inr, refl, length, take, drop, subst, arith, [], ℕ, get_or, ap, ◌∷◌, length-take, Bool, true, false}
+use Rattle.std.specs.Prelude.{Contains, ◌↔◌}
 use Rattle.std.proofs.lemmas.List.{take_all, drop_more, length-drop, take-append-drop}
 use Rattle.std.proofs.lemmas.List.Elements.{Contains-get_or, Contains-append_left, Contains-append_right, Contains-append_cases}
-use Rattle.u_system.specs.Firing.{Distinct, Enabled, Cl, Same}
+use Rattle.u_system.specs.Firing.{Distinct, Held, Enabled, Cl, Same}
 use Rattle.u_sets.specs.Rising.{Rises}
 use Rattle.u_system.proofs.Apart.{Distinct-apart}
 use Rattle.u_system.proofs.Held.{Enabled-mono}
 use Rattle.u_system.proofs.Member.{Contains-nil, Contains-head, Contains-cons_cases}
+use Rattle.u_rule.specs.declared.entry.Entry.{Entry}
 use Rattle.u_rule.specs.declared.firing.Firing.{Firing}
 use Rattle.u_rule.specs.Rule.{system_of}
 use Rattle.u_rule.specs.EntryOrder.{firing_cmp, FiringList, EntryList}
-use Rattle.u_machine.proofs.Lists.{Contains-taken, Contains-dropped}
+use Rattle.u_machine.proofs.Lists.{Contains-taken, Contains-dropped, le_split, place_behind}
 use Rattle.u_machine.proofs.Counting.{no_more, Distinct-right}
 use Rattle.u_machine.specs.declared.parts.Parts.{Parts}
 use Rattle.u_machine.specs.State.{IsSettled, AreReady, Taken}
 use Rattle.u_machine.specs.Calls.{Applies, Settles, StaysUnsettled}
-use Rattle.u_machine.specs.Invariant.{Invariant, IsSorted, state_of, left_of}
+use Rattle.u_machine.specs.Invariant.{Invariant, IsSorted, EnteredBefore, state_of, left_of}
 use Rattle.u_check.specs.Jobs.{JobParts}
 use Rattle.u_machine.proofs.Blank.{blank_firing}
 use Rattle.u_machine.proofs.States.{settled_is_Cl, over_history, Applies-refl}
 use Rattle.u_machine.proofs.Steps.{log_taken}
-
-le_split : (m n : ℕ) → m ≤ n → (m ≡ n) ⊎ (m < n)
-le_split zero zero l = inl refl
-le_split zero (suc n) l = inr (omega arith)
-le_split (suc m) zero l = absurd (omega (arith, l))
-le_split (suc m) (suc n) l = elim (le_split m n (omega (arith, l))) [ inl e ↦ inl (ap suc e) | inr k ↦ inr (omega (arith, k)) ]
 
 module _ (p : Parts) (k : Invariant p) where
   module _ (st : p.done ≡ length p.log.items) where
@@ -152,6 +147,32 @@ parked_next p k f below at =
 pub settles_itself : (p : Parts) → Invariant p → p.done ≡ length p.log.items → Settles (state_of p) (state_of p)
 settles_itself p k st = record { applies = Applies-refl (state_of p); settled = settled_there p k st; still = λ _. refl }
 
--- the firing that is being applied is one of the job
-pub log_firing : (p : Parts) → Invariant p → (f : Firing) → p.done < length p.log.items → f ≡ get_or p.log.items p.done f → IsTrue ((system_of p.job.now).is_firing f)
-log_firing p k f below at = k.logged.is.firings f (Contains-append_right (take p.done p.log.items) p.parked f (parked_next p k f below at))
+-- where all has entered that the begun firings give, the history has all that the log holds
+pub all_held : (p : Parts) → Invariant p → EnteredBefore p (length p.log.items) → (e : Entry) → Held (system_of p.job.now) p.log.items e → Contains p.matcher e
+all_held p k all e (inl s) = k.logged.is.has e (inl s)
+all_held p k all e (inr (f, m, g)) = at (Contains-append_cases (take p.done p.log.items) (drop p.done p.log.items) f (rw take-append-drop m))
+  where
+    at : Contains (take p.done p.log.items) f ⊎ Contains (drop p.done p.log.items) f → Contains p.matcher e
+    at (inl a) = k.logged.is.has e (inr (f, a, g))
+    at (inr b) = let (i, from, below, there) = place_behind p.log.items p.done f b in all i from below f there e g
+
+-- the firings that are being applied are parked, so that there are at least as many parked
+pub begun_parked : (p : Parts) → Invariant p → length p.log.items ≤ p.done + length p.parked
+begun_parked p k =
+    let behind = drop p.done p.log.items in
+    let n = no_more behind p.parked (Distinct-right (take p.done p.log.items) behind (rw take-append-drop k.logged.apart)) k.logged.begun in
+    let e = length-drop p.done p.log.items in
+    omega (arith, n)
+
+-- where no more are parked than stand there before a place of the log, it is the end of the log
+pub ends_there : (p : Parts) → Invariant p → (place : ℕ) → p.done ≤ place → place ≤ length p.log.items → length p.parked ≡ place - p.done → place ≡ length p.log.items
+ends_there p k place from to few = let b = begun_parked p k in omega (arith, b, from, to, few)
+
+-- the log has no more than may be taken
+pub log_within : (p : Parts) → Invariant p → length p.log.items ≤ p.limit
+log_within p k =
+    let b = begun_parked p k in
+    let t = length-take p.done p.log.items in
+    let w = k.logged.is.within in
+    let d = k.logged.place in
+    omega (arith, b)

@@ -1,10 +1,10 @@
 -- The steps by which a machine goes on, on its log.
 use Rattle.std.proofs.Common.{◌≡◌, ℕ, ◌+◌, ◌<◌, [], ◌∷◌, ◌++◌, ◌⊎◌, inl, inr, subst, sym, refl, length, take, drop, get_or, arith, append-nil, ap, ◌∙◌, length-append}
 use Rattle.std.specs.Prelude.{Contains, ◌↔◌, IsTrue}
-use Rattle.std.proofs.lemmas.List.{take_more, drop_more, take-append-le, take-append-drop, drop-append-le}
+use Rattle.std.proofs.lemmas.List.{take_more, drop_more, take-append-le, take-append-drop, drop-append-le, take_all, drop_all, length-take, length-drop}
 use Rattle.std.proofs.lemmas.List.Elements.{Contains-append_left, Contains-append_right, Contains-append_cases, Contains-push, Contains-push_cases}
 use Rattle.u_system.proofs.Apart.{Distinct-push, Distinct-left, Distinct-apart}
-use Rattle.u_system.proofs.Member.{Contains-head, Contains-tail}
+use Rattle.u_system.proofs.Member.{Contains-nil, Contains-head, Contains-tail}
 use Rattle.u_system.specs.Firing.{Held, Enabled, Cl, Distinct}
 use Rattle.u_sets.specs.Rising.{Rises}
 use Rattle.u_sets.specs.Members.{IsWith, IsWithout}
@@ -19,7 +19,8 @@ use Rattle.u_rule.specs.ExactOrders.{firing_cmp_total}
 use Rattle.u_machine.specs.State.{state}
 use Rattle.u_machine.specs.Calls.{Applies, Takes}
 use Rattle.u_machine.specs.Invariant.{IsLogged}
-use Rattle.u_machine.proofs.Lists.{slice_get_at}
+use Rattle.u_machine.proofs.Counting.{all_there}
+use Rattle.u_machine.proofs.Lists.{Contains-taken, Contains-dropped, slice_get_at}
 use Rattle.u_machine.proofs.Once.{Distinct-join, Distinct-right, Distinct-from_Rises}
 
 module _ (job : JobParts) (limit : ℕ) (log : FiringList) (done : ℕ) (parked : FiringList) (history : EntryList) (l : IsLogged job limit log done parked history) where
@@ -200,3 +201,48 @@ module _ (job : JobParts) (limit : ℕ) (log : FiringList) (done : ℕ) (parked 
 
         later : (g : Firing) → f ≡ g → Contains (drop (done + 1) log) g → ⊥
         later g e m = behind.0 (subst (λ (h : Firing). Contains (drop (done + 1) log) h) (sym e) m)
+
+  -- all firings of the log were being applied, and are applied; no others were parked
+  module _ (none : done + length parked ≡ length log) where
+    behind_apart : Distinct (drop done log)
+    behind_apart = Distinct-right (take done log) (drop done log) (rw take-append-drop l.apart)
+
+    logged : (g : Firing) → Contains (take done log ++ parked) g → Contains log g
+    logged g m =
+        elim (Contains-append_cases (take done log) parked g m) [
+          | inl a ↦ Contains-taken done log g a
+          | inr b ↦ Contains-dropped done log g (let e = length-drop done log in all_there (drop done log) parked behind_apart l.begun (omega (arith, none)) g b)
+        ]
+
+    all_of : take (length log) log ++ [] ≡ log
+    all_of = append-nil (take (length log) log) ∙ take_all (length log) log (omega arith)
+
+    pub all_taken_still : (g : Firing) → Contains (take done log ++ parked) g ↔ Contains (take (length log) log ++ []) g
+    all_taken_still g = ((λ m. rw all_of (logged g m)), λ m. log_taken g (rw all_of at m))
+
+    pub all_applied_more : Applies (state job limit (take done log) parked history) (state job limit (take (length log) log) [] history)
+    all_applied_more = record {
+      job = refl;
+      limit = refl;
+      taken = all_taken_still;
+      count = let a = length-take (length log) log in let b = length-take done log in let c = l.place in omega (arith, none);
+      log = (drop done log, take_all (length log) log (omega arith) ∙ sym (take-append-drop done log));
+      history = λ e k. k;
+    }
+
+    pub all_applied : ((e : Entry) → Held (system_of job) log e → Contains history e) → IsLogged job limit log (length log) [] history
+    all_applied all = record {
+      is = record {
+        firings = λ g m. l.is.firings g ((all_taken_still g).1 m);
+        derivation = rw (take_all (length log) log (omega arith)) l.derivation;
+        distinct = rw all_of l.apart;
+        within = let a = length-take (length log) log in let b = length-take done log in let c = l.place in let w = l.is.within in omega (arith, none);
+        has = λ e h. all e (rw (take_all (length log) log (omega arith)) at h);
+        lies = λ e k. Cl-mono (system_of job) (Contains (take done log ++ parked)) (Contains (take (length log) log ++ [])) (λ g. (all_taken_still g).0) e (l.is.lies e k);
+      };
+      place = omega arith;
+      derivation = l.derivation;
+      apart = l.apart;
+      begun = λ g m. absurd (Contains-nil g (rw (drop_all (length log) log (omega arith)) at m));
+      lies = l.lies;
+    }

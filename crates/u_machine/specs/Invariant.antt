@@ -1,6 +1,6 @@
 -- How a machine is kept: its log runs ahead of what was applied, and the firings that an entry enabled
 -- are sorted out one after another.
-use Rattle.std.specs.Prelude.{◌≡◌, ℕ, ◌≤◌, [], ◌∷◌, ◌++◌, Some, ◌⊎◌, length, take, drop, Contains, slice_get}
+use Rattle.std.specs.Prelude.{◌≡◌, ℕ, ◌≤◌, ◌<◌, [], ◌∷◌, ◌++◌, Some, ◌⊎◌, length, take, drop, Contains, slice_get}
 use Rattle.u_check.specs.Jobs.{JobParts}
 use Rattle.u_rule.specs.Rule.{system_of}
 use Rattle.u_rule.specs.EntryOrder.{FiringList, EntryList}
@@ -51,9 +51,17 @@ pub record Invariant (p : Parts) : Type 0 where
   pub sorted : IsSorted p.job.now p.log.items (taken_of p) p.ready (left_of p) p.matcher
   pub idle : p.done ≡ length p.log.items → left_of p ≡ []
 
--- the firing that is being applied gives the entry
+-- a firing that is being applied gives the entry
 abbrev pub Gives : Parts → Entry → Type 0
-Gives p e = (f : Firing) × (slice_get p.log.items p.done ≡ Some f) × Contains ((system_of p.job.now).gives f) e
+Gives p e = (f : Firing) × (place : ℕ) × (p.done ≤ place) × (slice_get p.log.items place ≡ Some f) × Contains ((system_of p.job.now).gives f) e
+
+-- all that the firing at that place of the log gives has entered
+abbrev pub HasEntered : Parts → ℕ → Type 0
+HasEntered p place = (f : Firing) → slice_get p.log.items place ≡ Some f → (e : Entry) → Contains ((system_of p.job.now).gives f) e → Contains p.matcher e
+
+-- of the firings that are being applied and stand before that place of the log, all that they give has entered
+abbrev pub EnteredBefore : Parts → ℕ → Type 0
+EnteredBefore p place = (k : ℕ) → p.done ≤ k → k < place → HasEntered p k
 
 -- the list goes on
 abbrev pub Lengthens : FiringList → FiringList → Type 0
@@ -64,6 +72,13 @@ pub record GoesOn (old new : Parts) : Type 0 where
   pub job : new.job.now ≡ old.job.now
   pub done : new.done ≡ old.done
   pub log : Lengthens old.log.items new.log.items
+
+-- more of the log is applied, and what waits to be applied or to be sorted out is the same
+pub record SameButApplied (old new : Parts) : Type 0 where
+  pub job : new.job.now ≡ old.job.now
+  pub log : new.log.items ≡ old.log.items
+  pub left : left_of new ≡ left_of old
+  pub matcher : new.matcher ≡ old.matcher
 
 -- the ready firing at that place is taken, and goes to the end of the log
 pub record Begins (old : Parts) (place : ℕ) (new : Parts) : Type 0 where

@@ -4,14 +4,15 @@
 //! A firing that begins to be applied goes to the end of the log, and its entries enter one after
 //! another. Each entry that is new enters the matcher. Of the firings that it wakes, those that were
 //! taken go to the end of the log, and the others are ready from then on. So entries enter
-//! in the order in which they were given: this project's profile. Where memory runs out, what is left
-//! to do is remembered, and the next call goes on from there.
-ghost use Rattle.std.specs.Prelude.{◌≡◌, ◌↔◌, ◌<◌, ◌+◌, [], ◌∷◌, OnOk, IfOk, IsOk, IsTrue, Contains, length};
+//! in the order in which they were given: this project's profile. The firings whose entries have all
+//! entered leave the parked ones together, once the log has no more or memory runs out. Then what is
+//! left to do is remembered, and the next call goes on from there.
+ghost use Rattle.std.specs.Prelude.{◌≡◌, ◌↔◌, ◌<◌, ◌≤◌, ◌+◌, [], ◌∷◌, OnOk, IfOk, IsOk, IsTrue, Contains, length};
 ghost use Rattle.u_rule.specs.Rule.{system_of};
 ghost use Rattle.u_rule.specs.declared.entry.Entry.{Entry};
 ghost use Rattle.u_rule.specs.declared.firing.Firing.{Firing};
 ghost use Rattle.u_machine.specs.Calls.{Applies};
-ghost use Rattle.u_machine.specs.Invariant.{state_of, left_of, IsNext, Invariant, Gives, GoesOn, Lengthens};
+ghost use Rattle.u_machine.specs.Invariant.{state_of, left_of, IsNext, Invariant, Gives, HasEntered, EnteredBefore, GoesOn, SameButApplied, Lengthens};
 
 use crate::parts::Parts;
 use crate::room::{push_into_room, put_before};
@@ -19,6 +20,7 @@ use std::alloc::{AllocError, Global};
 use std::collections::VecDeque;
 use u_check::Job;
 use u_rule::{Entry, Firing, given_by};
+use u_sets::OrderedSet;
 
 impl<'a> Parts<'a> {
     /// Lets an entry enter that the firing gives which is being applied, unless it did. What it wakes is
@@ -161,37 +163,74 @@ impl<'a> Parts<'a> {
         Ok(())
     }
 
-    /// The firing that was being applied is applied: all that it gives has entered.
-    fn close(&mut self)
+    /// Lets all enter that the firing at that place of the log gives, one of those that are being
+    /// applied.
+    fn enter_given(&mut self, place: usize) -> Result<(), AllocError>
         requires kept { Invariant self.old }
         requires idle { left_of self.old ≡ [] }
-        requires some { self.old.done < length self.old.log.items }
-        requires all { (e : Entry) → Gives self.old e → Contains self.old.matcher e }
+        requires from { self.old.done ≤ place }
+        requires to { place < length self.old.log.items }
         ensures kept { Invariant self.new }
         ensures applies { Applies (state_of self.old) (state_of self.new) }
-        ensures log { self.new.log.items ≡ self.old.log.items }
-        ensures idle { left_of self.new ≡ [] }
+        ensures goes { GoesOn self.old self.new }
+        ensures idle { OnOk result (left_of self.new ≡ []) }
+        ensures has { OnOk result (HasEntered self.new place) }
+    {
+        let given = given_by(self.alloc, self.job, &self.log[place])?;
+        self.enter_all(&given)?;
+        Ok(())
+    }
+
+    /// The next firing of the log is applied: all that it gives has entered.
+    fn close(&mut self)
+        requires kept { Invariant self.old }
+        requires some { self.old.done < length self.old.log.items }
+        requires idle { self.old.done + 1 ≡ length self.old.log.items → left_of self.old ≡ [] }
+        requires all { HasEntered self.old self.old.done }
+        ensures kept { Invariant self.new }
+        ensures applies { Applies (state_of self.old) (state_of self.new) }
+        ensures still { SameButApplied self.old self.new }
         ensures done { self.new.done ≡ self.old.done + 1 }
     {
         self.parked.take_out(&self.log[self.done]);
         self.done += 1;
     }
 
-    /// Applies the next firing of the log.
-    fn apply_next(&mut self) -> Result<(), AllocError>
+    /// All firings of the log are applied: all that they give has entered. No others are parked.
+    fn close_all(&mut self)
         requires kept { Invariant self.old }
         requires idle { left_of self.old ≡ [] }
-        requires some { self.old.done < length self.old.log.items }
+        requires none { self.old.done + length self.old.parked ≡ length self.old.log.items }
+        requires all { EnteredBefore self.old (length self.old.log.items) }
         ensures kept { Invariant self.new }
         ensures applies { Applies (state_of self.old) (state_of self.new) }
-        ensures log { Lengthens self.old.log.items self.new.log.items }
-        ensures idle { OnOk result (left_of self.new ≡ []) }
-        ensures done { OnOk result (self.new.done ≡ self.old.done + 1) }
+        ensures still { SameButApplied self.old self.new }
+        ensures done { self.new.done ≡ length self.old.log.items }
     {
-        let given = given_by(self.alloc, self.job, &self.log[self.done])?;
-        self.enter_all(&given)?;
-        self.close();
-        Ok(())
+        self.parked = OrderedSet::new(self.alloc);
+        self.done = self.log.len();
+    }
+
+    /// The firings that stand before that place of the log are applied: all that they give has
+    /// entered. Where nothing else is parked, none of them is looked for.
+    fn close_before(&mut self, place: usize)
+        requires kept { Invariant self.old }
+        requires from { self.old.done ≤ place }
+        requires to { place ≤ length self.old.log.items }
+        requires idle { place ≡ length self.old.log.items → left_of self.old ≡ [] }
+        requires all { EnteredBefore self.old place }
+        ensures kept { Invariant self.new }
+        ensures applies { Applies (state_of self.old) (state_of self.new) }
+        ensures still { SameButApplied self.old self.new }
+        ensures done { self.new.done ≡ place }
+    {
+        if self.parked.len() == place - self.done {
+            self.close_all();
+            return;
+        }
+        while self.done < place {
+            self.close();
+        }
     }
 
     /// Goes on until all that was begun is applied.
@@ -208,9 +247,15 @@ impl<'a> Parts<'a> {
             return Ok(());
         }
         self.sort_all()?;
-        while self.done < self.log.len() {
-            self.apply_next()?;
+        let mut place = self.done;
+        while place < self.log.len() {
+            let Ok(()) = self.enter_given(place) else {
+                self.close_before(place);
+                return Err(AllocError);
+            };
+            place += 1;
         }
+        self.close_before(place);
         Ok(())
     }
 }

@@ -12,12 +12,12 @@ pub returns-clause-kept : goal.returns-clause-kept
 returns-clause-kept c =
     let k = c.requires.kept in
     let m = c.args.self.now in
-    let (f, place, g) = c.requires.gives in
+    let (f, at, from, place, g) = c.requires.gives in
     record {
       logged = entered _ _ _ _ _ _ k.logged f c.args.entry.now c.enter_new.new.self (slice_get_Contains _ _ f place) g c.in_ok-entered.ensures.ok;
       sorted = subst (λ (fs : FiringList). IsSorted m.job.now m.log.items (taken_of m) m.ready fs c.enter_new.new.self) (sym c.from.ensures.0)
           (found_more _ _ _ _ _ _ k.sorted c.args.entry.now c.enter_new.new.self c.in-Some.found.items c.requires.idle (rw c.in-Some.is at c.in_ok-entered.ensures.new) c.in_ok-entered.ensures.ok (rw c.in-Some.is at c.in_ok-entered.ensures.exact) (rw c.in-Some.is at c.in_ok-entered.ensures.order));
-      idle = λ e. let b = slice_get_below m.log.items m.done f place in absurd (omega (arith, b, e));
+      idle = λ e. let b = slice_get_below m.log.items at f place in absurd (omega (arith, b, e, from));
     }
 
 pub returns-clause-applies : goal.returns-clause-applies

@@ -1,15 +1,18 @@
-use Rattle.std.proofs.Common.{◌≡◌, [], ◌-◌}
+use Rattle.std.proofs.Common.{◌≡◌, [], ◌-◌, ◌≤◌, length}
 use Rattle.u_machine.specs.Calls.{Applies}
-use Rattle.u_machine.specs.Invariant.{state_of, left_of, Invariant, Lengthens}
+use Rattle.u_machine.specs.Invariant.{state_of, left_of, Invariant, EnteredBefore, GoesOn}
 use Rattle.u_machine.proofs.parts.Parts.settle.Given as goal
 
-abbrev pub invariant-loop-self : goal.invariant-loop-self
-invariant-loop-self l = record {
+abbrev pub invariant-loop-place : goal.invariant-loop-place
+invariant-loop-place l = record {
   kept : Invariant l.self;
   applies : Applies (state_of l.fn.self) (state_of l.self);
-  log : Lengthens l.fn.self.log.items l.self.log.items;
+  goes : GoesOn l.fn.self l.self;
   idle : left_of l.self ≡ [];
+  from : l.self.done ≤ l.place;
+  to : l.place ≤ length l.self.log.items;
+  all : EnteredBefore l.self l.place;
 }
 
-abbrev pub decreases-loop-self : goal.decreases-loop-self
-decreases-loop-self l = l.self.limit - l.self.done
+abbrev pub decreases-loop-place : goal.decreases-loop-place
+decreases-loop-place l = l.fn.self.limit - l.place
