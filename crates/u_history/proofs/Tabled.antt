@@ -288,6 +288,9 @@ in_order_is xs ys r s =
     let m = members entry_cmp entry_cmp_total entry_cmp_ties xs in
     one_list entry_cmp entry_cmp_total ys (in_order entry_cmp xs) r (rises entry_cmp entry_cmp_total entry_cmp_ties xs) (λ z. ((λ h. (m z).1 ((s z).0 h)), λ h. (s z).1 ((m z).0 h)))
 
+pub unordered_is : (xs : List Entry) → Same (Contains xs) (Contains (in_order entry_cmp xs))
+unordered_is xs z = let m = members entry_cmp entry_cmp_total entry_cmp_ties xs z in (m.1, m.0)
+
 -- where an entry stands among the tables
 abbrev mark : Entry → ℕ
 mark (entries.Token k) = k.port

@@ -9,14 +9,13 @@ use Rattle.u_name.specs.Cell.{CellOf}
 use Rattle.u_value.specs.declared.value.Value.{Value}
 use Rattle.u_value.specs.ExactOrders.{derived_value_ties}
 use Rattle.u_value.specs.contracts.value.ValueOrd.TheImpl.Laws as value_laws
-use Rattle.u_sets.specs.Rising.{IsExact, IsListOf}
+use Rattle.u_sets.specs.Rising.{IsExact}
 use Rattle.u_sets.specs.Pairs.{HasAnother}
 use Rattle.u_sets.proofs.Places.{list_of_same}
 use Rattle.u_rule.specs.Parts.{token}
 use Rattle.u_rule.specs.EntryOrder.{write_of, written}
 use Rattle.u_rule.specs.ExactOrders.{written_ties}
 use Rattle.u_rule.specs.declared.parts.Fault.{Fault}
-use Rattle.u_rule.specs.declared.firing.Written.{Written}
 use Rattle.u_rule.specs.declared.entry.Entry.{Entry}
 use Rattle.u_rule.specs.declared.entry.Entry.TheVariants as entries
 use Rattle.u_rule.specs.contracts.firing.WrittenOrd.TheImpl.Laws as written_laws

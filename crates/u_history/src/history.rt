@@ -1,7 +1,7 @@
 //! Sets of entries.
 ghost use Rattle.std.specs.Prelude.{◌≡◌, ◌↔◌, ◌++◌, [], ◌∷◌, OnOk, OnErr, IfOk, IfErr, Contains, ◌⊎◌, IsTrue, length, map};
 ghost use Rattle.std.specs.Map.Iter.{deref};
-ghost use Rattle.u_system.specs.Firing.{Distinct};
+ghost use Rattle.u_system.specs.Firing.{Distinct, Same};
 ghost use Rattle.u_value.specs.declared.value.Value.{Value};
 ghost use Rattle.u_rule.specs.declared.firing.Written.{Written};
 ghost use Rattle.u_sets.specs.Rising.{Rises, IsListOf};
@@ -128,6 +128,19 @@ impl History {
         self.tables.entries(self.alloc)
     }
 
+    /// Copies of the entries, each once, in no order. Putting many in order takes longer than copying
+    /// them.
+    ///
+    /// # Errors
+    /// `AllocError` where there is no memory.
+    pub fn unordered_entries(&self) -> Result<Vec<Entry>, AllocError>
+        ensures all { IfOk result (λ v. Same (Contains v.items) (Contains self.now)) }
+        ensures distinct { IfOk result (λ v. Distinct v.items) }
+    {
+        let entries = self.tables.listed(self.alloc)?;
+        Ok(entries)
+    }
+
     /// The values of the tokens at that port of the activity, in order.
     ///
     /// # Errors
@@ -206,8 +219,9 @@ impl History {
     fn take_in(&mut self, other: &History) -> Result<(), AllocError>
         ensures { OnOk result (IsUnion self.old other.now self.new) }
     {
-        let entries = other.entries()?;
-        self.put_all(&entries)
+        let entries = other.unordered_entries()?;
+        self.put_all(&entries)?;
+        Ok(())
     }
 
     /// An equal set.

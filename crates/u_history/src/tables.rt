@@ -272,7 +272,7 @@ impl Tables {
     }
 
     /// Copies of the entries, table by table.
-    fn listed(&self, alloc: Global) -> Result<Vec<Entry>, AllocError>
+    pub fn listed(&self, alloc: Global) -> Result<Vec<Entry>, AllocError>
         requires { OthersAreOther self.now }
         ensures all { IfOk result
             (λ v. v.items

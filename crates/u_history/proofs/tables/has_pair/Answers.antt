@@ -1,4 +1,4 @@
-use Rattle.std.proofs.Common.{◌∙◌, refl, arith, sym}
+use Rattle.std.proofs.Common.{refl, arith}
 use Rattle.u_rule.specs.EntryOrder.{written}
 use Rattle.u_history.proofs.Tabled.{found_at, none_more, none_end, pair_is, is_pair_of}
 use Rattle.u_history.proofs.tables.has_pair.Goals as goal

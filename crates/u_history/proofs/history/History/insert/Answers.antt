@@ -1,5 +1,4 @@
-use Rattle.std.proofs.Common.{◌≡◌, ◌∙◌, ◌+◌, sym, ap, refl, arith, length}
-use Rattle.u_history.specs.Held.{all_entries}
+use Rattle.std.proofs.Common.{refl, arith}
 use Rattle.u_history.proofs.Tabled.{held_in, more_entries, one_entry_more}
 use Rattle.u_history.proofs.history.History.insert.Goals as goal
 

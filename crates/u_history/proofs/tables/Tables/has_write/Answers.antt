@@ -1,5 +1,3 @@
-use Rattle.std.proofs.Common.{Contains, subst, sym}
-use Rattle.u_rule.specs.declared.firing.Written.{Written}
 use Rattle.u_history.proofs.tables.Tables.has_write.Goals as goal
 
 pub returns-in-Ok : goal.returns-in-Ok
