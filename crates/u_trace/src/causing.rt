@@ -118,7 +118,7 @@ pub fn causes(
     if !history.contains(entry) {
         return Err(TraceError::NotHeld);
     }
-    let entries = history.entries()?;
+    let entries = history.unordered_entries()?;
     let found = causes_among(alloc, job, &entries, entry)?;
     Ok(found)
 }
