@@ -11,7 +11,8 @@
 #
 # Firings: a hundred thousand of each of the three, the best of five, and a million of a longer sum, beside
 # a loop of plain hashing that is timed first (awk, a million look-ups in a table of a hundred thousand).
-# A run may take as many times as long as that loop, and as much memory, as a row says.
+# A run may take as many times as long as that loop, and as much memory, as a row says, and the million 18
+# times as long as the hundred thousand of the sum.
 #
 # Checkpoints: the sums of 998 and of 9998 are run, saved after all their firings and restored from that,
 # the best of three each, also from the same lines with the last firing first, so that nearly all are
@@ -253,6 +254,10 @@ summed=$fastest
 timed_firings "$top/programs/fibonacci.u" 19 100000 96 90000
 timed_firings "$top/programs/nested.u" 147 100000 96 90000
 timed_firings "$top/programs/sum.u" 99998 1000000 1150 900000
+if [ "$fastest" -gt $((summed * 18)) ]; then
+    echo "a million firings of the sum took more than 18 times as long as a hundred thousand" >&2
+    failed=1
+fi
 
 saved_before=0 bytes_before=0
 printf '%12s %10s %8s %8s %8s %9s\n' 'sum of' bytes run save restore backwards
