@@ -1,7 +1,7 @@
 //! What each command does: it reads FILE, or standard input at the word `stdin`, and writes to standard
 //! output. Each returns the exit status.
 ghost use Rattle.std.specs.Prelude.{◌≤◌};
-ghost use Rattle.u_cli.specs.Numbers.{IsReplicas};
+ghost use Rattle.u_words.specs.Numbers.{IsReplicas};
 
 use std::io::Read;
 use std::{fs, io};

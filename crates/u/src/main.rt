@@ -2,16 +2,15 @@
 //! a dataflow program what the words ask for.
 #![tactic(auto)]
 
-ghost use Rattle.u.specs.Requests.{IsInRange};
+ghost use Rattle.u_words.specs.Requests.{IsInRange};
 
 mod commands;
-mod words;
 
 use std::alloc::Global;
 use std::io;
 use std::process::ExitCode;
 use u_cli::CommandError;
-use words::{Request, not_text, parse};
+use u_words::{Request, not_text, parse};
 
 /// The exit status of a command line that is not allowed.
 const USAGE: u8 = 1;

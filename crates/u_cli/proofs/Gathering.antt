@@ -11,12 +11,12 @@ use Rattle.u_world.proofs.Effects.{stays}
 use Rattle.u_world.proofs.Doable.{IsNoTake, never_refused}
 use Rattle.u_replica.specs.ReplicaState.{ReplicaState}
 use Rattle.u_world.specs.Runs.{Steps}
-use Rattle.u_cli.specs.Runs.{RunsBehind, RunRefused}
-use Rattle.u_cli.specs.Restores.{HasJob}
-use Rattle.u_cli.specs.declared.command_error.CommandError.{CommandError}
-use Rattle.u_cli.specs.declared.command_error.CommandError.TheVariants as faults
+use Rattle.u_commands.specs.Runs.{RunsBehind, RunRefused}
+use Rattle.u_commands.specs.Restores.{HasJob}
+use Rattle.u_commands.specs.declared.command_error.CommandError.{CommandError}
+use Rattle.u_commands.specs.declared.command_error.CommandError.TheVariants as faults
 use Rattle.u_cli.specs.Worlds.{most_held, replica_line, replica_lines, merges, AreDoable, EventsRefused, Gathers, TellsEnd, EndsRefused, WorldRefused, WorldTextAnswer}
-use Rattle.u_cli.proofs.Known.{kept}
+use Rattle.u_commands.proofs.Known.{kept}
 
 same_event : (a b : Event) → Some a ≡ Some b → a ≡ b
 same_event a b p = cc

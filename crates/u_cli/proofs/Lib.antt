@@ -1,10 +1,1 @@
-pub mod Counts
-pub mod Known
-pub mod Ran
-pub mod Spelling
-pub mod ArgumentLaws
-pub mod Saved
-pub mod Restored
 pub mod Gathering
-pub mod Traced
-pub mod Waited

@@ -1,13 +1,1 @@
-pub mod Statuses
-pub mod Outputs
-pub mod Inputs
-pub mod Arguments
-pub mod Numbers
-pub mod Checks
-pub mod Explains
-pub mod Runs
-pub mod Saves
-pub mod Restores
 pub mod Worlds
-pub mod Traces
-pub mod Waits

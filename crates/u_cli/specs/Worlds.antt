@@ -14,11 +14,11 @@ use Rattle.u_world.specs.declared.refused.WorldError.TheVariants as errors
 use Rattle.u_world.specs.WorldState.{WorldState, At, fresh_world}
 use Rattle.u_world.specs.Runs.{Steps, RunAnswer as EventsAnswer}
 use Rattle.u_world.specs.Random.{random_list}
-use Rattle.u_cli.specs.Outputs.{WritesAll, WritesPrefix, numbered}
-use Rattle.u_cli.specs.Runs.{JobRefused, ReportsMachine, state_of}
-use Rattle.u_cli.specs.Restores.{HasJob}
-use Rattle.u_cli.specs.declared.command_error.CommandError.{CommandError}
-use Rattle.u_cli.specs.declared.command_error.CommandError.TheVariants as faults
+use Rattle.u_commands.specs.Outputs.{WritesAll, WritesPrefix, numbered}
+use Rattle.u_commands.specs.Runs.{JobRefused, ReportsMachine, state_of}
+use Rattle.u_commands.specs.Restores.{HasJob}
+use Rattle.u_commands.specs.declared.command_error.CommandError.{CommandError}
+use Rattle.u_commands.specs.declared.command_error.CommandError.TheVariants as faults
 
 -- how many firings a replica of a world takes at most, and how many the first one fires in the end
 unfoldable pub most_held : ℕ

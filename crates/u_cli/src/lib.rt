@@ -1,34 +1,13 @@
 //! What the program does, over bytes: the texts that come in, and the bytes and the status that go out.
+//! The commands of one machine are those of `u_commands`, which this crate passes on; the command of
+//! replicas stands here.
 #![tactic(auto)]
 
-mod argument;
-mod checking;
-mod command_error;
-mod explaining;
-mod input;
-mod number;
-mod output;
-mod restoring;
-mod run;
-mod saving;
-mod tracing;
-mod waiting;
 mod worlds;
 
-pub use argument::argument_of;
-pub use checking::check_text;
-pub use command_error::CommandError;
-pub use explaining::explain_text;
-pub use input::{INPUT_LIMIT, read_input};
-pub use number::{firings_of, number_of};
-pub use output::{Unwritten, write_whole};
-pub use restoring::{RESTORED_FIRINGS, restore_text};
-pub use run::{FIRING_LIMIT, run_text};
-pub use saving::save_text;
-pub use tracing::trace_text;
-pub use waiting::waits_text;
+pub use u_commands::{
+    CommandError, FIRING_LIMIT, INPUT_LIMIT, RESTORED_FIRINGS, STORED_PROGRAM, Unwritten,
+    argument_of, check_text, explain_text, read_input, restore_text, run_text, save_text,
+    trace_text, waits_text, write_whole,
+};
 pub use worlds::{WORLD_FIRINGS, world_text};
-
-/// The program that runs where no word is given: it doubles its argument.
-pub const STORED_PROGRAM: &[u8] =
-    b"u-program 1\nblock main\n1 0 begin -> 2.1 2.2\n2 0 add -> 3.1\n3 0 end ->\n";

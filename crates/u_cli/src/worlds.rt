@@ -9,13 +9,10 @@ ghost use Rattle.u_cli.specs.Worlds.{AreDoable, EventsRefused, HappensAtRandom, 
 ghost use Rattle.u_cli.specs.Worlds.{TellsEnd, EndsRefused};
 ghost use Rattle.u_cli.specs.Worlds.{TellsWorld, WorldRefused, WorldTextAnswer};
 
-use crate::command_error::CommandError;
-use crate::output::{push_numbered, write_whole};
-use crate::restoring::run_behind;
-use crate::run::job_of;
 use std::alloc::{AllocError, Global};
 use std::io::Write;
 use u_check::Job;
+use u_commands::{CommandError, job_of, push_numbered, run_behind, write_whole};
 use u_replica::Replica;
 use u_world::{Event, World, WorldError, random_events};
 

@@ -11,7 +11,8 @@ use Rattle.u_name.specs.NameOrder.{name_cmp, name_cmp_total, name_cmp_ties}
 use Rattle.u_name.specs.Cell.{CellOf, cell_cmp}
 use Rattle.u_name.specs.ContextLaws.{both}
 use Rattle.u_sets.specs.Members.{SomeOf}
-use Rattle.u_sets.specs.Rising.{Rises, IsExact, IsListOf}
+use Rattle.u_sets.specs.Rising.{Rises, IsListOf}
+use Rattle.u_order.specs.Exact.{IsExact}
 use Rattle.u_name.specs.ExactOrders.{cell_cmp_ties, cell_cmp_total}
 use Rattle.u_system.proofs.Member.{Contains-nil}
 use Rattle.u_sets.proofs.Places.{irreflexive}

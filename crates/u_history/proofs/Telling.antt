@@ -9,7 +9,7 @@ use Rattle.u_name.specs.Cell.{CellOf}
 use Rattle.u_value.specs.declared.value.Value.{Value}
 use Rattle.u_value.specs.ExactOrders.{derived_value_ties}
 use Rattle.u_value.specs.contracts.value.ValueOrd.TheImpl.Laws as value_laws
-use Rattle.u_sets.specs.Rising.{IsExact}
+use Rattle.u_order.specs.Exact.{IsExact}
 use Rattle.u_sets.specs.Pairs.{HasAnother}
 use Rattle.u_sets.proofs.Places.{list_of_same}
 use Rattle.u_rule.specs.Parts.{token}

@@ -2,7 +2,7 @@
 ghost use Rattle.u_history.specs.ExactPorts.{port_ties};
 
 use crate::clash::Port;
-use u_sets::ExactOrd;
+use u_order::ExactOrd;
 
 impl ExactOrd for Port {
     ghost exact = { port_ties };

@@ -11,7 +11,6 @@ pub mod Digest
 pub mod LinkTree
 pub mod LinkDepth
 pub mod Name
-pub mod NameLists
 pub mod NameOrder
 pub mod NameText
 pub mod NameReader

@@ -4,7 +4,7 @@ ghost use Rattle.u_rule.specs.ExactOrders.{fault_ties, entry_cmp_ties, written_t
 use crate::entry::Entry;
 use crate::firing::{Firing, Written};
 use crate::parts::Fault;
-use u_sets::ExactOrd;
+use u_order::ExactOrd;
 
 impl ExactOrd for Fault {
     ghost exact = { fault_ties };

@@ -1,7 +1,7 @@
--- Lists that rise by an order, and orders in which only a thing itself ties with it.
+-- Lists that rise by an order.
 use Rattle.std.specs.Prelude.{◌≡◌, List, [], ◌∷◌, ◌↔◌, Contains}
 use Rattle.std.specs.declared.cmp.Ordering.{Ordering}
-use Rattle.std.specs.declared.cmp.Ordering.TheVariants.{Less, Equal}
+use Rattle.std.specs.declared.cmp.Ordering.TheVariants.{Less}
 use Rattle.std.specs.BTreeSet.{insert_key}
 
 -- each member is below all later ones
@@ -12,10 +12,6 @@ Ascending {X} lt (x ∷ xs) = ((y : X) → Contains xs y → lt x y) × Ascendin
 -- each member is below all later ones in that order
 abbrev pub Rises : {X : Type 0} → (X → X → Ordering) → List X → Type 0
 Rises R xs = Ascending (λ a b. R a b ≡ Less) xs
-
--- only a thing itself ties with it
-abbrev pub IsExact : {X : Type 0} → (X → X → Ordering) → Type 0
-IsExact {X} R = (a b : X) → R a b ≡ Equal → a ≡ b
 
 -- xs is the list, in order, of exactly those with P
 pub record IsListOf {X : Type 0} (R : X → X → Ordering) (P : X → Type 0) (xs : List X) : Type 0 where

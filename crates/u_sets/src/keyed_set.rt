@@ -7,12 +7,12 @@ ghost use Rattle.u_system.specs.Firing.{Distinct};
 ghost use Rattle.u_sets.specs.Members.{IsWith};
 ghost use Rattle.u_sets.specs.Pairs.{items_of, group_pairs, pairs_of_many, GroupsAreDistinct, HasAnother, IsOne};
 
-use crate::exact_ord::ExactOrd;
 use indexmap::{IndexMap, IndexSet};
 use std::alloc::{AllocError, AllocFailed, Global};
 use std::hash::Hash;
 use std::marker::Model;
 use std::{mem, slice};
+use u_order::ExactOrd;
 
 /// The values under a key: a single one stands in place, and several are found by their hashes.
 #[derive(Drop)]

@@ -3,17 +3,15 @@
 //! `specs/` says when a list rises and what its members are after a key was put in or taken out;
 //! `proofs/` has the laws: one set has one list that rises, and how unions of such lists agree.
 //! Members are things that tie with nothing but themselves, so that a set never answers for a key
-//! that is merely alike: this is the fact of the trait `ExactOrd`.
+//! that is merely alike: this is the fact of the trait `ExactOrd` of `u_order`.
 #![tactic(auto)]
 
-mod exact_ord;
 mod keyed_set;
 mod listed_set;
 mod ordered_set;
 mod placed_set;
 mod rising;
 
-pub use exact_ord::ExactOrd;
 pub use keyed_set::KeyedSet;
 pub use listed_set::ListedSet;
 pub use ordered_set::OrderedSet;

@@ -6,11 +6,11 @@ ghost use Rattle.u_system.specs.Firing.{Same};
 ghost use Rattle.u_sets.specs.Rising.{Rises};
 ghost use Rattle.u_sets.specs.Members.{IsWith};
 
-use crate::exact_ord::ExactOrd;
 use indexmap::IndexSet;
 use std::alloc::{AllocError, AllocFailed, Global};
 use std::hash::Hash;
 use std::marker::Model;
+use u_order::ExactOrd;
 
 /// A set of keys that are found by their hashes, and that are put in ascending order where they are
 /// listed. Contracts see the ascending list of its keys.

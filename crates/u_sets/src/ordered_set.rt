@@ -5,11 +5,11 @@ ghost use Rattle.std.specs.Map.Iter.{ShowsInOrder, deref};
 ghost use Rattle.u_sets.specs.Rising.{Rises};
 ghost use Rattle.u_sets.specs.Members.{IsWith, IsWithout};
 
-use crate::exact_ord::ExactOrd;
 use std::alloc::{AllocFailed, Global};
 use std::collections::BTreeSet;
 use std::collections::btree_set::Iter;
 use std::marker::Model;
+use u_order::ExactOrd;
 
 /// A set of keys in ascending order. Contracts see the ascending list of its keys.
 #[derive(Drop)]

@@ -4,11 +4,11 @@ ghost use Rattle.std.specs.Option.{option_copied};
 ghost use Rattle.u_system.specs.Firing.{Distinct};
 ghost use Rattle.u_sets.specs.Members.{GoesLast};
 
-use crate::exact_ord::ExactOrd;
 use indexmap::IndexSet;
 use std::alloc::{AllocFailed, Global};
 use std::hash::Hash;
 use std::marker::Model;
+use u_order::ExactOrd;
 
 /// A set of keys in the order in which they were put in, so that each has a place, counted from 0,
 /// which it keeps. Keys are found by their hashes. Contracts see the list of the keys.

@@ -4,8 +4,8 @@ ghost use Rattle.u_system.specs.Firing.{Same, Distinct};
 ghost use Rattle.u_sets.specs.Rising.{Rises};
 ghost use Rattle.u_sets.specs.Members.{IsWith};
 
-use crate::exact_ord::ExactOrd;
 use std::alloc::AllocFailed;
+use u_order::ExactOrd;
 
 /// Whether the item is in the list, which rises.
 pub fn has<T: ExactOrd>(list: &[T], item: &T) -> bool

@@ -2,7 +2,8 @@
 use crate::answers::is_name_written;
 use std::alloc::{AllocError, Global};
 use std::test::Fail;
-use u_name::{Name, Names};
+use u_name::Name;
+use u_names::Names;
 
 /// Names in the order in which they are asked for, each with the number that it gets.
 const NUMBERS: &[(&str, usize)] = &[

@@ -14,7 +14,8 @@ use Rattle.u_name.specs.NameOrder.{name_cmp, name_cmp_total, name_cmp_ties}
 use Rattle.u_name.specs.Cell.{CellOf, cell_cmp}
 use Rattle.u_name.specs.ContextLaws.{both}
 use Rattle.u_name.specs.ExactOrders.{cell_cmp_ties, cell_cmp_total}
-use Rattle.u_sets.specs.Rising.{Rises, IsExact}
+use Rattle.u_sets.specs.Rising.{Rises}
+use Rattle.u_order.specs.Exact.{IsExact}
 use Rattle.u_rule.specs.Parts.{TokenParts}
 use Rattle.u_rule.specs.EntryOrder.{entry_cmp}
 use Rattle.u_rule.specs.declared.parts.Write.{Write}

@@ -8,7 +8,7 @@ use Rattle.u_name.specs.Cell.{CellOf}
 use Rattle.u_name.specs.ContextLaws.{both}
 use Rattle.u_name.specs.NameOrder.{name_cmp_ties}
 use Rattle.u_name.specs.ExactOrders.{cell_cmp_ties}
-use Rattle.u_sets.specs.Rising.{IsExact}
+use Rattle.u_order.specs.Exact.{IsExact}
 use Rattle.u_waits.specs.Orders.{waiting_order, read_order}
 use Rattle.u_waits.specs.declared.ports.Ports.{Ports}
 use Rattle.u_waits.specs.declared.activities.WaitingActivity.{WaitingActivity}

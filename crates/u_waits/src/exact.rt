@@ -3,7 +3,7 @@ ghost use Rattle.u_waits.specs.ExactOrders.{waiting_ties, read_ties};
 
 use crate::activities::WaitingActivity;
 use crate::reads::DeferredRead;
-use u_sets::ExactOrd;
+use u_order::ExactOrd;
 
 impl ExactOrd for WaitingActivity {
     ghost exact = { waiting_ties };

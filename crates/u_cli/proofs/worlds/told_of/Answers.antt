@@ -1,4 +1,4 @@
-use Rattle.u_cli.proofs.Known.{match_more}
+use Rattle.u_commands.proofs.Known.{match_more}
 use Rattle.u_cli.proofs.Gathering.{tells_end, ends_refused}
 use Rattle.u_cli.proofs.worlds.told_of.Goals as goal
 

@@ -1,5 +1,0 @@
-use Rattle.u_cli.proofs.ArgumentLaws.{argument_none}
-use Rattle.u_cli.proofs.argument.argument_of.Goals as goal
-
-pub returns-in-None : goal.returns-in-None
-returns-in-None c = argument_none c.args.word.now c.in-None.ensures

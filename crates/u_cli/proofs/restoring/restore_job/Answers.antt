@@ -1,9 +1,0 @@
-use Rattle.u_cli.proofs.Known.{match_more}
-use Rattle.u_cli.proofs.Restored.{restored_run, restored_refused}
-use Rattle.u_cli.proofs.restoring.restore_job.Goals as goal
-
-pub returns : goal.returns
-returns c =
-    let was = c.in_ok-replica.ensures in
-    match_more c.run_behind.result _ _ _ _ (λ p r. restored_run c.args.job.now 1 1 c.args.checkpoint.now c.in_ok-replica.ending c.in_ok-replica.replica was p.0.items p.1 (rw c.ending_line.ensures at r))
-    (λ fault r. restored_refused c.args.job.now 1 1 c.args.checkpoint.now c.in_ok-replica.ending c.in_ok-replica.replica was fault r) c.run_behind.ensures

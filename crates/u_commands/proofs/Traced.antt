@@ -1,0 +1,77 @@
+-- What a machine that ran says of where an entry came from.
+use Rattle.std.proofs.Common.{◌≡◌, refl, sym, ap, subst, ℕ, List, [], Contains, inr}
+use Rattle.std.specs.Prelude.{Option, Err}
+use Rattle.u_check.specs.Jobs.{JobParts}
+use Rattle.u_system.specs.Firing.{Held}
+use Rattle.u_system.proofs.Held.{Enabled-mono}
+use Rattle.u_sets.specs.Rising.{IsListOf}
+use Rattle.u_rule.specs.Rule.{system_of}
+use Rattle.u_rule.specs.EntryOrder.{firing_cmp}
+use Rattle.u_rule.specs.declared.entry.Entry.{Entry}
+use Rattle.u_rule.specs.declared.firing.Firing.{Firing}
+use Rattle.u_machine.specs.State.{State, state}
+use Rattle.u_history.specs.declared.report.Ending.{Ending}
+use Rattle.u_trace.specs.Causes.{IsCause}
+use Rattle.u_trace.specs.Stories.{IsStory, Tells}
+use Rattle.u_trace.specs.declared.trace_error.TraceError.{TraceError}
+use Rattle.u_trace.specs.declared.trace_error.TraceError.TheVariants.{NotHeld, NoMemory}
+use Rattle.u_commands.specs.declared.command_error.CommandError.{CommandError}
+use Rattle.u_commands.specs.declared.command_error.CommandError.TheVariants as faults
+use Rattle.u_commands.specs.Traces.{most_traced, traced_text, trace_fault, IsCauseIn, RanPlainly, TracesJob, TraceRefused}
+use Rattle.u_commands.specs.Traces.{HasEntry, TraceTextAnswer}
+use Rattle.u_commands.specs.Runs.{RanTo}
+use Rattle.u_commands.proofs.Known.{kept}
+
+pub ran_plainly : (job : JobParts) (limit : ℕ) (h : List Entry) (old new : State) (end : Ending) → old ≡ state job limit [] [] h → RanTo old.job 100000 end new → RanPlainly job new
+unfolding most_traced
+ran_plainly job limit h old new end e p =
+    subst (λ (j : JobParts). RanPlainly j new) (ap (λ (m : State). m.job) e) (record { of = p.of; plain = p.run.plain; held = p.held })
+
+module _ (job : JobParts) (m : State) (ran : RanPlainly job m) (e : Entry) where
+  cause_in : (f : Firing) → IsCause job m.history e f → IsCauseIn job m.log e f
+  cause_in f (en, g) = (Enabled-mono (system_of job) (Contains m.history) (Held (system_of job) m.log) (λ x. (ran.held x).0) f en, g)
+
+  in_cause : (f : Firing) → IsCauseIn job m.log e f → IsCause job m.history e f
+  in_cause f (en, g) = (Enabled-mono (system_of job) (Held (system_of job) m.log) (Contains m.history) (λ x. (ran.held x).1) f en, g)
+
+  causes_in : (fs : List Firing) → IsListOf firing_cmp (IsCause job m.history e) fs → IsListOf firing_cmp (IsCauseIn job m.log e) fs
+  causes_in fs is = record { rises = is.rises; exact = λ f. ((λ c. cause_in f ((is.exact f).0 c)), (λ c. (is.exact f).1 (in_cause f c))) }
+
+  pub traces_run : (causes story : List Firing) (written : List ℕ) → Held (system_of job) m.log e → IsListOf firing_cmp (IsCause job m.history e) causes → IsStory (system_of job) m.log e story → Tells (system_of job) m.log e story → written ≡ traced_text causes story → TracesJob job e written
+  traces_run causes story written held exact is tells text = (
+    m.log,
+    record {
+      plain = ran.plain;
+      held = held;
+      causes = causes;
+      exact = causes_in causes exact;
+      story = story;
+      is_story = is;
+      tells = tells;
+      is = text;
+    },
+  )
+
+-- what no firing of the log gives is not held
+pub missing : (m : State) → RanPlainly m.job m → (e : Entry) (error : TraceError) (fault : CommandError) → fault ≡ trace_fault error → (error ≡ NotHeld → Contains m.history e → ⊥) → TraceRefused m.job e fault
+missing m ran e NotHeld fault f none = subst (TraceRefused m.job e) (sym f) (m.log, ran.plain, λ h. none refl ((ran.held e).1 h))
+missing m ran e NoMemory fault f none = subst (TraceRefused m.job e) (sym f) tt
+
+-- nothing is written where the entry of a job is not traced
+module _ (bytes word text : List ℕ) (old : Option (List ℕ)) where
+  pub not_traced : (fault : CommandError) → HasEntry bytes word text (λ job e. TraceRefused job e fault) → TraceTextAnswer bytes word text old (Err fault) old
+  not_traced (faults.LineNotAllowed n) h = (inr (inr h), kept old)
+  not_traced (faults.TooMany n) h = (inr (inr h), kept old)
+  not_traced faults.CutShort h = (inr (inr h), kept old)
+  not_traced (faults.Rule b) h = (inr (inr h), kept old)
+  not_traced faults.ArgumentNotAllowed h = (inr (inr h), kept old)
+  not_traced faults.InputTooLong h = (inr (inr h), kept old)
+  not_traced (faults.CheckpointLineNotAllowed n) h = (inr (inr h), kept old)
+  not_traced (faults.CheckpointLineTooLong n) h = (inr (inr h), kept old)
+  not_traced (faults.OtherFiring n) h = (inr (inr h), kept old)
+  not_traced (faults.EntryNotAllowed n) h = (inr (inr h), kept old)
+  not_traced faults.EntryNotHeld h = (inr (inr h), kept old)
+  not_traced faults.Full h = (inr (inr h), kept old)
+  not_traced faults.NoMemory h = (inr (inr h), kept old)
+  not_traced faults.NotReadable h = (inr (inr h), kept old)
+  not_traced faults.NotWritten h = absurd h.so.2

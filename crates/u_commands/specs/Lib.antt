@@ -1,0 +1,11 @@
+pub mod Statuses
+pub mod Outputs
+pub mod Inputs
+pub mod Arguments
+pub mod Checks
+pub mod Explains
+pub mod Runs
+pub mod Saves
+pub mod Restores
+pub mod Traces
+pub mod Waits

@@ -1,0 +1,33 @@
+-- Exit statuses.
+use Rattle.std.specs.Prelude.{ℕ}
+use Rattle.u_history.specs.declared.report.Ending.{Ending}
+use Rattle.u_history.specs.declared.report.Ending.TheVariants.{Quiet, Paused}
+use Rattle.u_history.specs.Verdicts.{Judgement, says_clashed, says_faulted, says_answer, says_none}
+use Rattle.u_commands.specs.declared.command_error.CommandError.{CommandError}
+use Rattle.u_commands.specs.declared.command_error.CommandError.TheVariants as faults
+
+-- 2 where a text is refused, 3 where an entry is not held, 4 where there is no room for more firings, 5 where the surroundings fail
+abbrev pub status_of_error : CommandError → ℕ
+status_of_error (faults.LineNotAllowed n) = 2
+status_of_error (faults.TooMany n) = 2
+status_of_error faults.CutShort = 2
+status_of_error (faults.Rule b) = 2
+status_of_error faults.ArgumentNotAllowed = 2
+status_of_error faults.InputTooLong = 2
+status_of_error (faults.CheckpointLineNotAllowed n) = 2
+status_of_error (faults.CheckpointLineTooLong n) = 2
+status_of_error (faults.OtherFiring n) = 2
+status_of_error (faults.EntryNotAllowed n) = 2
+status_of_error faults.EntryNotHeld = 3
+status_of_error faults.Full = 4
+status_of_error faults.NoMemory = 5
+status_of_error faults.NotReadable = 5
+status_of_error faults.NotWritten = 5
+
+-- 4 where more is ready; else 0 for an answer, and 3 for another verdict
+abbrev pub status_of : Ending → Judgement → ℕ
+status_of Paused j = 4
+status_of Quiet (says_answer v) = 0
+status_of Quiet says_clashed = 3
+status_of Quiet says_faulted = 3
+status_of Quiet says_none = 3

@@ -1,0 +1,92 @@
+//! Why a command gives no whole output.
+ghost use Rattle.std.specs.Prelude.{◌≡◌};
+ghost use Rattle.u_commands.specs.Statuses.{status_of_error};
+
+use std::alloc::AllocError;
+use thiserror::Error;
+use u_check::Breach;
+
+/// Why a command gives no whole output. It prints as the text that stands behind `u: `.
+#[derive(Debug, Drop, PartialEq, Eq, Error)]
+pub enum CommandError {
+    /// This line of the program is not allowed; lines count from 1.
+    #[error("program line {0} not allowed")]
+    LineNotAllowed(usize),
+    /// This line of the program is not allowed only for the number of blocks, statements or destinations.
+    #[error("program line {0} has too many")]
+    TooMany(usize),
+    /// The program ends too early.
+    #[error("program cut short")]
+    CutShort,
+    /// The program breaks a rule of the checker.
+    #[error("{0}")]
+    Rule(Breach),
+    /// The argument is no number from -2^63 to 2^63 - 1 in its one spelling.
+    #[error("argument not allowed")]
+    ArgumentNotAllowed,
+    /// The input has more than 67108864 bytes.
+    #[error("input too long")]
+    InputTooLong,
+    /// This line of the checkpoint is not allowed; lines count from 1.
+    #[error("checkpoint line {0} not allowed")]
+    CheckpointLineNotAllowed(usize),
+    /// This line of the checkpoint has more than 32,768 bytes.
+    #[error("checkpoint line {0} too long")]
+    CheckpointLineTooLong(usize),
+    /// The checkpoint's firing at this place is none of the job; places count from 0.
+    #[error("firing {0} not of this job")]
+    OtherFiring(usize),
+    /// The entry is no entry's text. The number is the offset of the first byte with which none goes on.
+    #[error("entry not allowed at byte {0}")]
+    EntryNotAllowed(usize),
+    /// The run does not hold the entry.
+    #[error("entry not held")]
+    EntryNotHeld,
+    /// There are more firings than the replica may take.
+    #[error("full")]
+    Full,
+    /// There is no memory.
+    #[error("no memory")]
+    NoMemory,
+    /// The input could not be read.
+    #[error("not readable")]
+    NotReadable,
+    /// The output could not be written; what was written is a prefix of it.
+    #[error("not written")]
+    NotWritten,
+}
+
+impl From<AllocError> for CommandError {
+    ghost use Rattle.u_commands.specs.declared.command_error.CommandError.TheVariants as faults;
+
+    ghost from_gives = { λ _ e. e ≡ faults.NoMemory };
+
+    fn from(_: AllocError) -> CommandError {
+        CommandError::NoMemory
+    }
+}
+
+impl CommandError {
+    /// The exit status: 2 where a text is refused, 3 where an entry is not held, 4 where there is no
+    /// room for more firings, 5 where
+    /// the machine's surroundings fail.
+    pub fn status(&self) -> u8
+        ensures { result ≡ status_of_error self.now }
+    {
+        match self {
+            CommandError::LineNotAllowed(_)
+            | CommandError::TooMany(_)
+            | CommandError::CutShort
+            | CommandError::Rule(_)
+            | CommandError::ArgumentNotAllowed
+            | CommandError::InputTooLong
+            | CommandError::CheckpointLineNotAllowed(_)
+            | CommandError::CheckpointLineTooLong(_)
+            | CommandError::OtherFiring(_)
+            | CommandError::EntryNotAllowed(_) => 2,
+            CommandError::EntryNotHeld => 3,
+            CommandError::Full => 4,
+            CommandError::NoMemory | CommandError::NotReadable | CommandError::NotWritten => 5,
+        }
+    }
+}

@@ -1,0 +1,31 @@
+//! What the commands of one machine do, over bytes: the texts that come in, and the bytes and the status
+//! that go out.
+#![tactic(auto)]
+
+mod argument;
+mod checking;
+mod command_error;
+mod explaining;
+mod input;
+mod output;
+mod restoring;
+mod run;
+mod saving;
+mod tracing;
+mod waiting;
+
+pub use argument::argument_of;
+pub use checking::check_text;
+pub use command_error::CommandError;
+pub use explaining::explain_text;
+pub use input::{INPUT_LIMIT, read_input};
+pub use output::{Unwritten, push_numbered, write_whole};
+pub use restoring::{RESTORED_FIRINGS, restore_text, run_behind};
+pub use run::{FIRING_LIMIT, job_of, run_text};
+pub use saving::save_text;
+pub use tracing::trace_text;
+pub use waiting::waits_text;
+
+/// The program that runs where no word is given: it doubles its argument.
+pub const STORED_PROGRAM: &[u8] =
+    b"u-program 1\nblock main\n1 0 begin -> 2.1 2.2\n2 0 add -> 3.1\n3 0 end ->\n";

@@ -1,0 +1,119 @@
+//! The command `restore`.
+ghost use Rattle.std.specs.Prelude.{◌≡◌, MatchResult};
+ghost use Rattle.u_replica.specs.Restoring.{IsRestored};
+ghost use Rattle.u_commands.specs.Runs.{RunsBehind, RunRefused};
+ghost use Rattle.u_commands.specs.Restores.{most_taken, fault_of, ending_line, RestoresJob, CheckpointRefused, RestoreTextAnswer};
+
+use crate::command_error::CommandError;
+use crate::output::{joined, write_whole};
+use crate::run::{FIRING_LIMIT, job_of, state_of, told};
+use std::alloc::Global;
+use std::io::Write;
+use u_check::Job;
+use u_machine::Refusal;
+use u_replica::{Ending, Replica, RestoreError};
+
+/// How many firings a restored replica fires at most.
+pub const RESTORED_FIRINGS: usize = 100_000;
+
+/// A replica of the job that took the firings of the checkpoint, and how the checkpoint ended.
+#[tactic(auto, unfolding(crate::specs::Restores::most_taken), using(crate::proofs::Restored::too_many))]
+fn restored<'a>(
+    alloc: Global,
+    job: &'a Job,
+    checkpoint: &[u8],
+) -> Result<(Replica<'a>, Ending), CommandError>
+    ensures { MatchResult result
+        (λ p. IsRestored job.now most_taken 1 1 checkpoint.now p.1 p.0)
+        (λ fault. CheckpointRefused job.now checkpoint.now fault) }
+{
+    match Replica::restore(alloc, job, FIRING_LIMIT, 1, 1, checkpoint) {
+        Ok(restored) => Ok(restored),
+        Err(RestoreError::BadLine(line)) => Err(CommandError::CheckpointLineNotAllowed(line)),
+        Err(RestoreError::TooLong(line)) => Err(CommandError::CheckpointLineTooLong(line)),
+        Err(RestoreError::NotAFiring(place)) => Err(CommandError::OtherFiring(place)),
+        Err(RestoreError::Full) => Err(CommandError::Full),
+        Err(RestoreError::NoMemory) => Err(CommandError::NoMemory),
+    }
+}
+
+/// The fault that is told of a run that was refused.
+pub(crate) fn fault_of(refusal: Refusal) -> CommandError
+    ensures { result ≡ fault_of refusal }
+{
+    match refusal {
+        Refusal::Full => CommandError::Full,
+        Refusal::NoMemory => CommandError::NoMemory,
+    }
+}
+
+/// The line that tells how a checkpoint ended.
+#[tactic(auto, unfolding(crate::specs::Restores::ending_line))]
+fn ending_line(ending: Ending) -> &'static [u8]
+    ensures { result.now ≡ ending_line ending }
+{
+    match ending {
+        Ending::Whole => b"checkpoint whole\n",
+        Ending::Torn => b"checkpoint torn\n",
+    }
+}
+
+/// The front, and behind it the report of a replica that fires so many times at most; and the exit
+/// status.
+pub fn run_behind(
+    alloc: Global,
+    front: &[u8],
+    replica: &mut Replica<'_>,
+    firings: usize,
+) -> Result<(Vec<u8>, u8), CommandError>
+    ensures { MatchResult result
+        (λ p. RunsBehind front.now replica.old.machine firings p.0.items p.1)
+        (λ fault. RunRefused replica.old.machine firings fault) }
+{
+    let ran = replica.run(firings);
+    replica.holds();
+    let state = match ran {
+        Ok(ran) => state_of(ran),
+        Err(refusal) => return Err(fault_of(refusal)),
+    };
+    let (report, status) = told(alloc, replica.machine(), state)?;
+    let written = joined(alloc, front, &report)?;
+    Ok((written, status))
+}
+
+/// How the checkpoint ended and the report of a replica that goes on from it, and the exit status.
+fn restore_job(alloc: Global, job: &Job, checkpoint: &[u8]) -> Result<(Vec<u8>, u8), CommandError>
+    ensures { MatchResult result
+        (λ p. RestoresJob job.now checkpoint.now p.0.items p.1)
+        (λ fault. CheckpointRefused job.now checkpoint.now fault) }
+{
+    let (mut replica, ending) = restored(alloc, job, checkpoint)?;
+    run_behind(alloc, ending_line(ending), &mut replica, RESTORED_FIRINGS)
+}
+
+/// Restores a replica of the program with this text, on the argument that the word gives, from the
+/// bytes of a checkpoint, whole or torn; fires 100,000 times at most; and writes the line
+/// `checkpoint whole` or `checkpoint torn` and the report. Answers the exit status, that of
+/// `run_text`.
+///
+/// # Errors
+/// A fault of the program's text, of the checker, of the argument or of the checkpoint, in that
+/// order, `Full` where the checkpoint has more than 1,000,000 firings or more are ready while the
+/// replica has as many, or want of memory: nothing is written. `NotWritten`: a prefix is written.
+pub fn restore_text<W: Write>(
+    alloc: Global,
+    program: &[u8],
+    argument: &[u8],
+    checkpoint: &[u8],
+    writer: &mut W,
+) -> Result<u8, CommandError>
+    ensures { RestoreTextAnswer program.now argument.now checkpoint.now
+        (W.contents writer.old) result (W.contents writer.new) }
+{
+    let job = job_of(alloc, program, argument)?;
+    let (written, status) = restore_job(alloc, &job, checkpoint)?;
+    match write_whole(writer, &written) {
+        Ok(()) => Ok(status),
+        Err(_) => Err(CommandError::NotWritten),
+    }
+}

@@ -1,0 +1,156 @@
+//! The command `run`.
+ghost use Rattle.std.specs.Prelude.{◌≡◌, ◌≤◌, IfOk, IfErr, MatchResult, IsTrue, List, ℕ, length};
+ghost use Rattle.u_check.specs.Jobs.{JobParts};
+ghost use Rattle.u_machine.specs.Calls.{IsFresh};
+ghost use Rattle.u_commands.specs.Runs.{IsJobOf, ReportsRun, RunTextAnswer, JobRefused, ReportsMachine, RanTo, ReportsRunOfJob, state_of};
+ghost use Rattle.u_commands.specs.declared.command_error.CommandError.TheVariants as faults;
+ghost use Rattle.u_sets.specs.Rising.{Rises};
+ghost use Rattle.u_rule.specs.EntryOrder.{entry_cmp};
+ghost use Rattle.u_commands.specs.Statuses.{status_of};
+ghost use Rattle.u_history.specs.Verdicts.{judgement};
+
+use crate::argument::argument_of;
+use crate::checking::checked_of;
+use crate::command_error::CommandError;
+use crate::output::write_whole;
+use std::alloc::{AllocError, Global};
+use std::io::Write;
+use u_check::Job;
+use u_history::{Counts, Ending, Verdict, report_text};
+use u_machine::{Machine, Ran, Refusal};
+
+/// How many firings a machine of the program takes at most.
+pub const FIRING_LIMIT: usize = 1_000_000;
+
+/// The job of the program with this text on the argument that the word gives.
+pub fn job_of(alloc: Global, bytes: &[u8], word: &[u8]) -> Result<Job, CommandError>
+    ensures { MatchResult result (λ job. IsJobOf bytes.now word.now job)
+        (λ fault. JobRefused bytes.now word.now fault) }
+{
+    let checked = match checked_of(alloc, bytes) {
+        Ok(checked) => checked,
+        Err(fault) => return Err(fault),
+    };
+    match argument_of(word) {
+        Some(argument) => Ok(Job::new(checked, argument)),
+        None => Err(CommandError::ArgumentNotAllowed),
+    }
+}
+
+/// The exit status of a report with that state and verdict.
+pub(crate) fn status(state: Ending, verdict: Verdict<'_>) -> u8
+    ensures { result ≡ status_of state (judgement verdict.entry) }
+{
+    match (state, verdict) {
+        (Ending::Paused, _) => 4,
+        (Ending::Quiet, Verdict::Answer(_)) => 0,
+        (Ending::Quiet, _) => 3,
+    }
+}
+
+/// The state that a report names.
+pub(crate) fn state_of(ran: Ran) -> Ending
+    ensures { result ≡ state_of ran }
+{
+    match ran {
+        Ran::Quiet => Ending::Quiet,
+        Ran::Paused => Ending::Paused,
+    }
+}
+
+/// What a report of the machine counts.
+fn counts(machine: &Machine<'_>) -> Counts
+    ensures firings { result.firings ≡ length machine.now.log }
+    ensures parked { result.parked ≡ length machine.now.parked }
+    ensures entries { result.entries ≡ length machine.now.history }
+    ensures rises { Rises entry_cmp machine.now.history }
+{
+    let history = machine.history();
+    Counts {
+        firings: machine.applied().len(),
+        parked: machine.parked().len(),
+        entries: history.len(),
+    }
+}
+
+/// The report of a machine, and the exit status.
+pub(crate) fn told(
+    alloc: Global,
+    machine: &Machine<'_>,
+    state: Ending,
+) -> Result<(Vec<u8>, u8), AllocError>
+    ensures { IfOk result (λ p. ReportsMachine machine.now state p.0.items p.1) }
+{
+    let outcome = machine.history().outcome()?;
+    let report = report_text(alloc, state, counts(machine), &outcome)?;
+    Ok((report, status(state, outcome.verdict())))
+}
+
+/// Lets a machine that has taken nothing fire so many times at most. Returns the state that a report
+/// names then.
+pub(crate) fn run_new(machine: &mut Machine<'_>, firings: usize) -> Result<Ending, CommandError>
+    requires fresh { IsFresh machine.old }
+    requires room { firings ≤ machine.old.limit }
+    ensures ok { IfOk result (λ state. RanTo machine.old.job firings state machine.new) }
+    ensures memory { IfErr result (λ e. e ≡ faults.NoMemory) }
+{
+    let ran = machine.run(firings);
+    machine.holds();
+    match ran {
+        Ok(ran) => Ok(state_of(ran)),
+        Err(Refusal::NoMemory) => Err(CommandError::NoMemory),
+        Err(Refusal::Full) => unreachable!(),
+    }
+}
+
+/// The report of a machine that has taken nothing, after so many firings at most, and the exit status.
+fn report_of(
+    alloc: Global,
+    machine: &mut Machine<'_>,
+    firings: usize,
+) -> Result<(Vec<u8>, u8), CommandError>
+    requires fresh { IsFresh machine.old }
+    requires room { firings ≤ machine.old.limit }
+    ensures ok { IfOk result (λ p. ReportsRunOfJob machine.old.job firings p.0.items p.1) }
+    ensures memory { IfErr result (λ e. e ≡ faults.NoMemory) }
+{
+    let state = run_new(machine, firings)?;
+    let told = told(alloc, machine, state)?;
+    Ok(told)
+}
+
+/// The report of a new machine of the job after so many firings at most, and the exit status.
+fn run_job(alloc: Global, job: &Job, firings: usize) -> Result<(Vec<u8>, u8), CommandError>
+    requires { firings ≤ 1000000 }
+    ensures ok { IfOk result (λ p. ReportsRunOfJob job.now firings p.0.items p.1) }
+    ensures memory { IfErr result (λ e. e ≡ faults.NoMemory) }
+{
+    let mut machine = Machine::new(alloc, job, FIRING_LIMIT)?;
+    report_of(alloc, &mut machine, firings)
+}
+
+/// Runs the program with this text on the argument that the word gives, with so many firings at
+/// most, and writes the report. Answers the exit status: 0 for a quiet report with one answer, 3 for
+/// another quiet report, 4 for a paused one.
+///
+/// # Errors
+/// A fault of the program's text, of the checker or of the argument, in that order, or want of
+/// memory: nothing is written. `NotWritten`: a prefix of the report is written.
+pub fn run_text<W: Write>(
+    alloc: Global,
+    program: &[u8],
+    argument: &[u8],
+    firings: usize,
+    writer: &mut W,
+) -> Result<u8, CommandError>
+    requires { firings ≤ 1000000 }
+    ensures { RunTextAnswer program.now argument.now firings (W.contents writer.old) result
+        (W.contents writer.new) }
+{
+    let job = job_of(alloc, program, argument)?;
+    let (report, status) = run_job(alloc, &job, firings)?;
+    match write_whole(writer, &report) {
+        Ok(()) => Ok(status),
+        Err(_) => Err(CommandError::NotWritten),
+    }
+}

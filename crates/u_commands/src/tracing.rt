@@ -1,0 +1,130 @@
+//! The command `trace`.
+ghost use Rattle.std.specs.Prelude.{◌≡◌, ◌++◌, IfOk, IfErr, MatchResult};
+ghost use Rattle.u_rule.specs.EntryReading.{IsEntryOf};
+ghost use Rattle.u_commands.specs.Traces.{counted, traced_text, trace_fault, RanPlainly, EntryRefused};
+ghost use Rattle.u_commands.specs.Traces.{TracesJob, TraceRefused, TraceTextAnswer};
+ghost use Rattle.u_commands.specs.declared.command_error.CommandError.TheVariants as faults;
+
+use crate::command_error::CommandError;
+use crate::output::{push_numbered, write_whole};
+use crate::run::{FIRING_LIMIT, job_of, run_new};
+use std::alloc::{AllocError, Global};
+use std::io::Write;
+use u_check::Job;
+use u_delta::write_firings;
+use u_machine::Machine;
+use u_rule::{Entry, Firing, TextError};
+use u_trace::{TraceError, causes, story};
+
+/// How many firings a run that is traced has at most.
+pub const TRACED_FIRINGS: usize = 100_000;
+
+/// The entry with this text.
+fn entry_of(alloc: Global, word: &[u8]) -> Result<Entry, CommandError>
+    ensures { MatchResult result (λ e. IsEntryOf word.now e) (λ fault. EntryRefused word.now fault) }
+{
+    match Entry::read(alloc, word) {
+        Ok(entry) => Ok(entry),
+        Err(TextError::BadText(offset)) => Err(CommandError::EntryNotAllowed(offset)),
+        Err(TextError::NoMemory) => Err(CommandError::NoMemory),
+    }
+}
+
+/// The fault that is told where nothing is traced.
+fn trace_fault(error: TraceError) -> CommandError
+    ensures { result ≡ trace_fault error }
+{
+    match error {
+        TraceError::NotHeld => CommandError::EntryNotHeld,
+        TraceError::NoMemory => CommandError::NoMemory,
+    }
+}
+
+/// A new machine of the job after 100,000 firings at most.
+fn ran(alloc: Global, job: &Job) -> Result<Machine<'_>, CommandError>
+    ensures ok { IfOk result (λ m. RanPlainly job.now m) }
+    ensures memory { IfErr result (λ e. e ≡ faults.NoMemory) }
+{
+    let mut machine = Machine::new(alloc, job, FIRING_LIMIT)?;
+    match run_new(&mut machine, TRACED_FIRINGS) {
+        Ok(_) => Ok(machine),
+        Err(fault) => Err(fault),
+    }
+}
+
+/// Appends a line with the word and the number of firings, and a line for each firing.
+fn push_counted(text: &mut Vec<u8>, word: &[u8], firings: &[Firing]) -> Result<(), AllocError>
+    ensures { IfOk result (λ u. text.new.items ≡ text.old.items ++ counted word.now firings.now) }
+{
+    push_numbered(text, word, firings.len() as u64)?;
+    text.push(b'\n')?;
+    write_firings(firings, text)
+}
+
+/// The lists of causes and of the story, one behind the other.
+#[tactic(auto, unfolding(crate::specs::Traces::traced_text))]
+fn traced_text(alloc: Global, causes: &[Firing], story: &[Firing]) -> Result<Vec<u8>, AllocError>
+    ensures { IfOk result (λ v. v.items ≡ traced_text causes.now story.now) }
+{
+    let mut text = Vec::new(alloc);
+    push_counted(&mut text, b"causes ", causes)?;
+    push_counted(&mut text, b"story ", story)?;
+    Ok(text)
+}
+
+/// The causes and the story of an entry of the machine.
+fn traced(alloc: Global, machine: &Machine<'_>, entry: &Entry) -> Result<Vec<u8>, CommandError>
+    requires { RanPlainly machine.now.job machine.now }
+    ensures { MatchResult result (λ v. TracesJob machine.now.job entry.now v.items)
+        (λ fault. TraceRefused machine.now.job entry.now fault) }
+{
+    let told = match story(alloc, machine, entry) {
+        Ok(told) => told,
+        Err(error) => return Err(trace_fault(error)),
+    };
+    let found = match causes(alloc, machine.job(), machine.history(), entry) {
+        Ok(found) => found,
+        Err(error) => return Err(trace_fault(error)),
+    };
+    let text = traced_text(alloc, &found, &told)?;
+    Ok(text)
+}
+
+/// The causes and the story of the entry, after a run of the job.
+fn trace_job(alloc: Global, job: &Job, entry: &Entry) -> Result<Vec<u8>, CommandError>
+    ensures { MatchResult result (λ v. TracesJob job.now entry.now v.items)
+        (λ fault. TraceRefused job.now entry.now fault) }
+{
+    let machine = ran(alloc, job)?;
+    traced(alloc, &machine, entry)
+}
+
+/// Runs the program with this text on the argument that the word gives, with 100,000 firings at most,
+/// and writes all firings that give the entry, and the story of how this run came to it. Answers the
+/// exit status, 0.
+///
+/// # Errors
+/// A fault of the program's text, of the checker, of the argument or of the entry's text, in that
+/// order, `EntryNotHeld` where the run does not hold the entry, or want of memory: nothing is written.
+/// `NotWritten`: a prefix is written.
+pub fn trace_text<W: Write>(
+    alloc: Global,
+    program: &[u8],
+    argument: &[u8],
+    entry: &[u8],
+    writer: &mut W,
+) -> Result<u8, CommandError>
+    ensures { TraceTextAnswer program.now argument.now entry.now (W.contents writer.old) result
+        (W.contents writer.new) }
+{
+    let job = job_of(alloc, program, argument)?;
+    let entry = entry_of(alloc, entry)?;
+    let written = match trace_job(alloc, &job, &entry) {
+        Ok(written) => written,
+        Err(fault) => return Err(fault),
+    };
+    match write_whole(writer, &written) {
+        Ok(()) => Ok(0),
+        Err(_) => Err(CommandError::NotWritten),
+    }
+}

@@ -1,0 +1,89 @@
+-- The asks for of a command line.
+use Rattle.std.specs.Prelude.{◌≡◌, ℕ, ◌≤◌, List, [], Option, Some, None, codes}
+use Rattle.clap.specs.Words.{first_value}
+use Rattle.clap.specs.declared.parser.matches.Found.{Found}
+use Rattle.u_words.specs.declared.words.Request.{Request}
+use Rattle.u_words.specs.declared.words.Request.TheVariants.{Stored, Check, Explain, Run, Save, Restore, Trace, Waits, World}
+use Rattle.u_words.specs.Numbers.{IsFirings, IsReplicas, IsNumberText}
+
+-- the numbers of a request are in their ranges: what runs may fire from one to a million times,
+-- and a world has one to eight replicas and at most a hundred thousand events
+abbrev pub IsInRange : Request → Type 0
+IsInRange Stored = Unit {0}
+IsInRange (Check file) = Unit {0}
+IsInRange (Explain file) = Unit {0}
+IsInRange (Run file argument firings) = IsFirings firings
+IsInRange (Save file argument firings) = IsFirings firings
+IsInRange (Restore file argument checkpoint) = Unit {0}
+IsInRange (Trace file argument entry) = Unit {0}
+IsInRange (Waits file argument firings) = IsFirings firings
+IsInRange (World file argument replicas seed events) = IsReplicas replicas × (events ≤ 100000)
+
+abbrev pub text_or_none : Option (List ℕ) → List ℕ
+text_or_none None = []
+text_or_none (Some text) = text
+
+-- the word that was found under that name
+abbrev pub word_of : Found → List ℕ → List ℕ
+word_of found name = text_or_none (first_value found name)
+
+-- a check, with the word that was found for it
+abbrev pub IsCheckRequest : Found → Request → Type 0
+IsCheckRequest found (Check file) = file.now ≡ word_of found (codes "FILE")
+IsCheckRequest found request = ⊥
+
+-- an explanation, with the word that was found for it
+abbrev pub IsExplainRequest : Found → Request → Type 0
+IsExplainRequest found (Explain file) = file.now ≡ word_of found (codes "FILE")
+IsExplainRequest found request = ⊥
+
+-- these are the words that were found for FILE, ARG and the number of firings
+abbrev pub AreRunWords : Found → List ℕ → List ℕ → ℕ → Type 0
+AreRunWords found file argument firings =
+    (file ≡ word_of found (codes "FILE"))
+    × (argument ≡ word_of found (codes "ARG"))
+    × IsFirings firings
+    × IsNumberText firings (word_of found (codes "firings"))
+
+-- a run, with the words that were found for it
+abbrev pub IsRunRequest : Found → Request → Type 0
+IsRunRequest found (Run file argument firings) = AreRunWords found file.now argument.now firings
+IsRunRequest found request = ⊥
+
+-- a saving, with the words that were found for it
+abbrev pub IsSaveRequest : Found → Request → Type 0
+IsSaveRequest found (Save file argument firings) = AreRunWords found file.now argument.now firings
+IsSaveRequest found request = ⊥
+
+-- a restoring, with the words that were found for it
+abbrev pub IsRestoreRequest : Found → Request → Type 0
+IsRestoreRequest found (Restore file argument checkpoint) =
+    (file.now ≡ word_of found (codes "FILE"))
+    × (argument.now ≡ word_of found (codes "ARG"))
+    × (checkpoint.now ≡ word_of found (codes "CHECKPOINT"))
+IsRestoreRequest found request = ⊥
+
+-- a tracing, with the words that were found for it
+abbrev pub IsTraceRequest : Found → Request → Type 0
+IsTraceRequest found (Trace file argument entry) =
+    (file.now ≡ word_of found (codes "FILE"))
+    × (argument.now ≡ word_of found (codes "ARG"))
+    × (entry.now ≡ word_of found (codes "ENTRY"))
+IsTraceRequest found request = ⊥
+
+-- what waits, with the words that were found for it
+abbrev pub IsWaitsRequest : Found → Request → Type 0
+IsWaitsRequest found (Waits file argument firings) = AreRunWords found file.now argument.now firings
+IsWaitsRequest found request = ⊥
+
+-- a world, with the words that were found for it
+abbrev pub IsWorldRequest : Found → Request → Type 0
+IsWorldRequest found (World file argument replicas seed events) =
+    (file.now ≡ word_of found (codes "FILE"))
+    × (argument.now ≡ word_of found (codes "ARG"))
+    × IsReplicas replicas
+    × IsNumberText replicas (word_of found (codes "replicas"))
+    × IsNumberText seed (word_of found (codes "seed"))
+    × (events ≤ 100000)
+    × IsNumberText events (word_of found (codes "events"))
+IsWorldRequest found request = ⊥

@@ -1,0 +1,8 @@
+//! The words of the command line: what they ask for, and the numbers among them.
+#![tactic(auto)]
+
+mod number;
+mod words;
+
+pub use number::{firings_of, number_of};
+pub use words::{Request, not_text, parse};

@@ -1,0 +1,453 @@
+//! The words of the command line.
+ghost use Rattle.std.specs.Prelude.{◌≡◌, IfOk, IfSome, codes};
+ghost use Rattle.clap.specs.Words.{found_of};
+ghost use Rattle.u_words.specs.Requests.{IsInRange, IsCheckRequest, IsRunRequest, IsSaveRequest, IsRestoreRequest, IsTraceRequest, IsWorldRequest, word_of};
+ghost use Rattle.u_words.specs.Requests.{IsExplainRequest, IsWaitsRequest};
+ghost use Rattle.u_words.specs.Numbers.{IsFirings, IsReplicas, IsNumberText};
+
+use crate::number::{firings_of, number_of};
+use clap::error::ErrorKind;
+use clap::{Arg, ArgAction, ArgMatches, Command, Error, value_parser};
+use std::alloc::{AllocError, Global};
+
+/// The word of the command that checks.
+const CHECK: &str = "check";
+
+/// The word of the command that explains.
+const EXPLAIN: &str = "explain";
+
+/// The word of the command that says what waits.
+const WAITS: &str = "waits";
+
+/// The word of the command that saves.
+const SAVE: &str = "save";
+
+/// The most random events of a world.
+const MOST_EVENTS: u64 = 100_000;
+
+/// The word of the command that restores.
+const RESTORE: &str = "restore";
+
+/// The word of the command that follows an entry back.
+const TRACE: &str = "trace";
+
+/// The word of the command that lets events happen between replicas.
+const WORLD: &str = "world";
+
+/// What stands below the help of the program: the exit statuses, and an example.
+const STATUSES: &str = "Exit status:
+  0  an answer, or all that was asked for
+  1  the command line is not allowed
+  2  a text is refused
+  3  the run came to its end without one answer, or does not hold the entry
+  4  the run is not at its end: it may fire no more
+  5  memory, reading or writing failed
+
+Example: ./u run programs/double.u 4";
+
+/// What a command line asks for.
+#[derive(Clone, Copy, Debug, PartialEq, Eq, Drop)]
+pub enum Request<'a> {
+    /// There is no word: the stored run.
+    Stored,
+    /// `check FILE`.
+    Check {
+        file: &'a str,
+    },
+    /// `explain FILE`.
+    Explain {
+        file: &'a str,
+    },
+    /// `run FILE ARG`: at most `firings` firings, from 1 to 1000000.
+    Run {
+        file: &'a str,
+        argument: &'a str,
+        firings: usize,
+    },
+    /// `save FILE ARG`: the checkpoint after at most `firings` firings, from 1 to 1000000.
+    Save {
+        file: &'a str,
+        argument: &'a str,
+        firings: usize,
+    },
+    /// `restore FILE ARG CHECKPOINT`.
+    Restore {
+        file: &'a str,
+        argument: &'a str,
+        checkpoint: &'a str,
+    },
+    /// `trace FILE ARG ENTRY`.
+    Trace {
+        file: &'a str,
+        argument: &'a str,
+        entry: &'a str,
+    },
+    /// `waits FILE ARG`: what waits after at most `firings` firings, from 1 to 1000000.
+    Waits {
+        file: &'a str,
+        argument: &'a str,
+        firings: usize,
+    },
+    /// `world FILE ARG`: 1 to 8 replicas, and at most 100000 random events.
+    World {
+        file: &'a str,
+        argument: &'a str,
+        replicas: u8,
+        seed: u64,
+        events: usize,
+    },
+}
+
+/// The request in the words of a command line, the first of which is the program's name. The error
+/// is a mistake in the words, or a request for help or the version. The numbers of a request are in their
+/// ranges.
+pub fn parse<'a>(alloc: Global, words: &'a [String]) -> Result<Request<'a>, Error>
+    ensures { IfOk result IsInRange }
+{
+    let matches: ArgMatches<'a> = commands(alloc)?.try_get_matches_from(words)?;
+    match matches.subcommand() {
+        None => Ok(Request::Stored),
+        Some((name, check)) if name == CHECK => Ok(check_request(check)),
+        Some((name, explain)) if name == EXPLAIN => Ok(explain_request(explain)),
+        Some((name, save)) if name == SAVE => save_request(alloc, save),
+        Some((name, restore)) if name == RESTORE => Ok(restore_request(restore)),
+        Some((name, trace)) if name == TRACE => Ok(trace_request(trace)),
+        Some((name, waits)) if name == WAITS => waits_request(alloc, waits),
+        Some((name, world)) if name == WORLD => world_request(alloc, world),
+        Some((_, run)) => run_request(alloc, run),
+    }
+}
+
+/// The mistake that a word is no text.
+pub fn not_text(alloc: Global) -> Result<Error, AllocError> {
+    told(
+        commands(alloc),
+        "invalid UTF-8 was detected in one or more arguments",
+    )
+}
+
+/// The words of `check`.
+fn check_request<'a>(matches: &ArgMatches<'a>) -> Request<'a>
+    ensures { IsCheckRequest (found_of matches.now) result }
+{
+    let file = text(matches, "FILE");
+    Request::Check { file }
+}
+
+/// The words of `explain`.
+fn explain_request<'a>(matches: &ArgMatches<'a>) -> Request<'a>
+    ensures { IsExplainRequest (found_of matches.now) result }
+{
+    Request::Explain {
+        file: text(matches, "FILE"),
+    }
+}
+
+/// The words of `run`.
+fn run_request<'a>(alloc: Global, matches: &ArgMatches<'a>) -> Result<Request<'a>, Error>
+    ensures { IfOk result (λ o. IsRunRequest (found_of matches.now) o) }
+{
+    match firings(matches) {
+        Some(firings) => Ok(Request::Run {
+            file: text(matches, "FILE"),
+            argument: text(matches, "ARG"),
+            firings,
+        }),
+        None => Err(other_spelling(alloc, run(alloc, "u run"), matches, "firings", "N")?),
+    }
+}
+
+/// The words of `save`.
+fn save_request<'a>(alloc: Global, matches: &ArgMatches<'a>) -> Result<Request<'a>, Error>
+    ensures { IfOk result (λ o. IsSaveRequest (found_of matches.now) o) }
+{
+    match firings(matches) {
+        Some(firings) => Ok(Request::Save {
+            file: text(matches, "FILE"),
+            argument: text(matches, "ARG"),
+            firings,
+        }),
+        None => Err(other_spelling(alloc, save(alloc, "u save"), matches, "firings", "N")?),
+    }
+}
+
+/// The words of `restore`.
+fn restore_request<'a>(matches: &ArgMatches<'a>) -> Request<'a>
+    ensures { IsRestoreRequest (found_of matches.now) result }
+{
+    Request::Restore {
+        file: text(matches, "FILE"),
+        argument: text(matches, "ARG"),
+        checkpoint: text(matches, "CHECKPOINT"),
+    }
+}
+
+/// The words of `trace`.
+fn trace_request<'a>(matches: &ArgMatches<'a>) -> Request<'a>
+    ensures { IsTraceRequest (found_of matches.now) result }
+{
+    Request::Trace {
+        file: text(matches, "FILE"),
+        argument: text(matches, "ARG"),
+        entry: text(matches, "ENTRY"),
+    }
+}
+
+/// The words of `waits`.
+fn waits_request<'a>(alloc: Global, matches: &ArgMatches<'a>) -> Result<Request<'a>, Error>
+    ensures { IfOk result (λ o. IsWaitsRequest (found_of matches.now) o) }
+{
+    match firings(matches) {
+        Some(firings) => Ok(Request::Waits {
+            file: text(matches, "FILE"),
+            argument: text(matches, "ARG"),
+            firings,
+        }),
+        None => Err(other_spelling(alloc, waits(alloc, "u waits"), matches, "firings", "N")?),
+    }
+}
+
+/// The words of `world`.
+fn world_request<'a>(alloc: Global, matches: &ArgMatches<'a>) -> Result<Request<'a>, Error>
+    ensures { IfOk result (λ o. IsWorldRequest (found_of matches.now) o) }
+{
+    let Some(replicas) = replicas(matches) else {
+        return Err(other_spelling(alloc, world(alloc, "u world"), matches, "replicas", "K")?);
+    };
+    let Some(seed) = number_of(text(matches, "seed"), u64::MAX) else {
+        return Err(other_spelling(alloc, world(alloc, "u world"), matches, "seed", "S")?);
+    };
+    let Some(events) = number_of(text(matches, "events"), MOST_EVENTS) else {
+        return Err(other_spelling(alloc, world(alloc, "u world"), matches, "events", "N")?);
+    };
+    Ok(Request::World {
+        file: text(matches, "FILE"),
+        argument: text(matches, "ARG"),
+        replicas,
+        seed,
+        events: events as usize,
+    })
+}
+
+/// The number of replicas, from 1 to 8.
+fn replicas(matches: &ArgMatches<'_>) -> Option<u8>
+    ensures { IfSome result (λ n. IsReplicas n
+        × IsNumberText n (word_of (found_of matches.now) (codes "replicas"))) }
+{
+    match number_of(text(matches, "replicas"), 9) {
+        Some(number) if 1 <= number && number <= 8 => Some(number as u8),
+        _ => None,
+    }
+}
+
+/// The number of firings. The word is read again, since `clap` takes a sign and leading zeros.
+fn firings(matches: &ArgMatches<'_>) -> Option<usize>
+    ensures { IfSome result (λ n. IsFirings n
+        × IsNumberText n (word_of (found_of matches.now) (codes "firings"))) }
+{
+    firings_of(text(matches, "firings"))
+}
+
+/// The mistake that the number of an option has a sign or a leading zero.
+fn other_spelling(
+    alloc: Global,
+    command: Result<Command<'_>, AllocError>,
+    matches: &ArgMatches<'_>,
+    option: &str,
+    value: &str,
+) -> Result<Error, AllocError> {
+    let word = text(matches, option);
+    let message = format!(in alloc;
+        "invalid value '{word}' for '--{option} <{value}>': a number has no sign and no leading zero"
+    )?;
+    told(command, message.as_str())
+}
+
+fn text<'a>(matches: &ArgMatches<'a>, name: &str) -> &'a str
+    ensures { result.now ≡ word_of (found_of matches.now) name.now }
+{
+    match matches.get_str(name) {
+        Some(text) => text,
+        None => "",
+    }
+}
+
+/// A mistake in the words of a command.
+fn told(command: Result<Command<'_>, AllocError>, message: &str) -> Result<Error, AllocError> {
+    let mut command = command?;
+    command.error(ErrorKind::ValueValidation, message)
+}
+
+fn commands<'a>(alloc: Global) -> Result<Command<'a>, AllocError> {
+    let all = Command::new(alloc, "u")
+        .bin_name("u")?
+        .version("0.1.0")
+        .about("Checks and runs dataflow programs. Without any word it runs a stored program.")
+        .after_help(STATUSES)
+        .disable_help_subcommand(true);
+    let all = with(all, check(alloc))?;
+    let all = with(all, explain(alloc))?;
+    let all = with(all, run(alloc, "run"))?;
+    let all = with(all, save(alloc, SAVE))?;
+    let all = with(all, restore(alloc))?;
+    let all = with(all, trace(alloc))?;
+    let all = with(all, waits(alloc, WAITS))?;
+    with(all, world(alloc, WORLD))
+}
+
+/// The command with one more below it.
+fn with<'a>(
+    all: Command<'a>,
+    one: Result<Command<'a>, AllocError>,
+) -> Result<Command<'a>, AllocError> {
+    all.subcommand(one?)
+}
+
+/// A command that takes FILE.
+fn of_program<'a>(
+    alloc: Global,
+    name: &'a str,
+    about: &'a str,
+    example: &'a str,
+) -> Result<Command<'a>, AllocError> {
+    Command::new(alloc, name)
+        .about(about)
+        .after_help(example)
+        .arg(word(alloc, "FILE").help("The program's file, or the word stdin for standard input"))
+}
+
+/// A command that takes FILE and ARG.
+fn of_run<'a>(
+    alloc: Global,
+    name: &'a str,
+    about: &'a str,
+    example: &'a str,
+) -> Result<Command<'a>, AllocError> {
+    of_program(alloc, name, about, example)?.arg(word(alloc, "ARG").help(
+        "The argument, a decimal number: n1 is -1",
+    ))
+}
+
+fn check<'a>(alloc: Global) -> Result<Command<'a>, AllocError> {
+    of_program(
+        alloc,
+        CHECK,
+        "Checks the program and prints how many blocks and statements it has",
+        "Example: ./u check programs/double.u",
+    )
+}
+
+fn explain<'a>(alloc: Global) -> Result<Command<'a>, AllocError> {
+    of_program(
+        alloc,
+        EXPLAIN,
+        "Says where and why the program is refused, in more words than check",
+        "Example: ./u explain programs/double.u",
+    )
+}
+
+fn run<'a>(alloc: Global, name: &'a str) -> Result<Command<'a>, AllocError> {
+    of_run(
+        alloc,
+        name,
+        "Runs the program and prints its report",
+        "Example: ./u run programs/double.u 4 --firings 1000",
+    )?
+    .arg(most_firings(alloc))
+}
+
+fn save<'a>(alloc: Global, name: &'a str) -> Result<Command<'a>, AllocError> {
+    of_run(
+        alloc,
+        name,
+        "Runs the program and prints a checkpoint: all that was fired",
+        "Example: ./u save programs/sum.u 3 --firings 5 > checkpoint",
+    )?
+    .arg(most_firings(alloc))
+}
+
+fn restore<'a>(alloc: Global) -> Result<Command<'a>, AllocError> {
+    of_run(
+        alloc,
+        RESTORE,
+        "Goes on from a checkpoint, whole or torn, and prints the report",
+        "Example: ./u restore programs/sum.u 3 checkpoint",
+    )?
+    .arg(word(alloc, "CHECKPOINT").help("The checkpoint's file"))
+}
+
+fn trace<'a>(alloc: Global) -> Result<Command<'a>, AllocError> {
+    of_run(
+        alloc,
+        TRACE,
+        "Runs the program and prints which firings give the entry, and how the run came to it",
+        "Example: ./u trace programs/double.u 4 'a 8'",
+    )?
+    .arg(word(alloc, "ENTRY").help("The entry's text, one word: 'a 8' is the answer 8"))
+}
+
+fn waits<'a>(alloc: Global, name: &'a str) -> Result<Command<'a>, AllocError> {
+    of_run(
+        alloc,
+        name,
+        "Runs the program and prints what waits: for a token, or for the write of a cell",
+        "Example: ./u waits programs/sum.u 3 --firings 10",
+    )?
+    .arg(most_firings(alloc))
+}
+
+fn world<'a>(alloc: Global, name: &'a str) -> Result<Command<'a>, AllocError> {
+    of_run(
+        alloc,
+        name,
+        "Lets random events happen between replicas, and prints what they hold and the report",
+        "Example: ./u world programs/sum.u 3 --replicas 3 --seed 7 --events 200",
+    )?
+    .arg(number_of_replicas(alloc))?
+    .arg(seed(alloc))?
+    .arg(number_of_events(alloc))
+}
+
+fn number_of_replicas<'a>(alloc: Global) -> Arg<'a> {
+    Arg::new(alloc, "replicas")
+        .long("replicas")
+        .value_name("K")
+        .help("How many replicas, from 1 to 8")
+        .action(ArgAction::Set)
+        .default_value("2")
+        .value_parser(value_parser!(u32).range(1..=8))
+}
+
+fn seed<'a>(alloc: Global) -> Arg<'a> {
+    Arg::new(alloc, "seed")
+        .long("seed")
+        .value_name("S")
+        .help("The seed of the random events, from 0 to 18446744073709551615")
+        .action(ArgAction::Set)
+        .default_value("1")
+        .value_parser(value_parser!(u64))
+}
+
+fn number_of_events<'a>(alloc: Global) -> Arg<'a> {
+    Arg::new(alloc, "events")
+        .long("events")
+        .value_name("N")
+        .help("How many random events, at most 100000")
+        .action(ArgAction::Set)
+        .default_value("100")
+        .value_parser(value_parser!(u32).range(0..=100000))
+}
+
+fn most_firings<'a>(alloc: Global) -> Arg<'a> {
+    Arg::new(alloc, "firings")
+        .long("firings")
+        .value_name("N")
+        .help("The most firings, from 1 to 1000000")
+        .action(ArgAction::Set)
+        .default_value("100000")
+        .value_parser(value_parser!(u32).range(1..=1000000))
+}
+
+fn word<'a>(alloc: Global, name: &'a str) -> Arg<'a> {
+    Arg::new(alloc, name).required(true).action(ArgAction::Set)
+}
