@@ -1,4 +1,4 @@
-use Rattle.std.proofs.Common.{rules, ◌≡◌, ◌∙◌, sym, Bool, true}
+use Rattle.std.proofs.Common.{rules, ◌≡◌, ◌∙◌, sym, true}
 use Rattle.u_name.specs.ContextHash.{same_context}
 use Rattle.u_name.proofs.context.Context.share.Goals as goal
 
