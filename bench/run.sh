@@ -33,7 +33,7 @@ export LC_ALL=C
 top=$(cd -P -- "$(dirname -- "${BASH_SOURCE[0]}")/.." && pwd) || exit 2
 binary=${U_BINARY:-$top/crates/u/out/u}
 if [ ! -x "$binary" ]; then
-    echo "$binary is not there: build it first, by ./u or by rt ci" >&2
+    echo "$binary is not there: build it first, by ./u --prove or by rt ci" >&2
     exit 1
 fi
 temp=$(mktemp -d) || exit 2

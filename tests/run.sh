@@ -1,8 +1,8 @@
 #!/usr/bin/env bash
 # Runs the built program on the cases of tests/cases, and compares standard output, standard error
 # and the exit status with what stands there; runs the examples of README.md, docs/LANGUAGE.md and
-# docs/programs; and compares programs/ and the example of docs/LIBRARY.md with the code that
-# tests run. The last line is 'N passed, M failed'.
+# docs/programs; compares the manual page and the completions with `--help`; and compares programs/ and
+# the example of docs/LIBRARY.md with the code that tests run. The last line is 'N passed, M failed'.
 #
 # The lines of a case:
 #   case: NAME            begins a case
@@ -28,7 +28,7 @@ top=$(cd -P -- "$(dirname -- "${BASH_SOURCE[0]}")/.." && pwd) || exit 2
 cd -- "$top" || exit 2
 binary=${U_BINARY:-$top/crates/u/out/u}
 if [ ! -x "$binary" ]; then
-    echo "$binary is not there: build it first, by ./u or by rt ci" >&2
+    echo "$binary is not there: build it first, by ./u --prove or by rt ci" >&2
     echo "0 passed, 1 failed"
     exit 1
 fi
@@ -224,6 +224,42 @@ run_examples() {
 for page in README.md docs/LANGUAGE.md docs/programs/*.md; do
     run_examples "$page"
 done
+
+# Counts whether two texts are the same.
+expect_same() {
+    if [ "$2" = "$3" ]; then
+        passed=$((passed + 1))
+    else
+        failed=$((failed + 1))
+        echo "FAILED: $1"
+        diff <(printf '%s\n' "$2") <(printf '%s\n' "$3") | sed 's/^/  /'
+    fi
+}
+
+# What bash completes these words to, the last of which is at the cursor.
+completed() {
+    COMP_WORDS=("$@") COMP_CWORD=$(($# - 1))
+    _u
+    printf '%s\n' "${COMPREPLY[@]}" | sort
+}
+
+# The options that the help of a command lists.
+options_of() {
+    "$binary" "$@" --help | grep -Eo -- ' --[a-z]+' | tr -d ' ' | sort -u
+}
+
+expect_same 'share/man/man1/u.1 is what share/manual.py writes' "$(cat share/man/man1/u.1)" \
+    "$(share/manual.py "$binary")"
+. share/bash-completion/completions/u
+commands=$("$binary" --help | sed -n '/^Commands:$/,/^$/s/^  \([a-z]*\) .*/\1/p')
+expect_same 'the commands are completed' "$(sort <<<"$commands")" "$(completed u '')"
+expect_same 'the options of u are completed' "$(options_of)" "$(completed u -)"
+for command in $commands; do
+    expect_same "the options of $command are completed" "$(options_of "$command")" "$(completed u "$command" -)"
+done
+expect_same 'a file is completed' programs/double.u "$(completed u check programs/doub)"
+expect_same 'a number is not completed' '' "$(completed u run programs/double.u '')"
+expect_same 'a checkpoint is completed' programs/double.u "$(completed u restore --help a 3 programs/doub)"
 
 # The programs that tests run are constants of u_plain, and have to be the files of the folder programs.
 for file in programs/*.u; do
