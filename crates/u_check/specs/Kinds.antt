@@ -1,7 +1,8 @@
 -- What the checker and the firing rule ask of a statement's kind.
 use Rattle.std.specs.Prelude.{ℕ, Bool, true, false}
 use Rattle.u_program.specs.declared.program.Kind.{Kind}
-use Rattle.u_program.specs.declared.program.Kind.TheVariants.{Begin, Const, Pass, Unary, Binary, Select, Switch, Enter, Next, Last, Leave, Apply, Back, Alloc, Store, Fetch, End}
+use Rattle.u_program.specs.declared.program.Kind.TheVariants.{Begin, Const, Pass, Unary, Binary, Select, Switch, Enter, Next}
+use Rattle.u_program.specs.declared.program.Kind.TheVariants.{Last, Leave, Apply, Back, Alloc, Store, Fetch, End}
 
 -- how many ports a statement of that kind has
 abbrev pub ports_of : Kind → ℕ

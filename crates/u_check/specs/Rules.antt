@@ -1,5 +1,6 @@
 -- The rules of the checker, and what it is to break one.
-use Rattle.std.specs.Prelude.{◌≡◌, ℕ, ◌-◌, ◌<◌, ◌≤◌, Bool, true, false, not, ◌&&◌, ◌||◌, ◌==◌, ◌⊎◌, nat_le, if◌then◌else◌, List, ◌++◌, length, take, Option, Some, None, slice_get, codes, find}
+use Rattle.std.specs.Prelude.{◌≡◌, ℕ, ◌-◌, ◌<◌, ◌≤◌, Bool, true, false, not, ◌&&◌, ◌||◌, ◌==◌, ◌⊎◌, nat_le, if◌then◌else◌, List}
+use Rattle.std.specs.Prelude.{◌++◌, length, take, Option, Some, None, slice_get, codes, find}
 use Rattle.std.specs.List.{list_any, list_all, range_with_len}
 use lib.Pointwise.{pointwise}
 use Rattle.u_program.specs.declared.program.Constant.TheVariants as constants
@@ -9,7 +10,11 @@ use Rattle.u_program.specs.declared.program.Destination.{Destination}
 use Rattle.u_program.specs.Parts.{StatementParts, BlockParts}
 use Rattle.u_check.specs.Kinds.{ports_of, is_begin, is_back, is_last, is_leave, is_end, comes_from_outside, is_of_loop, crosses}
 use Rattle.u_check.specs.declared.rule.Rule.{Rule}
-use Rattle.u_check.specs.declared.rule.Rule.TheVariants.{BlockNamesDiffer, MainExists, BeginComesFirst, RegionExists, DestinationExists, BeginAndBackTakeNothing, EnterReachesItsLoop, ApplyNamesBack, BackIsNamed, ConstantNamesBlock, LoopStatementsInLoops, LastSendsToLeave, LeaveSendsOut, EndInOuterRegion, OwnRegion, PortsAreFed}
+use Rattle.u_check.specs.declared.rule.Rule.TheVariants.{BlockNamesDiffer, MainExists, BeginComesFirst, RegionExists}
+use Rattle.u_check.specs.declared.rule.Rule.TheVariants.{DestinationExists, BeginAndBackTakeNothing, EnterReachesItsLoop}
+use Rattle.u_check.specs.declared.rule.Rule.TheVariants.{ApplyNamesBack, BackIsNamed, ConstantNamesBlock, LoopStatementsInLoops}
+use Rattle.u_check.specs.declared.rule.Rule.TheVariants.{LastSendsToLeave, LeaveSendsOut, EndInOuterRegion, OwnRegion}
+use Rattle.u_check.specs.declared.rule.Rule.TheVariants.{PortsAreFed}
 
 abbrev pub main_name : List ℕ
 main_name = codes "main"

@@ -10,7 +10,7 @@ use Rattle.u_world.proofs.Kept.{step_keeps}
 use Rattle.u_world.proofs.Effects.{stays}
 use Rattle.u_world.proofs.Doable.{IsNoTake, never_refused}
 use Rattle.u_replica.specs.ReplicaState.{ReplicaState}
-use Rattle.u_world.specs.Runs.{Steps}
+use Rattle.u_world.specs.Runs.{EventSteps}
 use Rattle.u_commands.specs.Runs.{RunsBehind, RunRefused}
 use Rattle.u_commands.specs.Restores.{HasJob}
 use Rattle.u_commands.specs.declared.command_error.CommandError.{CommandError}
@@ -83,8 +83,8 @@ merges_more k old new e f =
 
 -- what is so of one world and one list of events is so of those that are the same
 module _ (w v : WorldState) (es fs : List Event) (same : w ≡ v) (list : es ≡ fs) where
-  pub happens_so : (new : WorldState) → Steps w es new → Steps v fs new
-  happens_so new s = subst (λ (x : WorldState). Steps x fs new) same (subst (λ (xs : List Event). Steps w xs new) list s)
+  pub happens_so : (new : WorldState) → EventSteps w es new → EventSteps v fs new
+  happens_so new s = subst (λ (x : WorldState). EventSteps x fs new) same (subst (λ (xs : List Event). EventSteps w xs new) list s)
 
   pub refused_so : (fault : CommandError) → EventsRefused w es fault → EventsRefused v fs fault
   refused_so fault r = subst (λ (x : WorldState). EventsRefused x fs fault) same (subst (λ (xs : List Event). EventsRefused w xs fault) list r)

@@ -12,10 +12,10 @@ use Rattle.u_world.specs.declared.event.Event.{Event}
 use Rattle.u_world.specs.declared.event.Event.TheVariants as events
 use Rattle.u_world.specs.declared.refused.WorldError.TheVariants as errors
 use Rattle.u_world.specs.WorldState.{WorldState, At, fresh_world}
-use Rattle.u_world.specs.Runs.{Steps, RunAnswer as EventsAnswer}
+use Rattle.u_world.specs.Runs.{EventSteps, EventsAnswer}
 use Rattle.u_world.specs.Random.{random_list}
 use Rattle.u_commands.specs.Outputs.{WritesAll, WritesPrefix, numbered}
-use Rattle.u_commands.specs.Runs.{JobRefused, ReportsMachine, state_of}
+use Rattle.u_commands.specs.Runs.{JobRefused, ReportsMachine, ending_of}
 use Rattle.u_commands.specs.Restores.{HasJob}
 use Rattle.u_commands.specs.declared.command_error.CommandError.{CommandError}
 use Rattle.u_commands.specs.declared.command_error.CommandError.TheVariants as faults
@@ -54,12 +54,12 @@ EventsRefused w es fault = ⊥
 
 -- a world of n new replicas of the job, after so many random events of that seed
 abbrev pub HappensAtRandom : JobParts → (n seed count : ℕ) → WorldState → Type 0
-HappensAtRandom job n seed count w = Steps (fresh_world job most_held n) (random_list seed n count) w
+HappensAtRandom job n seed count w = EventSteps (fresh_world job most_held n) (random_list seed n count) w
 
 -- the first replica of a world, once it merged the others
 pub record Gathers (w : WorldState) (first : ReplicaState) : Type 0 where
   pub gathered : WorldState
-  pub merged : Steps w (merges (length w.replicas - 1)) gathered
+  pub merged : EventSteps w (merges (length w.replicas - 1)) gathered
   pub at : At gathered.replicas 1 first
 
 -- the report and the status of a machine that fires what it can, so many at most
@@ -68,7 +68,7 @@ pub record EndsAlone (old : State) (report : List ℕ) (status : ℕ) : Type 0 w
   pub machine : State
   pub is_machine : IsMachine machine
   pub ran : RunAnswer old most_held (Ok end) machine
-  pub reported : ReportsMachine machine (state_of end) report status
+  pub reported : ReportsMachine machine (ending_of end) report status
 
 -- it fires until it is full, or there is no memory
 abbrev pub EndRefused : State → CommandError → Type 0
@@ -117,5 +117,7 @@ Tells bytes word n seed count written status = HasJob bytes word (λ job. TellsW
 -- what stands before and after, for each answer; it refuses what `run` refuses, and then a full replica
 abbrev pub WorldTextAnswer : List ℕ → List ℕ → (n seed count : ℕ) → Option (List ℕ) → Result ℕ CommandError → Option (List ℕ) → Type 0
 WorldTextAnswer bytes word n seed count old (Ok status) new = (written : List ℕ) × Tells bytes word n seed count written status × WritesAll old new written
-WorldTextAnswer bytes word n seed count old (Err faults.NotWritten) new = (written : List ℕ) × (status : ℕ) × Tells bytes word n seed count written status × WritesPrefix old new written
-WorldTextAnswer bytes word n seed count old (Err fault) new = (JobRefused bytes word fault ⊎ HasJob bytes word (λ job. WorldRefused job n seed count fault)) × Keeps old new
+WorldTextAnswer bytes word n seed count old (Err faults.NotWritten) new =
+    (written : List ℕ) × (status : ℕ) × Tells bytes word n seed count written status × WritesPrefix old new written
+WorldTextAnswer bytes word n seed count old (Err fault) new =
+    (JobRefused bytes word fault ⊎ HasJob bytes word (λ job. WorldRefused job n seed count fault)) × Keeps old new

@@ -2,7 +2,7 @@
 ghost use Rattle.std.specs.Prelude.{◌≡◌, ◌≤◌, ◌-◌, ◌++◌, IfOk, MatchResult, length};
 ghost use Rattle.u_name.specs.Context.{IsBetween};
 ghost use Rattle.u_world.specs.WorldState.{fresh_world};
-ghost use Rattle.u_world.specs.Runs.{Steps};
+ghost use Rattle.u_world.specs.Runs.{EventSteps};
 ghost use Rattle.u_world.specs.Random.{random_list};
 ghost use Rattle.u_cli.specs.Worlds.{most_held, replica_line, replica_lines, merges};
 ghost use Rattle.u_cli.specs.Worlds.{AreDoable, EventsRefused, HappensAtRandom, Gathers};
@@ -22,7 +22,7 @@ pub const WORLD_FIRINGS: usize = 100_000;
 /// Lets the events happen. None of them is one that cannot be done.
 fn run_events(world: &mut World<'_>, events: &[Event]) -> Result<(), CommandError>
     requires { AreDoable world.old events.now }
-    ensures { MatchResult result (λ u. Steps world.old events.now world.new)
+    ensures { MatchResult result (λ u. EventSteps world.old events.now world.new)
         (λ fault. EventsRefused world.old events.now fault) }
 {
     match world.run(events) {

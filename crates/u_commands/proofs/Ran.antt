@@ -1,5 +1,7 @@
 -- What a new machine that ran says of its job.
-use Rattle.std.proofs.Common.{◌≡◌, ◌∙◌, sym, ap, refl, subst, ℕ, List, [], ◌++◌, append-nil, length, Contains, Ok, Err}
+use Rattle.std.proofs.Common.{◌≡◌, ◌∙◌, sym, ap, refl, subst, ℕ, List, [], ◌++◌, append-nil, length, Contains, Result, Ok, Err}
+use Rattle.std.specs.Prelude.{IfErr}
+use Rattle.std.specs.Result.{IsErrAnd}
 use Rattle.u_check.specs.Jobs.{JobParts}
 use Rattle.u_system.specs.Firing.{Held, Same, Enabled, Cl}
 use Rattle.u_system.proofs.Held.{Enabled-mono}
@@ -18,7 +20,7 @@ use Rattle.u_machine.proofs.Runs.{run_done}
 use Rattle.u_history.specs.declared.report.Ending.{Ending}
 use Rattle.u_history.specs.Report.{IsReportOf}
 use Rattle.u_history.proofs.Reports.{report_same, outcome_same}
-use Rattle.u_commands.specs.Runs.{RunsTo, RanTo, RunRefused, IsStatusOf, ReportsMachine, ReportsRunOfJob, state_of}
+use Rattle.u_commands.specs.Runs.{RunsTo, RanTo, RunRefused, IsStatusOf, ReportsMachine, ReportsRunOfJob, ending_of}
 use Rattle.u_commands.specs.Restores.{fault_of}
 
 -- one set, two predicates: one status
@@ -50,7 +52,7 @@ none_parked new s report e r = subst (λ (fs : FiringList). IsReportOf (Contains
 
 module _ (old new : State) (budget : ℕ) (log : old.log ≡ []) (parked : old.parked ≡ []) (is : IsMachine new) where
   -- the machine's log is the run, and its history is what the log holds
-  ran_to : (end : Ran) → RunAnswer old budget (Ok end) new → RunsTo old.job budget (state_of end) new.log × Same (Contains new.history) (Held (system_of old.job) new.log)
+  ran_to : (end : Ran) → RunAnswer old budget (Ok end) new → RunsTo old.job budget (ending_of end) new.log × Same (Contains new.history) (Held (system_of old.job) new.log)
   ran_to ran.Quiet a =
       let d = run_done old new budget ran.Quiet a log parked is.sound in (
         record {
@@ -76,7 +78,7 @@ module _ (old new : State) (budget : ℕ) (log : old.log ≡ []) (parked : old.p
       )
 
   -- what stands after the run of a machine that had taken nothing
-  pub ran_new : (end : Ran) → RunAnswer old budget (Ok end) new → RanTo old.job budget (state_of end) new
+  pub ran_new : (end : Ran) → RunAnswer old budget (Ok end) new → RanTo old.job budget (ending_of end) new
   ran_new end a =
       let d = run_done old new budget end a log parked is.sound in
       let to = ran_to end a in
@@ -99,3 +101,8 @@ reports_run job budget end m report status to r =
 pub run_refused : (old new : State) (budget : ℕ) → IsMachine new → (r : Refusal) → RunAnswer old budget (Err r) new → RunRefused old budget (fault_of r)
 run_refused old new budget is refusals.Full a = (new, is, a)
 run_refused old new budget is refusals.NoMemory a = tt
+
+-- what holds of the error that a call answers, where it answers one
+pub error_is : {A E : Type 0} (r : Result A E) (P : E → Type 0) → IsErrAnd r P → IfErr r P
+error_is (Ok a) P h = tt
+error_is (Err e) P h = h

@@ -18,7 +18,7 @@ use Rattle.u_history.specs.declared.report.Ending.TheVariants as states
 use Rattle.u_replica.specs.declared.checkpoint.Ending.{Ending}
 use Rattle.u_replica.specs.ReplicaState.{ReplicaState}
 use Rattle.u_replica.specs.Restoring.{blank, WasRead, IsRestored}
-use Rattle.u_commands.specs.Runs.{ReportsMachine, RunsBehind, RunRefused, state_of}
+use Rattle.u_commands.specs.Runs.{ReportsMachine, RunsBehind, RunRefused, ending_of}
 use Rattle.u_commands.specs.declared.command_error.CommandError.{CommandError}
 use Rattle.u_commands.specs.declared.command_error.CommandError.TheVariants as faults
 use Rattle.u_commands.specs.Restores.{most_taken, most_fired, SavedOrFired, GoesOn, ReportsOn, FillsUp, ending_line, RestoresJob, HasNoRoom, CheckpointRefused}
@@ -71,7 +71,7 @@ module _ (job : JobParts) (fs gs : List Firing) (old new : State) (takes : Takes
   }
 
 module _ (job : JobParts) (fs : List Firing) (old new : State) (takes : TakesAll (blank job most_taken) fs old) (is : IsMachine new) where
-  reports_on : (end : Ran) (report : List ℕ) (status : ℕ) → RunAnswer old most_fired (Ok end) new → ReportsMachine new (state_of end) report status → ReportsOn job fs report status
+  reports_on : (end : Ran) (report : List ℕ) (status : ℕ) → RunAnswer old most_fired (Ok end) new → ReportsMachine new (ending_of end) report status → ReportsOn job fs report status
   reports_on ran.Quiet report status a r = record {
     state = states.Quiet;
     gs = a.0;

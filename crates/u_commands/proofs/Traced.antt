@@ -9,7 +9,7 @@ use Rattle.u_rule.specs.Rule.{system_of}
 use Rattle.u_rule.specs.EntryOrder.{firing_cmp}
 use Rattle.u_rule.specs.declared.entry.Entry.{Entry}
 use Rattle.u_rule.specs.declared.firing.Firing.{Firing}
-use Rattle.u_machine.specs.State.{State, state}
+use Rattle.u_machine.specs.State.{State}
 use Rattle.u_history.specs.declared.report.Ending.{Ending}
 use Rattle.u_trace.specs.Causes.{IsCause}
 use Rattle.u_trace.specs.Stories.{IsStory, Tells}
@@ -22,10 +22,9 @@ use Rattle.u_commands.specs.Traces.{HasEntry, TraceTextAnswer}
 use Rattle.u_commands.specs.Runs.{RanTo}
 use Rattle.u_commands.proofs.Known.{kept}
 
-pub ran_plainly : (job : JobParts) (limit : ℕ) (h : List Entry) (old new : State) (end : Ending) → old ≡ state job limit [] [] h → RanTo old.job 100000 end new → RanPlainly job new
+pub ran_plainly : (job : JobParts) (m : State) (end : Ending) → RanTo job 100000 end m → RanPlainly job m
 unfolding most_traced
-ran_plainly job limit h old new end e p =
-    subst (λ (j : JobParts). RanPlainly j new) (ap (λ (m : State). m.job) e) (record { of = p.of; plain = p.run.plain; held = p.held })
+ran_plainly job m end p = record { of = p.of; plain = p.run.plain; held = p.held }
 
 module _ (job : JobParts) (m : State) (ran : RanPlainly job m) (e : Entry) where
   cause_in : (f : Firing) → IsCause job m.history e f → IsCauseIn job m.log e f

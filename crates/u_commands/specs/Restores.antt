@@ -119,5 +119,6 @@ RestoreRefused bytes word checkpoint fault = JobRefused bytes word fault ⊎ Has
 -- what stands before and after, for each answer
 abbrev pub RestoreTextAnswer : List ℕ → List ℕ → List ℕ → Option (List ℕ) → Result ℕ CommandError → Option (List ℕ) → Type 0
 RestoreTextAnswer bytes word checkpoint old (Ok status) new = (written : List ℕ) × Restores bytes word checkpoint written status × WritesAll old new written
-RestoreTextAnswer bytes word checkpoint old (Err faults.NotWritten) new = (written : List ℕ) × (status : ℕ) × Restores bytes word checkpoint written status × WritesPrefix old new written
+RestoreTextAnswer bytes word checkpoint old (Err faults.NotWritten) new =
+    (written : List ℕ) × (status : ℕ) × Restores bytes word checkpoint written status × WritesPrefix old new written
 RestoreTextAnswer bytes word checkpoint old (Err fault) new = RestoreRefused bytes word checkpoint fault × Keeps old new

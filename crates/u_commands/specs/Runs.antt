@@ -45,9 +45,9 @@ pub record IsStatusOf (H : Entry → Type 0) (state : Ending) (status : ℕ) : T
   pub is : status ≡ status_of state (judged answers cells ports faults)
 
 -- the state that a report names
-abbrev pub state_of : Ran → Ending
-state_of ran.Quiet = states.Quiet
-state_of ran.Paused = states.Paused
+abbrev pub ending_of : Ran → Ending
+ending_of ran.Quiet = states.Quiet
+ending_of ran.Paused = states.Paused
 
 -- The report and the status of a machine in that state: those of its history, with the counts of its
 -- applied and of its parked firings.
@@ -86,7 +86,7 @@ pub record RunsBehind (front : List ℕ) (old : State) (firings : ℕ) (written 
   pub is_machine : IsMachine machine
   pub ran : RunAnswer old firings (Ok end) machine
   pub report : List ℕ
-  pub reported : ReportsMachine machine (state_of end) report status
+  pub reported : ReportsMachine machine (ending_of end) report status
   pub is : written ≡ front ++ report
 
 -- it fires until it is full, or there is no memory
@@ -123,7 +123,8 @@ RunTextAnswer bytes word firings old (Err faults.CutShort) new = IsTruncated byt
 RunTextAnswer bytes word firings old (Err (faults.Rule breach)) new = BreaksRule bytes breach × Keeps old new
 RunTextAnswer bytes word firings old (Err faults.ArgumentNotAllowed) new = GivesNoArgument bytes word × Keeps old new
 RunTextAnswer bytes word firings old (Err faults.NoMemory) new = Keeps old new
-RunTextAnswer bytes word firings old (Err faults.NotWritten) new = (report : List ℕ) × (status : ℕ) × ReportsRun bytes word firings report status × WritesPrefix old new report
+RunTextAnswer bytes word firings old (Err faults.NotWritten) new =
+    (report : List ℕ) × (status : ℕ) × ReportsRun bytes word firings report status × WritesPrefix old new report
 RunTextAnswer bytes word firings old (Err fault) new = ⊥
 
 -- why there is no job

@@ -28,6 +28,8 @@ pub record SavesRun (bytes word : List ℕ) (firings : ℕ) (checkpoint : List �
 -- What stands before and after, for each answer. It refuses what `run` refuses: the number of firings is
 -- never too many.
 abbrev pub SaveTextAnswer : List ℕ → List ℕ → ℕ → Option (List ℕ) → Result ℕ CommandError → Option (List ℕ) → Type 0
-SaveTextAnswer bytes word firings old (Ok status) new = (status ≡ 0) × ((checkpoint : List ℕ) × SavesRun bytes word firings checkpoint × WritesAll old new checkpoint)
-SaveTextAnswer bytes word firings old (Err faults.NotWritten) new = (checkpoint : List ℕ) × SavesRun bytes word firings checkpoint × WritesPrefix old new checkpoint
+SaveTextAnswer bytes word firings old (Ok status) new =
+    (status ≡ 0) × ((checkpoint : List ℕ) × SavesRun bytes word firings checkpoint × WritesAll old new checkpoint)
+SaveTextAnswer bytes word firings old (Err faults.NotWritten) new =
+    (checkpoint : List ℕ) × SavesRun bytes word firings checkpoint × WritesPrefix old new checkpoint
 SaveTextAnswer bytes word firings old (Err fault) new = JobRefused bytes word fault × Keeps old new

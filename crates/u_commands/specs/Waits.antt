@@ -55,5 +55,6 @@ WaitsOf bytes word firings written status = HasJob bytes word (λ job. WaitsAfte
 -- what stands before and after, for each answer; it refuses what `run` refuses, and nothing else
 abbrev pub WaitsTextAnswer : List ℕ → List ℕ → ℕ → Option (List ℕ) → Result ℕ CommandError → Option (List ℕ) → Type 0
 WaitsTextAnswer bytes word firings old (Ok status) new = (written : List ℕ) × WaitsOf bytes word firings written status × WritesAll old new written
-WaitsTextAnswer bytes word firings old (Err faults.NotWritten) new = (written : List ℕ) × (status : ℕ) × WaitsOf bytes word firings written status × WritesPrefix old new written
+WaitsTextAnswer bytes word firings old (Err faults.NotWritten) new =
+    (written : List ℕ) × (status : ℕ) × WaitsOf bytes word firings written status × WritesPrefix old new written
 WaitsTextAnswer bytes word firings old (Err fault) new = JobRefused bytes word fault × Keeps old new

@@ -2,7 +2,7 @@
 ghost use Rattle.std.specs.Prelude.{◌≡◌, ◌≤◌, IfOk, IfErr, MatchResult, IsTrue, List, ℕ, length};
 ghost use Rattle.u_check.specs.Jobs.{JobParts};
 ghost use Rattle.u_machine.specs.Calls.{IsFresh};
-ghost use Rattle.u_commands.specs.Runs.{IsJobOf, ReportsRun, RunTextAnswer, JobRefused, ReportsMachine, RanTo, ReportsRunOfJob, state_of};
+ghost use Rattle.u_commands.specs.Runs.{IsJobOf, ReportsRun, RunTextAnswer, JobRefused, ReportsMachine, RanTo, ReportsRunOfJob, ending_of};
 ghost use Rattle.u_commands.specs.declared.command_error.CommandError.TheVariants as faults;
 ghost use Rattle.u_sets.specs.Rising.{Rises};
 ghost use Rattle.u_rule.specs.EntryOrder.{entry_cmp};
@@ -49,8 +49,8 @@ pub(crate) fn status(state: Ending, verdict: Verdict<'_>) -> u8
 }
 
 /// The state that a report names.
-pub(crate) fn state_of(ran: Ran) -> Ending
-    ensures { result ≡ state_of ran }
+pub(crate) fn ending_of(ran: Ran) -> Ending
+    ensures { result ≡ ending_of ran }
 {
     match ran {
         Ran::Quiet => Ending::Quiet,
@@ -88,7 +88,7 @@ pub(crate) fn told(
 
 /// Lets a machine that has taken nothing fire so many times at most. Returns the state that a report
 /// names then.
-pub(crate) fn run_new(machine: &mut Machine<'_>, firings: usize) -> Result<Ending, CommandError>
+fn run_new(machine: &mut Machine<'_>, firings: usize) -> Result<Ending, CommandError>
     requires fresh { IsFresh machine.old }
     requires room { firings ≤ machine.old.limit }
     ensures ok { IfOk result (λ state. RanTo machine.old.job firings state machine.new) }
@@ -97,26 +97,27 @@ pub(crate) fn run_new(machine: &mut Machine<'_>, firings: usize) -> Result<Endin
     let ran = machine.run(firings);
     machine.holds();
     match ran {
-        Ok(ran) => Ok(state_of(ran)),
+        Ok(ran) => Ok(ending_of(ran)),
         Err(Refusal::NoMemory) => Err(CommandError::NoMemory),
         Err(Refusal::Full) => unreachable!(),
     }
 }
 
-/// The report of a machine that has taken nothing, after so many firings at most, and the exit status.
-fn report_of(
+/// A new machine of the job after so many firings at most, and the state that a report names then.
+pub(crate) fn ran(
     alloc: Global,
-    machine: &mut Machine<'_>,
+    job: &Job,
     firings: usize,
-) -> Result<(Vec<u8>, u8), CommandError>
-    requires fresh { IsFresh machine.old }
-    requires room { firings ≤ machine.old.limit }
-    ensures ok { IfOk result (λ p. ReportsRunOfJob machine.old.job firings p.0.items p.1) }
+) -> Result<(Machine<'_>, Ending), CommandError>
+    requires { firings ≤ 1000000 }
+    ensures ok { IfOk result (λ p. RanTo job.now firings p.1 p.0) }
     ensures memory { IfErr result (λ e. e ≡ faults.NoMemory) }
 {
-    let state = run_new(machine, firings)?;
-    let told = told(alloc, machine, state)?;
-    Ok(told)
+    let mut machine = Machine::new(alloc, job, FIRING_LIMIT)?;
+    match run_new(&mut machine, firings) {
+        Ok(state) => Ok((machine, state)),
+        Err(fault) => Err(fault),
+    }
 }
 
 /// The report of a new machine of the job after so many firings at most, and the exit status.
@@ -125,8 +126,9 @@ fn run_job(alloc: Global, job: &Job, firings: usize) -> Result<(Vec<u8>, u8), Co
     ensures ok { IfOk result (λ p. ReportsRunOfJob job.now firings p.0.items p.1) }
     ensures memory { IfErr result (λ e. e ≡ faults.NoMemory) }
 {
-    let mut machine = Machine::new(alloc, job, FIRING_LIMIT)?;
-    report_of(alloc, &mut machine, firings)
+    let (machine, state) = ran(alloc, job, firings)?;
+    let told = told(alloc, &machine, state)?;
+    Ok(told)
 }
 
 /// Runs the program with this text on the argument that the word gives, with so many firings at

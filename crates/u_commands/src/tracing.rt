@@ -7,7 +7,7 @@ ghost use Rattle.u_commands.specs.declared.command_error.CommandError.TheVariant
 
 use crate::command_error::CommandError;
 use crate::output::{push_numbered, write_whole};
-use crate::run::{FIRING_LIMIT, job_of, run_new};
+use crate::run::{job_of, ran};
 use std::alloc::{AllocError, Global};
 use std::io::Write;
 use u_check::Job;
@@ -37,18 +37,6 @@ fn trace_fault(error: TraceError) -> CommandError
     match error {
         TraceError::NotHeld => CommandError::EntryNotHeld,
         TraceError::NoMemory => CommandError::NoMemory,
-    }
-}
-
-/// A new machine of the job after 100,000 firings at most.
-fn ran(alloc: Global, job: &Job) -> Result<Machine<'_>, CommandError>
-    ensures ok { IfOk result (λ m. RanPlainly job.now m) }
-    ensures memory { IfErr result (λ e. e ≡ faults.NoMemory) }
-{
-    let mut machine = Machine::new(alloc, job, FIRING_LIMIT)?;
-    match run_new(&mut machine, TRACED_FIRINGS) {
-        Ok(_) => Ok(machine),
-        Err(fault) => Err(fault),
     }
 }
 
@@ -95,7 +83,7 @@ fn trace_job(alloc: Global, job: &Job, entry: &Entry) -> Result<Vec<u8>, Command
     ensures { MatchResult result (λ v. TracesJob job.now entry.now v.items)
         (λ fault. TraceRefused job.now entry.now fault) }
 {
-    let machine = ran(alloc, job)?;
+    let (machine, _) = ran(alloc, job, TRACED_FIRINGS)?;
     traced(alloc, &machine, entry)
 }
 

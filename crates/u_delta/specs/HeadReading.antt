@@ -62,7 +62,9 @@ ask_at ws = peers_at ws then λ p. long_at p.1 then λ l. long_at l.1 then λ c.
 
 -- `LIFE START COUNT`, behind the numbers of the replicas
 abbrev pub part_at : ℕ × ℕ → Words → Option Head
-part_at p ws = long_at ws then λ l. cond (l.0 == 0) None (long_at l.1 then λ s. word_at s.1 then λ c. number0_word 4096 c.0 then λ n. alone (heads.Delta (opening p.0 p.1 l.0 s.0 n)) c.1)
+part_at p ws =
+    long_at ws then λ l. cond (l.0 == 0) None
+    (long_at l.1 then λ s. word_at s.1 then λ c. number0_word 4096 c.0 then λ n. alone (heads.Delta (opening p.0 p.1 l.0 s.0 n)) c.1)
 
 -- `SENDER RECEIVER LIFE START COUNT`
 unfoldable pub delta_at : Words → Option Head

@@ -50,7 +50,9 @@ module _ (Document : List (List ℕ) → Type 0) where
 
   -- a line with a newline with which the lines begin no document; or bytes behind a whole document
   abbrev pub IsRefused : PiecesAndRest → List (List ℕ) → List ℕ → Type 0
-  IsRefused text before line = (StandsBehind text before line × (Begins (before ++ (line ∷ [])) → ⊥)) ⊎ (EndsWith text before line × (0 < length line) × Document before)
+  IsRefused text before line =
+      (StandsBehind text before line × (Begins (before ++ (line ∷ [])) → ⊥))
+      ⊎ (EndsWith text before line × (0 < length line) × Document before)
 
   -- line n is the first that is not allowed, and no line up to it is too long
   pub record IsBadLine (text : PiecesAndRest) (n : ℕ) : Type 0 where

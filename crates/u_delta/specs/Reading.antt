@@ -18,11 +18,15 @@ use Rattle.u_delta.specs.Messages.{IsMessage, IsMessageLines, IsErrorIn}
 
 -- no line stands at the front: an error behind any lines that begin a message and are none
 abbrev pub IsNoLine : List ℕ → ℕ → ReadError → Type 0
-IsNoLine bytes number error = (ls : List (List ℕ)) → AreAllowed IsMessageLines ls → (IsMessageLines ls → ⊥) → number ≡ suc (length ls) → IsErrorIn (lines_behind ls bytes) error
+IsNoLine bytes number error =
+    (ls : List (List ℕ)) → AreAllowed IsMessageLines ls → (IsMessageLines ls → ⊥) → number ≡ suc (length ls)
+    → IsErrorIn (lines_behind ls bytes) error
 
 -- something stands there: an error behind a message's lines, with which no message goes on
 abbrev pub IsNoEnd : List ℕ → ℕ → ReadError → Type 0
-IsNoEnd bytes number error = (ls : List (List ℕ)) → AreAllowed IsMessageLines ls → IsMessageLines ls → ((l : List ℕ) → Begins IsMessageLines (ls ++ (l ∷ [])) → ⊥) → number ≡ suc (length ls) → IsErrorIn (lines_behind ls bytes) error
+IsNoEnd bytes number error =
+    (ls : List (List ℕ)) → AreAllowed IsMessageLines ls → IsMessageLines ls
+    → ((l : List ℕ) → Begins IsMessageLines (ls ++ (l ∷ [])) → ⊥) → number ≡ suc (length ls) → IsErrorIn (lines_behind ls bytes) error
 
 -- the line is no firing's, or a growth was refused
 abbrev pub IsNoFiring : List ℕ → ℕ → ReadError → Type 0

@@ -14,10 +14,10 @@ use Rattle.u_program.proofs.Lists.{heads}
 use Rattle.u_program.proofs.Next.{new_block, new_loop, new_statement}
 use Rattle.u_program.proofs.Steps.{block_taken, loop_taken, statement_taken, lifted}
 use Rattle.u_program.proofs.Whole.{first_part}
-use Rattle.u_explain.specs.declared.place.Sort.{Sort}
-use Rattle.u_explain.specs.declared.place.Sort.TheVariants as sorts
-use Rattle.u_explain.specs.declared.place.Place.{Place}
-use Rattle.u_explain.specs.declared.place.Place.TheVariants as places
+use Rattle.u_explain.specs.declared.text_place.Sort.{Sort}
+use Rattle.u_explain.specs.declared.text_place.Sort.TheVariants as sorts
+use Rattle.u_explain.specs.declared.text_place.TextPlace.{TextPlace}
+use Rattle.u_explain.specs.declared.text_place.TextPlace.TheVariants as places
 use Rattle.u_explain.specs.Places.{IsAllowed, IsInside, IsPlace, sort_of}
 use Rattle.u_explain.proofs.PlaceLaws.{next_of, first_back}
 
@@ -151,8 +151,8 @@ module _ (before : List (List ℕ)) (blocks loops statements : ℕ) (v : IsInsid
       ]
 
 -- the place behind a line, of any place
-pub inside_too : (before : List (List ℕ)) (place : Place) (blocks loops statements : ℕ) → place ≡ places.Inside blocks loops statements → IsPlace before place → IsInside before blocks loops statements
+pub inside_too : (before : List (List ℕ)) (place : TextPlace) (blocks loops statements : ℕ) → place ≡ places.Inside blocks loops statements → IsPlace before place → IsInside before blocks loops statements
 inside_too before place blocks loops statements e v = subst (IsPlace before) e v
 
-pub first_too : (before : List (List ℕ)) (place : Place) → place ≡ places.FirstBlock → IsPlace before place → before ≡ header ∷ []
+pub first_too : (before : List (List ℕ)) (place : TextPlace) → place ≡ places.FirstBlock → IsPlace before place → before ≡ header ∷ []
 first_too before place e v = subst (IsPlace before) e v

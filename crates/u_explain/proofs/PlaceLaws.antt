@@ -12,8 +12,8 @@ use Rattle.u_program.proofs.Lists.{heads, tails}
 use Rattle.u_program.proofs.Next.{IsShort, NextLine, new_block, new_loop, new_statement, next}
 use Rattle.u_program.proofs.Steps.{completes, block_taken, loop_taken, statement_taken, lifted}
 use Rattle.u_program.proofs.Whole.{begins_header, first_part}
-use Rattle.u_explain.specs.declared.place.Place.{Place}
-use Rattle.u_explain.specs.declared.place.Place.TheVariants as places
+use Rattle.u_explain.specs.declared.text_place.TextPlace.{TextPlace}
+use Rattle.u_explain.specs.declared.text_place.TextPlace.TheVariants as places
 use Rattle.u_explain.specs.Left.{IsLeft}
 use Rattle.u_explain.specs.Lines.{BlockOn, LoopOn, StatementOn}
 use Rattle.u_explain.specs.Places.{IsAllowed, IsInside, IsPlace, BlockWhere, LoopWhere, StatementWhere, InsideOn, HeaderOn, PlaceOn}
@@ -96,18 +96,18 @@ to_counts before blocks loops statements v t b =
     (subst (λ n. InsideOn blocks n (length v.last.statements) t) (sym v.loops_are)
     (subst (λ n. InsideOn n (length v.last.loops) (length v.last.statements) t) (sym v.blocks_are) m))
 
-allowed_onto : (place : Place) (before : List (List ℕ)) → IsPlace before place → (t : List ℕ) → PlaceOn place t → IsAllowed before t
+allowed_onto : (place : TextPlace) (before : List (List ℕ)) → IsPlace before place → (t : List ℕ) → PlaceOn place t → IsAllowed before t
 allowed_onto places.Header before e t m = subst (λ ls. Begins the_limits (ls ++ (t ∷ []))) (sym e) (header_onto t m)
 allowed_onto places.FirstBlock before e t m = subst (λ ls. Begins the_limits (ls ++ (t ∷ []))) (sym e) (first_onto t m)
 allowed_onto (places.Inside blocks loops statements) before v t m = by_counts before blocks loops statements v t m
 
-allowed_back : (place : Place) (before : List (List ℕ)) → IsPlace before place → (t : List ℕ) → IsAllowed before t → PlaceOn place t
+allowed_back : (place : TextPlace) (before : List (List ℕ)) → IsPlace before place → (t : List ℕ) → IsAllowed before t → PlaceOn place t
 allowed_back places.Header before e t b = header_back t (subst (λ ls. Begins the_limits (ls ++ (t ∷ []))) e b)
 allowed_back places.FirstBlock before e t b = first_back t (subst (λ ls. Begins the_limits (ls ++ (t ∷ []))) e b)
 allowed_back (places.Inside blocks loops statements) before v t b = to_counts before blocks loops statements v t b
 
 -- what is left of a line at the place is left of it where lines are those with which a program goes on
-pub left_at : (place : Place) (before : List (List ℕ)) (bs rest : List ℕ) → IsPlace before place → IsLeft (PlaceOn place) bs rest → IsLeft (IsAllowed before) bs rest
+pub left_at : (place : TextPlace) (before : List (List ℕ)) (bs rest : List ℕ) → IsPlace before place → IsLeft (PlaceOn place) bs rest → IsLeft (IsAllowed before) bs rest
 left_at place before bs rest p v = same (PlaceOn place) (IsAllowed before) bs rest (allowed_onto place before p) (allowed_back place before p) v
 
 -- lines that may not stand there

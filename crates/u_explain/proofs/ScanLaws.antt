@@ -9,13 +9,13 @@ use Rattle.u_program.specs.Begun.{IsRead}
 use Rattle.u_program.specs.FirstBad.{Begins}
 use Rattle.u_program.proofs.Lists.{heads, tails}
 use Rattle.u_program.proofs.Whole.{read_none, read_more}
-use Rattle.u_explain.specs.declared.place.Place.{Place}
-use Rattle.u_explain.specs.declared.place.Place.TheVariants as places
+use Rattle.u_explain.specs.declared.text_place.TextPlace.{TextPlace}
+use Rattle.u_explain.specs.declared.text_place.TextPlace.TheVariants as places
 use Rattle.u_explain.specs.Left.{IsLeft, IsLongestFront}
 use Rattle.u_explain.specs.Places.{IsAllowed, IsPlace}
 
 -- so many lines were gone over, and where they begin a program the place is that behind them
-pub record Scanned (bytes : List ℕ) (count : ℕ) (rest : List ℕ) (place : Place) : Type 0 where
+pub record Scanned (bytes : List ℕ) (count : ℕ) (rest : List ℕ) (place : TextPlace) : Type 0 where
   pub gone : List (List ℕ)
   pub read : IsRead bytes gone rest
   pub many : count ≡ length gone
@@ -27,7 +27,7 @@ scanned_none bytes = record { gone = []; read = read_none bytes; many = refl; st
 fewer : (ls : List (List ℕ)) (t : List ℕ) → Begins the_limits (ls ++ (t ∷ [])) → Begins the_limits ls
 fewer ls t b = record { program = b.program; more = t ∷ b.more; valid = b.valid; there = b.there ∙ append_assoc ls (t ∷ []) b.more }
 
-pub scanned_next : (bytes : List ℕ) (count : ℕ) (rest : List ℕ) (place : Place) (line others : List ℕ) (new : Place) → Scanned bytes count rest place → IsCutInto 10 rest line others → ((before : List (List ℕ)) → IsPlace before place → IsAllowed before line → IsPlace (before ++ (line ∷ [])) new) → Scanned bytes (count + 1) others new
+pub scanned_next : (bytes : List ℕ) (count : ℕ) (rest : List ℕ) (place : TextPlace) (line others : List ℕ) (new : TextPlace) → Scanned bytes count rest place → IsCutInto 10 rest line others → ((before : List (List ℕ)) → IsPlace before place → IsAllowed before line → IsPlace (before ++ (line ∷ [])) new) → Scanned bytes (count + 1) others new
 scanned_next bytes count rest place line others new s c h = record {
   gone = s.gone ++ (line ∷ []);
   read = read_more bytes rest line others s.gone s.read c;
@@ -45,7 +45,7 @@ same_cut (x ∷ a) b (y ∷ c) d l e =
     let h : x ≡ y = heads e in
     (ap (λ z. z ∷ a) h ∙ ap (λ z. y ∷ z) i.0, i.1)
 
-pub scanned_all : (bytes : List ℕ) (count : ℕ) (rest : List ℕ) (place : Place) → Scanned bytes count rest place → (before others : List (List ℕ)) → lines bytes ≡ before ++ others → length before ≡ count → Begins the_limits before → IsPlace before place × (pieces 10 rest ≡ (others, (pieces 10 bytes).1))
+pub scanned_all : (bytes : List ℕ) (count : ℕ) (rest : List ℕ) (place : TextPlace) → Scanned bytes count rest place → (before others : List (List ℕ)) → lines bytes ≡ before ++ others → length before ≡ count → Begins the_limits before → IsPlace before place × (pieces 10 rest ≡ (others, (pieces 10 bytes).1))
 scanned_all bytes count rest place s before others e l b =
     let first : lines bytes ≡ s.gone ++ (pieces 10 rest).0 = ap (λ (p : List (List ℕ) × List ℕ). p.0) s.read.all in
     let last : (pieces 10 bytes).1 ≡ (pieces 10 rest).1 = ap (λ (p : List (List ℕ) × List ℕ). p.1) s.read.all in
@@ -55,7 +55,7 @@ scanned_all bytes count rest place s before others e l b =
     )
 
 -- there were fewer lines
-pub scanned_short : (bytes : List ℕ) (count : ℕ) (rest : List ℕ) (place : Place) → Scanned bytes count rest place → pieces 10 rest ≡ ([], rest) → (before others : List (List ℕ)) → lines bytes ≡ before ++ others → count < length before → ⊥
+pub scanned_short : (bytes : List ℕ) (count : ℕ) (rest : List ℕ) (place : TextPlace) → Scanned bytes count rest place → pieces 10 rest ≡ ([], rest) → (before others : List (List ℕ)) → lines bytes ≡ before ++ others → count < length before → ⊥
 scanned_short bytes count rest place s n before others e l =
     let first : lines bytes ≡ s.gone ++ (pieces 10 rest).0 = ap (λ (p : List (List ℕ) × List ℕ). p.0) s.read.all in
     let none : s.gone ++ (pieces 10 rest).0 ≡ s.gone = ap (λ (p : List (List ℕ) × List ℕ). s.gone ++ p.0) n ∙ append-nil s.gone in

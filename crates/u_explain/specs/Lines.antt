@@ -55,7 +55,10 @@ IntOn = Read signed_decimal (FitsSigned w64)
 
 -- a constant, and its list
 abbrev pub ConstantOn : List ℕ → Type 0
-ConstantOn = Either (Behind (codes "true") (ArrowOn false 16)) (Either (Behind (codes "false") (ArrowOn false 16)) (Either (Behind (codes "@") (NameOn (ArrowOn false 16))) (IntOn (ArrowOn false 16))))
+ConstantOn =
+    Either (Behind (codes "true") (ArrowOn false 16))
+    (Either (Behind (codes "false") (ArrowOn false 16))
+    (Either (Behind (codes "@") (NameOn (ArrowOn false 16))) (IntOn (ArrowOn false 16))))
 
 abbrev pub FollowOn : Follows → List ℕ → Type 0
 FollowOn follows.End = EndOn
@@ -69,7 +72,11 @@ PlainOn (k ∷ ks) t = Behind (kind_word k) (ListsOn k) t ⊎ PlainOn ks t
 
 -- a kind with its argument, and its lists
 abbrev pub KindOn : List ℕ → Type 0
-KindOn = Either (PlainOn plain_kinds) (Either (Behind (codes "const ") ConstantOn) (Either (Behind (codes "enter ") (Among 1 100 (Numbered (FollowOn follows.List)))) (Behind (codes "apply ") (Among 1 1000 (Numbered (FollowOn follows.Arrow))))))
+KindOn =
+    Either (PlainOn plain_kinds)
+    (Either (Behind (codes "const ") ConstantOn)
+    (Either (Behind (codes "enter ") (Among 1 100 (Numbered (FollowOn follows.List))))
+    (Behind (codes "apply ") (Among 1 1000 (Numbered (FollowOn follows.Arrow))))))
 
 -- a region, and behind it a kind
 abbrev pub RegionOn : List ℕ → Type 0

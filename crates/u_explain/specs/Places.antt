@@ -5,10 +5,10 @@ use Rattle.u_program.specs.Limits.{the_limits}
 use Rattle.u_program.specs.Text.{header}
 use Rattle.u_program.specs.Begun.{IsPart, part_lines}
 use Rattle.u_program.specs.FirstBad.{Begins}
-use Rattle.u_explain.specs.declared.place.Sort.{Sort}
-use Rattle.u_explain.specs.declared.place.Sort.TheVariants as sorts
-use Rattle.u_explain.specs.declared.place.Place.{Place}
-use Rattle.u_explain.specs.declared.place.Place.TheVariants as places
+use Rattle.u_explain.specs.declared.text_place.Sort.{Sort}
+use Rattle.u_explain.specs.declared.text_place.Sort.TheVariants as sorts
+use Rattle.u_explain.specs.declared.text_place.TextPlace.{TextPlace}
+use Rattle.u_explain.specs.declared.text_place.TextPlace.TheVariants as places
 use Rattle.u_explain.specs.Left.{Either, Behind}
 use Rattle.u_explain.specs.Lines.{EndOn, BlockOn, LoopOn, StatementOn}
 
@@ -27,7 +27,7 @@ pub record IsInside (before : List (List ℕ)) (blocks loops statements : ℕ) :
   pub statements_are : statements ≡ length last.statements
 
 -- the place behind these lines
-abbrev pub IsPlace : List (List ℕ) → Place → Type 0
+abbrev pub IsPlace : List (List ℕ) → TextPlace → Type 0
 IsPlace before places.Header = before ≡ []
 IsPlace before places.FirstBlock = before ≡ header ∷ []
 IsPlace before (places.Inside blocks loops statements) = IsInside before blocks loops statements
@@ -52,7 +52,7 @@ abbrev pub HeaderOn : List ℕ → Type 0
 HeaderOn = Behind header EndOn
 
 -- the lines that may stand at the place
-abbrev pub PlaceOn : Place → List ℕ → Type 0
+abbrev pub PlaceOn : TextPlace → List ℕ → Type 0
 PlaceOn places.Header = HeaderOn
 PlaceOn places.FirstBlock = BlockOn
 PlaceOn (places.Inside blocks loops statements) = InsideOn blocks loops statements

@@ -5,7 +5,7 @@ ghost use Rattle.u_program.specs.declared.read_error.ReadError.TheVariants as er
 ghost use Rattle.u_explain.specs.Accepted.{IsAccepted};
 
 use crate::lines::{tell_cut_short, tell_line};
-use crate::rules::tell_rule;
+use crate::telling_breach::tell_rule;
 use std::alloc::{AllocError, Global};
 use u_check::{Refused, check};
 use u_program::{Program, ReadError, read};

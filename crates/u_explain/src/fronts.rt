@@ -5,10 +5,9 @@ ghost use Rattle.u_explain.specs.Left.{IsLeft, Among, Behind, Numbered};
 ghost use Rattle.u_explain.specs.Lines.{NameOn, IntOn, ConstantOn, PlainOn, KindOn, FollowOn, ArrowOn, EndOn, BlockOn, LoopOn, StatementOn, RegionOn};
 ghost use Rattle.u_explain.specs.declared.fronts.Follows.TheVariants as variants;
 
-use crate::kind_words::{PLAIN_KINDS, has_otherwise, kind_word, room_of};
-use crate::lists::{after_number, arrow_left, shorter};
+use crate::lists::{after_number, arrow_left, room_of, shorter};
 use u_name::front_block;
-use u_program::Kind;
+use u_program::{Kind, has_otherwise, kind_word, plain_kinds};
 use u_text::{after, after_all, signed_at};
 
 /// What follows a number.
@@ -146,7 +145,7 @@ fn numbered_left<'a>(bytes: &'a [u8], word: &[u8], high: u32, follows: Follows) 
 fn kind_left(bytes: &[u8]) -> &[u8]
     ensures { IsLeft KindOn bytes.now result.now }
 {
-    let plain = plain_left(bytes, &PLAIN_KINDS);
+    let plain = plain_left(bytes, &plain_kinds());
     let constant = const_left(bytes);
     let enter = numbered_left(bytes, b"enter ", 100, Follows::List);
     let apply = numbered_left(bytes, b"apply ", 1000, Follows::Arrow);

@@ -4,31 +4,30 @@
 //! a mark under the byte from which on no allowed line goes on, what was expected there, what
 //! stands there, and the cause; or the rule that the program breaks, where, and why. `refused_at`
 //! and `line_left` find the byte: `lists` and `fronts` have the longest front of a line that begins
-//! some line of a sort, and `place` and `scanning` which sorts may stand where. `expected` says
-//! what may stand behind a front, and `expectations`, `accidents`, `causes`, `rule_sentences` and
-//! `rule_causes` have the sentences.
+//! some line of a sort, and `text_place` and `scanning` which sorts may stand where. `expected` says
+//! what may stand behind a front, and `telling_expected`, `accidents`, `line_causes`,
+//! `rule_sentences`, `rule_causes` and `telling_breach` have the sentences.
 #![tactic(auto)]
 
 mod accidents;
 mod breaking;
-mod causes;
-mod expectations;
 mod expected;
 mod explaining;
 mod fronts;
-mod kind_words;
+mod line_causes;
 mod lines;
 mod lists;
-mod place;
 mod rule_causes;
 mod rule_sentences;
-mod rules;
 mod scanning;
 mod source;
 mod telling;
+mod telling_breach;
+mod telling_expected;
+mod text_place;
 mod words;
 
-pub use causes::Refused;
 pub use explaining::explain;
+pub use line_causes::Refused;
 pub use lines::refused_at;
-pub use place::{Place, line_left};
+pub use text_place::{TextPlace, line_left};

@@ -6,20 +6,20 @@ ghost use Rattle.u_program.specs.Limits.{the_limits};
 ghost use Rattle.u_explain.specs.Left.{IsLongestFront};
 ghost use Rattle.u_explain.specs.Places.{IsPlace, IsAllowed};
 
-use crate::causes::{Refused, tell_cause};
-use crate::expectations::tell_expected;
 use crate::expected::expected_behind;
-use crate::place::{Place, line_left};
+use crate::line_causes::{Refused, tell_cause};
 use crate::scanning::behind_lines;
 use crate::source::show_marked;
 use crate::telling::{Piece, say, tell};
+use crate::telling_expected::tell_expected;
+use crate::text_place::{TextPlace, line_left};
 use std::alloc::{AllocError, Global};
 use u_program::{ReadError, read};
 use u_text::cut;
 
 /// How many bytes of the line the longest front has that begins some line which may stand at the
 /// place. It is 0 where no line may stand there.
-fn offset_of(line: &[u8], place: Place) -> usize
+fn offset_of(line: &[u8], place: TextPlace) -> usize
     ensures { (before : List (List ℕ)) → IsPlace before place
         → IsLongestFront (IsAllowed before) line.now result }
 {
@@ -95,7 +95,7 @@ fn tell_refused(out: &mut Vec<u8>, refused: &Refused<'_>) -> Result<(), AllocErr
         Some(front) => front,
         None => refused.line,
     };
-    let expected = expected_behind(refused.place == Place::Header, front);
+    let expected = expected_behind(refused.place == TextPlace::Header, front);
     say(out, "expected: ")?;
     tell_expected(out, refused.place, &expected)?;
     say(out, "\n")?;
@@ -121,12 +121,12 @@ pub fn tell_line(out: &mut Vec<u8>, bytes: &[u8], number: usize) -> Result<(), A
 }
 
 /// What a place of a file that ends there lacks.
-fn lack_of(place: Place) -> &'static str {
+fn lack_of(place: TextPlace) -> &'static str {
     match place {
-        Place::Header => "the file is empty",
-        Place::FirstBlock =>
+        TextPlace::Header => "the file is empty",
+        TextPlace::FirstBlock =>
             "the file ends behind its first line; a program has one block at least",
-        Place::Inside { .. } =>
+        TextPlace::Inside { .. } =>
             "the file ends behind a block that has no statement yet; each block has one at least",
     }
 }
@@ -134,7 +134,7 @@ fn lack_of(place: Place) -> &'static str {
 /// The line that is missing, where each line that is there is allowed.
 fn tell_missing(out: &mut Vec<u8>, missing: &Refused<'_>) -> Result<(), AllocError> {
     show_marked(out, missing.number, b"", 0)?;
-    let expected = expected_behind(missing.place == Place::Header, b"");
+    let expected = expected_behind(missing.place == TextPlace::Header, b"");
     say(out, "expected: ")?;
     tell_expected(out, missing.place, &expected)?;
     tell(

@@ -3,10 +3,21 @@ ghost use Rattle.std.specs.Prelude.{◌≡◌, ◌≤◌, ◌<◌, ◌⊎◌, �
 ghost use Rattle.std.specs.Fmt.{decimal};
 ghost use Rattle.u_text.specs.Fixed.{fixed};
 ghost use Rattle.u_explain.specs.Left.{IsLeft};
-ghost use Rattle.u_explain.specs.Lines.{ListEnd, DestinationOn, ListOn, ArrowOn, port_text};
+ghost use Rattle.u_explain.specs.Lines.{ListEnd, DestinationOn, ListOn, ArrowOn, port_text, room_of};
 
 use itoa::Buffer;
+use u_program::Kind;
 use u_text::after_all;
+
+/// How many destinations a list of the kind has at most: 16, or 0 where the kind lists none.
+pub fn room_of(kind: &Kind) -> u32
+    ensures { result ≡ room_of kind.now }
+{
+    match kind {
+        Kind::Apply(_) | Kind::Store | Kind::End => 0,
+        _ => 16,
+    }
+}
 
 /// The one that is not longer than the other.
 pub fn shorter<'a>(left: &'a [u8], right: &'a [u8]) -> &'a [u8]

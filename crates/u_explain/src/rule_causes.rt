@@ -1,11 +1,10 @@
 //! Why a statement breaks a rule, in a sentence, and the other place that is involved.
 use crate::breaking::{Sent, unfed_port};
-use crate::kind_words::kind_word;
 use crate::scanning::Part;
 use crate::telling::{Piece, say, tell};
 use std::alloc::AllocError;
 use u_check::{Rule, held_by, ports_of, statement_at};
-use u_program::{Block, Constant, Kind, Statement};
+use u_program::{Block, Constant, Kind, Statement, kind_word};
 
 /// A statement that breaks a rule.
 #[derive(Clone, Copy)]

@@ -5,14 +5,14 @@ ghost use Rattle.u_program.specs.FirstBad.{Begins};
 ghost use Rattle.u_program.specs.Limits.{the_limits};
 ghost use Rattle.u_explain.specs.Places.{IsPlace};
 
-use crate::place::Place;
+use crate::text_place::TextPlace;
 use u_text::cut;
 
 /// What stands behind some lines.
 #[derive(Clone, Copy)]
 pub struct Behind<'a> {
     /// The place behind them.
-    pub place: Place,
+    pub place: TextPlace,
     /// The number of the line that stands there, from 1.
     pub number: usize,
     /// The bytes from there on.
@@ -27,7 +27,7 @@ pub fn behind_lines(bytes: &[u8], count: usize) -> Behind<'_>
         → IsPlace before result.place × (result.number ≡ suc (length before))
         × (pieces 10 result.rest.now ≡ (others, (pieces 10 bytes.now).1)) }
 {
-    let mut place = Place::Header;
+    let mut place = TextPlace::Header;
     let mut rest = bytes;
     for done in 0..count {
         let Some((line, others)) = cut(rest, b'\n') else {
@@ -59,10 +59,10 @@ pub enum Part {
 }
 
 /// Whether the place stands right behind that line of the block of that number.
-fn is_behind(place: Place, block: usize, part: Part) -> bool {
+fn is_behind(place: TextPlace, block: usize, part: Part) -> bool {
     match (place, part) {
         (
-            Place::Inside {
+            TextPlace::Inside {
                 blocks,
                 loops,
                 statements,
@@ -70,7 +70,7 @@ fn is_behind(place: Place, block: usize, part: Part) -> bool {
             Part::Block,
         ) => blocks as usize == block && loops == 0 && statements == 0,
         (
-            Place::Inside {
+            TextPlace::Inside {
                 blocks,
                 loops,
                 statements,
@@ -78,7 +78,7 @@ fn is_behind(place: Place, block: usize, part: Part) -> bool {
             Part::Loop(number),
         ) => blocks as usize == block && loops as usize == number && statements == 0,
         (
-            Place::Inside {
+            TextPlace::Inside {
                 blocks,
                 statements,
                 ..
@@ -91,7 +91,7 @@ fn is_behind(place: Place, block: usize, part: Part) -> bool {
 
 /// The number of that line of a program's text, from 1, and the line.
 pub fn line_of(bytes: &[u8], block: usize, part: Part) -> Option<(usize, &[u8])> {
-    let mut place = Place::Header;
+    let mut place = TextPlace::Header;
     let mut number = 0;
     let mut rest = bytes;
     while let Some((line, others)) = cut(rest, b'\n') {

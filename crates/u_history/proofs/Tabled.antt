@@ -21,7 +21,7 @@ use Rattle.u_rule.specs.declared.parts.Write.{Write}
 use Rattle.u_rule.specs.declared.entry.Entry.{Entry}
 use Rattle.u_rule.specs.declared.entry.Entry.TheVariants as entries
 use Rattle.u_history.specs.declared.tables.Tables.{Tables}
-use Rattle.u_history.specs.Held.{table_at, Held, token_entry, write_entry, listed_entries, all_entries, IsOther, OthersAreOther}
+use Rattle.u_history.specs.Tables.{table_at, InTables, token_entry, write_entry, listed_entries, all_entries, IsOther, OthersAreOther}
 
 -- what follows of an error, if there is one
 pub err_then : {T E : Type 0} (r : Result T E) (P Q : E → Type 0) → IfErr r P → ((e : E) → P e → Q e) → IfErr r Q
@@ -73,22 +73,22 @@ module _ (t : Tables) where
   abbrev all : List Entry
   all = listed_entries t.first t.second t.third t.writes t.rest
 
-  held_other : (e : Entry) → Contains t.rest e → IsOther e → Held t e
+  held_other : (e : Entry) → Contains t.rest e → IsOther e → InTables t e
   held_other (entries.Token k) m o = absurd o
   held_other (entries.Write w) m o = absurd o
   held_other (entries.Fault x) m o = m
   held_other (entries.Answer v) m o = m
 
-  held_listed : OthersAreOther t → (e : Entry) → Contains all e → Held t e
+  held_listed : OthersAreOther t → (e : Entry) → Contains all e → InTables t e
   held_listed others e m =
       elim (Contains-append_cases (map (token_entry 1) t.first) (map (token_entry 2) t.second ++ (map (token_entry 3) t.third ++ (map write_entry t.writes ++ t.rest))) e m) [
-        | inl a ↦ (let r = unmapped (token_entry 1) t.first e a in subst (Held t) r.2 r.1)
+        | inl a ↦ (let r = unmapped (token_entry 1) t.first e a in subst (InTables t) r.2 r.1)
         | inr b ↦ elim (Contains-append_cases (map (token_entry 2) t.second) (map (token_entry 3) t.third ++ (map write_entry t.writes ++ t.rest)) e b) [
-          | inl a ↦ (let r = unmapped (token_entry 2) t.second e a in subst (Held t) r.2 r.1)
+          | inl a ↦ (let r = unmapped (token_entry 2) t.second e a in subst (InTables t) r.2 r.1)
           | inr c ↦ elim (Contains-append_cases (map (token_entry 3) t.third) (map write_entry t.writes ++ t.rest) e c) [
-            | inl a ↦ (let r = unmapped (token_entry 3) t.third e a in subst (Held t) r.2 r.1)
+            | inl a ↦ (let r = unmapped (token_entry 3) t.third e a in subst (InTables t) r.2 r.1)
             | inr d ↦ elim (Contains-append_cases (map write_entry t.writes) t.rest e d) [
-              | inl a ↦ (let r = unmapped write_entry t.writes e a in subst (Held t) r.2 r.1)
+              | inl a ↦ (let r = unmapped write_entry t.writes e a in subst (InTables t) r.2 r.1)
               | inr k ↦ held_other e k (others e k)
             ]
           ]
@@ -117,7 +117,7 @@ module _ (t : Tables) where
       behind_second (token_entry 3 (a, v)) (Contains-append_left (map (token_entry 3) t.third) (map write_entry t.writes ++ t.rest) (token_entry 3 (a, v)) (mapped (token_entry 3) t.third (a, v) m))
   token_listed (suc (suc (suc (suc n)))) a v m = absurd (Contains-nil (a, v) m)
 
-  listed_held : (e : Entry) → Held t e → Contains all e
+  listed_held : (e : Entry) → InTables t e → Contains all e
   listed_held (entries.Token k) m = token_listed k.port k.activity k.value m
   listed_held (entries.Write w) m =
       behind_third (entries.Write w) (Contains-append_left (map write_entry t.writes) t.rest (entries.Write w) (mapped write_entry t.writes (w.cell, written w.writer w.value) m))
@@ -125,7 +125,7 @@ module _ (t : Tables) where
   listed_held (entries.Answer v) m = behind_writes (entries.Answer v) m
 
   -- the entries in order are those that the tables hold
-  pub held_in : OthersAreOther t → (e : Entry) → Contains (all_entries t) e ↔ Held t e
+  pub held_in : OthersAreOther t → (e : Entry) → Contains (all_entries t) e ↔ InTables t e
   held_in others e =
       let s = members entry_cmp entry_cmp_total entry_cmp_ties all e in
       ((λ m. held_listed others e (s.0 m)), λ h. s.1 (listed_held e h))
@@ -133,15 +133,15 @@ module _ (t : Tables) where
   pub all_rise : Rises entry_cmp (all_entries t)
   all_rise = rises entry_cmp entry_cmp_total entry_cmp_ties all
 
-  pub held_at : (k : TokenParts) (n : ℕ) (a : Activity) (v : Value) → k.port ≡ n → a ≡ k.activity → v ≡ k.value → Contains (table_at t n) (a, v) ↔ Held t (entries.Token k)
+  pub held_at : (k : TokenParts) (n : ℕ) (a : Activity) (v : Value) → k.port ≡ n → a ≡ k.activity → v ≡ k.value → Contains (table_at t n) (a, v) ↔ InTables t (entries.Token k)
   held_at k n a v p q r = rw (q, r, p) ((λ m. m), λ m. m)
 
-pub no_entries : (t : Tables) → OthersAreOther t → ((e : Entry) → Held t e → ⊥) → all_entries t ≡ []
+pub no_entries : (t : Tables) → OthersAreOther t → ((e : Entry) → InTables t e → ⊥) → all_entries t ≡ []
 no_entries t o h = empty_of (all_entries t) (λ e m. h e ((held_in t o e).0 m))
 
 -- u has what t has, and e
 abbrev pub HasMore : Tables → Entry → Tables → Type 0
-HasMore t e u = (x : Entry) → Held u x ↔ (Held t x ⊎ (e ≡ x))
+HasMore t e u = (x : Entry) → InTables u x ↔ (InTables t x ⊎ (e ≡ x))
 
 module _ (t u : Tables) where
   pub more_entries : (e : Entry) → OthersAreOther t → OthersAreOther u → HasMore t e u → IsWith (all_entries t) e (all_entries u)
@@ -152,16 +152,16 @@ module _ (t u : Tables) where
         λ s. b.1 ((h x).1 (elim s [ inl m ↦ inl (a.0 m) | inr p ↦ inr p ])),
       )
 
-  pub one_entry_more : (e : Entry) (n : ℕ) → OthersAreOther t → OthersAreOther u → HasMore t e u → (Held t e → ⊥) → n ≡ length (all_entries t) → n + 1 ≡ length (all_entries u)
+  pub one_entry_more : (e : Entry) (n : ℕ) → OthersAreOther t → OthersAreOther u → HasMore t e u → (InTables t e → ⊥) → n ≡ length (all_entries t) → n + 1 ≡ length (all_entries u)
   one_entry_more e n o q h new c =
       let k = counted entry_cmp entry_cmp_total entry_cmp_ties (all_entries t) (all_entries u) e (all_rise t) (all_rise u) (more_entries e o q h) (λ m. new ((held_in t o e).0 m)) in
       omega arith
 
   module _ (k : TokenParts) (n : ℕ) (is : k.port ≡ n) (put : IsWith (table_at t n) (k.activity, k.value) (table_at u n)) (apart : (m : ℕ) → (m ≡ n) ⊎ (table_at u m ≡ table_at t m)) (writes : u.writes ≡ t.writes) (rest : u.rest ≡ t.rest) where
-    held_now : Held u (entries.Token k)
+    held_now : InTables u (entries.Token k)
     held_now = subst (λ (m : ℕ). Contains (table_at u m) (k.activity, k.value)) (sym is) ((put (k.activity, k.value)).1 (inr refl))
 
-    token_to : (j : TokenParts) → (j.port ≡ n) ⊎ (table_at u j.port ≡ table_at t j.port) → Held u (entries.Token j) → Held t (entries.Token j) ⊎ (entries.Token k ≡ entries.Token j)
+    token_to : (j : TokenParts) → (j.port ≡ n) ⊎ (table_at u j.port ≡ table_at t j.port) → InTables u (entries.Token j) → InTables t (entries.Token j) ⊎ (entries.Token k ≡ entries.Token j)
     token_to j (inl e) m =
         elim ((put (j.activity, j.value)).0 (subst (λ (i : ℕ). Contains (table_at u i) (j.activity, j.value)) e m)) [
           | inl a ↦ inl (subst (λ (i : ℕ). Contains (table_at t i) (j.activity, j.value)) (sym e) a)
@@ -169,24 +169,24 @@ module _ (t u : Tables) where
         ]
     token_to j (inr s) m = inl (subst (λ (ps : List (Activity × Value)). Contains ps (j.activity, j.value)) s m)
 
-    token_back : (j : TokenParts) → (j.port ≡ n) ⊎ (table_at u j.port ≡ table_at t j.port) → Held t (entries.Token j) → Held u (entries.Token j)
+    token_back : (j : TokenParts) → (j.port ≡ n) ⊎ (table_at u j.port ≡ table_at t j.port) → InTables t (entries.Token j) → InTables u (entries.Token j)
     token_back j (inl e) m =
         subst (λ (i : ℕ). Contains (table_at u i) (j.activity, j.value)) (sym e) ((put (j.activity, j.value)).1 (inl (subst (λ (i : ℕ). Contains (table_at t i) (j.activity, j.value)) e m)))
     token_back j (inr s) m = subst (λ (ps : List (Activity × Value)). Contains ps (j.activity, j.value)) (sym s) m
 
     pub token_more : HasMore t (entries.Token k) u
-    token_more (entries.Token j) = (token_to j (apart j.port), λ s. elim s [ inl m ↦ token_back j (apart j.port) m | inr q ↦ subst (Held u) q held_now ])
+    token_more (entries.Token j) = (token_to j (apart j.port), λ s. elim s [ inl m ↦ token_back j (apart j.port) m | inr q ↦ subst (InTables u) q held_now ])
     token_more (entries.Write w) = (
       (λ m. inl (subst (λ (ps : List (CellOf × Written)). Contains ps (w.cell, written w.writer w.value)) writes m)),
-      λ s. elim s [ inl m ↦ subst (λ (ps : List (CellOf × Written)). Contains ps (w.cell, written w.writer w.value)) (sym writes) m | inr q ↦ subst (Held u) q held_now ],
+      λ s. elim s [ inl m ↦ subst (λ (ps : List (CellOf × Written)). Contains ps (w.cell, written w.writer w.value)) (sym writes) m | inr q ↦ subst (InTables u) q held_now ],
     )
     token_more (entries.Fault x) = (
       (λ m. inl (subst (λ (es : List Entry). Contains es (entries.Fault x)) rest m)),
-      λ s. elim s [ inl m ↦ subst (λ (es : List Entry). Contains es (entries.Fault x)) (sym rest) m | inr q ↦ subst (Held u) q held_now ],
+      λ s. elim s [ inl m ↦ subst (λ (es : List Entry). Contains es (entries.Fault x)) (sym rest) m | inr q ↦ subst (InTables u) q held_now ],
     )
     token_more (entries.Answer x) = (
       (λ m. inl (subst (λ (es : List Entry). Contains es (entries.Answer x)) rest m)),
-      λ s. elim s [ inl m ↦ subst (λ (es : List Entry). Contains es (entries.Answer x)) (sym rest) m | inr q ↦ subst (Held u) q held_now ],
+      λ s. elim s [ inl m ↦ subst (λ (es : List Entry). Contains es (entries.Answer x)) (sym rest) m | inr q ↦ subst (InTables u) q held_now ],
     )
 
 module _ (t : Tables) where
@@ -199,17 +199,17 @@ module _ (t : Tables) where
   pub write_more : (w : Write) (ws : List (CellOf × Written)) → IsWith t.writes (w.cell, written w.writer w.value) ws → HasMore t (entries.Write w) (with_writes ws)
   write_more w ws put = more
     where
-      now : Held (with_writes ws) (entries.Write w)
+      now : InTables (with_writes ws) (entries.Write w)
       now = (put (w.cell, written w.writer w.value)).1 (inr refl)
 
       more : HasMore t (entries.Write w) (with_writes ws)
       more (entries.Write v) = (
         (λ m. elim ((put (v.cell, written v.writer v.value)).0 m) [ inl a ↦ inl a | inr q ↦ inr (ap write_entry q) ]),
-        λ s. elim s [ inl m ↦ (put (v.cell, written v.writer v.value)).1 (inl m) | inr q ↦ subst (Held (with_writes ws)) q now ],
+        λ s. elim s [ inl m ↦ (put (v.cell, written v.writer v.value)).1 (inl m) | inr q ↦ subst (InTables (with_writes ws)) q now ],
       )
-      more (entries.Token k) = ((λ m. inl m), λ s. elim s [ inl m ↦ m | inr q ↦ subst (Held (with_writes ws)) q now ])
-      more (entries.Fault x) = ((λ m. inl m), λ s. elim s [ inl m ↦ m | inr q ↦ subst (Held (with_writes ws)) q now ])
-      more (entries.Answer v) = ((λ m. inl m), λ s. elim s [ inl m ↦ m | inr q ↦ subst (Held (with_writes ws)) q now ])
+      more (entries.Token k) = ((λ m. inl m), λ s. elim s [ inl m ↦ m | inr q ↦ subst (InTables (with_writes ws)) q now ])
+      more (entries.Fault x) = ((λ m. inl m), λ s. elim s [ inl m ↦ m | inr q ↦ subst (InTables (with_writes ws)) q now ])
+      more (entries.Answer v) = ((λ m. inl m), λ s. elim s [ inl m ↦ m | inr q ↦ subst (InTables (with_writes ws)) q now ])
 
   pub other_more : (e : Entry) (es : List Entry) → IsOther e → IsWith t.rest e es → HasMore t e (with_rest es)
   other_more e es o put = more

@@ -21,7 +21,7 @@ use Rattle.u_rule.specs.declared.entry.Entry.TheVariants as entries
 use Rattle.u_rule.specs.contracts.firing.WrittenOrd.TheImpl.Laws as written_laws
 use Rattle.u_rule.specs.contracts.parts.FaultOrd.TheImpl.Laws as fault_laws
 use Rattle.u_history.specs.declared.tables.Tables.{Tables}
-use Rattle.u_history.specs.Held.{table_at, Held, Matters}
+use Rattle.u_history.specs.Tables.{table_at, InTables, Matters}
 use Rattle.u_history.specs.Orders.{value_order, written_order, fault_order}
 use Rattle.u_history.specs.Outcomes.{CellPairs, PortValues, PairIn, ValueAt, HasTwo, IsCellClash, IsPortClash, cell_clash_order, port_clash_order, IsOutcome}
 use Rattle.u_history.proofs.Reports.{cells_total, ports_total}
@@ -38,7 +38,7 @@ module _ (t u : Tables) (first : AreShared t.first u.first) (second : AreShared 
   token_tells (suc (suc (suc zero))) a v = third a v
   token_tells (suc (suc (suc (suc n)))) a v = ((λ m. absurd (Contains-nil (a, v) m)), λ h. absurd (Contains-nil (a, v) h.0))
 
-  pub tells : (e : Entry) → Held u e ↔ Matters (Held t) e
+  pub tells : (e : Entry) → InTables u e ↔ Matters (InTables t) e
   tells (entries.Token k) = token_tells k.port k.activity k.value
   tells (entries.Write w) = writes w.cell (written w.writer w.value)
   tells (entries.Fault x) =

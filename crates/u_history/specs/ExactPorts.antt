@@ -12,4 +12,5 @@ use Rattle.u_history.specs.Clashes.{port_order, port_of}
 pub port_ties : IsExact port_order
 port_ties a b h =
     let u = both _ _ h in
-    ap (λ (n : Activity). port_of n a.number) (name_cmp_ties a.activity b.activity u.0) ∙ ap (λ (k : ℕ). port_of b.activity k) (nat_cmp-IsAntisymmetric a.number b.number u.1)
+    ap (λ (n : Activity). port_of n a.number) (name_cmp_ties a.activity b.activity u.0)
+    ∙ ap (λ (k : ℕ). port_of b.activity k) (nat_cmp-IsAntisymmetric a.number b.number u.1)

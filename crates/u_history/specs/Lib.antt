@@ -1,5 +1,5 @@
 pub mod Stored
-pub mod Held
+pub mod Tables
 pub mod Orders
 pub mod Text
 pub mod Outcomes

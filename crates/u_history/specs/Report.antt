@@ -63,7 +63,10 @@ counts_text firings parked entries = count_line (codes "firings ") firings ++ (c
 
 unfoldable pub outcome_text : List Value → List CellPairs → List PortValues → List Fault → List ℕ
 outcome_text answers cells ports faults =
-    texts answer_line answers ++ (texts cell_lines cells ++ (texts port_lines ports ++ (texts fault_line faults ++ verdict_line (judged answers cells ports faults))))
+    texts answer_line answers
+    ++ (texts cell_lines cells
+    ++ (texts port_lines ports
+    ++ (texts fault_line faults ++ verdict_line (judged answers cells ports faults))))
 
 -- of a set with so many entries and that outcome
 unfoldable pub report_text : Ending → ℕ → ℕ → ℕ → List Value → List CellPairs → List PortValues → List Fault → List ℕ

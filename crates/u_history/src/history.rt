@@ -43,7 +43,7 @@ impl Model for History {
 
     ghost coded = { entries_code };
 
-    ghost use Rattle.u_history.specs.Held.{all_entries, AreCounted};
+    ghost use Rattle.u_history.specs.Tables.{all_entries, AreCounted};
 
     ghost view = { λ h. all_entries h.tables };
 
@@ -233,7 +233,8 @@ impl History {
     {
         let mut copied = History::new(self.alloc);
         copied.take_in(self)?;
-        let _count = copied.count;
+        // Brings in what the type's invariant says of the copy.
+        let _ = &copied.tables;
         Ok(copied)
     }
 

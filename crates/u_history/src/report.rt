@@ -214,16 +214,23 @@ fn put_answer_verdict(out: &mut Vec<u8>, answer: &Value) -> Result<(), AllocErro
     put_answer(out, answer)
 }
 
-#[tactic(auto, unfolding(crate::specs::Report::verdict_line))]
-fn put_verdict(out: &mut Vec<u8>, verdict: Verdict<'_>) -> Result<(), AllocError>
-    ensures { OnOk result
-        (out.new.items ≡ out.old.items ++ verdict_line (judgement verdict.entry)) }
-{
-    match verdict {
-        Verdict::Clashed => put(out, b"verdict clashed\n"),
-        Verdict::Faulted => put(out, b"verdict faulted\n"),
-        Verdict::Answer(answer) => put_answer_verdict(out, answer),
-        Verdict::NoAnswer => put(out, b"verdict none\n"),
+impl Verdict<'_> {
+    /// Appends the verdict's line with its newline: `verdict clashed`, `verdict faulted`,
+    /// `verdict answer VALUE` or `verdict none`.
+    ///
+    /// # Errors
+    /// `AllocError` if there is no memory. Then a part of the line may stand behind what `out` had.
+    #[tactic(auto, unfolding(crate::specs::Report::verdict_line))]
+    pub fn write_text(self, out: &mut Vec<u8>) -> Result<(), AllocError>
+        ensures { OnOk result
+            (out.new.items ≡ out.old.items ++ verdict_line (judgement self.entry)) }
+    {
+        match self {
+            Verdict::Clashed => put(out, b"verdict clashed\n"),
+            Verdict::Faulted => put(out, b"verdict faulted\n"),
+            Verdict::Answer(answer) => put_answer_verdict(out, answer),
+            Verdict::NoAnswer => put(out, b"verdict none\n"),
+        }
     }
 }
 
@@ -235,7 +242,7 @@ fn put_outcome(out: &mut Vec<u8>, outcome: &Outcome) -> Result<(), AllocError>
     put_cells(out, outcome.cell_clashes.as_slice())?;
     put_ports(out, outcome.port_clashes.as_slice())?;
     put_faults(out, outcome.faults.as_slice())?;
-    put_verdict(out, outcome.verdict())
+    outcome.verdict().write_text(out)
 }
 
 #[tactic(auto, unfolding(crate::specs::Report::report_text))]

@@ -11,7 +11,7 @@ ghost use Rattle.u_rule.specs.declared.entry.Entry.{Entry};
 ghost use Rattle.u_rule.specs.declared.entry.Entry.TheVariants as kinds;
 ghost use Rattle.u_sets.specs.Members.{IsWith};
 ghost use Rattle.u_sets.specs.Rising.{Rises};
-ghost use Rattle.u_history.specs.Held.{table_at, Held, OthersAreOther, token_entry, write_entry, listed_entries, all_entries, Matters};
+ghost use Rattle.u_history.specs.Tables.{table_at, InTables, OthersAreOther, token_entry, write_entry, listed_entries, all_entries, Matters};
 
 use std::alloc::{AllocError, AllocFailed, Global};
 use u_name::{Cell, Name};
@@ -177,7 +177,7 @@ fn has_pair(pairs: &[Written], write: &Write) -> bool
 impl Tables {
     /// No entries. It takes no memory.
     pub fn new(alloc: Global) -> Tables
-        ensures held { (e : Entry) → Held result e → ⊥ }
+        ensures held { (e : Entry) → InTables result e → ⊥ }
         ensures others { OthersAreOther result }
     {
         Tables {
@@ -192,7 +192,7 @@ impl Tables {
     /// The values of the activity at that port, each once.
     pub fn values_at(&self, activity: &Name, port: u8) -> &[Value]
         ensures all { (v : Value) → Contains result.now v
-            ↔ Held self.now (kinds.Token (token activity.now port v)) }
+            ↔ InTables self.now (kinds.Token (token activity.now port v)) }
         ensures distinct { Distinct result.now }
     {
         match port {
@@ -205,7 +205,7 @@ impl Tables {
 
     /// Whether the token is there.
     fn has_token(&self, item: &Token) -> bool
-        ensures { IsTrue result ↔ Held self.now (kinds.Token item.now) }
+        ensures { IsTrue result ↔ InTables self.now (kinds.Token item.now) }
     {
         match item.port() {
             1 => self.first.contains(item.activity(), item.value()),
@@ -216,7 +216,7 @@ impl Tables {
 
     /// Whether the write is there.
     fn has_write(&self, write: &Write) -> bool
-        ensures { IsTrue result ↔ Held self.now (kinds.Write write.now) }
+        ensures { IsTrue result ↔ InTables self.now (kinds.Write write.now) }
     {
         match pair_of(write) {
             Ok(pair) => self.writes.contains(&write.cell, &pair),
@@ -226,7 +226,7 @@ impl Tables {
 
     /// Whether the entry is there.
     pub fn contains(&self, entry: &Entry) -> bool
-        ensures { IsTrue result ↔ Held self.now entry.now }
+        ensures { IsTrue result ↔ InTables self.now entry.now }
     {
         match entry {
             Entry::Token(token) => self.has_token(token),
@@ -238,8 +238,8 @@ impl Tables {
     /// Puts the token in. Returns whether it was new.
     fn insert_token(&mut self, item: Token) -> Result<bool, AllocFailed<Entry>>
         ensures ok { OnOk result
-            ((e : Entry) → Held self.new e ↔ (Held self.old e ⊎ (kinds.Token item ≡ e))) }
-        ensures new { IfOk result (λ b. IsTrue b ↔ (Held self.old (kinds.Token item) → ⊥)) }
+            ((e : Entry) → InTables self.new e ↔ (InTables self.old e ⊎ (kinds.Token item ≡ e))) }
+        ensures new { IfOk result (λ b. IsTrue b ↔ (InTables self.old (kinds.Token item) → ⊥)) }
         ensures still { IfOk result (λ b. (IsTrue b → ⊥) → self.new ≡ self.old) }
         ensures err { OnErr result (self.new ≡ self.old) }
         ensures back { IfErr result (λ e. e.value ≡ kinds.Token item) }
@@ -256,8 +256,8 @@ impl Tables {
     pub fn insert(&mut self, entry: Entry) -> Result<bool, AllocFailed<Entry>>
         requires { OthersAreOther self.old }
         ensures ok { OnOk result
-            ((e : Entry) → Held self.new e ↔ (Held self.old e ⊎ (entry ≡ e))) }
-        ensures new { IfOk result (λ b. IsTrue b ↔ (Held self.old entry → ⊥)) }
+            ((e : Entry) → InTables self.new e ↔ (InTables self.old e ⊎ (entry ≡ e))) }
+        ensures new { IfOk result (λ b. IsTrue b ↔ (InTables self.old entry → ⊥)) }
         ensures still { IfOk result (λ b. (IsTrue b → ⊥) → self.new ≡ self.old) }
         ensures err { OnErr result (self.new ≡ self.old) }
         ensures back { IfErr result (λ e. e.value ≡ entry) }
@@ -309,7 +309,7 @@ impl Tables {
         requires { OthersAreOther self.now }
         ensures rises { IfOk result (λ v. Rises entry_cmp v.items) }
         ensures all { IfOk result
-            (λ v. (e : Entry) → Contains v.items e ↔ Matters (Held self.now) e) }
+            (λ v. (e : Entry) → Contains v.items e ↔ Matters (InTables self.now) e) }
     {
         let first = self.first.shared_pairs(alloc)?;
         let second = self.second.shared_pairs(alloc)?;

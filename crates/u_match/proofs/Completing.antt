@@ -8,7 +8,7 @@ use Rattle.u_rule.specs.declared.entry.Entry.TheVariants as entries
 use Rattle.u_match.specs.KeyedLists.{KeepsAll}
 use Rattle.u_match.specs.Keys.{ReadTable, cell_eq, IsMet, Notes, IsCompleteWith}
 use Rattle.u_match.proofs.Noted.{notes_still}
-use Rattle.u_match.proofs.Meeting.{same_token, held_met}
+use Rattle.u_match.proofs.MetValues.{same_token, held_met}
 
 module _ (old new : ReadTable) (es : List Entry) (kept : KeepsAll cell_eq old new) where
   -- an entry that is no token

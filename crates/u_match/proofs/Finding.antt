@@ -30,7 +30,7 @@ use Rattle.u_rule.specs.declared.entry.Entry.TheVariants as entries
 use Rattle.u_rule.specs.declared.firing.Firing.{Firing}
 use Rattle.u_rule.specs.declared.firing.Written.{Written}
 use Rattle.u_match.specs.ReadCells.{HasReadCell}
-use Rattle.u_match.proofs.Needs.{read_or_none, reads}
+use Rattle.u_rule.proofs.FiringShapes.{read_or_none, reads}
 
 -- each of a list, the first and the others
 pub within_cons : {X : Type 0} (P : X → Type 0) (x : X) (xs : List X) → Within P (x ∷ xs) ↔ (P x × Within P xs)

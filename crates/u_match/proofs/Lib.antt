@@ -1,10 +1,8 @@
 pub mod Puts
 pub mod Steps
-pub mod Rounds
 pub mod Wakes
 pub mod Noted
-pub mod Needs
-pub mod Meeting
+pub mod MetValues
 pub mod Made
 pub mod Answering
 pub mod WriteWaking

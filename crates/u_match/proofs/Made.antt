@@ -23,8 +23,8 @@ use Rattle.u_history.specs.Outcomes.{PairIn}
 use Rattle.u_match.specs.Keys.{IsMet}
 use Rattle.u_match.specs.Joins.{IsOne, IsTwo, IsThree, IsReading, ReadsCell, JoinsTwo, JoinsSome, JoinsThird, JoinsPair}
 use Rattle.u_match.specs.Waking.{IsWokenBy}
-use Rattle.u_match.proofs.Meeting.{Held, own_token, met_held, held_met, same_token}
-use Rattle.u_match.proofs.Needs.{OneValue, TwoValues, ThreeValues, Reading, Shape, shape_of, few_ports, rebuilt, needs_one, needs_two, needs_three, needs_read}
+use Rattle.u_match.proofs.MetValues.{Held, own_token, met_held, held_met, same_token}
+use Rattle.u_rule.proofs.FiringShapes.{OneValue, TwoValues, ThreeValues, Reading, Shape, shape_of, few_ports, rebuilt, needs_one, needs_two, needs_three, needs_read}
 
 -- a firing has as many values as its activity has ports
 counted_at : (p : List BlockParts) (s : Option StatementParts) (f : Firing) → is_firing_at p s f ≡ true → length f.values ≡ ports_in s

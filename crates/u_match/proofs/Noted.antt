@@ -6,7 +6,7 @@ use Rattle.u_name.specs.Cell.{CellOf}
 use Rattle.u_value.specs.declared.value.Value.{Value}
 use Rattle.u_rule.specs.Structures.{cell_named}
 use Rattle.u_match.specs.KeyedLists.{KeepsAll}
-use Rattle.u_match.specs.declared.keys.Read.{Read}
+use Rattle.u_match.specs.declared.meeting.Read.{Read}
 use Rattle.u_match.specs.Keys.{ReadTable, cell_eq, reads_of, read, Notes}
 
 -- nothing is lost in one step, or in two

@@ -1,5 +1,5 @@
 -- A list of firings that is gathered step by step.
-use Rattle.std.proofs.Common.{◌≡◌, ◌↔◌, ◌⊎◌, inl, inr, subst, ℕ, ◌<◌, ◌+◌, List, [], ◌∷◌, Contains, take, length, get_or, IsTrue, Option, Some, None, Ok}
+use Rattle.std.proofs.Common.{◌≡◌, ◌↔◌, ◌⊎◌, inl, inr, subst, ℕ, List, [], ◌∷◌, Contains, IsTrue, Option, Some, None, Ok}
 use Rattle.u_name.specs.Cell.{CellOf}
 use Rattle.u_name.specs.Name.{Activity}
 use Rattle.u_value.specs.declared.value.Value.{Value}
@@ -10,14 +10,9 @@ use Rattle.u_rule.specs.declared.entry.Entry.{Entry}
 use Rattle.u_rule.specs.declared.firing.Firing.{Firing}
 use Rattle.u_rule.specs.declared.firing.Written.{Written}
 use Rattle.u_sets.specs.Members.{SomeOf, Gains}
-use Rattle.u_system.proofs.Member.{Contains-nil}
-use Rattle.u_sets.proofs.Gathering.{scan_more}
+use Rattle.u_sets.proofs.Steps.{nothing}
 use Rattle.u_history.specs.Outcomes.{PairIn}
 use Rattle.u_match.specs.Joins.{IsKept, IsReading, ReadsCell}
-
--- one round of a loop
-pub round : {Y : Type 0} (P : Y → Firing → Type 0) (start old new : List Firing) (ys : List Y) (i : ℕ) (d : Y) → i < length ys → d ≡ get_or ys i d → Gains start (SomeOf (take i ys) P) old → Gains old (P d) new → Gains start (SomeOf (take (i + 1) ys) P) new
-round P start old new ys i d l e before step = scan_more P start ys i d old new l before (subst (λ y. Gains old (P y) new) e step)
 
 -- the firing, by another name
 pub renamed : (job : JobParts) (g h : Firing) (old new : List Firing) → g ≡ h → Gains old (IsKept job g) new → Gains old (IsKept job h) new
@@ -25,26 +20,6 @@ renamed job g h old new e s = subst (λ (x : Firing). Gains old (IsKept job x) n
 
 pub same_firing : (g h : Firing) (old new : List Firing) → g ≡ h → Gains old (λ f. g ≡ f) new → Gains old (λ f. h ≡ f) new
 same_firing g h old new e s = subst (λ (x : Firing). Gains old (λ f. x ≡ f) new) e s
-
--- two steps, one after the other
-pub both : (P Q : Firing → Type 0) (a b c : List Firing) → Gains a P b → Gains b Q c → Gains a (λ f. P f ⊎ Q f) c
-both P Q a b c p q f = (to, back)
-  where
-    to : Contains c f → Contains a f ⊎ (P f ⊎ Q f)
-    to m = elim ((q f).0 m) [ inl k ↦ elim ((p f).0 k) [ inl n ↦ inl n | inr x ↦ inr (inl x) ] | inr y ↦ inr (inr y) ]
-
-    back : Contains a f ⊎ (P f ⊎ Q f) → Contains c f
-    back (inl n) = (q f).1 (inl ((p f).1 (inl n)))
-    back (inr (inl x)) = (q f).1 (inl ((p f).1 (inr x)))
-    back (inr (inr y)) = (q f).1 (inr y)
-
--- nothing more
-pub nothing : (P : Firing → Type 0) (a : List Firing) → ((f : Firing) → P f → ⊥) → Gains a P a
-nothing P a none f = ((λ m. inl m), λ s. elim s [ inl m ↦ m | inr p ↦ absurd (none f p) ])
-
--- from nothing
-pub from_nothing : (P : Firing → Type 0) (a : List Firing) → Gains [] P a → (f : Firing) → Contains a f ↔ P f
-from_nothing P a g f = ((λ m. elim ((g f).0 m) [ inl n ↦ absurd (Contains-nil f n) | inr p ↦ p ]), λ p. (g f).1 (inr p))
 
 -- a firing of the job is put in, and another is left out
 pub put_in : (job : JobParts) (g : Firing) (old new : List Firing) → IsTrue (is_firing_of job g) → Gains old (λ f. g ≡ f) new → Gains old (IsKept job g) new

@@ -19,7 +19,7 @@ use Rattle.u_system.proofs.Member.{Contains-nil}
 use Rattle.u_match.specs.Keys.{ReadTable, reads_of, read, IsComplete}
 use Rattle.u_match.specs.Joins.{IsWoken}
 use Rattle.u_match.specs.Waking.{IsWokenBy}
-use Rattle.u_match.proofs.Needs.{OneValue, TwoValues, ThreeValues, Reading, Shape, shape_of, rebuilt, needs_one, needs_two, needs_three, needs_read}
+use Rattle.u_rule.proofs.FiringShapes.{OneValue, TwoValues, ThreeValues, Reading, Shape, shape_of, rebuilt, needs_one, needs_two, needs_three, needs_read}
 
 -- a need of a firing is a token or the write that it reads
 pub record IsNeed (f : Firing) (e : Entry) : Type 0 where

@@ -13,7 +13,7 @@ use Rattle.u_rule.specs.declared.firing.Written.{Written}
 use Rattle.u_rule.specs.declared.parts.Write.{Write}
 use Rattle.u_sets.specs.Members.{SomeOf}
 use Rattle.u_history.specs.Outcomes.{PairIn}
-use Rattle.u_match.specs.declared.keys.Read.{Read}
+use Rattle.u_match.specs.declared.meeting.Read.{Read}
 
 -- f is that firing, and one of the job
 abbrev pub IsKept : JobParts → Firing → Firing → Type 0

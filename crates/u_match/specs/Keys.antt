@@ -10,7 +10,7 @@ use Rattle.u_sets.specs.Members.{IsWith}
 use Rattle.u_rule.specs.declared.entry.Entry.{Entry}
 use Rattle.u_rule.specs.declared.entry.Entry.TheVariants as entries
 use Rattle.u_history.specs.Outcomes.{ValueAt}
-use Rattle.u_match.specs.declared.keys.Read.{Read}
+use Rattle.u_match.specs.declared.meeting.Read.{Read}
 use Rattle.u_match.specs.declared.table.Table.{Table}
 use Rattle.u_match.specs.KeyedLists.{under, KeepsAll}
 

@@ -11,13 +11,13 @@
 //! before it is returned.
 #![tactic(auto)]
 
-mod having;
-mod joins;
-mod keys;
-mod making;
+mod enabling;
+mod joining_tokens;
+mod making_firings;
 mod matcher;
-mod notes;
+mod meeting;
+mod noting_reads;
 mod table;
-mod woken;
+mod waking_reads;
 
 pub use matcher::Matcher;

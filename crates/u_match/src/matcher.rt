@@ -9,12 +9,12 @@ ghost use Rattle.u_sets.specs.Rising.{Rises};
 ghost use Rattle.u_sets.specs.Members.{IsWith, AreThose, HasOr};
 ghost use Rattle.u_match.specs.Waking.{IsWokenBy};
 
-use crate::having::has_all_of;
-use crate::joins::woken_by_token;
-use crate::keys::Reads;
-use crate::notes::note;
+use crate::enabling::has_all_of;
+use crate::joining_tokens::woken_by_token;
+use crate::meeting::Reads;
+use crate::noting_reads::note;
 use crate::table::Table;
-use crate::woken::woken_by_write;
+use crate::waking_reads::Entering;
 use std::alloc::{AllocError, Global};
 use std::marker::Model;
 use u_check::Job;
@@ -95,7 +95,13 @@ impl Matcher {
         match entry {
             Entry::Token(token) => woken_by_token(self.alloc, job, &self.history, token),
             Entry::Write(write) => {
-                woken_by_write(self.alloc, job, &self.history, &self.reads, write, entry)
+                let entering = Entering {
+                    alloc: self.alloc,
+                    job,
+                    entries: &self.history,
+                    entry,
+                };
+                entering.woken_by_write(&self.reads, write)
             }
             Entry::Fault(_fault) => Ok(Vec::new(self.alloc)),
             Entry::Answer(_value) => Ok(Vec::new(self.alloc)),

@@ -18,7 +18,7 @@ use Rattle.u_name.specs.Block.{is_block_byte}
 use Rattle.u_name.specs.Context.{Tree, Top, InLoop, InCall, depth, InRange}
 use Rattle.u_name.specs.Name.{Activity, activity, IsName}
 use Rattle.u_name.proofs.BlockTextLaws.{IsBlockByte, block_Reads}
-use Rattle.u_name.specs.NameReader.{Frame, Tail, byte, step_at, frame_at, tail_at, to_depth, opens_at, framed, IsStep, IsFrame, IsTail}
+use Rattle.u_name.specs.NameReader.{Frame, Tail, byte, linkage_at, frame_at, tail_at, to_depth, opens_at, framed, IsLinkage, IsFrame, IsTail}
 use Rattle.u_name.specs.NameText.{context_text, name_text}
 
 -- frames, the outermost first
@@ -61,7 +61,7 @@ statement_Reads = number_Reads 999 (omega arith) (omega arith)
 abbrev step_text : ℕ ⊎ ℕ → List ℕ
 step_text = one_text 76 decimal decimal
 
-step_Reads : Reads step_text IsStep IsDigit step_at
+step_Reads : Reads step_text IsLinkage IsDigit linkage_at
 step_Reads = choice_Reads 76 (number_Reads 99 (omega arith) (omega arith)) statement_Reads (λ y u v w e. number_first 999 (omega arith) (omega arith) y w 76 u v (omega arith) e)
 
 abbrev end_text : ℕ × Unit {0} → List ℕ

@@ -11,8 +11,8 @@ use Rattle.u_name.specs.Context.{Tree, Top, InLoop, InCall, depth, InRange, IsBe
 use Rattle.u_name.specs.ContextOrder.{context_cmp, parts_cmp}
 use Rattle.u_name.specs.Path.{kinds, frames, path, kind_by, number_by}
 use Rattle.u_name.specs.Words.{words, high_word, low_word, last_word}
-use Rattle.u_name.specs.declared.context.Step.{Step}
-use Rattle.u_name.specs.declared.context.Step.TheVariants.{Loop, Call}
+use Rattle.u_name.specs.declared.context.Linkage.{Linkage}
+use Rattle.u_name.specs.declared.context.Linkage.TheVariants.{Loop, Call}
 use Rattle.u_name.specs.LinkTree.{tree_by}
 use Rattle.u_name.proofs.BlockNumbers.{digits, halves_in_order}
 
@@ -99,7 +99,7 @@ pub by_paths : (x y : Tree) → IsContext x → IsContext y → slice_cmp nat_cm
 by_paths x y f g = marked x y (frames x) (frames y) ∙ compared x y f.in_range g.in_range
 
 -- the path of a loop or a call goes around that of the outer context
-pub path_by : (s : Step) (o : Tree) (b : List ℕ) (i : ℕ) → kind_by s ∷ (path o ++ words b (number_by s) i) ≡ path (tree_by s o b i)
+pub path_by : (s : Linkage) (o : Tree) (b : List ℕ) (i : ℕ) → kind_by s ∷ (path o ++ words b (number_by s) i) ≡ path (tree_by s o b i)
 path_by (Loop n) o b i = ap (λ (l : List ℕ). 1 ∷ l) (append_assoc (kinds o) (0 ∷ frames o) (words b n i))
 path_by (Call n) o b i = ap (λ (l : List ℕ). 2 ∷ l) (append_assoc (kinds o) (0 ∷ frames o) (words b n i))
 

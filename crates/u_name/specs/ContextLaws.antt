@@ -40,11 +40,16 @@ initiation (InCall o b m i) = i
 -- the order of contexts, as far as this many levels go
 abbrev upto : ℕ → Tree → Tree → Ordering
 upto zero = on kind nat_cmp
-upto (suc n) = then_cmp (on kind nat_cmp) (then_cmp (on outer (upto n)) (then_cmp (on block (slice_cmp nat_cmp)) (then_cmp (on number nat_cmp) (on initiation nat_cmp))))
+upto (suc n) =
+    then_cmp (on kind nat_cmp)
+    (then_cmp (on outer (upto n)) (then_cmp (on block (slice_cmp nat_cmp)) (then_cmp (on number nat_cmp) (on initiation nat_cmp))))
 
 upto_total : (n : ℕ) → IsTotalOrder (upto n)
 upto_total zero = on_total kind nat_cmp_total
-upto_total (suc n) = then_total (on_total kind nat_cmp_total) (then_total (on_total outer (upto_total n)) (then_total (on_total block nat_list_cmp_total) (then_total (on_total number nat_cmp_total) (on_total initiation nat_cmp_total))))
+upto_total (suc n) =
+    then_total (on_total kind nat_cmp_total)
+    (then_total (on_total outer (upto_total n))
+    (then_total (on_total block nat_list_cmp_total) (then_total (on_total number nat_cmp_total) (on_total initiation nat_cmp_total))))
 
 upto-Top : (n : ℕ) → upto n Top Top ≡ Equal
 upto-Top n = tied_itself (upto_total n) Top
@@ -68,8 +73,17 @@ same (suc n) (InCall o b m i) (InCall p c k j) h = ap (λ r. ordering_then r (pa
 pub context_cmp_total : IsTotalOrder context_cmp
 context_cmp_total = record {
   antisymm = λ x y. let n : ℕ = depth x + depth y in rw (same n x y (omega arith), same n y x (omega arith)) ((upto_total n).antisymm x y);
-  trans = λ x y z p q. let n : ℕ = depth x + depth y in let f = same n x y (omega arith) in let g = same n y z (omega arith) in same n x z (omega arith) ∙ (upto_total n).trans x y z (sym f ∙ p) (sym g ∙ q);
-  congr = λ x y z p. let n : ℕ = depth x + depth y in let f = same n x y (omega arith) in same n x z (omega arith) ∙ (upto_total n).congr x y z (sym f ∙ p) ∙ sym (same n y z (omega arith));
+  trans =
+      λ x y z p q.
+      let n : ℕ = depth x + depth y in
+      let f = same n x y (omega arith) in
+      let g = same n y z (omega arith) in
+      same n x z (omega arith) ∙ (upto_total n).trans x y z (sym f ∙ p) (sym g ∙ q);
+  congr =
+      λ x y z p.
+      let n : ℕ = depth x + depth y in
+      let f = same n x y (omega arith) in
+      same n x z (omega arith) ∙ (upto_total n).congr x y z (sym f ∙ p) ∙ sym (same n y z (omega arith));
 }
 
 pub both : (r s : Ordering) → ordering_then r s ≡ Equal → (r ≡ Equal) × (s ≡ Equal)

@@ -1,18 +1,18 @@
 -- What the parts of a name that the cursor reads stand for.
 use Rattle.std.specs.Prelude.{ℕ, ◌⊎◌}
 use Rattle.std.proofs.Common.{inl, inr}
-use Rattle.u_name.specs.declared.reading.Step.{Step}
-use Rattle.u_name.specs.declared.reading.Step.TheVariants.{Loop, Call}
+use Rattle.u_name.specs.declared.context.Linkage.{Linkage}
+use Rattle.u_name.specs.declared.context.Linkage.TheVariants.{Loop, Call}
 use Rattle.u_name.specs.declared.reading.Frame.{Frame}
 use Rattle.u_name.specs.declared.reading.Tail.{Tail}
 use Rattle.u_name.specs.NameReader as reader
 
-abbrev pub step_value : Step → ℕ ⊎ ℕ
-step_value (Loop n) = inl n
-step_value (Call n) = inr n
+abbrev pub linkage_value : Linkage → ℕ ⊎ ℕ
+linkage_value (Loop n) = inl n
+linkage_value (Call n) = inr n
 
 abbrev pub frame_value : Frame → reader.Frame
-frame_value f = (f.block, (step_value f.step, (f.initiation, tt)))
+frame_value f = (f.block, (linkage_value f.linkage, (f.initiation, tt)))
 
 abbrev pub tail_value : Tail → reader.Tail
 tail_value f = (f.block, (f.statement, f.initiation))

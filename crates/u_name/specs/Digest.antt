@@ -1,7 +1,7 @@
 -- The number that a context is hashed by: of each loop and call its initiation and its number.
 use Rattle.std.specs.Prelude.{ℕ, ◌+◌, ◌*◌, ◌%◌, ◌^◌}
-use Rattle.u_name.specs.declared.context.Step.{Step}
-use Rattle.u_name.specs.declared.context.Step.TheVariants.{Loop, Call}
+use Rattle.u_name.specs.declared.context.Linkage.{Linkage}
+use Rattle.u_name.specs.declared.context.Linkage.TheVariants.{Loop, Call}
 use Rattle.u_name.specs.Context.{Tree, Top, InLoop, InCall}
 
 abbrev pub loop_mark : ℕ → ℕ → ℕ
@@ -10,7 +10,7 @@ loop_mark number initiation = initiation * 65536 + number
 abbrev pub call_mark : ℕ → ℕ → ℕ
 call_mark statement initiation = initiation * 65536 + 32768 + statement
 
-abbrev pub mark_by : Step → ℕ → ℕ
+abbrev pub mark_by : Linkage → ℕ → ℕ
 mark_by (Loop number) initiation = loop_mark number initiation
 mark_by (Call statement) initiation = call_mark statement initiation
 

@@ -3,8 +3,8 @@ use Rattle.std.specs.Prelude.{◌≡◌, ℕ, List}
 use Rattle.u_name.specs.declared.context.Link.{Link}
 use Rattle.u_name.specs.declared.context.Link.TheVariants as links
 use Rattle.u_name.specs.declared.context.Inner.{Inner}
-use Rattle.u_name.specs.declared.context.Step.{Step}
-use Rattle.u_name.specs.declared.context.Step.TheVariants.{Loop, Call}
+use Rattle.u_name.specs.declared.context.Linkage.{Linkage}
+use Rattle.u_name.specs.declared.context.Linkage.TheVariants.{Loop, Call}
 use Rattle.u_name.specs.declared.context.Node.{Node}
 use Rattle.u_name.specs.declared.context.Node.TheVariants as nodes
 use Rattle.u_name.specs.Context.{Tree, Top, InLoop, InCall}
@@ -12,12 +12,12 @@ use Rattle.u_name.specs.Path.{path}
 use Rattle.u_name.specs.Digest.{digest}
 
 -- what a loop or a call makes in an outer context
-abbrev pub tree_by : Step → Tree → List ℕ → ℕ → Tree
+abbrev pub tree_by : Linkage → Tree → List ℕ → ℕ → Tree
 tree_by (Loop number) outer block initiation = InLoop outer block number initiation
 tree_by (Call statement) outer block initiation = InCall outer block statement initiation
 
 abbrev pub inner_tree : Inner → Tree
-inner_tree i = tree_by i.step i.outer i.block i.initiation
+inner_tree i = tree_by i.linkage i.outer i.block i.initiation
 
 abbrev pub tree_of : Link → Tree
 tree_of links.Root = Top

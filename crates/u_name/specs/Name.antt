@@ -47,4 +47,8 @@ returned n t = elim n.context [ Top ↦ n | InLoop v d l j ↦ n | InCall v d s 
 
 abbrev pub activity_code : Coded Activity
 activity_code =
-    code_by (Tree × (List ℕ × (ℕ × ℕ))) (coded× tree_code (coded× (coded_list coded_ℕ) (coded× coded_ℕ coded_ℕ))) (λ n. (n.context, (n.block, (n.statement, n.initiation)))) (λ p. activity p.0 p.1.0 p.1.1.0 p.1.1.1) (λ _. refl)
+    code_by (Tree × (List ℕ × (ℕ × ℕ)))
+    (coded× tree_code (coded× (coded_list coded_ℕ) (coded× coded_ℕ coded_ℕ)))
+    (λ n. (n.context, (n.block, (n.statement, n.initiation))))
+    (λ p. activity p.0 p.1.0 p.1.1.0 p.1.1.1)
+    (λ _. refl)

@@ -18,10 +18,16 @@ use Rattle.u_name.specs.Name.{Activity, activity}
 
 -- by context, block, statement, initiation
 abbrev pub name_cmp : Activity → Activity → Ordering
-name_cmp a b = ordering_then (context_cmp a.context b.context) (ordering_then (slice_cmp nat_cmp a.block b.block) (ordering_then (nat_cmp a.statement b.statement) (nat_cmp a.initiation b.initiation)))
+name_cmp a b =
+    ordering_then (context_cmp a.context b.context)
+    (ordering_then (slice_cmp nat_cmp a.block b.block)
+    (ordering_then (nat_cmp a.statement b.statement) (nat_cmp a.initiation b.initiation)))
 
 pub name_cmp_total : IsTotalOrder name_cmp
-name_cmp_total = then_total (on_total (λ (n : Activity). n.context) context_cmp_total) (then_total (on_total (λ (n : Activity). n.block) nat_list_cmp_total) (then_total (on_total (λ (n : Activity). n.statement) nat_cmp_total) (on_total (λ (n : Activity). n.initiation) nat_cmp_total)))
+name_cmp_total =
+    then_total (on_total (λ (n : Activity). n.context) context_cmp_total)
+    (then_total (on_total (λ (n : Activity). n.block) nat_list_cmp_total)
+    (then_total (on_total (λ (n : Activity). n.statement) nat_cmp_total) (on_total (λ (n : Activity). n.initiation) nat_cmp_total)))
 
 -- names that tie are the same
 pub name_cmp_ties : (a b : Activity) → name_cmp a b ≡ Equal → a ≡ b

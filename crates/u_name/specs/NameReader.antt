@@ -25,12 +25,12 @@ abbrev pub byte : ℕ → Reader (Unit {0})
 byte c = lead c (empty tt)
 
 -- `Ll` or `s`
-abbrev pub step_at : Reader (ℕ ⊎ ℕ)
-step_at = choice 76 (number 99) (number 999)
+abbrev pub linkage_at : Reader (ℕ ⊎ ℕ)
+linkage_at = choice 76 (number 99) (number 999)
 
 -- `.c.Ll.i)` or `.c.s.i)`
 abbrev pub frame_at : Reader Frame
-frame_at = lead 46 (both block_at (λ _. lead 46 (both step_at (λ _. lead 46 (both (number 4294967295) (λ _. byte 41))))))
+frame_at = lead 46 (both block_at (λ _. lead 46 (both linkage_at (λ _. lead 46 (both (number 4294967295) (λ _. byte 41))))))
 
 -- `.c.s.i`
 abbrev pub tail_at : Reader Tail
@@ -49,11 +49,11 @@ abbrev pub framed : Tree → Frame → Tree
 framed u f = elim f.1.0 [ inl l ↦ InLoop u f.0 l f.1.1.0 | inr s ↦ InCall u f.0 s f.1.1.0 ]
 
 -- the parts are in their ranges
-abbrev pub IsStep : ℕ ⊎ ℕ → Type 0
-IsStep = IsOne (IsUpTo 99) (IsUpTo 999)
+abbrev pub IsLinkage : ℕ ⊎ ℕ → Type 0
+IsLinkage = IsOne (IsUpTo 99) (IsUpTo 999)
 
 abbrev pub IsFrame : Frame → Type 0
-IsFrame = AreBoth IsBlock (λ _. AreBoth IsStep (λ _. AreBoth (IsUpTo 4294967295) (λ _. IsUnit)))
+IsFrame = AreBoth IsBlock (λ _. AreBoth IsLinkage (λ _. AreBoth (IsUpTo 4294967295) (λ _. IsUnit)))
 
 abbrev pub IsTail : Tail → Type 0
 IsTail = AreBoth IsBlock (λ _. AreBoth (IsUpTo 999) (λ _. IsUpTo 4294967295))

@@ -1,8 +1,8 @@
 -- What contexts are compared by: the kinds of their loops and calls from the innermost outwards, a 0, and the words of these
 -- from the outermost inwards.
 use Rattle.std.specs.Prelude.{ℕ, List, [], ◌∷◌, ◌++◌}
-use Rattle.u_name.specs.declared.context.Step.{Step}
-use Rattle.u_name.specs.declared.context.Step.TheVariants.{Loop, Call}
+use Rattle.u_name.specs.declared.context.Linkage.{Linkage}
+use Rattle.u_name.specs.declared.context.Linkage.TheVariants.{Loop, Call}
 use Rattle.u_name.specs.Context.{Tree, Top, InLoop, InCall}
 use Rattle.u_name.specs.Words.{words}
 
@@ -23,10 +23,10 @@ abbrev pub path : Tree → List ℕ
 path t = kinds t ++ 0 ∷ frames t
 
 -- the kind, and the number of the loop or of the statement
-abbrev pub kind_by : Step → ℕ
+abbrev pub kind_by : Linkage → ℕ
 kind_by (Loop number) = 1
 kind_by (Call statement) = 2
 
-abbrev pub number_by : Step → ℕ
+abbrev pub number_by : Linkage → ℕ
 number_by (Loop number) = number
 number_by (Call statement) = statement

@@ -45,7 +45,7 @@ enum Link {
 #[derive(Drop)]
 struct Inner {
     outer: Context,
-    step: Step,
+    linkage: Linkage,
     block: BlockName,
     initiation: u32,
     digest: u64,
@@ -55,7 +55,7 @@ struct Inner {
 /// What leads from an outer context into another: the loop with that number, or a call by the
 /// statement with that number.
 #[derive(Clone, Copy, Drop)]
-enum Step {
+pub(crate) enum Linkage {
     Loop(u8),
     Call(u16),
 }
@@ -111,14 +111,14 @@ impl Model for Context {
     ghost size_decreases = { λ a h. deep-le-depth a.link };
 }
 
-impl Step {
+impl Linkage {
     /// The kind of the context: 1 for a loop's, 2 for a call's.
     fn kind(self) -> u8
         ensures { result ≡ kind_by self }
     {
         match self {
-            Step::Loop(_) => LOOP,
-            Step::Call(_) => CALL,
+            Linkage::Loop(_) => LOOP,
+            Linkage::Call(_) => CALL,
         }
     }
 
@@ -127,8 +127,8 @@ impl Step {
         ensures { result ≡ number_by self }
     {
         match self {
-            Step::Loop(number) => u16::from(number),
-            Step::Call(statement) => statement,
+            Linkage::Loop(number) => u16::from(number),
+            Linkage::Call(statement) => statement,
         }
     }
 
@@ -137,8 +137,10 @@ impl Step {
         ensures { result ≡ mark_by self initiation }
     {
         match self {
-            Step::Loop(number) => u64::from(initiation) * 65536 + u64::from(number),
-            Step::Call(statement) => u64::from(initiation) * 65536 + 32768 + u64::from(statement),
+            Linkage::Loop(number) => u64::from(initiation) * 65536 + u64::from(number),
+            Linkage::Call(statement) => u64::from(initiation) * 65536
+                + 32768
+                + u64::from(statement),
         }
     }
 }
@@ -157,19 +159,26 @@ impl Inner {
     fn new(
         alloc: Global,
         outer: Context,
-        step: Step,
+        linkage: Linkage,
         block: BlockName,
         initiation: u32,
     ) -> Result<Inner, AllocError>
         ensures { IfOk result
-            (λ i. (inner_tree i ≡ tree_by step outer block initiation) × IsBeside i) }
+            (λ i. (inner_tree i ≡ tree_by linkage outer block initiation) × IsBeside i) }
     {
-        let kind = step.kind();
-        let path = path_around(alloc, kind, outer.path(), &block, step.number(), initiation)?;
-        let digest = next_digest(outer.digest(), step.mark(initiation));
+        let kind = linkage.kind();
+        let path = path_around(
+            alloc,
+            kind,
+            outer.path(),
+            &block,
+            linkage.number(),
+            initiation,
+        )?;
+        let digest = next_digest(outer.digest(), linkage.mark(initiation));
         Ok(Inner {
             outer,
-            step,
+            linkage,
             block,
             initiation,
             digest,
@@ -220,14 +229,14 @@ impl Context {
     {
         match &self.link {
             Link::Root => Node::Root,
-            Link::Inner(inner) => match inner.step {
-                Step::Loop(number) => Node::Loop {
+            Link::Inner(inner) => match inner.linkage {
+                Linkage::Loop(number) => Node::Loop {
                     outer: &inner.outer,
                     block: &inner.block,
                     number,
                     initiation: inner.initiation,
                 },
-                Step::Call(statement) => Node::Call {
+                Linkage::Call(statement) => Node::Call {
                     outer: &inner.outer,
                     block: &inner.block,
                     statement,
@@ -257,7 +266,7 @@ impl Context {
         let _ = &outer.link;
         // Brings in that the block's name is one: 1 to 16 letters, digits and `_`.
         let _ = block.as_bytes();
-        let inner = Inner::new(alloc, outer, Step::Loop(number), block, initiation)?;
+        let inner = Inner::new(alloc, outer, Linkage::Loop(number), block, initiation)?;
         let shared = Arc::new(alloc, inner)?;
         Ok(Context {
             link: Link::Inner(shared),
@@ -284,7 +293,7 @@ impl Context {
         let _ = &outer.link;
         // Brings in that the block's name is one: 1 to 16 letters, digits and `_`.
         let _ = block.as_bytes();
-        let inner = Inner::new(alloc, outer, Step::Call(statement), block, initiation)?;
+        let inner = Inner::new(alloc, outer, Linkage::Call(statement), block, initiation)?;
         let shared = Arc::new(alloc, inner)?;
         Ok(Context {
             link: Link::Inner(shared),

@@ -6,7 +6,7 @@ ghost use Rattle.u_text.specs.Number.{number};
 ghost use Rattle.u_name.specs.BlockText.{block_at, begins_with_letter};
 ghost use Rattle.u_text.specs.Parts.{after_byte};
 ghost use Rattle.u_name.specs.NameReader as reader;
-ghost use Rattle.u_name.specs.CursorValues.{step_value, frame_value, tail_value};
+ghost use Rattle.u_name.specs.CursorValues.{linkage_value, frame_value, tail_value};
 ghost use Rattle.u_name.specs.NameReading.{IsNameAt, IsNameOf, IsNameErrorAt, IsNameErrorOf};
 ghost use Rattle.u_name.specs.NameReader.{IsFrame, IsTail, paren_span, frames_from, name_steps};
 ghost use Rattle.u_name.specs.CursorAnswers.{Fails, IsFine, ReadsOpens, ReadsNoOpens, ReadsName, ReadsNoName};
@@ -15,24 +15,17 @@ ghost use Rattle.u_name.specs.declared.reading.NameTextError.TheVariants.{BadNam
 
 use crate::block_name::BlockName;
 use crate::block_text::{begins_with_letter, block_len};
-use crate::context::Context;
+use crate::context::{Context, Linkage};
 use crate::name::Name;
 use std::alloc::{AllocError, AllocFailed, Global};
 use thiserror::Error;
 use u_text::number_at;
 
-/// What a context was entered by: a loop's number, or the number of the statement that called.
-#[derive(Clone, Copy)]
-enum Step {
-    Loop(u8),
-    Call(u16),
-}
-
 /// The part of a context's text behind the outer context's.
 #[derive(Clone, Copy)]
 struct Frame {
     block: BlockName,
-    step: Step,
+    linkage: Linkage,
     initiation: u32,
 }
 
@@ -91,20 +84,20 @@ impl<'a> Cursor<'a> {
     }
 
     #[tactic(auto, using(u_text::proofs::NumberLaws::number_bound))]
-    fn step(&mut self) -> Result<Step, Stuck>
+    fn linkage(&mut self) -> Result<Linkage, Stuck>
         ensures { MatchResult result
-            (λ step. reader.step_at self.old.rest.now ≡ Ok (step_value step, self.new.rest.now))
-            (λ _. reader.step_at self.old.rest.now ≡ Err self.new.rest.now) }
+            (λ linkage. reader.linkage_at self.old.rest.now ≡ Ok (linkage_value linkage, self.new.rest.now))
+            (λ _. reader.linkage_at self.old.rest.now ≡ Err self.new.rest.now) }
     {
         match self.rest.split_first() {
             Some((b'L', rest)) => {
                 self.rest = rest;
                 let number = self.number(99)?;
-                Ok(Step::Loop(number as u8))
+                Ok(Linkage::Loop(number as u8))
             }
             _ => {
                 let statement = self.number(999)?;
-                Ok(Step::Call(statement as u16))
+                Ok(Linkage::Call(statement as u16))
             }
         }
     }
@@ -127,13 +120,13 @@ impl<'a> Cursor<'a> {
         self.byte(b'.')?;
         let block = self.block()?;
         self.byte(b'.')?;
-        let step = self.step()?;
+        let linkage = self.linkage()?;
         self.byte(b'.')?;
         let initiation = self.number(u32::MAX)?;
         self.byte(b')')?;
         Ok(Frame {
             block,
-            step,
+            linkage,
             initiation,
         })
     }
@@ -232,9 +225,15 @@ fn extended(alloc: Global, outer: Context, frame: Frame) -> Result<Context, Allo
     requires fine { IsFrame (frame_value frame) }
     ensures { IfOk result (λ context. context ≡ reader.framed outer (frame_value frame)) }
 {
-    match frame.step {
-        Step::Loop(number) => Context::in_loop(alloc, outer, frame.block, number, frame.initiation),
-        Step::Call(statement) => {
+    match frame.linkage {
+        Linkage::Loop(number) => Context::in_loop(
+            alloc,
+            outer,
+            frame.block,
+            number,
+            frame.initiation,
+        ),
+        Linkage::Call(statement) => {
             Context::in_call(alloc, outer, frame.block, statement, frame.initiation)
         }
     }

@@ -17,7 +17,7 @@ use Rattle.u_rule.specs.declared.firing.Firing.{Firing}
 use Rattle.u_sets.specs.Members.{SomeOf}
 use Rattle.u_system.specs.Firing.{Enabled}
 use Rattle.u_sets.specs.Rising.{Rises}
-use Rattle.u_match.proofs.Needs.{OneValue, TwoValues, ThreeValues, Plain, Reading, Shape, shape_of, rebuilt, needs_one, needs_two, needs_three, needs_read}
+use Rattle.u_rule.proofs.FiringShapes.{OneValue, TwoValues, ThreeValues, Plain, Reading, Shape, shape_of, rebuilt, needs_one, needs_two, needs_three, needs_read}
 use Rattle.u_plain.proofs.Lists.{Contains-dropped}
 use Rattle.u_plain.proofs.Neighbours.{stands_behind}
 use Rattle.u_plain.specs.Joins.{OfOne, OfTwo, OfThree, OfRead, Joins, JoinsThree, JoinsRead, SameActivity, IsAtPort}

@@ -9,7 +9,8 @@ use Rattle.u_text.specs.WholeWords.{◌then◌, whole, is, number_word, number0_
 use Rattle.u_program.specs.declared.program.Constant.{Constant}
 use Rattle.u_program.specs.declared.program.Constant.TheVariants as constants
 use Rattle.u_program.specs.declared.program.Kind.{Kind}
-use Rattle.u_program.specs.declared.program.Kind.TheVariants.{Begin, Const, Pass, Unary, Binary, Select, Switch, Enter, Next, Last, Leave, Apply, Back, Alloc, Store, Fetch, End}
+use Rattle.u_program.specs.declared.program.Kind.TheVariants.{Begin, Const, Pass, Unary, Binary, Select, Switch, Enter, Next}
+use Rattle.u_program.specs.declared.program.Kind.TheVariants.{Last, Leave, Apply, Back, Alloc, Store, Fetch, End}
 use Rattle.u_value.specs.declared.operators.UnaryOperator.TheVariants.{Not, Length}
 use Rattle.u_value.specs.declared.operators.BinaryOperator.TheVariants.{And, Or, Add, Sub, Mul, Div, Rem, Lt, Le, Eq}
 use Rattle.u_program.specs.declared.program.Destination.{Destination}
@@ -45,7 +46,10 @@ is_slash w = is w slash
 -- destinations above this rank, up to a slash, or without one up to the end of the line
 unfoldable pub destinations_at : Bool → ℕ → Words → Option (List Destination × Words)
 destinations_at slashed below [] = cond slashed None (Some ([], []))
-destinations_at slashed below (w ∷ ws) = cond (slashed && is_slash w) (Some ([], ws)) (destination_at w then λ d. cond (nat_le (rank d) below) None (destinations_at slashed (rank d) ws then λ ds. Some (d ∷ ds.0, ds.1)))
+destinations_at slashed below (w ∷ ws) =
+    cond (slashed && is_slash w) (Some ([], ws))
+    (destination_at w then λ d. cond (nat_le (rank d) below) None
+    (destinations_at slashed (rank d) ws then λ ds. Some (d ∷ ds.0, ds.1)))
 
 abbrev pub none_at : Words → Option (List Destination × Words)
 none_at [] = Some ([], [])
@@ -105,7 +109,9 @@ arrow_at ws = word_at ws then λ a. cond (is a.0 arrow) (Some (tt, a.1)) None
 
 -- what stands behind a statement's number
 unfoldable pub statement_at : Words → Option StatementParts
-statement_at ws = word_at ws then λ a. number0_word 99 a.0 then λ region. kind_at a.1 then λ k. arrow_at k.1 then λ b. list_at k.0 b.1 then λ to. otherwise_at k.0 to.1 then λ otherwise. Some (statement region k.0 to.0 otherwise.0)
+statement_at ws =
+    word_at ws then λ a. number0_word 99 a.0 then λ region. kind_at a.1 then λ k. arrow_at k.1 then λ b.
+    list_at k.0 b.1 then λ to. otherwise_at k.0 to.1 then λ otherwise. Some (statement region k.0 to.0 otherwise.0)
 
 -- where no word stands behind it
 abbrev pub alone : Line → Words → Option Line

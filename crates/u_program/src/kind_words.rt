@@ -1,10 +1,46 @@
-//! The words of kinds.
+//! The kinds of statements: their words, and how many lists they have.
 ghost use Rattle.std.specs.Prelude.{◌≡◌};
 ghost use Rattle.u_program.specs.Limits.{has_list, has_otherwise};
+ghost use Rattle.u_program.specs.Reading.{plain_kinds};
 ghost use Rattle.u_program.specs.Text.{unary_word, binary_word, kind_word};
 
 use crate::program::Kind;
 use u_value::{BinaryOperator, UnaryOperator};
+
+/// The kinds without an argument.
+const PLAIN_KINDS: [Kind; 24] = [
+    Kind::Begin,
+    Kind::Pass,
+    Kind::Unary(UnaryOperator::Not),
+    Kind::Unary(UnaryOperator::Length),
+    Kind::Binary(BinaryOperator::And),
+    Kind::Binary(BinaryOperator::Or),
+    Kind::Binary(BinaryOperator::Add),
+    Kind::Binary(BinaryOperator::Sub),
+    Kind::Binary(BinaryOperator::Mul),
+    Kind::Binary(BinaryOperator::Div),
+    Kind::Binary(BinaryOperator::Rem),
+    Kind::Binary(BinaryOperator::Lt),
+    Kind::Binary(BinaryOperator::Le),
+    Kind::Binary(BinaryOperator::Eq),
+    Kind::Select,
+    Kind::Switch,
+    Kind::Next,
+    Kind::Last,
+    Kind::Leave,
+    Kind::Back,
+    Kind::Alloc,
+    Kind::Store,
+    Kind::Fetch,
+    Kind::End,
+];
+
+/// The kinds without an argument, in the order in which a reader of a statement tries them.
+pub fn plain_kinds() -> [Kind; 24]
+    ensures { result ≡ plain_kinds }
+{
+    PLAIN_KINDS
+}
 
 /// The word of an operator with one operand.
 fn unary_word(operator: UnaryOperator) -> &'static [u8]
@@ -34,7 +70,8 @@ fn binary_word(operator: BinaryOperator) -> &'static [u8]
     }
 }
 
-/// The word of a kind.
+/// The word of a kind, as a statement has it: `switch`, say. The argument of a kind that has one is not
+/// part of it.
 pub fn kind_word(kind: &Kind) -> &'static [u8]
     ensures { result.now ≡ kind_word kind.now }
 {
@@ -59,14 +96,15 @@ pub fn kind_word(kind: &Kind) -> &'static [u8]
     }
 }
 
-/// Whether statements of the kind list destinations.
+/// Whether statements of the kind list destinations. `apply`, `store` and `end` list none.
 pub fn has_list(kind: &Kind) -> bool
     ensures { result ≡ has_list kind.now }
 {
     !matches!(kind, Kind::Apply(_) | Kind::Store | Kind::End)
 }
 
-/// Whether they list them twice: for true, and behind a slash for false.
+/// Whether statements of the kind have two lists: for true, and behind a slash for false. Only `switch`
+/// has two.
 pub fn has_otherwise(kind: &Kind) -> bool
     ensures { result ≡ has_otherwise kind.now }
 {

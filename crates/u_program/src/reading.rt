@@ -4,7 +4,7 @@ ghost use Rattle.u_program.specs.Reading.{plain_kinds, name_word, destination_at
 ghost use Rattle.u_program.specs.Refuses.{Refuses};
 ghost use Rattle.u_text.specs.Pieces.{words};
 
-use crate::kind_words::{has_list, has_otherwise, kind_word};
+use crate::kind_words::{has_list, has_otherwise, kind_word, plain_kinds};
 use crate::program::{Constant, Destination, Kind, Statement};
 use std::alloc::{AllocFailed, Global};
 use u_name::BlockName;
@@ -90,41 +90,13 @@ fn kind_among(kinds: &[Kind], word: &[u8]) -> Result<Kind, BadWord>
     Err(BadWord)
 }
 
-/// The kinds without an argument.
-const PLAIN_KINDS: [Kind; 24] = [
-    Kind::Begin,
-    Kind::Pass,
-    Kind::Unary(UnaryOperator::Not),
-    Kind::Unary(UnaryOperator::Length),
-    Kind::Binary(BinaryOperator::And),
-    Kind::Binary(BinaryOperator::Or),
-    Kind::Binary(BinaryOperator::Add),
-    Kind::Binary(BinaryOperator::Sub),
-    Kind::Binary(BinaryOperator::Mul),
-    Kind::Binary(BinaryOperator::Div),
-    Kind::Binary(BinaryOperator::Rem),
-    Kind::Binary(BinaryOperator::Lt),
-    Kind::Binary(BinaryOperator::Le),
-    Kind::Binary(BinaryOperator::Eq),
-    Kind::Select,
-    Kind::Switch,
-    Kind::Next,
-    Kind::Last,
-    Kind::Leave,
-    Kind::Back,
-    Kind::Alloc,
-    Kind::Store,
-    Kind::Fetch,
-    Kind::End,
-];
-
 /// The kind without an argument that has this word.
 fn plain_kind(word: &[u8]) -> Result<Kind, BadWord>
     ensures { MatchResult result
         (λ k. kind_among plain_kinds word.now ≡ Some k)
         (λ _. kind_among plain_kinds word.now ≡ None) }
 {
-    kind_among(&PLAIN_KINDS, word)
+    kind_among(&plain_kinds(), word)
 }
 
 #[tactic(auto, unfolding(crate::specs::Reading::kind_at), using(crate::proofs::WordLaws::loop_bound, crate::proofs::WordLaws::back_bound))]

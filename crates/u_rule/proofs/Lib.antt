@@ -5,6 +5,7 @@ pub mod Places
 pub mod Follow
 pub mod InOrder
 pub mod Texts
+pub mod FiringShapes
 pub mod Lists
 pub mod FirstByteLaws
 pub mod StepLaws

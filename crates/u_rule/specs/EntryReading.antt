@@ -57,7 +57,19 @@ OneOfSeven = Unit {0} ⊎ (Unit {0} ⊎ (Unit {0} ⊎ (Unit {0} ⊎ (Unit {0} �
 
 abbrev pub kind_of : OneOfSeven → FaultKind
 kind_of =
-    elim [ inl _ ↦ kinds.Kind | inr a ↦ elim a [ inl _ ↦ kinds.Overflow | inr b ↦ elim b [ inl _ ↦ kinds.Zero | inr c ↦ elim c [ inl _ ↦ kinds.Deep | inr d ↦ elim d [ inl _ ↦ kinds.Initiation | inr e ↦ elim e [ inl _ ↦ kinds.Length | inr _ ↦ kinds.Bounds ] ] ] ] ] ]
+    elim [
+      | inl _ ↦ kinds.Kind
+      | inr a ↦ elim a [
+        | inl _ ↦ kinds.Overflow
+        | inr b ↦ elim b [
+          | inl _ ↦ kinds.Zero
+          | inr c ↦ elim c [
+            | inl _ ↦ kinds.Deep
+            | inr d ↦ elim d [ inl _ ↦ kinds.Initiation | inr e ↦ elim e [ inl _ ↦ kinds.Length | inr _ ↦ kinds.Bounds ] ]
+          ]
+        ]
+      ]
+    ]
 
 -- what stands behind the first byte of each word, and the last word
 
@@ -84,7 +96,11 @@ bounds = codes "bounds"
 
 -- the word of a kind of fault
 abbrev pub kind_at : Reader FaultKind
-kind_at = mapped kind_of (choice 107 (fixed ind) (choice 111 (fixed verflow) (choice 122 (fixed ero) (choice 100 (fixed eep) (choice 105 (fixed nitiation) (choice 108 (fixed ength) (fixed bounds)))))))
+kind_at =
+    mapped kind_of
+    (choice 107 (fixed ind)
+    (choice 111 (fixed verflow)
+    (choice 122 (fixed ero) (choice 100 (fixed eep) (choice 105 (fixed nitiation) (choice 108 (fixed ength) (fixed bounds)))))))
 
 -- a space, and what stands behind it
 

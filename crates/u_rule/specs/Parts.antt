@@ -24,7 +24,11 @@ value_code = values.the_row.coded
 
 abbrev pub token_code : Coded TokenParts
 token_code =
-    code_by (Activity × (ℕ × Value)) (coded× activity_code (coded× coded_ℕ value_code)) (λ t. (t.activity, (t.port, t.value))) (λ p. token p.0 p.1.0 p.1.1) (λ _. refl)
+    code_by (Activity × (ℕ × Value))
+    (coded× activity_code (coded× coded_ℕ value_code))
+    (λ t. (t.activity, (t.port, t.value)))
+    (λ p. token p.0 p.1.0 p.1.1)
+    (λ _. refl)
 
 -- the values at an activity's ports
 abbrev pub ValueList : Type 0

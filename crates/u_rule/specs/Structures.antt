@@ -1,5 +1,6 @@
 -- Structures of cells: which cell two values name, and what statements do with structures.
-use Rattle.std.specs.Prelude.{ℕ, ℤ, pos, unsigned_abs, int_le, int_lt, Bool, false, ◌&&◌, if◌then◌else◌, is_ok, is_some, is_none, List, [], ◌∷◌, Option, Some, None, Result, Ok, Err}
+use Rattle.std.specs.Prelude.{ℕ, ℤ, pos, unsigned_abs, int_le, int_lt, Bool, false, ◌&&◌, if◌then◌else◌, is_ok, is_some, is_none}
+use Rattle.std.specs.Prelude.{List, [], ◌∷◌, Option, Some, None, Result, Ok, Err}
 use Rattle.u_name.specs.Name.{Activity}
 use Rattle.u_name.specs.Cell.{CellOf, cell_of}
 use Rattle.u_value.specs.Pointer.{pointer}

@@ -20,12 +20,12 @@ use u_value::Value;
 /// copies of two or three share them.
 #[derive(Drop)]
 pub struct Values {
-    held: Held,
+    held: OneToThree,
 }
 
 /// One value in its place, or a way to more.
 #[derive(Drop)]
-enum Held {
+enum OneToThree {
     One([Value; 1]),
     Two(Arc<[Value; 2], Global>),
     Three(Arc<[Value; 3], Global>),
@@ -54,7 +54,7 @@ impl Values {
         ensures { IfOk result (λ v. v ≡ first ∷ []) }
     {
         Ok(Values {
-            held: Held::One([first]),
+            held: OneToThree::One([first]),
         })
     }
 
@@ -67,7 +67,7 @@ impl Values {
     {
         let two = Arc::new(alloc, [first, second])?;
         Ok(Values {
-            held: Held::Two(two),
+            held: OneToThree::Two(two),
         })
     }
 
@@ -85,7 +85,7 @@ impl Values {
     {
         let three = Arc::new(alloc, [first, second, third])?;
         Ok(Values {
-            held: Held::Three(three),
+            held: OneToThree::Three(three),
         })
     }
 
@@ -95,9 +95,9 @@ impl Values {
         ensures count { IsValueList self.now }
     {
         match &self.held {
-            Held::One(one) => &one[..],
-            Held::Two(two) => &two[..],
-            Held::Three(three) => &three[..],
+            OneToThree::One(one) => &one[..],
+            OneToThree::Two(two) => &two[..],
+            OneToThree::Three(three) => &three[..],
         }
     }
 
@@ -109,9 +109,9 @@ impl Values {
         ensures { IfOk result (λ v. v ≡ self.now) }
     {
         let held = match &self.held {
-            Held::One([only]) => Held::One([only.copy()?]),
-            Held::Two(two) => Held::Two(Arc::try_clone(two)?),
-            Held::Three(three) => Held::Three(Arc::try_clone(three)?),
+            OneToThree::One([only]) => OneToThree::One([only.copy()?]),
+            OneToThree::Two(two) => OneToThree::Two(Arc::try_clone(two)?),
+            OneToThree::Three(three) => OneToThree::Three(Arc::try_clone(three)?),
         };
         Ok(Values { held })
     }

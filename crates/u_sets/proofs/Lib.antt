@@ -6,5 +6,7 @@ pub mod Hashed
 pub mod Placed
 pub mod Listed
 pub mod Gathering
+pub mod Rounds
+pub mod Steps
 pub mod Shown
 pub mod Keyed

@@ -68,56 +68,55 @@ pub(crate) fn is_marked(marks: &[bool], place: usize) -> bool
     marks[place]
 }
 
-/// Marks the givers of what the firing at that place needs, if it is marked.
-fn mark_behind(
+/// The firings that were applied, with what their stories are found by: the job, its start, and the
+/// place of each entry's giver.
+#[derive(Clone, Copy)]
+struct Applied<'a> {
     alloc: Global,
-    job: &Job,
-    start: &Entry,
-    log: &[Firing],
-    givers: &Places<Entry>,
-    place: usize,
-    marks: &mut [bool],
-) -> Result<(), AllocError>
-    requires place { place < length log.now }
-    requires count { length marks.old ≡ length log.now }
-    requires below { LieBelow (place_in givers.now) (length log.now) }
-    ensures { OnOk result
-        (MarksBehind (system_of job.now) start.now log.now (place_in givers.now) place
-        marks.old marks.new) }
-{
-    if !is_marked(marks, place) {
-        return Ok(());
-    }
-    let needed = needs_of(alloc, job, &log[place])?;
-    mark_all(start, givers, &needed, marks);
-    Ok(())
+    job: &'a Job,
+    start: &'a Entry,
+    log: &'a [Firing],
+    givers: &'a Places<Entry>,
 }
 
-/// Marks all firings of the list that the entry's story has.
-fn mark_story(
-    alloc: Global,
-    job: &Job,
-    start: &Entry,
-    log: &[Firing],
-    givers: &Places<Entry>,
-    entry: &Entry,
-    marks: &mut [bool],
-) -> Result<(), AllocError>
-    requires start { start.now ≡ start_of job.now }
-    requires derivation { Derivation (system_of job.now) log.now }
-    requires givers { AreGivers (system_of job.now) log.now (place_in givers.now) }
-    requires count { length marks.old ≡ length log.now }
-    requires none { (k : ℕ) → IsMarked marks.old k → ⊥ }
-    ensures { OnOk result
-        ((k : ℕ) → IsMarked marks.new k ↔ InStory (system_of job.now) log.now entry.now k) }
-{
-    mark(start, givers, entry, marks);
-    let mut left = log.len();
-    while left > 0 {
-        left -= 1;
-        mark_behind(alloc, job, start, log, givers, left, marks)?;
+impl Applied<'_> {
+    /// Marks the givers of what the firing at that place needs, if it is marked.
+    fn mark_behind(&self, place: usize, marks: &mut [bool]) -> Result<(), AllocError>
+        requires place { place < length self.now.log.now }
+        requires count { length marks.old ≡ length self.now.log.now }
+        requires below { LieBelow (place_in self.now.givers.now) (length self.now.log.now) }
+        ensures { OnOk result
+            (MarksBehind (system_of self.now.job.now) self.now.start.now self.now.log.now
+            (place_in self.now.givers.now) place marks.old marks.new) }
+    {
+        if !is_marked(marks, place) {
+            return Ok(());
+        }
+        let needed = needs_of(self.alloc, self.job, &self.log[place])?;
+        mark_all(self.start, self.givers, &needed, marks);
+        Ok(())
     }
-    Ok(())
+
+    /// Marks all firings of the list that the entry's story has.
+    fn mark_story(&self, entry: &Entry, marks: &mut [bool]) -> Result<(), AllocError>
+        requires start { self.now.start.now ≡ start_of self.now.job.now }
+        requires derivation { Derivation (system_of self.now.job.now) self.now.log.now }
+        requires givers { AreGivers (system_of self.now.job.now) self.now.log.now
+            (place_in self.now.givers.now) }
+        requires count { length marks.old ≡ length self.now.log.now }
+        requires none { (k : ℕ) → IsMarked marks.old k → ⊥ }
+        ensures { OnOk result
+            ((k : ℕ) → IsMarked marks.new k
+            ↔ InStory (system_of self.now.job.now) self.now.log.now entry.now k) }
+    {
+        mark(self.start, self.givers, entry, marks);
+        let mut left = self.log.len();
+        while left > 0 {
+            left -= 1;
+            self.mark_behind(left, marks)?;
+        }
+        Ok(())
+    }
 }
 
 /// So many places, of which none is marked.
@@ -151,6 +150,13 @@ pub(crate) fn marks_of(
 {
     let mut marks = unmarked(alloc, log.len())?;
     let first = start(job);
-    mark_story(alloc, job, &first, log, givers, entry, &mut marks)?;
+    let applied = Applied {
+        alloc,
+        job,
+        start: &first,
+        log,
+        givers,
+    };
+    applied.mark_story(entry, &mut marks)?;
     Ok(marks)
 }

@@ -1,6 +1,7 @@
 -- What the operators give.
 use Rattle.std.specs.Prelude
-use Rattle.std.specs.Prelude.{ℤ, pos, neg_ℤ, ◌+ℤ◌, ◌-ℤ◌, ◌*ℤ◌, ◌^◌, true, false, not, ◌&&◌, ◌||◌, int_div, int_rem, int_le, int_lt, if◌then◌else◌, Option, Some, None, Result, Ok, Err}
+use Rattle.std.specs.Prelude.{ℤ, pos, neg_ℤ, ◌+ℤ◌, ◌-ℤ◌, ◌*ℤ◌, ◌^◌, true, false, not, ◌&&◌, ◌||◌, int_div, int_rem, int_le}
+use Rattle.std.specs.Prelude.{int_lt, if◌then◌else◌, Option, Some, None, Result, Ok, Err}
 use Rattle.std.specs.Ordering.{int_eq}
 use Rattle.u_value.specs.declared.value.Value.{Value}
 use Rattle.u_value.specs.declared.value.Value.TheVariants.{Int, Bool, Ref}

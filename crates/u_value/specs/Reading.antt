@@ -45,7 +45,11 @@ abbrev pub reference_of : Activity × ℕ → Value
 reference_of p = Ref (pointer p.0 p.1)
 
 abbrev pub value_of : Read → Value
-value_of = elim [ inl p ↦ reference_of p | inr y ↦ elim y [ inl b ↦ Proc b | inr z ↦ elim z [ inl _ ↦ Bool false | inr t ↦ elim t [ inl _ ↦ Bool true | inr n ↦ Int n ] ] ] ]
+value_of =
+    elim [
+      | inl p ↦ reference_of p
+      | inr y ↦ elim y [ inl b ↦ Proc b | inr z ↦ elim z [ inl _ ↦ Bool false | inr t ↦ elim t [ inl _ ↦ Bool true | inr n ↦ Int n ] ] ]
+    ]
 
 abbrev pub alse : List ℕ
 alse = codes "alse"

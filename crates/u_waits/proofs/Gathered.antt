@@ -4,6 +4,7 @@ use Rattle.std.specs.Prelude.{Contains}
 use Rattle.std.specs.Ordering.{ordering_then}
 use Rattle.std.specs.declared.cmp.Ordering.TheVariants.{Less, Equal, Greater}
 use Rattle.u_system.proofs.Member.{Contains-head, Contains-tail}
+use Rattle.u_system.specs.Firing.{Same}
 use Rattle.u_sets.specs.Members.{SomeOf, Gains}
 use Rattle.u_sets.specs.Rising.{Rises, IsListOf}
 use Rattle.u_sets.proofs.Places.{irreflexive}
@@ -20,7 +21,7 @@ use Rattle.u_waits.specs.declared.activities.WaitingActivity.{WaitingActivity}
 use Rattle.u_waits.specs.contracts.activities.WaitingActivityOrd.TheImpl.Laws as waiting_laws
 use Rattle.u_waits.proofs.PortLaws.{ports_same}
 use Rattle.u_waits.proofs.WaitingLaws.{waiting}
-use Rattle.u_waits.proofs.Steps.{from_nothing}
+use Rattle.u_sets.proofs.Steps.{from_nothing}
 
 -- of a token, what waits is its activity
 module _ (p : List BlockParts) (H : Entry → Type 0) (e : Entry) (t : TokenParts) (a : Activity) (w : WaitingActivity) (is : e ≡ entries.Token t) (of : a ≡ t.activity) where
@@ -51,13 +52,13 @@ rise_by_name p H [] up all = tt
 rise_by_name p H (x ∷ xs) up all =
     ((λ y m. by_name p H x y (up.0 y m) (all x (Contains-head x xs)) (all y (Contains-tail x y xs m))), rise_by_name p H xs up.1 (λ w m. all w (Contains-tail x w xs m)))
 
-pub all_waiting : (p : List BlockParts) (es : List Entry) (xs : List WaitingActivity) → Rises waiting_order xs → Gains [] (SomeOf es (WaitsAt p (Contains es))) xs → IsListOf by_activity (IsWaiting p (Contains es)) xs
-all_waiting p es xs up g = record { rises = rise_by_name p (Contains es) xs up (λ w m. to w m); exact = λ w. (to w, back w) }
+pub all_waiting : (p : List BlockParts) (H : Entry → Type 0) (es : List Entry) (xs : List WaitingActivity) → Same (Contains es) H → Rises waiting_order xs → Gains [] (SomeOf es (WaitsAt p H)) xs → IsListOf by_activity (IsWaiting p H) xs
+all_waiting p H es xs same up g = record { rises = rise_by_name p H xs up (λ w m. to w m); exact = λ w. (to w, back w) }
   where
-    to : (w : WaitingActivity) → Contains xs w → IsWaiting p (Contains es) w
-    to w m = let s = (from_nothing (SomeOf es (WaitsAt p (Contains es))) xs g w).0 m in s.2.1
+    to : (w : WaitingActivity) → Contains xs w → IsWaiting p H w
+    to w m = let s = (from_nothing (SomeOf es (WaitsAt p H)) xs g w).0 m in s.2.1
 
-    back : (w : WaitingActivity) → IsWaiting p (Contains es) w → Contains xs w
+    back : (w : WaitingActivity) → IsWaiting p H w → Contains xs w
     back w is =
         let t = ((is.has is.filled.0).0 is.filled.1).1 in
-        (from_nothing (SomeOf es (WaitsAt p (Contains es))) xs g w).1 (entries.Token (token w.activity is.filled.0 t.0), t.1, (refl, is))
+        (from_nothing (SomeOf es (WaitsAt p H)) xs g w).1 (entries.Token (token w.activity is.filled.0 t.0), (same (entries.Token (token w.activity is.filled.0 t.0))).1 t.1, (refl, is))

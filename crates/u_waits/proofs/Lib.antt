@@ -1,7 +1,5 @@
 pub mod Texts
-pub mod Steps
 pub mod PortLaws
-pub mod PlaceLaws
 pub mod Stored
 pub mod WaitingLaws
 pub mod Gathered

@@ -27,11 +27,6 @@ WaitsAt p H e w = IsTokenOf w.activity e × IsWaiting p H w
 abbrev pub ReadsOn : (Entry → Type 0) → Activity → Value → Value → DeferredRead → Type 0
 ReadsOn H a structure index r = (a ≡ r.reader) × (cell_named (structure ∷ index ∷ []) ≡ Ok r.cell) × IsUnwritten H r.cell
 
--- the same with a token's value as the index
-abbrev pub ReadsWith : (Entry → Type 0) → Activity → Value → Entry → DeferredRead → Type 0
-ReadsWith H a structure (entries.Token t) r = ReadsOn H a structure t.value r
-ReadsWith H a structure e r = ⊥
-
 -- the activity is one of a `fetch`
 abbrev pub IsFetchIn : List BlockParts → Activity → Type 0
 IsFetchIn p a = (s : StatementParts) × (statement_of p a.block a.statement ≡ Some s) × (s.kind ≡ Fetch)

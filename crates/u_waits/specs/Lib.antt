@@ -1,5 +1,4 @@
 pub mod Ports
-pub mod Places
 pub mod Waiting
 pub mod Deferred
 pub mod Orders

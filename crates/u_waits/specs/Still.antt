@@ -15,4 +15,6 @@ use Rattle.u_waits.specs.declared.reads.DeferredRead.{DeferredRead}
 -- reads its cell
 pub record AreStill (job : JobParts) (H : Entry → Type 0) : Type 0 where
   pub activities : (w : WaitingActivity) (f : Firing) → IsWaiting job.program.blocks H w → Enabled (system_of job) H f → f.activity ≡ w.activity → ⊥
-  pub reads : (r : DeferredRead) (f : Firing) → IsDeferred job.program.blocks H r → Enabled (system_of job) H f → f.activity ≡ r.reader → cell_named f.values ≡ Ok r.cell → ⊥
+  pub reads :
+      (r : DeferredRead) (f : Firing) → IsDeferred job.program.blocks H r → Enabled (system_of job) H f → f.activity ≡ r.reader
+      → cell_named f.values ≡ Ok r.cell → ⊥

@@ -2,7 +2,7 @@
 ghost use Rattle.std.specs.Prelude.{◌≡◌, ◌↔◌, Contains, OnOk, IfOk, Some};
 ghost use Rattle.u_sets.specs.Rising.{Rises, IsListOf};
 ghost use Rattle.u_sets.specs.Members.{Gains, SomeOf};
-ghost use Rattle.u_rule.specs.EntryOrder.{entry_cmp};
+ghost use Rattle.u_system.specs.Firing.{Same};
 ghost use Rattle.u_waits.specs.declared.activities.WaitingActivity.{WaitingActivity};
 ghost use Rattle.u_waits.specs.Waiting.{IsWaiting};
 ghost use Rattle.u_waits.specs.Orders.{waiting_order, by_activity};
@@ -11,6 +11,7 @@ ghost use Rattle.u_waits.specs.Gathering.{WaitsAt};
 use crate::filling::{filled, ports_in};
 use crate::ports::Ports;
 use std::alloc::{AllocError, Global};
+use u_history::History;
 use u_name::Name;
 use u_program::Program;
 use u_rule::Entry;
@@ -30,16 +31,15 @@ pub struct WaitingActivity {
 /// The activity with its ports that have a token and those that lack one, if it waits.
 fn waiting(
     program: &Program,
-    entries: &[Entry],
+    history: &History,
     activity: &Name,
 ) -> Result<Option<WaitingActivity>, AllocError>
-    requires { Rises entry_cmp entries.now }
     ensures { IfOk result (λ o. (w : WaitingActivity) → (o ≡ Some w)
         ↔ ((activity.now ≡ w.activity)
-        × IsWaiting program.now.blocks (Contains entries.now) w)) }
+        × IsWaiting program.now.blocks (Contains history.now) w)) }
 {
     let all = ports_in(program, activity);
-    let tokens = filled(entries, activity);
+    let tokens = filled(history, activity)?;
     let has = all.and(tokens);
     let lacks = all.without(tokens);
     if has.is_empty() {
@@ -58,21 +58,20 @@ fn waiting(
 /// Adds the activity of the entry, if it is a token and its activity waits.
 fn add_waiting(
     program: &Program,
-    entries: &[Entry],
+    history: &History,
     entry: &Entry,
     found: &mut Vec<WaitingActivity>,
 ) -> Result<(), AllocError>
-    requires entries { Rises entry_cmp entries.now }
-    requires rises { Rises waiting_order found.old.items }
+    requires { Rises waiting_order found.old.items }
     ensures rises { Rises waiting_order found.new.items }
     ensures ok { OnOk result
-        (Gains found.old.items (WaitsAt program.now.blocks (Contains entries.now) entry.now)
+        (Gains found.old.items (WaitsAt program.now.blocks (Contains history.now) entry.now)
         found.new.items) }
 {
     let Entry::Token(token) = entry else {
         return Ok(());
     };
-    let waits = waiting(program, entries, token.activity())?;
+    let waits = waiting(program, history, token.activity())?;
     let item = match waits {
         None => return Ok(()),
         Some(item) => item,
@@ -81,23 +80,24 @@ fn add_waiting(
     Ok(())
 }
 
-/// The activities that wait, in order.
+/// The activities that wait in the history, in order. The entries are those of the history.
 ///
 /// # Errors
 /// `AllocError` where there is no memory.
 pub(crate) fn waiting_activities(
     alloc: Global,
     program: &Program,
+    history: &History,
     entries: &[Entry],
 ) -> Result<Vec<WaitingActivity>, AllocError>
-    requires { Rises entry_cmp entries.now }
+    requires { Same (Contains entries.now) (Contains history.now) }
     ensures { IfOk result
         (λ v. IsListOf by_activity
-        (IsWaiting program.now.blocks (Contains entries.now)) v.items) }
+        (IsWaiting program.now.blocks (Contains history.now)) v.items) }
 {
     let mut found = Vec::new(alloc);
     for entry in entries {
-        add_waiting(program, entries, entry, &mut found)?;
+        add_waiting(program, history, entry, &mut found)?;
     }
     Ok(found)
 }

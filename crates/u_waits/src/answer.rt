@@ -34,8 +34,8 @@ pub fn waits(alloc: Global, job: &Job, history: &History) -> Result<Waiting, All
     ensures still { AreStill job.now (Contains history.now) }
 {
     let program = job.program();
-    let entries = history.entries()?;
-    let activities = waiting_activities(alloc, program, &entries)?;
-    let reads = deferred_reads(alloc, program, &entries)?;
+    let entries = history.unordered_entries()?;
+    let activities = waiting_activities(alloc, program, history, &entries)?;
+    let reads = deferred_reads(alloc, program, history, &entries)?;
     Ok(Waiting { activities, reads })
 }

@@ -12,7 +12,6 @@ mod activities;
 mod answer;
 mod exact;
 mod filling;
-mod places;
 mod ports;
 mod reads;
 mod statements;

@@ -2,14 +2,14 @@
 ghost use Rattle.std.specs.Prelude.{◌≡◌, ◌↔◌, Contains, IsTrue, OnOk, IfOk};
 ghost use Rattle.u_sets.specs.Rising.{Rises, IsListOf};
 ghost use Rattle.u_sets.specs.Members.{Gains, SomeOf};
-ghost use Rattle.u_rule.specs.EntryOrder.{entry_cmp};
+ghost use Rattle.u_system.specs.Firing.{Same};
 ghost use Rattle.u_waits.specs.Deferred.{IsDeferred, IsUnwritten};
 ghost use Rattle.u_waits.specs.Orders.{read_order, by_reader};
-ghost use Rattle.u_waits.specs.Gathering.{ReadsOn, ReadsWith, ReadsAt, IsFetchIn};
+ghost use Rattle.u_waits.specs.Gathering.{ReadsOn, ReadsAt, IsFetchIn};
 
-use crate::places::{Place, entries_at};
 use crate::statements::executed;
 use std::alloc::{AllocError, Global};
+use u_history::{History, Port};
 use u_name::{Cell, Name};
 use u_program::{Kind, Program};
 use u_rule::{Entry, Token, cell_at};
@@ -26,35 +26,33 @@ pub struct DeferredRead {
 }
 
 /// Whether the cell has no write.
-fn is_unwritten(entries: &[Entry], cell: &Cell) -> bool
-    requires { Rises entry_cmp entries.now }
-    ensures { IsTrue result ↔ IsUnwritten (Contains entries.now) cell.now }
+fn is_unwritten(history: &History, cell: &Cell) -> bool
+    ensures { IsTrue result ↔ IsUnwritten (Contains history.now) cell.now }
 {
-    entries_at(entries, Place::Cell(cell)).is_empty()
+    history.writes_to(cell).is_empty()
 }
 
 /// Adds the read of the cell that the structure and the index name, if they name one and it has no
 /// write.
 fn add_read(
-    entries: &[Entry],
+    history: &History,
     reader: &Name,
     structure: &Value,
     index: &Value,
     found: &mut Vec<DeferredRead>,
 ) -> Result<(), AllocError>
-    requires entries { Rises entry_cmp entries.now }
-    requires rises { Rises read_order found.old.items }
+    requires { Rises read_order found.old.items }
     ensures rises { Rises read_order found.new.items }
     ensures ok { OnOk result
         (Gains found.old.items
-        (ReadsOn (Contains entries.now) reader.now structure.now index.now) found.new.items) }
+        (ReadsOn (Contains history.now) reader.now structure.now index.now) found.new.items) }
 {
     let named = cell_at(structure, index)?;
     let cell = match named {
         None => return Ok(()),
         Some(cell) => cell,
     };
-    if !is_unwritten(entries, &cell) {
+    if !is_unwritten(history, &cell) {
         return Ok(());
     }
     let reader = reader.copy()?;
@@ -62,45 +60,23 @@ fn add_read(
     Ok(())
 }
 
-/// The same with the value of the entry as the index, if it is a token.
-fn add_read_with(
-    entries: &[Entry],
-    reader: &Name,
-    structure: &Value,
-    entry: &Entry,
-    found: &mut Vec<DeferredRead>,
-) -> Result<(), AllocError>
-    requires entries { Rises entry_cmp entries.now }
-    requires rises { Rises read_order found.old.items }
-    ensures rises { Rises read_order found.new.items }
-    ensures ok { OnOk result
-        (Gains found.old.items
-        (ReadsWith (Contains entries.now) reader.now structure.now entry.now) found.new.items) }
-{
-    match entry {
-        Entry::Token(token) => add_read(entries, reader, structure, token.value(), found),
-        _ => Ok(()),
-    }
-}
-
-/// The same with each of the entries.
+/// The same with each of the indices.
 fn add_reads_with(
-    entries: &[Entry],
+    history: &History,
     reader: &Name,
     structure: &Value,
-    seconds: &[Entry],
+    indices: &[Value],
     found: &mut Vec<DeferredRead>,
 ) -> Result<(), AllocError>
-    requires entries { Rises entry_cmp entries.now }
-    requires rises { Rises read_order found.old.items }
+    requires { Rises read_order found.old.items }
     ensures rises { Rises read_order found.new.items }
     ensures ok { OnOk result
         (Gains found.old.items
-        (SomeOf seconds.now (ReadsWith (Contains entries.now) reader.now structure.now))
+        (SomeOf indices.now (ReadsOn (Contains history.now) reader.now structure.now))
         found.new.items) }
 {
-    for entry in seconds {
-        add_read_with(entries, reader, structure, entry, found)?;
+    for index in indices {
+        add_read(history, reader, structure, index, found)?;
     }
     Ok(())
 }
@@ -127,15 +103,14 @@ fn is_structure(program: &Program, token: &Token) -> bool
 /// port of a `fetch`.
 fn add_reads(
     program: &Program,
-    entries: &[Entry],
+    history: &History,
     entry: &Entry,
     found: &mut Vec<DeferredRead>,
 ) -> Result<(), AllocError>
-    requires entries { Rises entry_cmp entries.now }
-    requires rises { Rises read_order found.old.items }
+    requires { Rises read_order found.old.items }
     ensures rises { Rises read_order found.new.items }
     ensures ok { OnOk result
-        (Gains found.old.items (ReadsAt program.now.blocks (Contains entries.now) entry.now)
+        (Gains found.old.items (ReadsAt program.now.blocks (Contains history.now) entry.now)
         found.new.items) }
 {
     let Entry::Token(token) = entry else {
@@ -145,27 +120,33 @@ fn add_reads(
         return Ok(());
     }
     let reader = token.activity();
-    let seconds = entries_at(entries, Place::Port(reader, 2));
-    add_reads_with(entries, reader, token.value(), seconds, found)
+    let activity = reader.copy()?;
+    let port = Port {
+        activity,
+        number: 2,
+    };
+    let indices = history.values_at(&port);
+    add_reads_with(history, reader, token.value(), indices, found)
 }
 
-/// The deferred reads, in order.
+/// The deferred reads of the history, in order. The entries are those of the history.
 ///
 /// # Errors
 /// `AllocError` where there is no memory.
 pub(crate) fn deferred_reads(
     alloc: Global,
     program: &Program,
+    history: &History,
     entries: &[Entry],
 ) -> Result<Vec<DeferredRead>, AllocError>
-    requires { Rises entry_cmp entries.now }
+    requires { Same (Contains entries.now) (Contains history.now) }
     ensures { IfOk result
         (λ v. IsListOf by_reader
-        (IsDeferred program.now.blocks (Contains entries.now)) v.items) }
+        (IsDeferred program.now.blocks (Contains history.now)) v.items) }
 {
     let mut found = Vec::new(alloc);
     for entry in entries {
-        add_reads(program, entries, entry, &mut found)?;
+        add_reads(program, history, entry, &mut found)?;
     }
     Ok(found)
 }

@@ -18,7 +18,7 @@ use Rattle.u_replica.specs.ReplicaState.{ReplicaState, ChangesMachine}
 use Rattle.u_world.specs.declared.event.Event.{Event}
 use Rattle.u_world.specs.declared.event.Event.TheVariants as events
 use Rattle.u_world.specs.WorldState.{WorldState, At, Has, Changes}
-use Rattle.u_world.specs.Happenings.{Delivers, Arrives, Step}
+use Rattle.u_world.specs.Happenings.{Delivers, Arrives, EventStep}
 use Rattle.u_world.specs.Worlds.{IsTrueMark, IsWorld}
 use Rattle.u_world.specs.Rounds.{Round, counted, IsRestartOf, NoneRestarts, RoundsAmong, KeepsUp, RoundsKeepUp}
 use Rattle.u_world.proofs.Places.{at_one, at_between, get_set, taken_more}
@@ -136,7 +136,7 @@ module _ (old new : WorldState) (is : IsWorld old) (j : ℕ) (x : ReplicaState) 
       let a = c.replicas.after in
       machine_goes b a (elim c.replicas.how.0 [ inl t ↦ list_extends b.machine a.machine d.firings (Ok tt) t | inr t ↦ list_extends b.machine a.machine d.firings (Err (unlisted.NotAFiring t.0)) t.1 ]) c.replicas.how.1)
 
-  pub goes_on : (e : Event) → Step old e new → (IsRestartOf j e → ⊥) → (y : ReplicaState) × At new.replicas j y × GoesOn x y
+  pub goes_on : (e : Event) → EventStep old e new → (IsRestartOf j e → ⊥) → (y : ReplicaState) × At new.replicas j y × GoesOn x y
   unfolding On
   goes_on (events.Fire k pick) (may, c) not = one_goes k _ c (λ e. machine_goes c.replicas.before c.replicas.after (fire_extends c.replicas.before.machine c.replicas.after.machine pick (Ok c.replicas.how.0) c.replicas.how.1) c.replicas.how.2)
   goes_on (events.Take k f) (may, c) not = one_goes k _ c (λ e. machine_goes c.replicas.before c.replicas.after (take_extends c.replicas.before.machine c.replicas.after.machine f (Ok c.replicas.how.0) c.replicas.how.1) c.replicas.how.2)

@@ -29,8 +29,8 @@ use Rattle.u_world.specs.declared.refused.Refused.TheVariants.{BadEvent}
 use Rattle.u_world.specs.Refusals.{of_fire, of_list, of_merge}
 use Rattle.u_world.specs.WorldState.{WorldState, At, Has, fresh_world}
 use Rattle.u_world.specs.Worlds.{IsSent, IsWorld}
-use Rattle.u_world.specs.Happenings.{IsDoable, Delivers, Happens, EventAnswer, Step}
-use Rattle.u_world.specs.Runs.{Steps}
+use Rattle.u_world.specs.Happenings.{IsDoable, Delivers, Happens, EventAnswer, EventStep}
+use Rattle.u_world.specs.Runs.{EventSteps}
 use Rattle.u_world.specs.Random.{generator, words_of, words_after, replica_of, another, random_event, sent_after, random_from, random_list, NoneIsBad}
 use Rattle.u_world.proofs.Kept.{step_keeps}
 use Rattle.u_world.proofs.Fresh.{count_is, fresh_at, fresh_is_world, fresh_all_hold}
@@ -143,7 +143,7 @@ module _ (n : ℕ) (few : IsBetween 1 n 8) (age : ℕ) (asks : List Bool) (w : W
         (λ e. (has_r, tt)))))
 
   -- and leaves a world like it
-  pub suits_step : (e : Event) (new : WorldState) → Step w e new → Suits n (age + 1) (sent_after e asks) new
+  pub suits_step : (e : Event) (new : WorldState) → EventStep w e new → Suits n (age + 1) (sent_after e asks) new
   suits_step e new step =
       let kept = stays w new e step in
       record {
@@ -203,7 +203,7 @@ same_event : (a b : Event) → Some a ≡ Some b → a ≡ b
 same_event a b p = cc
 
 module _ (n : ℕ) (few : IsBetween 1 n 8) where
-  none_from : (count age : ℕ) (g : Lcg) (asks : List Bool) (w : WorldState) → Suits n age asks w → age + count < 2 ^ 64 → (place : ℕ) (mid : WorldState) (event : Event) (new : WorldState) → slice_get (random_from n g asks count) place ≡ Some event → Steps w (take place (random_from n g asks count)) mid → EventAnswer mid event (Err BadEvent) new → ⊥
+  none_from : (count age : ℕ) (g : Lcg) (asks : List Bool) (w : WorldState) → Suits n age asks w → age + count < 2 ^ 64 → (place : ℕ) (mid : WorldState) (event : Event) (new : WorldState) → slice_get (random_from n g asks count) place ≡ Some event → EventSteps w (take place (random_from n g asks count)) mid → EventAnswer mid event (Err BadEvent) new → ⊥
   unfolding random_from
   none_from zero age g asks w s fits place mid event new at steps answer = absurd (cc)
   none_from (suc count) age g asks w s fits zero mid event new at steps answer =

@@ -12,7 +12,7 @@ use Rattle.u_replica.specs.ReplicaState.{ReplicaState}
 use Rattle.u_world.specs.declared.event.Event.{Event}
 use Rattle.u_world.specs.declared.event.Event.TheVariants as events
 use Rattle.u_world.specs.WorldState.{WorldState, At, Changes}
-use Rattle.u_world.specs.Happenings.{Delivers, Arrives, Step}
+use Rattle.u_world.specs.Happenings.{Delivers, Arrives, EventStep}
 use Rattle.u_world.specs.Random.{sent_after}
 use Rattle.u_world.specs.Rounds.{IsOf}
 use Rattle.u_world.proofs.Places.{at_set_cases}
@@ -85,7 +85,7 @@ module _ (old new : WorldState) where
   arrived_stays k bytes (inl a) = same_stays (ap (λ (w : WorldState). w.replicas) a.1) (ap (λ (w : WorldState). w.limit) a.1)
   arrived_stays k bytes (inr (d, m, c)) = one_stays k _ c (same_life c.replicas.after c.replicas.before (ap (λ (r : ReplicaState). r.life) c.replicas.how.1))
 
-  pub stays : (e : Event) → Step old e new → Stays old new
+  pub stays : (e : Event) → EventStep old e new → Stays old new
   stays (events.Fire k pick) (may, c) = one_stays k _ c (same_life c.replicas.after c.replicas.before (ap (λ (r : ReplicaState). r.life) c.replicas.how.2))
   stays (events.Take k f) (may, c) = one_stays k _ c (same_life c.replicas.after c.replicas.before (ap (λ (r : ReplicaState). r.life) c.replicas.how.2))
   stays (events.Ask k j) (may, (r, at, s)) = same_stays (ap (λ (w : WorldState). w.replicas) s) (ap (λ (w : WorldState). w.limit) s)
@@ -113,7 +113,7 @@ module _ (old new : WorldState) where
   arrived_other k j bytes (inl a) l apart = same_other j (ap (λ (w : WorldState). w.replicas) a.1)
   arrived_other k j bytes (inr (d, m, c)) l apart = one_other k j _ c l apart
 
-  pub other_stays : (e : Event) (j : ℕ) → Step old e new → 1 ≤ j → (IsOf old j e → ⊥) → slice_get new.replicas (j - 1) ≡ slice_get old.replicas (j - 1)
+  pub other_stays : (e : Event) (j : ℕ) → EventStep old e new → 1 ≤ j → (IsOf old j e → ⊥) → slice_get new.replicas (j - 1) ≡ slice_get old.replicas (j - 1)
   other_stays (events.Fire k pick) j (may, c) l apart = one_other k j _ c l apart
   other_stays (events.Take k f) j (may, c) l apart = one_other k j _ c l apart
   other_stays (events.Ask k i) j (may, (r, at, s)) l apart = same_other j (ap (λ (w : WorldState). w.replicas) s)
@@ -137,7 +137,7 @@ module _ (old new : WorldState) where
   arrived_sent k bytes (inl a) = ap (λ (w : WorldState). w.messages) a.1
   arrived_sent k bytes (inr (d, m, c)) = ap (λ (w : WorldState). w.messages) c.others
 
-  sent : (e : Event) → Step old e new → Sent
+  sent : (e : Event) → EventStep old e new → Sent
   unfolding Sent
   sent (events.Fire k pick) (may, c) = inl (ap (λ (w : WorldState). w.messages) c.others)
   sent (events.Take k f) (may, c) = inl (ap (λ (w : WorldState). w.messages) c.others)
@@ -149,7 +149,7 @@ module _ (old new : WorldState) where
   sent (events.Bytes k bytes) (may, a) = inl (arrived_sent k bytes.items a)
 
   -- a message that was sent stays where it is
-  pub message_stays : (e : Event) (i : ℕ) (m : Message) → Step old e new → slice_get old.messages i ≡ Some m → slice_get new.messages i ≡ Some m
+  pub message_stays : (e : Event) (i : ℕ) (m : Message) → EventStep old e new → slice_get old.messages i ≡ Some m → slice_get new.messages i ≡ Some m
   unfolding Sent
   message_stays e i m s at = either (sent e s)
     where
@@ -175,7 +175,7 @@ module _ (old new : WorldState) where
     delivered_asks i (messages.Ask a) at (r, there, d, is, s) = one_sent (messages.Delta d) (ap (λ (w : WorldState). w.messages) s) ∙ sym (cond-true (slice_index_or asks i false) (asks ++ (false ∷ [])) asks (kind_at i (messages.Ask a) at))
     delivered_asks i (messages.Delta d) at c = none_sent (ap (λ (w : WorldState). w.messages) c.others) ∙ sym (cond-false (slice_index_or asks i false) (asks ++ (false ∷ [])) asks (kind_at i (messages.Delta d) at))
 
-    pub asks_after : (e : Event) → Step old e new → map is_ask new.messages ≡ sent_after e asks
+    pub asks_after : (e : Event) → EventStep old e new → map is_ask new.messages ≡ sent_after e asks
     asks_after (events.Fire k pick) (may, c) = none_sent (ap (λ (w : WorldState). w.messages) c.others)
     asks_after (events.Take k f) (may, c) = none_sent (ap (λ (w : WorldState). w.messages) c.others)
     asks_after (events.Ask k j) (may, (r, at, s)) = one_sent _ (ap (λ (w : WorldState). w.messages) s)

@@ -15,8 +15,8 @@ use Rattle.u_world.specs.Headline.{IsOfOneRun, HasHeardAll, ParksNothing, Exchan
 use Rattle.u_world.specs.declared.event.Event.{Event}
 use Rattle.u_world.specs.declared.event.Event.TheVariants as events
 use Rattle.u_world.specs.declared.refused.WorldError.{WorldError}
-use Rattle.u_world.specs.Happenings.{Step}
-use Rattle.u_world.specs.Runs.{Steps, RunAnswer}
+use Rattle.u_world.specs.Happenings.{EventStep}
+use Rattle.u_world.specs.Runs.{EventSteps, EventsAnswer}
 use Rattle.u_world.proofs.Places.{at_between, get_set}
 
 one_run : (w : WorldState) → IsWorld w → (k : ℕ) (r : ReplicaState) → At w.replicas k r → IsSettled r.machine → IsOfOneRun r
@@ -61,7 +61,7 @@ agree_on_sets v w is_v is_w k j r p a b = agree r.machine p.machine (is_v.member
 
 -- a merge that happened leaves the least upper bound
 
-merge_least : (k j : ℕ) (old new : WorldState) → Step old (events.Merge k j) new → MergesInto k j old new
+merge_least : (k j : ℕ) (old new : WorldState) → EventStep old (events.Merge k j) new → MergesInto k j old new
 merge_least k j old new (may, (o, at, c)) =
     let l = c.replicas in
     let n = at_between old.replicas k l.before l.at in
@@ -75,7 +75,7 @@ merge_least k j old new (may, (o, at, c)) =
       least = l.how.1.3;
     }
 
-step_least : (old : WorldState) (e : Event) (new : WorldState) → Step old e new → IsLeastUpperBound old e new
+step_least : (old : WorldState) (e : Event) (new : WorldState) → EventStep old e new → IsLeastUpperBound old e new
 step_least old (events.Merge k j) new s = merge_least k j old new s
 step_least old (events.Fire k pick) new s = tt
 step_least old (events.Take k f) new s = tt
@@ -85,10 +85,10 @@ step_least old (events.Save k) new s = tt
 step_least old (events.Restart k keep) new s = tt
 step_least old (events.Bytes k bytes) new s = tt
 
-pub merges_are_least : (old : WorldState) (es : List Event) (new : WorldState) → Steps old es new → MergesAreLeast old es new
+pub merges_are_least : (old : WorldState) (es : List Event) (new : WorldState) → EventSteps old es new → MergesAreLeast old es new
 merges_are_least old [] new s = s
 merges_are_least old (e ∷ es) new (mid, s, rest) = (mid, s, step_least old e mid s, merges_are_least mid es new rest)
 
-pub run_least : (old : WorldState) (es : List Event) (new : WorldState) (result : Result (Unit {0}) WorldError) → RunAnswer old es result new → IfOk result (λ u. MergesAreLeast old es new)
+pub run_least : (old : WorldState) (es : List Event) (new : WorldState) (result : Result (Unit {0}) WorldError) → EventsAnswer old es result new → IfOk result (λ u. MergesAreLeast old es new)
 run_least old es new (Ok u) s = merges_are_least old es new s
 run_least old es new (Err e) s = tt

@@ -38,7 +38,7 @@ use Rattle.u_world.specs.Refusals.{of_fire, of_take, of_merge}
 use Rattle.u_world.specs.Acts.{Answers, Receives, TakesList}
 use Rattle.u_world.specs.WorldState.{WorldState, world, At, Has, Changes, Sends}
 use Rattle.u_world.specs.Worlds.{IsTrueMark, IsHonest, StandsAt, IsTrueDelta, IsSent, IsSentAsk, IsSentDelta, IsSaved, IsWorld}
-use Rattle.u_world.specs.Happenings.{Asks, Replies, Delivers, Saves, StartsAgain, Restarts, Arrives, Happens, EventAnswer, IsDoable, Step}
+use Rattle.u_world.specs.Happenings.{Asks, Replies, Delivers, Saves, StartsAgain, Restarts, Arrives, Happens, EventAnswer, IsDoable, EventStep}
 use Rattle.u_world.proofs.Places.{at_one, at_between, at_set_cases, pushed_cases}
 use Rattle.u_world.proofs.Honesty.{honest_moved, mark_moves, part_stands, fresh_true}
 use Rattle.u_world.proofs.Moves.{changed, Moves, put_keeps, still_honest, machine_moves}
@@ -294,5 +294,5 @@ module _ (old : WorldState) (is : IsWorld old) where
   event_keeps e result new (inr h) = happens_keeps e result new h.0 h.1
 
 -- each event that happens leaves a world
-pub step_keeps : (old : WorldState) (e : Event) (new : WorldState) → IsWorld old → Step old e new → IsWorld new
+pub step_keeps : (old : WorldState) (e : Event) (new : WorldState) → IsWorld old → EventStep old e new → IsWorld new
 step_keeps old e new is s = event_keeps old is e (Ok tt) new (inr s)

@@ -17,7 +17,7 @@ use Rattle.u_world.specs.declared.event.Event.{Event}
 use Rattle.u_world.specs.declared.event.Event.TheVariants as events
 use Rattle.u_world.specs.WorldState.{WorldState, At, Changes, fresh_world}
 use Rattle.u_world.specs.Happenings.{Delivers, Arrives, Happens}
-use Rattle.u_world.specs.Runs.{Steps}
+use Rattle.u_world.specs.Runs.{EventSteps}
 use Rattle.u_world.specs.Headline.{AllSettled}
 use Rattle.u_world.proofs.Places.{at_set_cases}
 use Rattle.u_world.proofs.Fresh.{fresh_at}
@@ -55,7 +55,7 @@ module _ (old new : WorldState) (all : AllSettled old) where
   happens_settled (events.Restart k keep) (saved, at, c) = one_settled k _ c c.replicas.how.1.settled
   happens_settled (events.Bytes k bytes) a = arrived_settled k bytes.items a
 
-pub steps_settled : (old : WorldState) (es : List Event) (new : WorldState) → AllSettled old → Steps old es new → AllSettled new
+pub steps_settled : (old : WorldState) (es : List Event) (new : WorldState) → AllSettled old → EventSteps old es new → AllSettled new
 steps_settled old [] new all s = subst AllSettled (sym s) all
 steps_settled old (e ∷ es) new all (mid, s, rest) = steps_settled mid es new (happens_settled old mid all e s.1) rest
 

@@ -89,7 +89,8 @@ Happens (events.Fire k pick) result old new = Changes k (Answers of_fire (λ r m
 Happens (events.Take k f) result old new = Changes k (Answers of_take (λ r m n. TakeAnswer m f r n) result) old new
 Happens (events.Ask k j) result old new = Asks k j result old new
 Happens (events.Deliver i) result old new = (m : Message) × (slice_get old.messages i ≡ Some m) × Delivers m result old new
-Happens (events.Merge k j) result old new = (o : ReplicaState) × At old.replicas j o × Changes k (Answers of_merge (λ r m n. MergeAnswer m o.machine r n) result) old new
+Happens (events.Merge k j) result old new =
+    (o : ReplicaState) × At old.replicas j o × Changes k (Answers of_merge (λ r m n. MergeAnswer m o.machine r n) result) old new
 Happens (events.Save k) result old new = Saves k result old new
 Happens (events.Restart k keep) result old new = Restarts k keep result old new
 Happens (events.Bytes k bytes) result old new = Arrives k bytes.items result old new
@@ -99,5 +100,5 @@ abbrev pub EventAnswer : WorldState → Event → Result (Unit {0}) Refused → 
 EventAnswer old e result new = ((IsDoable old e → ⊥) × (result ≡ Err BadEvent) × (new ≡ old)) ⊎ (IsDoable old e × Happens e result old new)
 
 -- the event can be done, and happens
-abbrev pub Step : WorldState → Event → WorldState → Type 0
-Step old e new = IsDoable old e × Happens e (Ok tt) old new
+abbrev pub EventStep : WorldState → Event → WorldState → Type 0
+EventStep old e new = IsDoable old e × Happens e (Ok tt) old new

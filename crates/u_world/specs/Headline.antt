@@ -18,7 +18,7 @@ use Rattle.u_replica.specs.Merging.{IsLeastAbove}
 use Rattle.u_world.specs.declared.event.Event.{Event}
 use Rattle.u_world.specs.declared.event.Event.TheVariants as events
 use Rattle.u_world.specs.WorldState.{WorldState, At}
-use Rattle.u_world.specs.Happenings.{Step}
+use Rattle.u_world.specs.Happenings.{EventStep}
 use Rattle.u_world.specs.Worlds.{IsHonest}
 
 -- each replica has applied all that it could: so it is in a new world, and after each list of events of
@@ -69,7 +69,9 @@ pub record HoldTheSame (r p : ReplicaState) : Type 0 where
 -- Exchanged in full: two replicas which have heard all of each other, and neither of which has a firing
 -- parked, hold the same. A mark counts applied firings alone, so a parked one could be unheard of.
 abbrev pub ExchangeInFull : WorldState → Type 0
-ExchangeInFull w = (k j : ℕ) (r p : ReplicaState) → (k ≡ j → ⊥) → At w.replicas k r → At w.replicas j p → HasHeardAll r p → HasHeardAll p r → ParksNothing r → ParksNothing p → HoldTheSame r p
+ExchangeInFull w =
+    (k j : ℕ) (r p : ReplicaState) → (k ≡ j → ⊥) → At w.replicas k r → At w.replicas j p → HasHeardAll r p → HasHeardAll p r
+    → ParksNothing r → ParksNothing p → HoldTheSame r p
 
 -- what holds of the world's replicas after every list of events
 pub record KeepsTheHeadline (w : WorldState) : Type 0 where
@@ -103,4 +105,4 @@ IsLeastUpperBound old e new = Unit {0}
 -- and so is each merge within a list of events that happen one after another
 abbrev pub MergesAreLeast : WorldState → List Event → WorldState → Type 0
 MergesAreLeast old [] new = new ≡ old
-MergesAreLeast old (e ∷ es) new = (mid : WorldState) × Step old e mid × IsLeastUpperBound old e mid × MergesAreLeast mid es new
+MergesAreLeast old (e ∷ es) new = (mid : WorldState) × EventStep old e mid × IsLeastUpperBound old e mid × MergesAreLeast mid es new

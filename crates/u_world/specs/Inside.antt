@@ -4,8 +4,8 @@ use Rattle.u_replica.specs.ReplicaState.{ReplicaState, HoldsAlways}
 use Rattle.u_world.specs.declared.inside.Inside.{Inside}
 use Rattle.u_world.specs.WorldState.{WorldState, world}
 
-abbrev pub state_of : Inside → WorldState
-state_of i = world i.job.now i.limit i.replicas.items i.messages.items i.saves.items
+abbrev pub world_of : Inside → WorldState
+world_of i = world i.job.now i.limit i.replicas.items i.messages.items i.saves.items
 
 -- each of them is a replica
 abbrev pub AllHold : List ReplicaState → Type 0

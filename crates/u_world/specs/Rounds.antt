@@ -14,7 +14,7 @@ use Rattle.u_replica.specs.ReplicaState.{ReplicaState}
 use Rattle.u_world.specs.declared.event.Event.{Event}
 use Rattle.u_world.specs.declared.event.Event.TheVariants as events
 use Rattle.u_world.specs.WorldState.{WorldState, At}
-use Rattle.u_world.specs.Happenings.{Step}
+use Rattle.u_world.specs.Happenings.{EventStep}
 
 -- the replica that a message is for: the one that answers an ask, or receives a delta
 abbrev pub is_for : Message → ℕ
@@ -35,7 +35,7 @@ IsOf w k (events.Bytes j bytes) = j ≡ k
 -- events happen one after another, and none of them is one of s or of r
 abbrev pub OthersDo : (s r : ℕ) → WorldState → List Event → WorldState → Type 0
 OthersDo s r old [] new = new ≡ old
-OthersDo s r old (e ∷ es) new = (mid : WorldState) × (IsOf old s e → ⊥) × (IsOf old r e → ⊥) × Step old e mid × OthersDo s r mid es new
+OthersDo s r old (e ∷ es) new = (mid : WorldState) × (IsOf old s e → ⊥) × (IsOf old r e → ⊥) × EventStep old e mid × OthersDo s r mid es new
 
 -- A round: s asks r, r answers that ask, which was the next message, and s receives that delta, which was
 -- the next message then. Before each of the three come events of other replicas, or none.
@@ -44,18 +44,21 @@ pub record Round (s r : ℕ) (old : WorldState) (es : List Event) (new : WorldSt
   pub asking : WorldState
   pub others_first : OthersDo s r old before_ask asking
   pub asked : WorldState
-  pub asks : Step asking (events.Ask s r) asked
+  pub asks : EventStep asking (events.Ask s r) asked
   pub before_answer : List Event
   pub answering : WorldState
   pub others_then : OthersDo s r asked before_answer answering
   pub answered : WorldState
-  pub answers : Step answering (events.Deliver (length asking.messages)) answered
+  pub answers : EventStep answering (events.Deliver (length asking.messages)) answered
   pub before_delta : List Event
   pub receiving : WorldState
   pub others_last : OthersDo s r answered before_delta receiving
-  pub receives : Step receiving (events.Deliver (length answering.messages)) new
+  pub receives : EventStep receiving (events.Deliver (length answering.messages)) new
   pub list :
-      es ≡ before_ask ++ (events.Ask s r ∷ (before_answer ++ (events.Deliver (length asking.messages) ∷ (before_delta ++ (events.Deliver (length answering.messages) ∷ [])))))
+      es ≡ before_ask
+      ++ (events.Ask s r ∷ (before_answer
+      ++ (events.Deliver (length asking.messages) ∷ (before_delta
+      ++ (events.Deliver (length answering.messages) ∷ [])))))
 
 -- so many rounds, one after another, and then events of other replicas, or none
 abbrev pub Rounds : (s r rounds : ℕ) → WorldState → List Event → WorldState → Type 0
@@ -81,7 +84,8 @@ pub record CatchesUp (s r rounds : ℕ) (old new : WorldState) : Type 0 where
       mark_of after.marks r ≡ mark peer.life (min (length peer.machine.log) (counted (mark_of before.marks r) peer.life + rounds * most_firings))
   pub took : (f : Firing) → Contains (take (mark_of after.marks r).count peer.machine.log) f → Taken after.machine f
   pub all :
-      length peer.machine.log ≤ rounds * most_firings → (mark_of after.marks r ≡ mark peer.life (length peer.machine.log)) × ((f : Firing) → Contains peer.machine.log f → Taken after.machine f)
+      length peer.machine.log ≤ rounds * most_firings → (mark_of after.marks r ≡ mark peer.life (length peer.machine.log))
+      × ((f : Firing) → Contains peer.machine.log f → Taken after.machine f)
 
 -- Where the events are one round or more of s and r, s catches up, in a world whose replicas take at most
 -- 1,000,000 firings, which is what a mark can count.
@@ -96,7 +100,7 @@ IsRestartOf k e = ⊥
 -- events happen one after another, and none of them starts s or r again
 abbrev pub NoneRestarts : (s r : ℕ) → WorldState → List Event → WorldState → Type 0
 NoneRestarts s r old [] new = new ≡ old
-NoneRestarts s r old (e ∷ es) new = (mid : WorldState) × (IsRestartOf s e → ⊥) × (IsRestartOf r e → ⊥) × Step old e mid × NoneRestarts s r mid es new
+NoneRestarts s r old (e ∷ es) new = (mid : WorldState) × (IsRestartOf s e → ⊥) × (IsRestartOf r e → ⊥) × EventStep old e mid × NoneRestarts s r mid es new
 
 -- so many rounds, and before, between and behind them any events that start neither s nor r again
 abbrev pub RoundsAmong : (s r rounds : ℕ) → WorldState → List Event → WorldState → Type 0

@@ -24,7 +24,8 @@ world job limit replicas messages saves = record { job = job; limit = limit; rep
 abbrev pub world_code : Coded WorldState
 world_code =
     code_by (JobParts × (ℕ × (List ReplicaState × (List Message × List (List ℕ)))))
-    (coded× job_row.the_row.coded (coded× coded_ℕ (coded× (coded_list replica_code) (coded× (coded_list message_row.the_row.coded) (coded_list (coded_list coded_ℕ))))))
+    (coded× job_row.the_row.coded
+    (coded× coded_ℕ (coded× (coded_list replica_code) (coded× (coded_list message_row.the_row.coded) (coded_list (coded_list coded_ℕ))))))
     (λ w. (w.job, (w.limit, (w.replicas, (w.messages, w.saves))))) (λ p. world p.0 p.1.0 p.1.1.0 p.1.1.1.0 p.1.1.1.1) (λ _. refl)
 
 -- x has that number in the list: numbers begin with 1

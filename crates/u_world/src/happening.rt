@@ -4,7 +4,7 @@ ghost use Rattle.u_name.specs.Context.{IsBetween};
 ghost use Rattle.u_replica.specs.Merging.{MergeAnswer};
 ghost use Rattle.u_replica.specs.ReplicaState.{ReplicaState};
 ghost use Rattle.u_world.specs.declared.event.Event.TheVariants as events;
-ghost use Rattle.u_world.specs.Inside.{state_of};
+ghost use Rattle.u_world.specs.Inside.{world_of};
 ghost use Rattle.u_world.specs.Refusals.{of_merge};
 ghost use Rattle.u_world.specs.Acts.{Answers};
 ghost use Rattle.u_world.specs.WorldState.{At, ChangesAt, Has};
@@ -41,8 +41,8 @@ fn merge_at(replicas: &mut Vec<Replica<'_>>, number: u8, other: u8) -> Result<()
 impl<'a> Inside<'a> {
     /// A replica fires.
     fn fire(&mut self, number: u8, pick: usize) -> Result<(), Refused>
-        ensures { EventAnswer (state_of self.old) (events.Fire number pick) result
-            (state_of self.new) }
+        ensures { EventAnswer (world_of self.old) (events.Fire number pick) result
+            (world_of self.new) }
     {
         if !self.has(number) {
             return Err(Refused::BadEvent);
@@ -52,8 +52,8 @@ impl<'a> Inside<'a> {
 
     /// A replica takes a firing.
     fn take(&mut self, number: u8, firing: &Firing) -> Result<(), Refused>
-        ensures { EventAnswer (state_of self.old) (events.Take number firing.now) result
-            (state_of self.new) }
+        ensures { EventAnswer (world_of self.old) (events.Take number firing.now) result
+            (world_of self.new) }
     {
         if !self.has(number) {
             return Err(Refused::BadEvent);
@@ -63,9 +63,9 @@ impl<'a> Inside<'a> {
 
     /// A replica asks another one.
     fn ask(&mut self, asker: u8, asked: u8) -> Result<(), Refused>
-        requires { IsWorld (state_of self.old) }
-        ensures { EventAnswer (state_of self.old) (events.Ask asker asked) result
-            (state_of self.new) }
+        requires { IsWorld (world_of self.old) }
+        ensures { EventAnswer (world_of self.old) (events.Ask asker asked) result
+            (world_of self.new) }
     {
         if !self.has(asker) || !self.has(asked) || asker == asked {
             return Err(Refused::BadEvent);
@@ -77,8 +77,8 @@ impl<'a> Inside<'a> {
 
     /// The replica that is asked answers.
     fn answer(&mut self, ask: &Ask) -> Result<(), Refused>
-        requires { Has (state_of self.old) ask.now.asked }
-        ensures { Replies ask.now result (state_of self.old) (state_of self.new) }
+        requires { Has (world_of self.old) ask.now.asked }
+        ensures { Replies ask.now result (world_of self.old) (world_of self.new) }
     {
         let delta = self.replicas[usize::from(ask.asked) - 1].answer(ask)?;
         self.messages.push(Message::Delta(delta))?;
@@ -87,9 +87,9 @@ impl<'a> Inside<'a> {
 
     /// A message is delivered.
     fn deliver(&mut self, place: usize) -> Result<(), Refused>
-        requires { IsWorld (state_of self.old) }
-        ensures { EventAnswer (state_of self.old) (events.Deliver place) result
-            (state_of self.new) }
+        requires { IsWorld (world_of self.old) }
+        ensures { EventAnswer (world_of self.old) (events.Deliver place) result
+            (world_of self.new) }
     {
         let Some(message) = self.messages.get(place) else {
             return Err(Refused::BadEvent);
@@ -107,8 +107,8 @@ impl<'a> Inside<'a> {
 
     /// A replica takes all that another one took.
     fn merge(&mut self, number: u8, other: u8) -> Result<(), Refused>
-        ensures { EventAnswer (state_of self.old) (events.Merge number other) result
-            (state_of self.new) }
+        ensures { EventAnswer (world_of self.old) (events.Merge number other) result
+            (world_of self.new) }
     {
         if !self.has(number) || !self.has(other) || number == other {
             return Err(Refused::BadEvent);
@@ -118,9 +118,9 @@ impl<'a> Inside<'a> {
 
     /// A replica saves.
     fn save(&mut self, number: u8) -> Result<(), Refused>
-        requires { IsWorld (state_of self.old) }
-        ensures { EventAnswer (state_of self.old) (events.Save number) result
-            (state_of self.new) }
+        requires { IsWorld (world_of self.old) }
+        ensures { EventAnswer (world_of self.old) (events.Save number) result
+            (world_of self.new) }
     {
         if !self.has(number) {
             return Err(Refused::BadEvent);
@@ -133,9 +133,9 @@ impl<'a> Inside<'a> {
 
     /// A replica starts again.
     fn restart(&mut self, number: u8, keep: usize) -> Result<(), Refused>
-        requires { IsWorld (state_of self.old) }
-        ensures { EventAnswer (state_of self.old) (events.Restart number keep) result
-            (state_of self.new) }
+        requires { IsWorld (world_of self.old) }
+        ensures { EventAnswer (world_of self.old) (events.Restart number keep) result
+            (world_of self.new) }
     {
         if !self.has(number) {
             return Err(Refused::BadEvent);
@@ -156,8 +156,8 @@ impl<'a> Inside<'a> {
 
     /// Bytes arrive at a replica.
     fn arrive(&mut self, number: u8, bytes: &[u8]) -> Result<(), Refused>
-        requires { Has (state_of self.old) number }
-        ensures { Arrives number bytes.now result (state_of self.old) (state_of self.new) }
+        requires { Has (world_of self.old) number }
+        ensures { Arrives number bytes.now result (world_of self.old) (world_of self.new) }
     {
         match read_message(self.alloc, bytes) {
             Ok(Message::Delta(delta)) => {
@@ -172,8 +172,8 @@ impl<'a> Inside<'a> {
 
     /// Bytes arrive at a replica, if it is there.
     fn arrive_at(&mut self, number: u8, bytes: &Vec<u8>) -> Result<(), Refused>
-        ensures { EventAnswer (state_of self.old) (events.Bytes number bytes.now) result
-            (state_of self.new) }
+        ensures { EventAnswer (world_of self.old) (events.Bytes number bytes.now) result
+            (world_of self.new) }
     {
         if !self.has(number) {
             return Err(Refused::BadEvent);
@@ -183,8 +183,8 @@ impl<'a> Inside<'a> {
 
     /// Lets the event happen, or returns why it does not.
     pub(crate) fn happen(&mut self, event: &Event) -> Result<(), Refused>
-        requires { IsWorld (state_of self.old) }
-        ensures { EventAnswer (state_of self.old) event.now result (state_of self.new) }
+        requires { IsWorld (world_of self.old) }
+        ensures { EventAnswer (world_of self.old) event.now result (world_of self.new) }
     {
         match event {
             Event::Fire { replica, pick } => self.fire(*replica, *pick),

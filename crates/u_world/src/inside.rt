@@ -2,7 +2,7 @@
 ghost use Rattle.std.specs.Prelude.{◌≡◌, ◌↔◌, IfOk, IsTrue};
 ghost use Rattle.u_name.specs.Context.{IsBetween};
 ghost use Rattle.u_world.specs.WorldState.{fresh_world, At, Has};
-ghost use Rattle.u_world.specs.Inside.{state_of, AllHold};
+ghost use Rattle.u_world.specs.Inside.{world_of, AllHold};
 
 use crate::saved::Saved;
 use std::alloc::{AllocError, Global};
@@ -32,7 +32,7 @@ impl<'a> Inside<'a> {
         limit: usize,
     ) -> Result<Inside<'a>, AllocError>
         requires { IsBetween 1 count 8 }
-        ensures state { IfOk result (λ i. state_of i ≡ fresh_world job.now limit count) }
+        ensures state { IfOk result (λ i. world_of i ≡ fresh_world job.now limit count) }
         ensures hold { IfOk result (λ i. AllHold i.replicas.items) }
     {
         let mut replicas = Vec::new(alloc);
@@ -55,15 +55,15 @@ impl<'a> Inside<'a> {
 
     /// Whether there is a replica with that number.
     pub(crate) fn has(&self, number: u8) -> bool
-        ensures { IsTrue result ↔ Has (state_of self.now) number }
+        ensures { IsTrue result ↔ Has (world_of self.now) number }
     {
         1 <= number && usize::from(number) <= self.replicas.len()
     }
 
     /// The replica with that number; the others are dropped.
     pub(crate) fn into_replica(self, number: u8) -> Replica<'a>
-        requires { Has (state_of self) number }
-        ensures { At (state_of self.entry).replicas number result }
+        requires { Has (world_of self) number }
+        ensures { At (world_of self.entry).replicas number result }
     {
         let mut replicas = self.replicas;
         replicas.swap_remove(usize::from(number) - 1)

@@ -7,7 +7,7 @@ ghost use Rattle.std.specs.Prelude.{◌≡◌, IfOk, length};
 ghost use Rattle.u_name.specs.Context.{IsBetween};
 ghost use Rattle.u_world.specs.WorldState.{fresh_world, At, Has};
 ghost use Rattle.u_world.specs.Worlds.{IsWorld};
-ghost use Rattle.u_world.specs.Runs.{RunAnswer};
+ghost use Rattle.u_world.specs.Runs.{EventsAnswer};
 ghost use Rattle.u_world.specs.Headline.{KeepsTheHeadline, AgreeOnSets, AllSettled, MergesAreLeast};
 ghost use Rattle.u_world.specs.Rounds.{RoundsCatchUp, RoundsKeepUp};
 
@@ -27,16 +27,16 @@ pub struct World<'a> {
 
 impl<'a> Model for World<'a> {
     ghost use Rattle.u_world.specs.WorldState.{WorldState, world_code};
-    ghost use Rattle.u_world.specs.Inside.{state_of};
+    ghost use Rattle.u_world.specs.Inside.{world_of};
     ghost use Rattle.u_world.specs.Worlds.{IsWorld};
 
     ghost Value = { WorldState };
 
     ghost coded = { world_code };
 
-    ghost view = { λ w. state_of w.inside };
+    ghost view = { λ w. world_of w.inside };
 
-    ghost invariant = { λ w. IsWorld (state_of w.inside) };
+    ghost invariant = { λ w. IsWorld (world_of w.inside) };
 }
 
 impl<'a> World<'a> {
@@ -88,7 +88,8 @@ impl<'a> World<'a> {
         ensures is { IsWorld self.now }
         ensures headline { KeepsTheHeadline self.now }
     {
-        let _count = self.inside.replicas.len();
+        // Brings in what the type's invariant says of its parts.
+        let _ = &self.inside;
     }
 
     /// Two replicas of one job that took the same firings hold the same history, whatever worlds they
@@ -110,7 +111,7 @@ impl<'a> World<'a> {
     /// what that call leaves is left, and where a message or a checkpoint could not be kept nothing
     /// changes.
     pub fn run(&mut self, events: &[Event]) -> Result<(), WorldError>
-        ensures answer { RunAnswer self.old events.now result self.new }
+        ensures answer { EventsAnswer self.old events.now result self.new }
         ensures merges { IfOk result (λ u. MergesAreLeast self.old events.now self.new) }
         ensures settled { IfOk result (λ u. AllSettled self.old → AllSettled self.new) }
         ensures rounds { RoundsCatchUp self.old events.now self.new }

@@ -12,6 +12,6 @@ returns c =
       is_machine = c.holds.ensures.is.machine;
       ran = c.in-Ok.ensures.answer;
       report = c.in_ok-report.report.items;
-      reported = rw (c.machine.ensures, c.state_of-state.ensures) at c.in_ok-report.ensures;
+      reported = rw (c.machine.ensures, c.ending_of-state.ensures) at c.in_ok-report.ensures;
       is = rw c.deref.ensures.value at c.in_ok-written.ensures;
     }

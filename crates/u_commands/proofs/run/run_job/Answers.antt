@@ -1,10 +1,12 @@
-use Rattle.std.proofs.Common.{ap, subst}
-use Rattle.std.specs.Prelude.{IfOk}
-use Rattle.u_check.specs.Jobs.{JobParts}
-use Rattle.u_machine.specs.State.{State}
-use Rattle.u_commands.specs.Runs.{ReportsRunOfJob}
+use Rattle.std.proofs.Common.{◌≡◌}
+use Rattle.u_commands.specs.declared.command_error.CommandError.{CommandError}
+use Rattle.u_commands.specs.declared.command_error.CommandError.TheVariants.{NoMemory}
+use Rattle.u_commands.proofs.Ran.{reports_run, error_is}
 use Rattle.u_commands.proofs.run.run_job.Goals as goal
 
 pub returns-clause-ok : goal.returns-clause-ok
 returns-clause-ok c =
-    subst (λ (j : JobParts). IfOk c.report_of.result (λ p. ReportsRunOfJob j c.args.firings p.0.items p.1)) (ap (λ (m : State). m.job) c.in_ok-machine.ensures) c.report_of.ensures.ok
+    reports_run c.args.job.now c.args.firings c.in_ok-machine.state c.in_ok-machine.machine c.in_ok-told.told.0.items c.in_ok-told.told.1 c.in_ok-machine.ensures.ok c.in_ok-told.ensures
+
+pub returns-in_err-told-clause-memory : goal.returns-in_err-told-clause-memory
+returns-in_err-told-clause-memory c = error_is c.from_residual-in_err-told.result (λ (e : CommandError). e ≡ NoMemory) c.from_residual-in_err-told.ensures.1

@@ -3,5 +3,5 @@ use Rattle.u_commands.proofs.run.run_new.Goals as goal
 
 pub returns-in-Ok-clause-ok : goal.returns-in-Ok-clause-ok
 returns-in-Ok-clause-ok c =
-    rw c.state_of.ensures
+    rw c.ending_of.ensures
     (ran_new c.args.machine.now c.run-ran.new.self c.args.firings c.requires.fresh.0 c.requires.fresh.1 c.holds.ensures.is c.in-Ok.ran c.in-Ok.ensures.answer)

@@ -1,10 +1,13 @@
-use Rattle.std.proofs.Common.{ap, subst}
-use Rattle.std.specs.Prelude.{IfOk}
-use Rattle.u_check.specs.Jobs.{JobParts}
-use Rattle.u_machine.specs.State.{State}
-use Rattle.u_commands.specs.Waits.{WaitsAfterRun}
+use Rattle.std.proofs.Common.{◌≡◌}
+use Rattle.u_commands.specs.declared.command_error.CommandError.{CommandError}
+use Rattle.u_commands.specs.declared.command_error.CommandError.TheVariants.{NoMemory}
+use Rattle.u_commands.proofs.Ran.{error_is}
+use Rattle.u_commands.proofs.Waited.{waits_after}
 use Rattle.u_commands.proofs.waiting.waits_job.Goals as goal
 
 pub returns-clause-ok : goal.returns-clause-ok
 returns-clause-ok c =
-    subst (λ (j : JobParts). IfOk c.waits_of.result (λ p. WaitsAfterRun j c.args.firings p.0.items p.1)) (ap (λ (m : State). m.job) c.in_ok-machine.ensures) c.waits_of.ensures.ok
+    waits_after c.args.job.now c.args.firings c.in_ok-machine.state c.in_ok-machine.machine c.in_ok-told.told.0.items c.in_ok-told.told.1 c.in_ok-machine.ensures.ok c.in_ok-told.ensures
+
+pub returns-in_err-told-clause-memory : goal.returns-in_err-told-clause-memory
+returns-in_err-told-clause-memory c = error_is c.from_residual-in_err-told.result (λ (e : CommandError). e ≡ NoMemory) c.from_residual-in_err-told.ensures.1

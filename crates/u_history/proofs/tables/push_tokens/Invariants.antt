@@ -1,6 +1,6 @@
 use Rattle.std.proofs.Common.{◌≡◌, ◌++◌, map, take}
 use Rattle.std.specs.Map.Iter.{deref_pair}
-use Rattle.u_history.specs.Held.{token_entry}
+use Rattle.u_history.specs.Tables.{token_entry}
 use Rattle.u_history.proofs.tables.push_tokens.Given as goal
 
 abbrev pub invariant-loop-pair : goal.invariant-loop-pair

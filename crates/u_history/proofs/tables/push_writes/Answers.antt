@@ -1,6 +1,6 @@
 use Rattle.std.proofs.Common.{arith}
 use Rattle.std.specs.Map.Iter.{deref_pair}
-use Rattle.u_history.specs.Held.{write_entry}
+use Rattle.u_history.specs.Tables.{write_entry}
 use Rattle.u_history.proofs.Tabled.{mapped_more, mapped_all}
 use Rattle.u_history.proofs.tables.push_writes.Goals as goal
 

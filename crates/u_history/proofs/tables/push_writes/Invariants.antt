@@ -1,6 +1,6 @@
 use Rattle.std.proofs.Common.{◌≡◌, ◌++◌, map, take}
 use Rattle.std.specs.Map.Iter.{deref_pair}
-use Rattle.u_history.specs.Held.{write_entry}
+use Rattle.u_history.specs.Tables.{write_entry}
 use Rattle.u_history.proofs.tables.push_writes.Given as goal
 
 abbrev pub invariant-loop-pair : goal.invariant-loop-pair

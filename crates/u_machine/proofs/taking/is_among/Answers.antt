@@ -1,6 +1,6 @@
 use Rattle.std.proofs.Common.{◌≡◌, refl, subst, Contains}
 use Rattle.u_rule.specs.declared.firing.Firing.{Firing}
-use Rattle.u_match.proofs.Rounds.{each_more, each_of_all, member_at}
+use Rattle.u_sets.proofs.Rounds.{each_more, each_of_all, member_at}
 use Rattle.u_machine.proofs.Settled.{not_both}
 use Rattle.u_machine.proofs.taking.is_among.Goals as goal
 

@@ -1,6 +1,6 @@
 use Rattle.std.proofs.Common.{◌≡◌, refl}
 use Rattle.u_rule.specs.declared.firing.Firing.{Firing}
-use Rattle.u_match.proofs.Rounds.{each_more}
+use Rattle.u_sets.proofs.Rounds.{each_more}
 use Rattle.u_plain.proofs.Lists.{each_all, false_true}
 use Rattle.u_plain.proofs.among.is_among.Goals as goal
 

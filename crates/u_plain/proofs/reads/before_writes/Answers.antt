@@ -1,7 +1,7 @@
 use Rattle.std.proofs.lemmas.List.{take_all}
 use Rattle.u_rule.specs.declared.entry.Entry.{Entry}
 use Rattle.u_plain.specs.Joins.{IsWrite}
-use Rattle.u_match.proofs.Rounds.{each_more}
+use Rattle.u_sets.proofs.Rounds.{each_more}
 use Rattle.u_plain.proofs.Lists.{behind_those}
 use Rattle.u_plain.proofs.reads.before_writes.Goals as goal
 

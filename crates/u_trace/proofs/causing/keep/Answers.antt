@@ -2,7 +2,8 @@ use Rattle.std.proofs.Common.{◌≡◌, ◌∙◌, sym, Contains}
 use Rattle.std.proofs.lemmas.Bool.{false≢true}
 use Rattle.u_rule.specs.Rule.{system_of}
 use Rattle.u_rule.specs.declared.firing.Firing.{Firing}
-use Rattle.u_match.proofs.Steps.{nothing, same_firing}
+use Rattle.u_sets.proofs.Steps.{nothing}
+use Rattle.u_match.proofs.Steps.{same_firing}
 use Rattle.u_match.proofs.Wakes.{added, left_out}
 use Rattle.u_trace.proofs.causing.keep.Goals as goal
 

@@ -1,6 +1,6 @@
 use Rattle.u_sets.proofs.Gathering.{scan_all}
-use Rattle.u_match.proofs.Steps.{round}
-use Rattle.u_match.proofs.Rounds.{member_at}
+use Rattle.u_sets.proofs.Steps.{round}
+use Rattle.u_sets.proofs.Rounds.{member_at}
 use Rattle.u_trace.specs.Causes.{IsKept}
 use Rattle.u_trace.proofs.causing.keep_all.Goals as goal
 

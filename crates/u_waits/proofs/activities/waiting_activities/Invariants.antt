@@ -9,5 +9,5 @@ use Rattle.u_waits.proofs.activities.waiting_activities.Given as goal
 abbrev pub invariant-loop-entry : goal.invariant-loop-entry
 invariant-loop-entry l = record {
   rises : Rises waiting_order l.found.items;
-  all : Gains [] (SomeOf (take l.entry-index l.entries) (WaitsAt l.program.blocks (Contains l.entries))) l.found.items;
+  all : Gains [] (SomeOf (take l.entry-index l.entries) (WaitsAt l.program.blocks (Contains l.history))) l.found.items;
 }

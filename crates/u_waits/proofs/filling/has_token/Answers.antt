@@ -1,5 +1,7 @@
+use Rattle.std.specs.Prelude.{Contains}
 use Rattle.u_waits.proofs.Stored.{some_token}
 use Rattle.u_waits.proofs.filling.has_token.Goals as goal
 
 pub returns : goal.returns
-returns c = some_token c.args.entries.now c.args.activity c.args.port c.entries_at.result.now c.is_empty.result c.is_empty.ensures c.entries_at.ensures
+returns c =
+    some_token (Contains c.args.history.now) c.args.activity.now c.in_ok-activity.activity c.args.number c.values_at.result.now c.is_empty.result c.is_empty.ensures c.in_ok-activity.ensures c.values_at.ensures.all

@@ -2,12 +2,12 @@ use Rattle.std.proofs.Common.{take}
 use Rattle.std.specs.Prelude.{Contains}
 use Rattle.u_sets.specs.Members.{SomeOf, Gains}
 use Rattle.u_sets.specs.Rising.{Rises}
-use Rattle.u_waits.specs.Gathering.{ReadsWith}
+use Rattle.u_waits.specs.Gathering.{ReadsOn}
 use Rattle.u_waits.specs.Orders.{read_order}
 use Rattle.u_waits.proofs.reads.add_reads_with.Given as goal
 
-abbrev pub invariant-loop-entry : goal.invariant-loop-entry
-invariant-loop-entry l = record {
+abbrev pub invariant-loop-index : goal.invariant-loop-index
+invariant-loop-index l = record {
   rises : Rises read_order l.found.items;
-  all : Gains l.initial.found.items (SomeOf (take l.entry-index l.seconds) (ReadsWith (Contains l.entries) l.reader l.structure)) l.found.items;
+  all : Gains l.initial.found.items (SomeOf (take l.index-index l.indices) (ReadsOn (Contains l.history) l.reader l.structure)) l.found.items;
 }

@@ -1,4 +1,4 @@
-use Rattle.u_history.specs.Held.{listed_entries}
+use Rattle.u_history.specs.Tables.{listed_entries}
 use Rattle.u_history.proofs.Tabled.{unordered_is}
 use Rattle.u_history.proofs.history.History.unordered_entries.Goals as goal
 

@@ -1,7 +1,7 @@
 use Rattle.std.proofs.Common.{List, subst, Contains}
 use Rattle.u_system.specs.Firing.{Same}
 use Rattle.u_rule.specs.declared.entry.Entry.{Entry}
-use Rattle.u_history.specs.Held.{listed_entries}
+use Rattle.u_history.specs.Tables.{listed_entries}
 use Rattle.u_history.proofs.Tabled.{in_order_is}
 use Rattle.u_history.proofs.tables.Tables.entries.Goals as goal
 

@@ -2,7 +2,7 @@ use Rattle.std.proofs.Common.{◌∙◌, ◌++◌, ap, sym, subst, map, List}
 use Rattle.std.specs.Map.Iter.{deref, deref_pair}
 use Rattle.u_system.specs.Firing.{Distinct}
 use Rattle.u_rule.specs.declared.entry.Entry.{Entry}
-use Rattle.u_history.specs.Held.{token_entry, write_entry}
+use Rattle.u_history.specs.Tables.{token_entry, write_entry}
 use Rattle.u_history.proofs.Tabled.{five, listed_distinct}
 use Rattle.u_history.proofs.tables.Tables.listed.Goals as goal
 

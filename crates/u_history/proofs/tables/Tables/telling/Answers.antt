@@ -3,7 +3,7 @@ use Rattle.std.specs.Map.Iter.{deref, deref_pair}
 use Rattle.u_system.specs.Firing.{Same, Distinct}
 use Rattle.u_rule.specs.declared.entry.Entry.{Entry}
 use Rattle.u_history.specs.declared.tables.Tables.{Tables}
-use Rattle.u_history.specs.Held.{token_entry, write_entry, listed_entries}
+use Rattle.u_history.specs.Tables.{token_entry, write_entry, listed_entries}
 use Rattle.u_history.proofs.Tabled.{five, listed_distinct, held_in, in_order_is}
 use Rattle.u_history.proofs.Telling.{tells}
 use Rattle.u_history.proofs.tables.Tables.telling.Goals as goal

@@ -1,7 +1,7 @@
 use Rattle.std.proofs.Common.{◌≤◌, length, arith, sym, Contains}
 use Rattle.std.proofs.lemmas.List.{take_all}
 use Rattle.u_rule.specs.declared.entry.Entry.{Entry}
-use Rattle.u_match.proofs.Rounds.{each_more}
+use Rattle.u_sets.proofs.Rounds.{each_more}
 use Rattle.u_machine.proofs.Going.{goes_on, gives_still}
 use Rattle.u_machine.proofs.States.{applies_trans}
 use Rattle.u_machine.proofs.parts.Parts.enter_all.Goals as goal

@@ -3,14 +3,14 @@ use Rattle.u_rule.specs.declared.firing.Firing.{Firing}
 use Rattle.u_delta.specs.declared.message.Message.{Message}
 use Rattle.u_delta.specs.Messages.{IsMessageOf}
 use Rattle.u_world.specs.Acts.{TakesList}
-use Rattle.u_world.specs.Inside.{state_of}
+use Rattle.u_world.specs.Inside.{world_of}
 use Rattle.u_world.proofs.Moves.{put, one_changed}
 use Rattle.u_world.proofs.Answered.{arrived}
 use Rattle.u_world.proofs.inside.Inside.arrive.Goals as goal
 
 pub returns-in-Ok-Delta : goal.returns-in-Ok-Delta
 returns-in-Ok-Delta c =
-    let w = state_of c.args.self.now in
+    let w = world_of c.args.self.now in
     let d = c.in-Ok-Delta.delta in
     let r = c.take_all.result in
     let before = c.index_mut-replica.result.now in

@@ -2,14 +2,14 @@ use Rattle.std.proofs.Common.{sym, ◌∙◌, ap, arith, inr, refl, List, [], �
 use Rattle.u_delta.specs.declared.message.Ask.{Ask}
 use Rattle.u_delta.specs.declared.message.Message.{Message}
 use Rattle.u_delta.specs.declared.message.Message.TheVariants as messages
-use Rattle.u_world.specs.Inside.{state_of}
+use Rattle.u_world.specs.Inside.{world_of}
 use Rattle.u_world.specs.WorldState.{world, Has, At}
 use Rattle.u_world.proofs.Places.{at_read}
 use Rattle.u_world.proofs.inside.Inside.ask.Goals as goal
 
 pub ask-ask-requires : goal.ask-ask-requires
 ask-ask-requires c =
-    let w = state_of c.args.self.now in
+    let w = world_of c.args.self.now in
     let r = c.index.result.now in
     let has : Has w c.args.asker = c.if-not-has.ensures.0 refl in
     let there : Has w c.args.asked = c.if-not-has-2.ensures.0 refl in
@@ -20,7 +20,7 @@ ask-ask-requires c =
 
 pub returns : goal.returns
 returns c =
-    let w = state_of c.args.self.now in
+    let w = world_of c.args.self.now in
     let r = c.index.result.now in
     let has : Has w c.args.asker = c.if-not-has.ensures.0 refl in
     let there : Has w c.args.asked = c.if-not-has-2.ensures.0 refl in

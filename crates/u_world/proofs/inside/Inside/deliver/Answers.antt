@@ -1,7 +1,7 @@
 use Rattle.std.proofs.Common.{sym, subst, arith, inr}
 use Rattle.u_delta.specs.declared.message.Message.{Message}
 use Rattle.u_world.specs.Acts.{Receives}
-use Rattle.u_world.specs.Inside.{state_of}
+use Rattle.u_world.specs.Inside.{world_of}
 use Rattle.u_world.specs.Worlds.{IsSent}
 use Rattle.u_world.specs.Happenings.{Delivers}
 use Rattle.u_world.proofs.Places.{looked_up}
@@ -11,7 +11,7 @@ use Rattle.u_world.proofs.inside.Inside.deliver.Goals as goal
 
 pub answer-requires : goal.answer-requires
 answer-requires c =
-    let w = state_of c.args.self.now in
+    let w = world_of c.args.self.now in
     let m = c.in-Some.message.now in
     let q = c.in-Some.ensures.lookup in
     let at = looked_up w.messages c.deref.result.now c.args.place m _ c.deref.ensures.value q.0 q.1 in
@@ -19,7 +19,7 @@ answer-requires c =
 
 pub overflow_sub-from : goal.overflow_sub-from
 overflow_sub-from c =
-    let w = state_of c.args.self.now in
+    let w = world_of c.args.self.now in
     let m = c.in-Some.message.now in
     let q = c.in-Some.ensures.lookup in
     let at = looked_up w.messages c.deref.result.now c.args.place m _ c.deref.ensures.value q.0 q.1 in
@@ -28,7 +28,7 @@ overflow_sub-from c =
 
 pub index_mut-requires : goal.index_mut-requires
 index_mut-requires c =
-    let w = state_of c.args.self.now in
+    let w = world_of c.args.self.now in
     let m = c.in-Some.message.now in
     let q = c.in-Some.ensures.lookup in
     let at = looked_up w.messages c.deref.result.now c.args.place m _ c.deref.ensures.value q.0 q.1 in
@@ -37,15 +37,15 @@ index_mut-requires c =
 
 pub returns-in-Ask : goal.returns-in-Ask
 returns-in-Ask c =
-    let w = state_of c.args.self.now in
+    let w = world_of c.args.self.now in
     let m = c.in-Some.message.now in
     let q = c.in-Some.ensures.lookup in
     let at = looked_up w.messages c.deref.result.now c.args.place m _ c.deref.ensures.value q.0 q.1 in
-    inr (at.0, (m, at.1, subst (λ (m : Message). Delivers m c.answer.result w (state_of c.answer.new.self)) (sym c.in-Ask.is) c.answer.ensures))
+    inr (at.0, (m, at.1, subst (λ (m : Message). Delivers m c.answer.result w (world_of c.answer.new.self)) (sym c.in-Ask.is) c.answer.ensures))
 
 pub returns-in-Delta : goal.returns-in-Delta
 returns-in-Delta c =
-    let w = state_of c.args.self.now in
+    let w = world_of c.args.self.now in
     let m = c.in-Some.message.now in
     let q = c.in-Some.ensures.lookup in
     let d = c.in-Delta.delta in

@@ -1,5 +1,5 @@
 use Rattle.std.proofs.Common.{rules, refl, ◌≡◌, ◌<◌, ◌+◌}
-use Rattle.u_world.specs.Inside.{state_of}
+use Rattle.u_world.specs.Inside.{world_of}
 use Rattle.u_world.specs.WorldState.{Has}
 use Rattle.u_world.proofs.Answered.{restarted, not_again}
 use Rattle.u_world.proofs.inside.Inside.restart.Goals as goal
@@ -7,7 +7,7 @@ use Rattle.u_world.proofs.inside.Inside.restart.Goals as goal
 pub returns-in-Ok : goal.returns-in-Ok
 returns-in-Ok c =
     let a = c.args in
-    let w = state_of a.self.now in
+    let w = world_of a.self.now in
     let has : Has w a.number = c.if-not-has.ensures.0 refl in
     let life = c.in-Some.life in
     let next : life ≡ c.index.result.now.life + 1 = search rules in
@@ -17,7 +17,7 @@ returns-in-Ok c =
 pub returns-in-Err : goal.returns-in-Err
 returns-in-Err c =
     let a = c.args in
-    let w = state_of a.self.now in
+    let w = world_of a.self.now in
     let has : Has w a.number = c.if-not-has.ensures.0 refl in
     let life = c.in-Some.life in
     let next : life ≡ c.index.result.now.life + 1 = search rules in

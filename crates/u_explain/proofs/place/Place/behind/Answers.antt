@@ -1,6 +1,0 @@
-use Rattle.std.proofs.Common.{rules}
-use Rattle.u_explain.proofs.BehindLaws.{behind_first, first_too}
-use Rattle.u_explain.proofs.place.Place.behind.Goals as goal
-
-pub returns-in-FirstBlock : goal.returns-in-FirstBlock
-returns-in-FirstBlock c = λ before p b. behind_first before c.args.line.now (first_too before c.args.self (search rules) p) b

@@ -1,0 +1,179 @@
+//! Places of a program's text, and the lines that may stand there.
+ghost use Rattle.std.specs.Prelude.{◌≡◌, ◌≤◌, ◌+◌, ◌++◌, ◌∷◌, [], List, ℕ};
+ghost use Rattle.u_explain.specs.Left.{IsLeft};
+ghost use Rattle.u_explain.specs.Places.{IsPlace, IsInside, IsAllowed, PlaceOn, sort_of, InsideOn, BlockWhere, LoopWhere, StatementWhere, HeaderOn};
+
+use crate::fronts::{block_left, loop_left, statement_left};
+use crate::lists::shorter;
+use u_text::after_all;
+
+/// A place of a program's text: what stands before a line, as far as it decides which lines may
+/// stand there.
+#[derive(Clone, Copy, Debug, PartialEq, Eq)]
+pub enum TextPlace {
+    /// The first line.
+    Header,
+    /// The line behind the first one.
+    FirstBlock,
+    /// A line behind the line that begins a block.
+    Inside {
+        /// How many blocks have begun, 1 to 64.
+        blocks: u32,
+        /// How many loops the last block has so far, 0 to 99.
+        loops: u32,
+        /// How many statements the last block has so far, 0 to 999.
+        statements: u32,
+    },
+}
+
+/// What is left of the first line.
+fn header_left(line: &[u8]) -> &[u8]
+    ensures { IsLeft HeaderOn line.now result.now }
+{
+    match after_all(line, b"u-program 1") {
+        Ok(rest) => rest,
+        Err(rest) => rest,
+    }
+}
+
+/// What is left of a line that begins a block, where one may begin.
+fn block_where(line: &[u8], blocks: u32, statements: u32) -> &[u8]
+    ensures { IsLeft (BlockWhere blocks statements) line.now result.now }
+{
+    if statements >= 1 && blocks < 64 {
+        block_left(line)
+    } else {
+        line
+    }
+}
+
+/// What is left of a loop's line, where one may stand.
+fn loop_where(line: &[u8], loops: u32, statements: u32) -> &[u8]
+    ensures { IsLeft (LoopWhere loops statements) line.now result.now }
+{
+    if statements == 0 && loops < 99 {
+        loop_left(line, loops + 1)
+    } else {
+        line
+    }
+}
+
+/// What is left of a statement's line, where one may stand.
+fn statement_where(line: &[u8], statements: u32) -> &[u8]
+    ensures { IsLeft (StatementWhere statements) line.now result.now }
+{
+    if statements < 999 {
+        statement_left(line, statements + 1)
+    } else {
+        line
+    }
+}
+
+/// What is left of a line behind the line that begins a block.
+fn inside_left(line: &[u8], blocks: u32, loops: u32, statements: u32) -> &[u8]
+    ensures { IsLeft (InsideOn blocks loops statements) line.now result.now }
+{
+    let block = block_where(line, blocks, statements);
+    let own = shorter(
+        loop_where(line, loops, statements),
+        statement_where(line, statements),
+    );
+    shorter(block, own)
+}
+
+/// What is left of a line at that place.
+fn place_left(line: &[u8], place: TextPlace) -> &[u8]
+    ensures { IsLeft (PlaceOn place) line.now result.now }
+{
+    match place {
+        TextPlace::Header => header_left(line),
+        TextPlace::FirstBlock => block_left(line),
+        TextPlace::Inside {
+            blocks,
+            loops,
+            statements,
+        } => inside_left(line, blocks, loops, statements),
+    }
+}
+
+/// What is left of the line from the byte on with which no line goes on that may stand at that
+/// place: behind the longest front of the line with which some program goes on there. All of the
+/// line is left where its first byte is wrong, or no line may stand there.
+pub fn line_left(line: &[u8], place: TextPlace) -> &[u8]
+    ensures { (before : List (List ℕ)) → IsPlace before place
+        → IsLeft (IsAllowed before) line.now result.now }
+{
+    place_left(line, place)
+}
+
+impl TextPlace {
+    /// The place behind the line, which may stand at this place.
+    pub fn behind(self, line: &[u8]) -> TextPlace
+        ensures { (before : List (List ℕ)) → IsPlace before self → IsAllowed before line.now
+            → IsPlace (before ++ (line.now ∷ [])) result }
+    {
+        match self {
+            TextPlace::Header => TextPlace::FirstBlock,
+            TextPlace::FirstBlock => TextPlace::Inside {
+                blocks: 1,
+                loops: 0,
+                statements: 0,
+            },
+            TextPlace::Inside {
+                blocks,
+                loops,
+                statements,
+            } => inside_behind(line, blocks, loops, statements),
+        }
+    }
+}
+
+/// One more, of a number of blocks, loops or statements.
+fn one_more(count: u32) -> u32
+    ensures { count ≤ 999 → result ≡ count + 1 }
+{
+    if count <= 999 { count + 1 } else { count }
+}
+
+/// What a line inside of a program is, which its first byte tells.
+#[derive(Clone, Copy)]
+enum Sort {
+    Block,
+    Loop,
+    Statement,
+}
+
+/// Which sort of a line it is.
+fn sort_of(line: &[u8]) -> Sort
+    ensures { result ≡ sort_of line.now }
+{
+    match line.split_first() {
+        Some((b'b', _)) => Sort::Block,
+        Some((b'l', _)) => Sort::Loop,
+        _ => Sort::Statement,
+    }
+}
+
+/// The place behind a line inside of a program.
+fn inside_behind(line: &[u8], blocks: u32, loops: u32, statements: u32) -> TextPlace
+    ensures { (before : List (List ℕ)) → IsInside before blocks loops statements
+        → IsAllowed before line.now → IsPlace (before ++ (line.now ∷ [])) result }
+{
+    match sort_of(line) {
+        Sort::Block => TextPlace::Inside {
+            blocks: one_more(blocks),
+            loops: 0,
+            statements: 0,
+        },
+        Sort::Loop => TextPlace::Inside {
+            blocks,
+            loops: one_more(loops),
+            statements,
+        },
+        Sort::Statement => TextPlace::Inside {
+            blocks,
+            loops,
+            statements: one_more(statements),
+        },
+    }
+}

@@ -1,0 +1,13 @@
+use Rattle.std.proofs.Common.{◌∷◌, [], None}
+use Rattle.std.specs.Prelude.{Contains}
+use Rattle.u_rule.specs.EntryOrder.{firing}
+use Rattle.u_match.specs.Joins.{IsTwo, ReadsCell}
+use Rattle.u_sets.proofs.Steps.{both}
+use Rattle.u_match.proofs.Steps.{renamed}
+use Rattle.u_match.proofs.joining_tokens.Joining.add_two.Goals as goal
+
+pub returns-clause-ok : goal.returns-clause-ok
+returns-clause-ok c =
+    both (IsTwo c.args.self.now.job.now c.args.self.now.activity.now c.args.first.now c.args.second.now) (ReadsCell c.args.self.now.job.now (Contains c.args.self.now.history.now) c.args.self.now.activity.now c.args.first.now c.args.second.now) c.args.found.now.items c.add.new.found.items c.add_reads.new.found.items
+    (renamed c.args.self.now.job.now c.in_ok-joined.joined (firing c.args.self.now.activity.now (c.args.first.now ∷ c.args.second.now ∷ []) None) c.args.found.now.items c.add.new.found.items c.in_ok-joined.ensures c.in_ok-add.ensures.ok)
+    c.in_ok-add_reads.ensures.ok

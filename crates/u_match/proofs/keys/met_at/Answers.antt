@@ -1,8 +1,0 @@
-use Rattle.std.specs.Prelude.{Contains}
-use Rattle.std.proofs.Common.{sym, ◌∙◌}
-use Rattle.u_match.proofs.Meeting.{met_elsewhere}
-use Rattle.u_match.proofs.keys.met_at.Goals as goal
-
-pub returns : goal.returns
-returns c =
-    met_elsewhere (Contains c.args.history.now) c.args.token.now c.args.at.now c.requires (λ e. c.if-port-at.false (c.port.ensures.port ∙ e)) c.values_at.result.now c.values_at.ensures.all

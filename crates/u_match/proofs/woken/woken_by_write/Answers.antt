@@ -1,7 +1,0 @@
-use Rattle.u_match.proofs.WriteWaking.{answered_write}
-use Rattle.u_match.proofs.woken.woken_by_write.Goals as goal
-
-pub returns-clause-exact : goal.returns-clause-exact
-returns-clause-exact c =
-    answered_write c.args.reads.now c.args.history.now c.requires.complete c.args.write.now c.args.job.now c.args.entry.now c.in_ok-met.met.items c.deref.result.now c.in_ok-found.found.items c.under-waiting.result.now
-    c.requires.is c.under-waiting.ensures c.deref.ensures.value c.in_ok-met.ensures c.in_ok-found.ensures.exact

@@ -1,0 +1,279 @@
+//! The firings of a job that a token makes with what it meets. What it meets is in the history, so each
+//! of them has all that it needs; which of them are firings of the job is tested as they are made.
+ghost use Rattle.std.specs.Prelude.{◌≡◌, ◌↔◌, ◌⊎◌, [], ◌∷◌, OnOk, IfOk, Contains};
+ghost use Rattle.u_rule.specs.declared.entry.Entry.TheVariants.{Token as token_entry};
+ghost use Rattle.u_rule.specs.EntryOrder.{firing_cmp};
+ghost use Rattle.u_sets.specs.Rising.{Rises};
+ghost use Rattle.u_sets.specs.Members.{SomeOf, AreThose, Gains, HasOr};
+ghost use Rattle.u_match.specs.Joins.{IsKept, IsOne, IsThree, IsReading, ReadsCell, JoinsTwo, JoinsSome, JoinsThird, JoinsPair};
+ghost use Rattle.u_match.specs.Waking.{IsWokenBy};
+
+use crate::making_firings::{of_one, of_read, of_three, of_two};
+use crate::meeting::{met_at, port_of};
+use std::alloc::{AllocError, Global};
+use u_check::Job;
+use u_history::History;
+use u_name::Name;
+use u_rule::{Firing, Token, Written, cell_at, is_firing, ports_at};
+use u_sets::place_in;
+use u_value::Value;
+
+/// What the firings of one activity are made over: the job, the history, and the activity.
+#[derive(Clone, Copy)]
+struct Joining<'a> {
+    alloc: Global,
+    job: &'a Job,
+    history: &'a History,
+    activity: &'a Name,
+}
+
+impl Joining<'_> {
+    /// Puts the firing in its place, if it is one of the job.
+    fn add(&self, found: &mut Vec<Firing>, firing: Firing) -> Result<(), AllocError>
+        requires { Rises firing_cmp found.old.items }
+        ensures rises { Rises firing_cmp found.new.items }
+        ensures ok { OnOk result
+            (Gains found.old.items (IsKept self.now.job.now firing) found.new.items) }
+    {
+        if is_firing(self.job, &firing) {
+            place_in(found, firing)?;
+        }
+        Ok(())
+    }
+
+    /// Adds the firings of one value of the list.
+    fn add_ones(&self, firsts: &[Value], found: &mut Vec<Firing>) -> Result<(), AllocError>
+        requires { Rises firing_cmp found.old.items }
+        ensures rises { Rises firing_cmp found.new.items }
+        ensures ok { OnOk result
+            (Gains found.old.items
+            (SomeOf firsts.now (IsOne self.now.job.now self.now.activity.now)) found.new.items) }
+    {
+        for first in firsts {
+            let single = of_one(self.alloc, self.activity, first)?;
+            self.add(found, single)?;
+        }
+        Ok(())
+    }
+
+    /// Adds the firings of two values that read one of the writes.
+    fn add_readings(
+        &self,
+        first: &Value,
+        second: &Value,
+        writes: &[Written],
+        found: &mut Vec<Firing>,
+    ) -> Result<(), AllocError>
+        requires { Rises firing_cmp found.old.items }
+        ensures rises { Rises firing_cmp found.new.items }
+        ensures ok { OnOk result
+            (Gains found.old.items
+            (SomeOf writes.now
+            (IsReading self.now.job.now self.now.activity.now first.now second.now))
+            found.new.items) }
+    {
+        for write in writes {
+            let reading = of_read(self.alloc, self.activity, first, second, write)?;
+            self.add(found, reading)?;
+        }
+        Ok(())
+    }
+
+    /// Adds the firings of two values that read a write of the cell that these name.
+    fn add_reads(
+        &self,
+        first: &Value,
+        second: &Value,
+        found: &mut Vec<Firing>,
+    ) -> Result<(), AllocError>
+        requires { Rises firing_cmp found.old.items }
+        ensures rises { Rises firing_cmp found.new.items }
+        ensures ok { OnOk result
+            (Gains found.old.items
+            (ReadsCell self.now.job.now (Contains self.now.history.now) self.now.activity.now
+            first.now second.now)
+            found.new.items) }
+    {
+        let named = cell_at(first, second)?;
+        let cell = match named {
+            None => return Ok(()),
+            Some(cell) => cell,
+        };
+        let writes = self.history.writes_to(&cell);
+        self.add_readings(first, second, writes, found)?;
+        Ok(())
+    }
+
+    /// Adds the firings that have these two values, and besides nothing or a write.
+    fn add_two(
+        &self,
+        first: &Value,
+        second: &Value,
+        found: &mut Vec<Firing>,
+    ) -> Result<(), AllocError>
+        requires { Rises firing_cmp found.old.items }
+        ensures rises { Rises firing_cmp found.new.items }
+        ensures ok { OnOk result
+            (Gains found.old.items
+            (JoinsTwo self.now.job.now (Contains self.now.history.now) self.now.activity.now
+            first.now second.now)
+            found.new.items) }
+    {
+        let joined = of_two(self.alloc, self.activity, first, second)?;
+        self.add(found, joined)?;
+        self.add_reads(first, second, found)?;
+        Ok(())
+    }
+
+    /// Adds the firings that have this first value and a second one of the list.
+    fn add_seconds(
+        &self,
+        first: &Value,
+        seconds: &[Value],
+        found: &mut Vec<Firing>,
+    ) -> Result<(), AllocError>
+        requires { Rises firing_cmp found.old.items }
+        ensures rises { Rises firing_cmp found.new.items }
+        ensures ok { OnOk result
+            (Gains found.old.items
+            (JoinsSome self.now.job.now (Contains self.now.history.now) self.now.activity.now
+            seconds.now first.now)
+            found.new.items) }
+    {
+        for second in seconds {
+            self.add_two(first, second, found)?;
+        }
+        Ok(())
+    }
+
+    /// Adds the firings that have a first and a second value of the lists.
+    fn add_twos(
+        &self,
+        firsts: &[Value],
+        seconds: &[Value],
+        found: &mut Vec<Firing>,
+    ) -> Result<(), AllocError>
+        requires { Rises firing_cmp found.old.items }
+        ensures rises { Rises firing_cmp found.new.items }
+        ensures ok { OnOk result
+            (Gains found.old.items
+            (SomeOf firsts.now
+            (JoinsSome self.now.job.now (Contains self.now.history.now) self.now.activity.now
+            seconds.now))
+            found.new.items) }
+    {
+        for first in firsts {
+            self.add_seconds(first, seconds, found)?;
+        }
+        Ok(())
+    }
+
+    /// Adds the firings that have these two values and a third one of the list.
+    fn add_thirds(
+        &self,
+        first: &Value,
+        second: &Value,
+        thirds: &[Value],
+        found: &mut Vec<Firing>,
+    ) -> Result<(), AllocError>
+        requires { Rises firing_cmp found.old.items }
+        ensures rises { Rises firing_cmp found.new.items }
+        ensures ok { OnOk result
+            (Gains found.old.items
+            (JoinsThird self.now.job.now self.now.activity.now thirds.now first.now second.now)
+            found.new.items) }
+    {
+        for third in thirds {
+            let tripled = of_three(self.alloc, self.activity, first, second, third)?;
+            self.add(found, tripled)?;
+        }
+        Ok(())
+    }
+
+    /// Adds the firings that have this first value, and a second and a third one of the lists.
+    fn add_pairs(
+        &self,
+        first: &Value,
+        seconds: &[Value],
+        thirds: &[Value],
+        found: &mut Vec<Firing>,
+    ) -> Result<(), AllocError>
+        requires { Rises firing_cmp found.old.items }
+        ensures rises { Rises firing_cmp found.new.items }
+        ensures ok { OnOk result
+            (Gains found.old.items
+            (JoinsPair self.now.job.now self.now.activity.now seconds.now thirds.now first.now)
+            found.new.items) }
+    {
+        for second in seconds {
+            self.add_thirds(first, second, thirds, found)?;
+        }
+        Ok(())
+    }
+
+    /// Adds the firings that have a value of each of the three lists.
+    fn add_threes(
+        &self,
+        firsts: &[Value],
+        seconds: &[Value],
+        thirds: &[Value],
+        found: &mut Vec<Firing>,
+    ) -> Result<(), AllocError>
+        requires { Rises firing_cmp found.old.items }
+        ensures rises { Rises firing_cmp found.new.items }
+        ensures ok { OnOk result
+            (Gains found.old.items
+            (SomeOf firsts.now
+            (JoinsPair self.now.job.now self.now.activity.now seconds.now thirds.now))
+            found.new.items) }
+    {
+        for first in firsts {
+            self.add_pairs(first, seconds, thirds, found)?;
+        }
+        Ok(())
+    }
+}
+
+/// The firings of the job that the token wakes where it enters the history. They stand in order, each
+/// once. What lies at a port is asked of the history only where the activity has that port.
+pub(crate) fn woken_by_token(
+    alloc: Global,
+    job: &Job,
+    history: &History,
+    token: &Token,
+) -> Result<Vec<Firing>, AllocError>
+    ensures exact { IfOk result
+        (λ v. AreThose
+        (IsWokenBy job.now (token_entry token.now) (HasOr history.now (token_entry token.now)))
+        v.items) }
+    ensures rises { IfOk result (λ v. Rises firing_cmp v.items) }
+{
+    let mut found = Vec::new(alloc);
+    let activity = token.activity();
+    let ports = ports_at(job, activity);
+    if ports < usize::from(token.port()) {
+        return Ok(found);
+    }
+    let joining = Joining {
+        alloc,
+        job,
+        history,
+        activity,
+    };
+    let first = port_of(token, 1)?;
+    let firsts = met_at(history, token, &first);
+    if ports == 1 {
+        joining.add_ones(firsts, &mut found)?;
+        return Ok(found);
+    }
+    let second = port_of(token, 2)?;
+    let seconds = met_at(history, token, &second);
+    if ports == 2 {
+        joining.add_twos(firsts, seconds, &mut found)?;
+        return Ok(found);
+    }
+    let third = port_of(token, 3)?;
+    let thirds = met_at(history, token, &third);
+    joining.add_threes(firsts, seconds, thirds, &mut found)?;
+    Ok(found)
+}

@@ -1,0 +1,75 @@
+//! Firings that are made of an activity and values.
+ghost use Rattle.std.specs.Prelude.{◌≡◌, [], ◌∷◌, IfOk, Some, None};
+ghost use Rattle.u_rule.specs.EntryOrder.{firing};
+
+use std::alloc::{AllocError, Global};
+use u_name::Name;
+use u_rule::{Firing, Values, Written};
+use u_value::Value;
+
+/// The firing of one value.
+pub(crate) fn of_one(alloc: Global, activity: &Name, first: &Value) -> Result<Firing, AllocError>
+    ensures { IfOk result (λ f. f ≡ firing activity.now (first.now ∷ []) None) }
+{
+    Ok(Firing {
+        activity: activity.copy()?,
+        values: Values::one(alloc, first.copy()?)?,
+        write: None,
+    })
+}
+
+/// The firing of two values.
+pub(crate) fn of_two(
+    alloc: Global,
+    activity: &Name,
+    first: &Value,
+    second: &Value,
+) -> Result<Firing, AllocError>
+    ensures { IfOk result (λ f. f ≡ firing activity.now (first.now ∷ second.now ∷ []) None) }
+{
+    Ok(Firing {
+        activity: activity.copy()?,
+        values: Values::two(alloc, first.copy()?, second.copy()?)?,
+        write: None,
+    })
+}
+
+/// The firing of three values.
+pub(crate) fn of_three(
+    alloc: Global,
+    activity: &Name,
+    first: &Value,
+    second: &Value,
+    third: &Value,
+) -> Result<Firing, AllocError>
+    ensures { IfOk result
+        (λ f. f ≡ firing activity.now (first.now ∷ second.now ∷ third.now ∷ []) None) }
+{
+    let value = first.copy()?;
+    let other = second.copy()?;
+    let last = third.copy()?;
+    Ok(Firing {
+        activity: activity.copy()?,
+        values: Values::three(alloc, value, other, last)?,
+        write: None,
+    })
+}
+
+/// The firing of two values that reads a write.
+pub(crate) fn of_read(
+    alloc: Global,
+    activity: &Name,
+    first: &Value,
+    second: &Value,
+    by: &Written,
+) -> Result<Firing, AllocError>
+    ensures { IfOk result
+        (λ f. f ≡ firing activity.now (first.now ∷ second.now ∷ []) (Some by.now)) }
+{
+    let by = by.copy()?;
+    Ok(Firing {
+        activity: activity.copy()?,
+        values: Values::two(alloc, first.copy()?, second.copy()?)?,
+        write: Some(by),
+    })
+}

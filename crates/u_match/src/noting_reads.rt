@@ -1,0 +1,138 @@
+//! How the reads that an entry makes go into the table. Where memory runs out the table may have more
+//! than before, and nothing is lost.
+ghost use Rattle.std.specs.Prelude.{◌≡◌, ◌⊎◌, OnOk, IsFalse, Contains};
+ghost use Rattle.u_value.specs.declared.value.Value.{Value};
+ghost use Rattle.u_match.specs.KeyedLists.{KeepsAll};
+ghost use Rattle.u_match.specs.Keys.{cell_eq, IsMet, Notes, NamesNone, IsCompleteWith};
+
+use crate::meeting::{Read, Reads, met_at, port_of};
+use std::alloc::{AllocError, Global};
+use u_history::History;
+use u_name::Name;
+use u_rule::{Entry, Token, cell_at};
+use u_value::Value;
+
+/// Notes the read of the cell that the structure and the index name, where they name one.
+fn note_read(
+    alloc: Global,
+    reads: &mut Reads,
+    activity: &Name,
+    structure: &Value,
+    index: &Value,
+) -> Result<(), AllocError>
+    ensures kept { KeepsAll cell_eq reads.old reads.new }
+    ensures ok { OnOk result (Notes activity.now structure.now index.now reads.new) }
+{
+    let named = cell_at(structure, index)?;
+    let cell = match named {
+        None => return Ok(()),
+        Some(cell) => cell,
+    };
+    let read = Read {
+        activity: activity.copy()?,
+        structure: structure.copy()?,
+        index: index.copy()?,
+    };
+    reads.put(alloc, cell, read)?;
+    Ok(())
+}
+
+/// Notes the reads of the cells that the structure names with one of the indices.
+fn note_indices(
+    alloc: Global,
+    reads: &mut Reads,
+    activity: &Name,
+    structure: &Value,
+    indices: &[Value],
+) -> Result<(), AllocError>
+    ensures kept { KeepsAll cell_eq reads.old reads.new }
+    ensures ok { OnOk result
+        ((w : Value) → Contains indices.now w → Notes activity.now structure.now w reads.new) }
+{
+    for index in indices {
+        note_read(alloc, reads, activity, structure, index)?;
+    }
+    Ok(())
+}
+
+/// Notes the reads of the cells that one of the structures names with one of the indices.
+fn note_reads(
+    alloc: Global,
+    reads: &mut Reads,
+    activity: &Name,
+    structures: &[Value],
+    indices: &[Value],
+) -> Result<(), AllocError>
+    ensures kept { KeepsAll cell_eq reads.old reads.new }
+    ensures ok { OnOk result
+        ((v : Value) → Contains structures.now v → (w : Value) → Contains indices.now w
+        → Notes activity.now v w reads.new) }
+{
+    for structure in structures {
+        note_indices(alloc, reads, activity, structure, indices)?;
+    }
+    Ok(())
+}
+
+/// Whether the token may name a cell with what it meets: a structure at the first port, or an index at
+/// the second.
+#[tactic(auto, using(crate::proofs::Naming::names_none))]
+fn may_name(token: &Token) -> bool
+    ensures { IsFalse result → NamesNone token.now }
+{
+    let port = token.port();
+    match token.value() {
+        Value::Ref(_structure) => port == 1,
+        Value::Int(_index) => port == 2,
+        Value::Bool(_truth) => false,
+        Value::Proc(_block) => false,
+    }
+}
+
+/// Notes the reads that the token makes with what it meets. A token at the third port makes none.
+fn note_reads_of(
+    alloc: Global,
+    history: &History,
+    reads: &mut Reads,
+    token: &Token,
+) -> Result<(), AllocError>
+    ensures kept { KeepsAll cell_eq reads.old reads.new }
+    ensures ok { OnOk result
+        ((v w : Value) → IsMet (Contains history.now) token.now 1 v
+        → IsMet (Contains history.now) token.now 2 w
+        → (token.now.port ≡ 3) ⊎ Notes token.now.activity v w reads.new) }
+{
+    if !may_name(token) {
+        return Ok(());
+    }
+    let first = port_of(token, 1)?;
+    let second = port_of(token, 2)?;
+    let structures = met_at(history, token, &first);
+    let indices = met_at(history, token, &second);
+    note_reads(alloc, reads, token.activity(), structures, indices)?;
+    Ok(())
+}
+
+/// Notes the reads that the entry makes with what it meets in the history.
+///
+/// # Errors
+/// `AllocError` where there is no memory; what the table had it still has.
+pub(crate) fn note(
+    alloc: Global,
+    history: &History,
+    reads: &mut Reads,
+    entry: &Entry,
+) -> Result<(), AllocError>
+    ensures kept { KeepsAll cell_eq reads.old reads.new }
+    ensures ok { OnOk result (IsCompleteWith reads.old history.now entry.now reads.new) }
+{
+    match entry {
+        Entry::Token(token) => {
+            note_reads_of(alloc, history, reads, token)?;
+            Ok(())
+        }
+        Entry::Write(_write) => Ok(()),
+        Entry::Fault(_fault) => Ok(()),
+        Entry::Answer(_value) => Ok(()),
+    }
+}

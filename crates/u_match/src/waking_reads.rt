@@ -1,0 +1,171 @@
+//! The firings that a write wakes: of those that are made of a read that waits for its cell, the ones
+//! whose needs are there. The table of reads may have more than the history, so each need is looked up.
+ghost use Rattle.std.specs.Prelude.{◌≡◌, ◌↔◌, ◌⊎◌, IfOk, OnOk, IsTrue, Contains};
+ghost use Rattle.u_rule.specs.declared.entry.Entry.TheVariants.{Write as write_entry};
+ghost use Rattle.u_rule.specs.declared.entry.Entry.{Entry};
+ghost use Rattle.u_rule.specs.declared.firing.Firing.{Firing};
+ghost use Rattle.u_rule.specs.EntryOrder.{firing_cmp, written};
+ghost use Rattle.u_sets.specs.Rising.{Rises};
+ghost use Rattle.u_match.specs.Waking.{IsWokenBy};
+ghost use Rattle.u_system.specs.Firing.{Within};
+ghost use Rattle.u_sets.specs.Members.{SomeOf, AreThose, Gains, HasOr, IsWith};
+ghost use Rattle.u_match.specs.Joins.{IsWoken};
+ghost use Rattle.u_match.specs.Keys.{IsComplete};
+
+use crate::making_firings::of_read;
+use crate::meeting::{Read, Reads};
+use std::alloc::{AllocError, Global};
+use u_check::Job;
+use u_history::History;
+use u_rule::{Entry, Firing, RuleError, Write, Written, needs};
+use u_sets::{has, place_in};
+
+/// Whether the two are one entry.
+#[tactic(auto, using(crate::proofs::Wakes::same_entry))]
+fn is_same(left: &Entry, right: &Entry) -> bool
+    ensures { IsTrue result ↔ (left.now ≡ right.now) }
+{
+    left.cmp(right).is_eq()
+}
+
+/// Whether it is the entry, or in the set.
+fn is_held(entries: &History, entry: &Entry, need: &Entry) -> bool
+    ensures { IsTrue result ↔ HasOr entries.now entry.now need.now }
+{
+    if is_same(entry, need) {
+        return true;
+    }
+    entries.contains(need)
+}
+
+/// Whether each of the needs is the entry, or in the set.
+fn are_held(entries: &History, entry: &Entry, needs: &[Entry]) -> bool
+    ensures { IsTrue result ↔ Within (HasOr entries.now entry.now) needs.now }
+{
+    for need in needs {
+        if !is_held(entries, entry, need) {
+            return false;
+        }
+    }
+    true
+}
+
+/// Adds the firing.
+fn add(found: &mut Vec<Firing>, firing: Firing) -> Result<(), AllocError>
+    ensures { OnOk result (IsWith found.old.items firing found.new.items) }
+{
+    found.push(firing)?;
+    Ok(())
+}
+
+/// Who wrote the write, and what.
+fn written_by(write: &Write) -> Result<Written, AllocError>
+    ensures { IfOk result (λ w. w ≡ written write.now.writer write.now.value) }
+{
+    Ok(Written {
+        writer: write.writer.copy()?,
+        value: write.value.copy()?,
+    })
+}
+
+/// The firings of the reads, each with the write.
+fn wake_each(alloc: Global, write: &Write, reads: &[Read]) -> Result<Vec<Firing>, AllocError>
+    ensures { IfOk result (λ v. AreThose (SomeOf reads.now (IsWoken write.now)) v.items) }
+{
+    let by = written_by(write)?;
+    let mut found = Vec::new(alloc);
+    for read in reads {
+        let woken = of_read(alloc, &read.activity, &read.structure, &read.index, &by)?;
+        add(&mut found, woken)?;
+    }
+    Ok(found)
+}
+
+/// A job, a set of entries, and an entry that enters it.
+#[derive(Clone, Copy)]
+pub(crate) struct Entering<'a> {
+    pub(crate) alloc: Global,
+    pub(crate) job: &'a Job,
+    pub(crate) entries: &'a History,
+    pub(crate) entry: &'a Entry,
+}
+
+impl Entering<'_> {
+    /// Whether it is a firing of the job that needs the entry, and the set has all else that it needs.
+    fn is_woken(&self, firing: &Firing) -> Result<bool, AllocError>
+        ensures { IfOk result
+            (λ b. IsTrue b
+            ↔ IsWokenBy self.now.job.now self.now.entry.now
+            (HasOr self.now.entries.now self.now.entry.now) firing.now) }
+    {
+        let needs = match needs(self.alloc, self.job, firing) {
+            Ok(needs) => needs,
+            Err(RuleError::NotAFiring) => return Ok(false),
+            Err(RuleError::NoMemory) => return Err(AllocError),
+        };
+        if !has(&needs, self.entry) {
+            return Ok(false);
+        }
+        let held = are_held(self.entries, self.entry, &needs);
+        Ok(held)
+    }
+
+    /// Puts a copy of the firing in its place, if the entry wakes it.
+    fn add_woken(&self, firing: &Firing, found: &mut Vec<Firing>) -> Result<(), AllocError>
+        requires { Rises firing_cmp found.old.items }
+        ensures rises { Rises firing_cmp found.new.items }
+        ensures ok { OnOk result
+            (Gains found.old.items
+            (λ (f : Firing). (firing.now ≡ f)
+            × IsWokenBy self.now.job.now self.now.entry.now
+            (HasOr self.now.entries.now self.now.entry.now) f) found.new.items) }
+    {
+        let woken = self.is_woken(firing)?;
+        if !woken {
+            return Ok(());
+        }
+        let copy = firing.copy(self.alloc)?;
+        place_in(found, copy)?;
+        Ok(())
+    }
+
+    /// Those of the firings that the entry wakes, in order and each once.
+    ///
+    /// # Errors
+    /// `AllocError` where there is no memory.
+    fn woken_of(&self, firings: &[Firing]) -> Result<Vec<Firing>, AllocError>
+        ensures exact { IfOk result
+            (λ v. AreThose
+            (λ (f : Firing). Contains firings.now f
+            × IsWokenBy self.now.job.now self.now.entry.now
+            (HasOr self.now.entries.now self.now.entry.now) f) v.items) }
+        ensures rises { IfOk result (λ v. Rises firing_cmp v.items) }
+    {
+        let mut found = Vec::new(self.alloc);
+        for firing in firings {
+            self.add_woken(firing, &mut found)?;
+        }
+        Ok(found)
+    }
+
+    /// The firings of the job that the write wakes where it enters. They stand in order, each once. The
+    /// reads are those that wait in the set.
+    pub(crate) fn woken_by_write(
+        &self,
+        reads: &Reads,
+        write: &Write,
+    ) -> Result<Vec<Firing>, AllocError>
+        requires complete { IsComplete reads.now self.now.entries.now }
+        requires is { self.now.entry.now ≡ write_entry write.now }
+        ensures exact { IfOk result
+            (λ v. AreThose
+            (IsWokenBy self.now.job.now self.now.entry.now
+            (HasOr self.now.entries.now self.now.entry.now)) v.items) }
+        ensures rises { IfOk result (λ v. Rises firing_cmp v.items) }
+    {
+        let waiting = reads.under(&write.cell);
+        let met = wake_each(self.alloc, write, waiting)?;
+        let found = self.woken_of(&met)?;
+        Ok(found)
+    }
+}
