@@ -1,0 +1,4 @@
+pub mod BucketSteps
+pub mod SeatSteps
+pub mod Exclusive
+pub mod Masking

@@ -1,0 +1,5 @@
+pub mod Buckets
+pub mod Masks
+pub mod Held
+pub mod Seats
+pub mod Answers

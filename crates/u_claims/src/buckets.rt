@@ -1,0 +1,15 @@
+//! Buckets of work.
+ghost use Rattle.std.specs.Prelude.{◌≡◌, ◌<◌};
+ghost use Rattle.u_claims.specs.Buckets.{bucket};
+
+use u_name::Name;
+
+/// The bucket of a name, 0 to 63: the sum of its statement, its initiation and the depth of its
+/// context, modulo 64. That there are 64 buckets, and which names share one, is this project's
+/// profile.
+pub fn bucket_of(name: &Name) -> u64
+    ensures bucket { result ≡ bucket name.now }
+    ensures range { result < 64 }
+{
+    (u64::from(name.statement()) + u64::from(name.initiation()) + u64::from(name.depth())) % 64
+}
