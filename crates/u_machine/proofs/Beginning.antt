@@ -10,37 +10,37 @@ use Rattle.u_rule.specs.EntryOrder.{FiringList, firing_cmp}
 use Rattle.u_machine.specs.declared.parts.Parts.{Parts}
 use Rattle.u_machine.specs.State.{Taken, state, count_of}
 use Rattle.u_machine.specs.Calls.{Takes}
-use Rattle.u_machine.specs.Invariant.{Invariant, IsLogged, IsSorted, state_of}
+use Rattle.u_machine.specs.Invariant.{Invariant, IsLogged, IsPartitioned, state_of}
 use Rattle.u_machine.proofs.Steps.{parks, parks_takes, begins, log_taken, taken_more}
 use Rattle.u_machine.proofs.Sorting.{takes_ready}
 
 module _ (m : Parts) (k : Invariant m) (f : Firing) (was : Contains m.ready f) where
   -- a ready firing was not taken
   pub new_if_ready : Taken (state_of m) f → ⊥
-  new_if_ready = (k.sorted.fit f was).1
+  new_if_ready = (k.partitioned.fit f was).1
 
   pub unparked : Contains m.parked f → ⊥
-  unparked p = new_if_ready (Contains-append_right (take m.done m.log.items) m.parked f p)
+  unparked p = new_if_ready (Contains-append_right (take m.applied_count m.log.items) m.parked f p)
 
-  module _ (settled : m.done ≡ length m.log.items) (room : count_of (state_of m) < m.limit) (parked less log : FiringList) (p : IsWith m.parked f parked) (r : Rises firing_cmp parked) (more : length parked ≡ length m.parked + 1) (e : log ≡ m.log.items ++ f ∷ []) (w : IsWithout m.ready f less) where
-    same_applied : take m.done (m.log.items ++ f ∷ []) ≡ take m.done m.log.items
-    same_applied = take-append-le m.done m.log.items (f ∷ []) k.logged.place
+  module _ (settled : m.applied_count ≡ length m.log.items) (room : count_of (state_of m) < m.limit) (parked less log : FiringList) (p : IsWith m.parked f parked) (r : Rises firing_cmp parked) (more : length parked ≡ length m.parked + 1) (e : log ≡ m.log.items ++ f ∷ []) (w : IsWithout m.ready f less) where
+    same_applied : take m.applied_count (m.log.items ++ f ∷ []) ≡ take m.applied_count m.log.items
+    same_applied = take-append-le m.applied_count m.log.items (f ∷ []) k.logged.place
 
-    pub begun_logged : IsLogged m.job.now m.limit log m.done parked m.matcher
+    pub begun_logged : IsLogged m.job.now m.limit log m.applied_count parked m.matcher
     begun_logged =
-        subst (λ (l : FiringList). IsLogged m.job.now m.limit l m.done parked m.matcher) (sym e)
-        (begins _ _ _ _ _ _ (parks _ _ _ _ _ _ k.logged f parked new_if_ready (k.sorted.fit f was).0.0 room p r more) f ((p f).1 (inr refl)) (λ h. new_if_ready (log_taken _ _ _ _ _ _ k.logged f h)) (k.sorted.fit f was).0)
+        subst (λ (l : FiringList). IsLogged m.job.now m.limit l m.applied_count parked m.matcher) (sym e)
+        (begins _ _ _ _ _ _ (parks _ _ _ _ _ _ k.logged f parked new_if_ready (k.partitioned.fit f was).0.0 room p r more) f ((p f).1 (inr refl)) (λ h. new_if_ready (log_taken _ _ _ _ _ _ k.logged f h)) (k.partitioned.fit f was).0)
 
-    pub begun_sorted : IsSorted m.job.now log (take m.done log ++ parked) less m.found.items m.matcher
-    begun_sorted =
+    pub begun_partitioned : IsPartitioned m.job.now log (take m.applied_count log ++ parked) less m.woken.items m.matcher
+    begun_partitioned =
         let s = same_applied in
-        subst (λ (l : FiringList). IsSorted m.job.now l (take m.done l ++ parked) less m.found.items m.matcher) (sym e)
-        (rw s (takes_ready _ _ _ _ _ _ k.sorted f (take m.done m.log.items ++ parked) less (k.idle settled) was (taken_more _ _ _ _ _ _ k.logged f parked p) w))
+        subst (λ (l : FiringList). IsPartitioned m.job.now l (take m.applied_count l ++ parked) less m.woken.items m.matcher) (sym e)
+        (rw s (takes_ready _ _ _ _ _ _ k.partitioned f (take m.applied_count m.log.items ++ parked) less (k.idle settled) was (taken_more _ _ _ _ _ _ k.logged f parked p) w))
 
-    pub begun_idle : m.done ≡ length log → m.found.items ≡ []
+    pub begun_idle : m.applied_count ≡ length log → m.woken.items ≡ []
     begun_idle q = let x = length-append m.log.items (f ∷ []) in let y = ap length e in absurd (omega (arith, q, settled))
 
-    pub begun_takes : Takes (state_of m) f (state m.job.now m.limit (take m.done log) parked m.matcher)
+    pub begun_takes : Takes (state_of m) f (state m.job.now m.limit (take m.applied_count log) parked m.matcher)
     begun_takes =
-        let s : take m.done log ≡ take m.done m.log.items = ap (take m.done) e ∙ same_applied in
+        let s : take m.applied_count log ≡ take m.applied_count m.log.items = ap (take m.applied_count) e ∙ same_applied in
         rw s (parks_takes _ _ _ _ _ _ k.logged f parked p more)

@@ -15,7 +15,7 @@ use Rattle.u_sets.proofs.Places.{one_list}
 use Rattle.u_system.proofs.Held.{Held-start, Held-nil}
 use Rattle.u_system.proofs.Closure.{Derivation-nil, Cl-start}
 use Rattle.u_machine.specs.State.{state, IsSound}
-use Rattle.u_machine.specs.Invariant.{IsLogged, IsSorted}
+use Rattle.u_machine.specs.Invariant.{IsLogged, IsPartitioned}
 use Rattle.u_machine.proofs.Once.{enabled_with}
 use Rattle.u_machine.proofs.Needed.{needs_some}
 
@@ -50,11 +50,11 @@ module _ (job : JobParts) (limit : ℕ) where
     lies = λ e m. elim (Contains-cons_cases (system_of job).start e [] m) [ inl p ↦ subst (Held (system_of job) []) p (Held-start (system_of job) []) | inr n ↦ absurd (Contains-nil e n) ];
   }
 
-  pub fresh_sorted : (history : EntryList) (found ready : FiringList) → IsWith [] (system_of job).start history → ((f : Firing) → Contains found f ↔ (Contains ((system_of job).needs f) (system_of job).start × Enabled (system_of job) (Contains history) f)) → Same (Contains ready) (Contains found) → IsSorted job [] [] ready [] history
-  fresh_sorted history found ready w exact same = record {
+  pub fresh_partitioned : (history : EntryList) (woken ready : FiringList) → IsWith [] (system_of job).start history → ((f : Firing) → Contains woken f ↔ (Contains ((system_of job).needs f) (system_of job).start × Enabled (system_of job) (Contains history) f)) → Same (Contains ready) (Contains woken) → IsPartitioned job [] [] ready [] history
+  fresh_partitioned history woken ready w exact same = record {
     logged = λ f m. absurd (Contains-nil f m);
     fit = λ f m. (((exact f).0 ((same f).0 m)).1, λ t. Contains-nil f t);
-    waits = λ f m. absurd (Contains-nil f m);
+    neither = λ f m. absurd (Contains-nil f m);
     once = tt;
     all = λ f en. inl ((same f).1 ((exact f).1 (first f en, en)));
   }

@@ -17,7 +17,7 @@ pub lengthens_le : (a b : FiringList) → Lengthens a b → length a ≤ length 
 lengthens_le a b p = let l = length-append a p.0 in let e = ap length p.1 in omega arith
 
 pub goes_on : (a b c : Parts) → GoesOn a b → GoesOn b c → GoesOn a c
-goes_on a b c p q = record { job = q.job ∙ p.job; done = q.done ∙ p.done; log = lengthens_on a.log.items b.log.items c.log.items p.log q.log }
+goes_on a b c p q = record { job = q.job ∙ p.job; applied_count = q.applied_count ∙ p.applied_count; log = lengthens_on a.log.items b.log.items c.log.items p.log q.log }
 
 slice_get_longer : {X : Type 0} (xs ys : List X) (k : ℕ) (x : X) → slice_get xs k ≡ Some x → slice_get (xs ++ ys) k ≡ Some x
 slice_get_longer [] ys k x e = absurd (cc)
@@ -26,7 +26,7 @@ slice_get_longer (y ∷ xs) ys (suc k) x e = slice_get_longer xs ys k x e
 
 -- what a firing gives that is being applied, it gives still
 pub gives_still : (a b : Parts) (e : Entry) → GoesOn a b → Gives a e → Gives b e
-gives_still a b e p (f, place, from, at, g) = (f, place, omega (arith, from, p.done), rw p.log.1 (slice_get_longer a.log.items p.log.0 place f at), rw p.job g)
+gives_still a b e p (f, place, from, at, g) = (f, place, omega (arith, from, p.applied_count), rw p.log.1 (slice_get_longer a.log.items p.log.0 place f at), rw p.job g)
 
 pub slice_get_below : {X : Type 0} (xs : List X) (k : ℕ) (x : X) → slice_get xs k ≡ Some x → k < length xs
 slice_get_below [] k x e = absurd (cc)
@@ -52,7 +52,7 @@ entered_more a b place p more l before here k from to = at (le_split k place (om
   where
     at : (k ≡ place) ⊎ (k < place) → HasEntered b k
     at (inl e) = rw e here
-    at (inr below) = entered_longer a b k p more (omega (arith, below, l)) (before k (omega (arith, from, p.done)) below)
+    at (inr below) = entered_longer a b k p more (omega (arith, below, l)) (before k (omega (arith, from, p.applied_count)) below)
 
 pub still_on : (a b c : Parts) → SameButApplied a b → SameButApplied b c → SameButApplied a c
-still_on a b c p q = record { job = q.job ∙ p.job; log = q.log ∙ p.log; left = q.left ∙ p.left; matcher = q.matcher ∙ p.matcher }
+still_on a b c p q = record { job = q.job ∙ p.job; log = q.log ∙ p.log; woken = q.woken ∙ p.woken; matcher = q.matcher ∙ p.matcher }

@@ -23,19 +23,19 @@ use Rattle.u_machine.proofs.Settled.{kept_ready}
 use Rattle.u_machine.proofs.Lists.{slice_get_mid, slice_get_Contains}
 
 -- the firing at that place of the ready ones
-pub pick_of : (old p : Parts) (k : Invariant p) (st : p.done ≡ length p.log.items) → Rises firing_cmp p.ready → Applies (state_of old) (state_of p) → (pick count : ℕ) (f : Firing) → count ≡ length p.ready → slice_get p.ready (pick % count) ≡ Some f → IsPick (state_of old) pick f × IsReady (state_of p) f
+pub pick_of : (old p : Parts) (k : Invariant p) (st : p.applied_count ≡ length p.log.items) → Rises firing_cmp p.ready → Applies (state_of old) (state_of p) → (pick count : ℕ) (f : Firing) → count ≡ length p.ready → slice_get p.ready (pick % count) ≡ Some f → IsPick (state_of old) pick f × IsReady (state_of p) f
 pick_of old p k st r ap_old pick count f n at = (
   (p.ready, are_ready_before (state_of old) (state_of p) ap_old p.ready (kept_ready p k st r), subst (λ (m : ℕ). slice_get p.ready (pick % m) ≡ Some f) n at),
   (kept_ready p k st r).0 f (slice_get_Contains p.ready (pick % count) f at),
 )
 
 -- where it stands among the applied ones
-pub fired_at : (log : FiringList) (f : Firing) (mid : FiringList) (done : ℕ) (new : FiringList) → mid ≡ log ++ f ∷ [] → Lengthens mid new → done ≡ length new → slice_get (take done new) (length log) ≡ Some f
-fired_at log f mid done new e (rest, w) d = rw (take_all done new (omega (arith, d)), w, e) (slice_get_mid log rest f)
+pub fired_at : (log : FiringList) (f : Firing) (mid : FiringList) (applied_count : ℕ) (new : FiringList) → mid ≡ log ++ f ∷ [] → Lengthens mid new → applied_count ≡ length new → slice_get (take applied_count new) (length log) ≡ Some f
+fired_at log f mid applied_count new e (rest, w) d = rw (take_all applied_count new (omega (arith, d)), w, e) (slice_get_mid log rest f)
 
 -- the applied ones have it
-pub applied_has : (log : FiringList) (f : Firing) (mid : FiringList) (done : ℕ) (new : FiringList) → mid ≡ log ++ f ∷ [] → Lengthens mid new → done ≡ length new → Contains (take done new) f
-applied_has log f mid done new e l d = slice_get_Contains (take done new) (length log) f (fired_at log f mid done new e l d)
+pub applied_has : (log : FiringList) (f : Firing) (mid : FiringList) (applied_count : ℕ) (new : FiringList) → mid ≡ log ++ f ∷ [] → Lengthens mid new → applied_count ≡ length new → Contains (take applied_count new) f
+applied_has log f mid applied_count new e l d = slice_get_Contains (take applied_count new) (length log) f (fired_at log f mid applied_count new e l d)
 
 pub take_no_memory : (old new : State) (f : Firing) (r : Result Took TakeRefusal) → IsErrAnd r (λ e. e ≡ NoMemory) → TakeAnswer old f (Err NoMemory) new → TakeAnswer old f r new
 take_no_memory old new f (Ok t) h w = absurd h

@@ -90,8 +90,8 @@ module _ (old mid new : State) (fs : List Firing) (r : TakesAll old fs mid) wher
   takes_next f took.Parked a = (takes_more f a.1, a.3)
 
 -- there is room for each new one of the list, since those that were taken before it are taken or new too
-pub room_for : (start mid : State) (fs done news : List Firing) (f : Firing) → IsSound mid → TakesAll start done mid → AreNew start fs news → ((g : Firing) → Contains done g → Contains fs g) → Contains fs f → (Taken mid f → ⊥) → count_of start + length news ≤ start.limit → count_of mid < mid.limit
-room_for start mid fs done news f is r are before m new room =
+pub room_for : (start mid : State) (fs front news : List Firing) (f : Firing) → IsSound mid → TakesAll start front mid → AreNew start fs news → ((g : Firing) → Contains front g → Contains fs g) → Contains fs f → (Taken mid f → ⊥) → count_of start + length news ≤ start.limit → count_of mid < mid.limit
+room_for start mid fs front news f is r are before m new room =
     let n = no_more ((mid.log ++ mid.parked) ++ f ∷ []) ((start.log ++ start.parked) ++ news) (Distinct-push (mid.log ++ mid.parked) f new is.distinct) within in
     let a = length-append (mid.log ++ mid.parked) (f ∷ []) in
     let b = length-append mid.log mid.parked in

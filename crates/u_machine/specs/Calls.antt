@@ -103,9 +103,13 @@ pub record Runs (old : State) (gs : List Firing) (new : State) : Type 0 where
 -- gs were fired; then nothing is ready, and the history is whole; or the budget is spent, and more is
 -- ready; or there is no room for what is ready; or there is no memory
 abbrev pub RunAnswer : State → ℕ → Result Ran Refusal → State → Type 0
-RunAnswer old budget (Ok ran.Quiet) new = (gs : List Firing) × Runs old gs new × (length gs ≤ budget) × IsSettled new × NothingReady new × IsWhole new
-RunAnswer old budget (Ok ran.Paused) new = (gs : List Firing) × Runs old gs new × (length gs ≡ budget) × IsSettled new × ((f : Firing) × IsReady new f)
-RunAnswer old budget (Err Full) new = (gs : List Firing) × Runs old gs new × (length gs < budget) × IsSettled new × ((f : Firing) × IsReady new f) × (count_of new ≡ new.limit)
+RunAnswer old budget (Ok ran.Quiet) new =
+    (gs : List Firing) × Runs old gs new × (length gs ≤ budget) × IsSettled new × NothingReady new × IsWhole new
+RunAnswer old budget (Ok ran.Paused) new =
+    (gs : List Firing) × Runs old gs new × (length gs ≡ budget) × IsSettled new × ((f : Firing) × IsReady new f)
+RunAnswer old budget (Err Full) new =
+    (gs : List Firing) × Runs old gs new × (length gs < budget) × IsSettled new × ((f : Firing) × IsReady new f)
+    × (count_of new ≡ new.limit)
 RunAnswer old budget (Err NoMemory) new = (gs : List Firing) × Fires old gs new × (length gs ≤ budget)
 
 -- no firing was taken yet

@@ -11,49 +11,50 @@ use Rattle.u_machine.specs.State.{State, state, IsSound}
 use Rattle.u_machine.specs.Calls.{Takes}
 use Rattle.u_machine.specs.declared.parts.Parts.{Parts}
 
--- The first `done` firings of the log were applied: all that they give has entered. The others of the
--- log are being applied, and count as parked until they are. The matcher has the history.
+-- The first `applied_count` firings of the log were applied: all that they give has entered. The others
+-- of the log are being applied, and count as parked until they are. The matcher has the history.
 abbrev pub state_of : Parts → State
-state_of p = state p.job.now p.limit (take p.done p.log.items) p.parked p.matcher
+state_of p = state p.job.now p.limit (take p.applied_count p.log.items) p.parked p.matcher
 
 -- the taken firings
 abbrev pub taken_of : Parts → FiringList
-taken_of p = take p.done p.log.items ++ p.parked
+taken_of p = take p.applied_count p.log.items ++ p.parked
 
--- the firings that the matcher woke and that are still to be sorted out
-abbrev pub left_of : Parts → FiringList
-left_of p = p.found.items
+-- the firings that the last entry woke and that are still to be sorted out
+abbrev pub woken_of : Parts → FiringList
+woken_of p = p.woken.items
 
 -- f is the first of them
 abbrev pub IsNext : Parts → Firing → Type 0
-IsNext p f = (rest : FiringList) × (left_of p ≡ f ∷ rest)
+IsNext p f = (rest : FiringList) × (woken_of p ≡ f ∷ rest)
 
 -- the log, and the parked firings
-pub record IsLogged (job : JobParts) (limit : ℕ) (log : FiringList) (done : ℕ) (parked : FiringList) (history : EntryList) : Type 0 where
-  pub is : IsSound (state job limit (take done log) parked history)
-  pub place : done ≤ length log
+pub record IsLogged (job : JobParts) (limit : ℕ) (log : FiringList) (applied_count : ℕ) (parked : FiringList) (history : EntryList) : Type 0 where
+  pub is : IsSound (state job limit (take applied_count log) parked history)
+  pub place : applied_count ≤ length log
   pub derivation : Derivation (system_of job) log
   pub apart : Distinct log
-  pub begun : (f : Firing) → Contains (drop done log) f → Contains parked f
+  pub begun : (f : Firing) → Contains (drop applied_count log) f → Contains parked f
   pub lies : (e : Entry) → Contains history e → Held (system_of job) log e
 
--- each firing that is enabled over the history is ready, or in the log, or still to be sorted out
-pub record IsSorted (job : JobParts) (log taken ready left : FiringList) (history : EntryList) : Type 0 where
+-- each firing that is enabled over the history is in one of three lists: it is ready, or in the log, or
+-- was woken and is still to be sorted out
+pub record IsPartitioned (job : JobParts) (log taken ready woken : FiringList) (history : EntryList) : Type 0 where
   pub logged : (f : Firing) → Contains log f → Enabled (system_of job) (Contains history) f
   pub fit : (f : Firing) → Contains ready f → Enabled (system_of job) (Contains history) f × (Contains taken f → ⊥)
-  pub waits : (f : Firing) → Contains left f → Enabled (system_of job) (Contains history) f × (Contains ready f → ⊥) × (Contains log f → ⊥)
-  pub once : Distinct left
-  pub all : (f : Firing) → Enabled (system_of job) (Contains history) f → Contains ready f ⊎ Contains log f ⊎ Contains left f
+  pub neither : (f : Firing) → Contains woken f → Enabled (system_of job) (Contains history) f × (Contains ready f → ⊥) × (Contains log f → ⊥)
+  pub once : Distinct woken
+  pub all : (f : Firing) → Enabled (system_of job) (Contains history) f → Contains ready f ⊎ Contains log f ⊎ Contains woken f
 
 -- what is kept: where nothing is being applied, nothing is left to be sorted out
 pub record Invariant (p : Parts) : Type 0 where
-  pub logged : IsLogged p.job.now p.limit p.log.items p.done p.parked p.matcher
-  pub sorted : IsSorted p.job.now p.log.items (taken_of p) p.ready (left_of p) p.matcher
-  pub idle : p.done ≡ length p.log.items → left_of p ≡ []
+  pub logged : IsLogged p.job.now p.limit p.log.items p.applied_count p.parked p.matcher
+  pub partitioned : IsPartitioned p.job.now p.log.items (taken_of p) p.ready (woken_of p) p.matcher
+  pub idle : p.applied_count ≡ length p.log.items → woken_of p ≡ []
 
 -- a firing that is being applied gives the entry
 abbrev pub Gives : Parts → Entry → Type 0
-Gives p e = (f : Firing) × (place : ℕ) × (p.done ≤ place) × (slice_get p.log.items place ≡ Some f) × Contains ((system_of p.job.now).gives f) e
+Gives p e = (f : Firing) × (place : ℕ) × (p.applied_count ≤ place) × (slice_get p.log.items place ≡ Some f) × Contains ((system_of p.job.now).gives f) e
 
 -- all that the firing at that place of the log gives has entered
 abbrev pub HasEntered : Parts → ℕ → Type 0
@@ -61,7 +62,7 @@ HasEntered p place = (f : Firing) → slice_get p.log.items place ≡ Some f →
 
 -- of the firings that are being applied and stand before that place of the log, all that they give has entered
 abbrev pub EnteredBefore : Parts → ℕ → Type 0
-EnteredBefore p place = (k : ℕ) → p.done ≤ k → k < place → HasEntered p k
+EnteredBefore p place = (k : ℕ) → p.applied_count ≤ k → k < place → HasEntered p k
 
 -- the list goes on
 abbrev pub Lengthens : FiringList → FiringList → Type 0
@@ -70,14 +71,14 @@ Lengthens old new = (rest : FiringList) × (new ≡ old ++ rest)
 -- the same firings are applied, and the log goes on
 pub record GoesOn (old new : Parts) : Type 0 where
   pub job : new.job.now ≡ old.job.now
-  pub done : new.done ≡ old.done
+  pub applied_count : new.applied_count ≡ old.applied_count
   pub log : Lengthens old.log.items new.log.items
 
--- more of the log is applied, and what waits to be applied or to be sorted out is the same
+-- more of the log is applied, and the log and the woken firings are the same
 pub record SameButApplied (old new : Parts) : Type 0 where
   pub job : new.job.now ≡ old.job.now
   pub log : new.log.items ≡ old.log.items
-  pub left : left_of new ≡ left_of old
+  pub woken : woken_of new ≡ woken_of old
   pub matcher : new.matcher ≡ old.matcher
 
 -- the ready firing at that place is taken, and goes to the end of the log

@@ -1,4 +1,4 @@
-//! How firings are applied: the first of three things that a machine does with its parts, each of
+//! How firings are applied: the second of three things that a machine does with its parts, each of
 //! which has a file of its own.
 //!
 //! A firing that begins to be applied goes to the end of the log, and its entries enter one after
@@ -12,7 +12,7 @@ ghost use Rattle.u_rule.specs.Rule.{system_of};
 ghost use Rattle.u_rule.specs.declared.entry.Entry.{Entry};
 ghost use Rattle.u_rule.specs.declared.firing.Firing.{Firing};
 ghost use Rattle.u_machine.specs.Calls.{Applies};
-ghost use Rattle.u_machine.specs.Invariant.{state_of, left_of, IsNext, Invariant, Gives, HasEntered, EnteredBefore, GoesOn, SameButApplied, Lengthens};
+ghost use Rattle.u_machine.specs.Invariant.{state_of, woken_of, IsNext, Invariant, Gives, HasEntered, EnteredBefore, GoesOn, SameButApplied, Lengthens};
 
 use crate::parts::Parts;
 use crate::room::{push_into_room, put_before};
@@ -27,7 +27,7 @@ impl<'a> Parts<'a> {
     /// to be sorted out then.
     fn put(&mut self, entry: &Entry) -> Result<(), AllocError>
         requires kept { Invariant self.old }
-        requires idle { left_of self.old ≡ [] }
+        requires idle { woken_of self.old ≡ [] }
         requires gives { Gives self.old entry.now }
         ensures kept { Invariant self.new }
         ensures applies { Applies (state_of self.old) (state_of self.new) }
@@ -35,25 +35,25 @@ impl<'a> Parts<'a> {
         ensures has { OnOk result (Contains self.new.matcher entry.now) }
     {
         let entered = self.matcher.enter_new(self.job, entry)?;
-        let Some(found) = entered else {
+        let Some(woken) = entered else {
             return Ok(());
         };
-        self.found = VecDeque::from(found);
+        self.woken = VecDeque::from(woken);
         Ok(())
     }
 
     /// The next firing that was woken was taken: it begins to be applied.
     fn begin_next(&mut self) -> Result<(), AllocError>
         requires kept { Invariant self.old }
-        requires some { 0 < length (left_of self.old) }
+        requires some { 0 < length (woken_of self.old) }
         requires taken { (f : Firing) → IsNext self.old f → Contains self.old.parked f }
         ensures kept { Invariant self.new }
         ensures same { state_of self.new ≡ state_of self.old }
         ensures goes { GoesOn self.old self.new }
-        ensures ok { OnOk result (length (left_of self.new) < length (left_of self.old)) }
+        ensures ok { OnOk result (length (woken_of self.new) < length (woken_of self.old)) }
     {
         self.log.reserve(1)?;
-        let Some(firing) = self.found.pop_front() else {
+        let Some(firing) = self.woken.pop_front() else {
             unreachable!();
         };
         push_into_room(&mut self.log, firing);
@@ -63,20 +63,20 @@ impl<'a> Parts<'a> {
     /// The next firing that was woken was not taken: it is ready.
     fn ready_next(&mut self) -> Result<(), AllocError>
         requires kept { Invariant self.old }
-        requires some { 0 < length (left_of self.old) }
+        requires some { 0 < length (woken_of self.old) }
         requires new { (f : Firing) → IsNext self.old f → Contains self.old.parked f → ⊥ }
         ensures kept { Invariant self.new }
         ensures same { state_of self.new ≡ state_of self.old }
         ensures goes { GoesOn self.old self.new }
-        ensures ok { OnOk result (length (left_of self.new) < length (left_of self.old)) }
+        ensures ok { OnOk result (length (woken_of self.new) < length (woken_of self.old)) }
     {
-        let Some(firing) = self.found.pop_front() else {
+        let Some(firing) = self.woken.pop_front() else {
             unreachable!();
         };
         match self.ready.insert(firing) {
             Ok(_) => Ok(()),
             Err(refused) => {
-                put_before(&mut self.found, refused.value);
+                put_before(&mut self.woken, refused.value);
                 Err(AllocError)
             }
         }
@@ -86,10 +86,10 @@ impl<'a> Parts<'a> {
     /// applied.
     fn is_parked(&self, firing: &Firing) -> bool
         requires kept { Invariant self.now }
-        requires woken { Contains (left_of self.now) firing.now }
+        requires woken { Contains (woken_of self.now) firing.now }
         ensures { IsTrue result ↔ Contains self.now.parked firing.now }
     {
-        if self.parked.len() <= self.log.len() - self.done {
+        if self.parked.len() <= self.log.len() - self.applied_count {
             return false;
         }
         self.parked.contains(firing)
@@ -100,13 +100,13 @@ impl<'a> Parts<'a> {
     /// taken.
     fn sort_next(&mut self) -> Result<(), AllocError>
         requires kept { Invariant self.old }
-        requires some { 0 < length (left_of self.old) }
+        requires some { 0 < length (woken_of self.old) }
         ensures kept { Invariant self.new }
         ensures same { state_of self.new ≡ state_of self.old }
         ensures goes { GoesOn self.old self.new }
-        ensures ok { OnOk result (length (left_of self.new) < length (left_of self.old)) }
+        ensures ok { OnOk result (length (woken_of self.new) < length (woken_of self.old)) }
     {
-        let Some(firing) = self.found.front() else {
+        let Some(firing) = self.woken.front() else {
             unreachable!();
         };
         if self.is_parked(firing) {
@@ -121,9 +121,9 @@ impl<'a> Parts<'a> {
         ensures kept { Invariant self.new }
         ensures same { state_of self.new ≡ state_of self.old }
         ensures goes { GoesOn self.old self.new }
-        ensures ok { OnOk result (left_of self.new ≡ []) }
+        ensures ok { OnOk result (woken_of self.new ≡ []) }
     {
-        while self.found.len() > 0 {
+        while self.woken.len() > 0 {
             self.sort_next()?;
         }
         Ok(())
@@ -132,12 +132,12 @@ impl<'a> Parts<'a> {
     /// Lets an entry enter, unless it did, and does what follows from it.
     fn enter(&mut self, entry: &Entry) -> Result<(), AllocError>
         requires kept { Invariant self.old }
-        requires idle { left_of self.old ≡ [] }
+        requires idle { woken_of self.old ≡ [] }
         requires gives { Gives self.old entry.now }
         ensures kept { Invariant self.new }
         ensures applies { Applies (state_of self.old) (state_of self.new) }
         ensures goes { GoesOn self.old self.new }
-        ensures idle { OnOk result (left_of self.new ≡ []) }
+        ensures idle { OnOk result (woken_of self.new ≡ []) }
         ensures has { OnOk result (Contains self.new.matcher entry.now) }
     {
         self.put(entry)?;
@@ -148,12 +148,12 @@ impl<'a> Parts<'a> {
     /// Lets all these entries enter.
     fn enter_all(&mut self, given: &[Entry]) -> Result<(), AllocError>
         requires kept { Invariant self.old }
-        requires idle { left_of self.old ≡ [] }
+        requires idle { woken_of self.old ≡ [] }
         requires gives { (e : Entry) → Contains given.now e → Gives self.old e }
         ensures kept { Invariant self.new }
         ensures applies { Applies (state_of self.old) (state_of self.new) }
         ensures goes { GoesOn self.old self.new }
-        ensures idle { OnOk result (left_of self.new ≡ []) }
+        ensures idle { OnOk result (woken_of self.new ≡ []) }
         ensures has { OnOk result
             ((e : Entry) → Contains given.now e → Contains self.new.matcher e) }
     {
@@ -167,13 +167,13 @@ impl<'a> Parts<'a> {
     /// applied.
     fn enter_given(&mut self, place: usize) -> Result<(), AllocError>
         requires kept { Invariant self.old }
-        requires idle { left_of self.old ≡ [] }
-        requires from { self.old.done ≤ place }
+        requires idle { woken_of self.old ≡ [] }
+        requires from { self.old.applied_count ≤ place }
         requires to { place < length self.old.log.items }
         ensures kept { Invariant self.new }
         ensures applies { Applies (state_of self.old) (state_of self.new) }
         ensures goes { GoesOn self.old self.new }
-        ensures idle { OnOk result (left_of self.new ≡ []) }
+        ensures idle { OnOk result (woken_of self.new ≡ []) }
         ensures has { OnOk result (HasEntered self.new place) }
     {
         let given = given_by(self.alloc, self.job, &self.log[place])?;
@@ -184,51 +184,51 @@ impl<'a> Parts<'a> {
     /// The next firing of the log is applied: all that it gives has entered.
     fn close(&mut self)
         requires kept { Invariant self.old }
-        requires some { self.old.done < length self.old.log.items }
-        requires idle { self.old.done + 1 ≡ length self.old.log.items → left_of self.old ≡ [] }
-        requires all { HasEntered self.old self.old.done }
+        requires some { self.old.applied_count < length self.old.log.items }
+        requires idle { self.old.applied_count + 1 ≡ length self.old.log.items → woken_of self.old ≡ [] }
+        requires all { HasEntered self.old self.old.applied_count }
         ensures kept { Invariant self.new }
         ensures applies { Applies (state_of self.old) (state_of self.new) }
         ensures still { SameButApplied self.old self.new }
-        ensures done { self.new.done ≡ self.old.done + 1 }
+        ensures applied_count { self.new.applied_count ≡ self.old.applied_count + 1 }
     {
-        self.parked.take_out(&self.log[self.done]);
-        self.done += 1;
+        self.parked.take_out(&self.log[self.applied_count]);
+        self.applied_count += 1;
     }
 
     /// All firings of the log are applied: all that they give has entered. No others are parked.
     fn close_all(&mut self)
         requires kept { Invariant self.old }
-        requires idle { left_of self.old ≡ [] }
-        requires none { self.old.done + length self.old.parked ≡ length self.old.log.items }
+        requires idle { woken_of self.old ≡ [] }
+        requires none { self.old.applied_count + length self.old.parked ≡ length self.old.log.items }
         requires all { EnteredBefore self.old (length self.old.log.items) }
         ensures kept { Invariant self.new }
         ensures applies { Applies (state_of self.old) (state_of self.new) }
         ensures still { SameButApplied self.old self.new }
-        ensures done { self.new.done ≡ length self.old.log.items }
+        ensures applied_count { self.new.applied_count ≡ length self.old.log.items }
     {
         self.parked = OrderedSet::new(self.alloc);
-        self.done = self.log.len();
+        self.applied_count = self.log.len();
     }
 
     /// The firings that stand before that place of the log are applied: all that they give has
     /// entered. Where nothing else is parked, none of them is looked for.
     fn close_before(&mut self, place: usize)
         requires kept { Invariant self.old }
-        requires from { self.old.done ≤ place }
+        requires from { self.old.applied_count ≤ place }
         requires to { place ≤ length self.old.log.items }
-        requires idle { place ≡ length self.old.log.items → left_of self.old ≡ [] }
+        requires idle { place ≡ length self.old.log.items → woken_of self.old ≡ [] }
         requires all { EnteredBefore self.old place }
         ensures kept { Invariant self.new }
         ensures applies { Applies (state_of self.old) (state_of self.new) }
         ensures still { SameButApplied self.old self.new }
-        ensures done { self.new.done ≡ place }
+        ensures applied_count { self.new.applied_count ≡ place }
     {
-        if self.parked.len() == place - self.done {
+        if self.parked.len() == place - self.applied_count {
             self.close_all();
             return;
         }
-        while self.done < place {
+        while self.applied_count < place {
             self.close();
         }
     }
@@ -239,15 +239,15 @@ impl<'a> Parts<'a> {
         ensures kept { Invariant self.new }
         ensures applies { Applies (state_of self.old) (state_of self.new) }
         ensures log { Lengthens self.old.log.items self.new.log.items }
-        ensures ok { OnOk result (self.new.done ≡ length self.new.log.items) }
-        ensures still { self.old.done ≡ length self.old.log.items
+        ensures ok { OnOk result (self.new.applied_count ≡ length self.new.log.items) }
+        ensures still { self.old.applied_count ≡ length self.old.log.items
             → IsOk result × (self.new ≡ self.old) }
     {
         if self.is_settled() {
             return Ok(());
         }
         self.sort_all()?;
-        let mut place = self.done;
+        let mut place = self.applied_count;
         while place < self.log.len() {
             let Ok(()) = self.enter_given(place) else {
                 self.close_before(place);

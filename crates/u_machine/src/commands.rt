@@ -71,11 +71,13 @@ impl<'a> Machine<'a> {
         ensures promise { KeepsItsPromise self.new }
         ensures err { OnErr result (self.new ≡ self.old) }
     {
+        // Brings in what always holds.
         self.holds();
         let mut replies = Vec::new(alloc);
         replies.reserve(commands.len())?;
         for command in commands {
             let reply = self.obey(command);
+            // Brings in what holds after the call.
             self.holds();
             push_into_room(&mut replies, reply);
         }

@@ -27,7 +27,7 @@ impl<'a> Parts<'a> {
     /// The ready firing at that place begins to be applied. All that was begun before is applied.
     fn begin_at(&mut self, place: usize) -> Result<(), AllocError>
         requires kept { Invariant self.old }
-        requires settled { self.old.done ≡ length self.old.log.items }
+        requires settled { self.old.applied_count ≡ length self.old.log.items }
         requires ready { place < length self.old.ready }
         requires room { count_of (state_of self.old) < self.old.limit }
         ensures kept { Invariant self.new }
@@ -65,7 +65,7 @@ impl<'a> Parts<'a> {
     /// Whether nothing is ready. All that was begun is applied.
     fn is_quiet(&self) -> bool
         requires kept { Invariant self.now }
-        requires settled { self.now.done ≡ length self.now.log.items }
+        requires settled { self.now.applied_count ≡ length self.now.log.items }
         ensures quiet { IsTrue result → NothingReady (state_of self.now) }
         ensures ready { IsFalse result → (f : Firing) × IsReady (state_of self.now) f }
     {

@@ -56,6 +56,35 @@ impl<'a> Machine<'a> {
         Ok(Machine { parts })
     }
 
+    /// Takes a firing, from wherever it comes. Where it is enabled it is applied, and each parked one
+    /// that is enabled by it; else it is parked until it is.
+    ///
+    /// # Errors
+    /// `NotAFiring` exactly where it is no firing of the job. `Full` where it is new and the machine has
+    /// taken as many as it may. In both cases nothing is taken. `NoMemory` where there is no memory;
+    /// then it may have been taken, with something that it began not yet applied, which the next call
+    /// sees to.
+    pub fn take(&mut self, firing: &Firing) -> Result<Took, TakeRefusal>
+        ensures { TakeAnswer self.old firing.now result self.new }
+    {
+        let took = self.parts.take(firing)?;
+        Ok(took)
+    }
+
+    /// Takes the firings of the list one after another, each as `take` does, or none of them.
+    ///
+    /// # Errors
+    /// `NotAFiring` with the place of the first that is no firing of the job. `Full` where the machine
+    /// may not take as many besides as the list has firings that it did not take yet. In both cases
+    /// nothing is taken. `NoMemory` where there is no memory; then those before some place of the list
+    /// are taken, and the next call goes on with what is not yet applied.
+    pub fn take_all(&mut self, firings: &[Firing]) -> Result<(), ListRefusal>
+        ensures { TakeAllAnswer self.old firings.now result self.new }
+    {
+        self.parts.take_all(firings)?;
+        Ok(())
+    }
+
     /// Goes on where an earlier call found no memory, until all that was begun is applied.
     ///
     /// # Errors
@@ -76,33 +105,37 @@ impl<'a> Machine<'a> {
         self.parts.is_settled()
     }
 
-    /// Whether the firing was taken, so that it is not to be taken again.
-    pub fn knows(&self, firing: &Firing) -> bool
-        ensures { IsTrue result ↔ Taken self.now firing.now }
+    /// Applies one ready firing, and then each parked one that is enabled by it. The ready firings stand
+    /// in order; `pick` modulo their number is the place of the one that is applied, so any number may
+    /// stand there. Where nothing is ready, the history is all that can be derived from the job.
+    ///
+    /// # Errors
+    /// `Full` where a firing is ready and the machine has taken as many as it may, and nothing is
+    /// applied. `NoMemory` where there is no memory; then either no firing was taken, or the picked one
+    /// was and something that it began is not yet applied, which the next call sees to.
+    pub fn fire(&mut self, pick: usize) -> Result<Step, Refusal>
+        ensures { FireAnswer self.old pick result self.new }
     {
-        self.parts.knows(firing)
+        let fired = self.parts.fire(pick)?;
+        Ok(fired)
     }
 
-    /// The headline of one machine, which holds after all calls: the applied firings are one run of the
-    /// job; once the machine is settled, its history is the closure of the firings that it took; and
-    /// where nothing is ready then, it has all that any run reaches. It does nothing, and callers cite
-    /// its clauses.
-    pub fn holds(&self)
-        ensures is { IsMachine self.now }
-        ensures promise { KeepsItsPromise self.now }
+    /// Applies the least ready firing again and again, until nothing is ready or it has done so
+    /// `budget` times. A machine that had taken nothing before has the plain run of its job then: what
+    /// one machine alone applies, firing the least ready firing each time.
+    ///
+    /// # Errors
+    /// `Full` where a firing is ready and the machine has taken as many as it may; a machine that had
+    /// taken nothing before is never full within a budget of its limit. `NoMemory` where there is no
+    /// memory. What was applied before a refusal stays applied.
+    pub fn run(&mut self, budget: usize) -> Result<Ran, Refusal>
+        ensures answer { RunAnswer self.old budget result self.new }
+        ensures plain { IsFresh self.old → RunsPlainly self.old budget result self.new }
     {
-        // The contracts of `len` say that both rise.
-        let _entries = self.parts.matcher.history().len();
-        let _parked = self.parts.parked.len();
-    }
-
-    /// What holds of two machines of one job that took the same firings, in whatever orders: once both
-    /// are settled, they have the same history. It does nothing, and callers cite its clause.
-    pub fn agrees_with(&self, other: &Machine<'_>)
-        ensures { Agree self.now other.now }
-    {
+        let ran = self.parts.run(budget);
+        // Brings in what always holds.
         self.holds();
-        other.holds();
+        ran
     }
 
     /// The job that the machine runs.
@@ -123,7 +156,7 @@ impl<'a> Machine<'a> {
     pub fn applied(&self) -> &[Firing]
         ensures { result.now ≡ self.now.log }
     {
-        &self.parts.log.as_slice()[..self.parts.done]
+        &self.parts.log.as_slice()[..self.parts.applied_count]
     }
 
     /// The firings that were taken and not applied, in order.
@@ -133,64 +166,33 @@ impl<'a> Machine<'a> {
         &self.parts.parked
     }
 
-    /// Applies one ready firing, and then each parked one that is enabled by it. The ready firings stand
-    /// in order; `pick` modulo their number is the place of the one that is applied, so any number may
-    /// stand there. Where nothing is ready, the history is all that can be derived from the job.
-    ///
-    /// # Errors
-    /// `Full` where a firing is ready and the machine has taken as many as it may, and nothing is
-    /// applied. `NoMemory` where there is no memory; then either no firing was taken, or the picked one
-    /// was and something that it began is not yet applied, which the next call sees to.
-    pub fn fire(&mut self, pick: usize) -> Result<Step, Refusal>
-        ensures { FireAnswer self.old pick result self.new }
+    /// Whether the firing was taken, so that it is not to be taken again.
+    pub fn knows(&self, firing: &Firing) -> bool
+        ensures { IsTrue result ↔ Taken self.now firing.now }
     {
-        let fired = self.parts.fire(pick)?;
-        Ok(fired)
+        self.parts.knows(firing)
     }
 
-    /// Takes a firing, from wherever it comes. Where it is enabled it is applied, and each parked one
-    /// that is enabled by it; else it is parked until it is.
-    ///
-    /// # Errors
-    /// `NotAFiring` exactly where it is no firing of the job. `Full` where it is new and the machine has
-    /// taken as many as it may. In both cases nothing is taken. `NoMemory` where there is no memory;
-    /// then it may have been taken, with something that it began not yet applied, which the next call
-    /// sees to.
-    pub fn take(&mut self, firing: &Firing) -> Result<Took, TakeRefusal>
-        ensures { TakeAnswer self.old firing.now result self.new }
+    /// The headline of one machine, which holds after all calls: the applied firings are one run of the
+    /// job; once the machine is settled, its history is the closure of the firings that it took; and
+    /// where nothing is ready then, it has all that any run reaches. It does nothing, and callers cite
+    /// its clauses.
+    pub fn holds(&self)
+        ensures is { IsMachine self.now }
+        ensures promise { KeepsItsPromise self.now }
     {
-        let took = self.parts.take(firing)?;
-        Ok(took)
+        // Brings in that both rise.
+        let _entries = self.parts.matcher.history().len();
+        let _parked = self.parts.parked.len();
     }
 
-    /// Applies the least ready firing again and again, until nothing is ready or it has done so
-    /// `budget` times. A machine that had taken nothing before has the plain run of its job then: what
-    /// one machine alone applies, firing the least ready firing each time.
-    ///
-    /// # Errors
-    /// `Full` where a firing is ready and the machine has taken as many as it may; a machine that had
-    /// taken nothing before is never full within a budget of its limit. `NoMemory` where there is no
-    /// memory. What was applied before a refusal stays applied.
-    pub fn run(&mut self, budget: usize) -> Result<Ran, Refusal>
-        ensures answer { RunAnswer self.old budget result self.new }
-        ensures plain { IsFresh self.old → RunsPlainly self.old budget result self.new }
+    /// What holds of two machines of one job that took the same firings, in whatever orders: once both
+    /// are settled, they have the same history. It does nothing, and callers cite its clause.
+    pub fn agrees_with(&self, other: &Machine<'_>)
+        ensures { Agree self.now other.now }
     {
-        let ran = self.parts.run(budget);
+        // Brings in what always holds of both.
         self.holds();
-        ran
-    }
-
-    /// Takes the firings of the list one after another, each as `take` does, or none of them.
-    ///
-    /// # Errors
-    /// `NotAFiring` with the place of the first that is no firing of the job. `Full` where the machine
-    /// may not take as many besides as the list has firings that it did not take yet. In both cases
-    /// nothing is taken. `NoMemory` where there is no memory; then those before some place of the list
-    /// are taken, and the next call goes on with what is not yet applied.
-    pub fn take_all(&mut self, firings: &[Firing]) -> Result<(), ListRefusal>
-        ensures { TakeAllAnswer self.old firings.now result self.new }
-    {
-        self.parts.take_all(firings)?;
-        Ok(())
+        other.holds();
     }
 }

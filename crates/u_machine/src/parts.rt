@@ -1,7 +1,7 @@
 //! The parts of a machine.
 //!
-//! What a machine does with them is written in three files: `applying` lets entries enter and firings
-//! be applied, `taking` takes firings, and `firing` fires what is ready.
+//! What a machine does with them is written in three files: `taking` takes firings, `applying` lets
+//! entries enter and firings be applied, and `firing` fires what is ready.
 ghost use Rattle.std.specs.Prelude.{◌≡◌, ◌↔◌, [], ◌∷◌, IfOk, IsTrue, Contains, length};
 ghost use Rattle.u_rule.specs.Rule.{system_of};
 ghost use Rattle.u_machine.specs.State.{IsSettled, state};
@@ -25,13 +25,13 @@ pub(crate) struct Parts<'a> {
     /// The applied firings, and behind them those that are being applied.
     pub(crate) log: Vec<Firing>,
     /// How many firings of the log were applied.
-    pub(crate) done: usize,
+    pub(crate) applied_count: usize,
     /// The firings that were taken and not applied.
     pub(crate) parked: OrderedSet<Firing>,
     /// The firings that are enabled and not taken.
     pub(crate) ready: OrderedSet<Firing>,
-    /// Those that the last entry woke and that are still to be sorted out, in order.
-    pub(crate) found: VecDeque<Firing>,
+    /// The firings that the last entry woke and that are still to be sorted out, in order.
+    pub(crate) woken: VecDeque<Firing>,
     /// The history, with what each of its entries may meet.
     pub(crate) matcher: Matcher,
 }
@@ -55,18 +55,19 @@ impl<'a> Parts<'a> {
             (λ p. state_of p ≡ state job.now limit [] [] ((system_of job.now).start ∷ [])) }
     {
         let mut matcher = Matcher::new(alloc);
-        let found = matcher.enter(job, &start(job))?;
-        let ready = set_of(alloc, &found)?;
+        let woken = matcher.enter(job, &start(job))?;
+        let ready = set_of(alloc, &woken)?;
+        // Brings in that the entries rise.
         let _count = matcher.history().len();
         Ok(Parts {
             alloc,
             job,
             limit,
             log: Vec::new(alloc),
-            done: 0,
+            applied_count: 0,
             parked: OrderedSet::new(alloc),
             ready,
-            found: VecDeque::new(alloc),
+            woken: VecDeque::new(alloc),
             matcher,
         })
     }
@@ -75,9 +76,9 @@ impl<'a> Parts<'a> {
     pub(crate) fn is_settled(&self) -> bool
         requires { Invariant self.now }
         ensures settled { IsTrue result ↔ IsSettled (state_of self.now) }
-        ensures done { IsTrue result ↔ (self.now.done ≡ length self.now.log.items) }
+        ensures applied_count { IsTrue result ↔ (self.now.applied_count ≡ length self.now.log.items) }
     {
-        if self.done < self.log.len() {
+        if self.applied_count < self.log.len() {
             return false;
         }
         true

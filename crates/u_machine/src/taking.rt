@@ -1,5 +1,6 @@
-//! How firings are taken, one or a list: the second of three things that a machine does with its
-//! parts, each of which has a file of its own.
+//! How firings are taken, one or a list: the first of three things that a machine does with its
+//! parts, each of which has a file of its own. A firing that is taken and is enabled begins to be
+//! applied, which `applying` goes on with.
 ghost use Rattle.std.specs.Prelude.{◌≡◌, ◌↔◌, ◌<◌, ◌≤◌, ◌+◌, ◌++◌, [], ◌∷◌, OnOk, OnErr, IfOk, IfErr, Ok, IfSome, IfNone, IsTrue, IsFalse, Contains, length, slice_get, Some};
 ghost use Rattle.u_rule.specs.Rule.{system_of};
 ghost use Rattle.u_machine.specs.State.{Taken, count_of};
@@ -50,11 +51,11 @@ fn is_among(firings: &[Firing], firing: &Firing) -> bool
 }
 
 impl<'a> Parts<'a> {
-    /// Whether the firing is still to be sorted out.
-    fn awaits(&self, firing: &Firing) -> bool
-        ensures { IsTrue result ↔ Contains self.now.found.items firing.now }
+    /// Whether the firing was woken and is still to be sorted out.
+    fn is_woken(&self, firing: &Firing) -> bool
+        ensures { IsTrue result ↔ Contains self.now.woken.items firing.now }
     {
-        let (first, rest) = self.found.as_slices();
+        let (first, rest) = self.woken.as_slices();
         is_among(first, firing) || is_among(rest, firing)
     }
 
@@ -74,7 +75,7 @@ impl<'a> Parts<'a> {
         if is_ready {
             return false;
         }
-        if self.awaits(firing) {
+        if self.is_woken(firing) {
             return false;
         }
         true
@@ -91,7 +92,7 @@ impl<'a> Parts<'a> {
     /// Whether no further firing may be taken. All that was begun is applied.
     pub(crate) fn is_full(&self) -> bool
         requires kept { Invariant self.now }
-        requires settled { self.now.done ≡ length self.now.log.items }
+        requires settled { self.now.applied_count ≡ length self.now.log.items }
         ensures full { IsTrue result → count_of (state_of self.now) ≡ self.now.limit }
         ensures room { IsFalse result → count_of (state_of self.now) < self.now.limit }
     {
@@ -101,7 +102,7 @@ impl<'a> Parts<'a> {
     /// A ready firing begins to be applied. All that was begun before is applied.
     pub(crate) fn begin(&mut self, firing: Firing) -> Result<(), AllocError>
         requires kept { Invariant self.old }
-        requires settled { self.old.done ≡ length self.old.log.items }
+        requires settled { self.old.applied_count ≡ length self.old.log.items }
         requires ready { Contains self.old.ready firing }
         requires room { count_of (state_of self.old) < self.old.limit }
         ensures kept { Invariant self.new }
@@ -120,7 +121,7 @@ impl<'a> Parts<'a> {
     /// The least ready firing begins to be applied, as in `begin`. It is found without comparing.
     pub(crate) fn begin_least(&mut self) -> Result<(), AllocError>
         requires kept { Invariant self.old }
-        requires settled { self.old.done ≡ length self.old.log.items }
+        requires settled { self.old.applied_count ≡ length self.old.log.items }
         requires ready { 0 < length self.old.ready }
         requires room { count_of (state_of self.old) < self.old.limit }
         ensures kept { Invariant self.new }
@@ -153,7 +154,7 @@ impl<'a> Parts<'a> {
     /// A ready firing begins to be applied, as in `begin`. The least one is not looked for.
     fn begin_ready(&mut self, firing: &Firing, is_least: bool) -> Result<(), AllocError>
         requires kept { Invariant self.old }
-        requires settled { self.old.done ≡ length self.old.log.items }
+        requires settled { self.old.applied_count ≡ length self.old.log.items }
         requires ready { Contains self.old.ready firing.now }
         requires least { IsTrue is_least → slice_get self.old.ready 0 ≡ Some firing.now }
         requires room { count_of (state_of self.old) < self.old.limit }
@@ -175,7 +176,7 @@ impl<'a> Parts<'a> {
     /// begun before is applied.
     fn take_ready(&mut self, firing: &Firing, is_least: bool) -> Result<Took, TakeRefusal>
         requires kept { Invariant self.old }
-        requires settled { self.old.done ≡ length self.old.log.items }
+        requires settled { self.old.applied_count ≡ length self.old.log.items }
         requires ready { Contains self.old.ready firing.now }
         requires least { IsTrue is_least → slice_get self.old.ready 0 ≡ Some firing.now }
         ensures kept { Invariant self.new }
@@ -193,7 +194,7 @@ impl<'a> Parts<'a> {
     /// that was begun before is applied.
     fn park(&mut self, firing: &Firing) -> Result<Took, AllocError>
         requires kept { Invariant self.old }
-        requires settled { self.old.done ≡ length self.old.log.items }
+        requires settled { self.old.applied_count ≡ length self.old.log.items }
         requires unapplied { Contains self.old.log.items firing.now → ⊥ }
         requires unready { Contains self.old.ready firing.now → ⊥ }
         requires firing { IsTrue ((system_of self.old.job.now).is_firing firing.now) }
@@ -230,7 +231,7 @@ impl<'a> Parts<'a> {
     /// applied.
     fn take_early(&mut self, firing: &Firing) -> Result<Took, TakeRefusal>
         requires kept { Invariant self.old }
-        requires settled { self.old.done ≡ length self.old.log.items }
+        requires settled { self.old.applied_count ≡ length self.old.log.items }
         requires unapplied { Contains self.old.log.items firing.now → ⊥ }
         requires unready { Contains self.old.ready firing.now → ⊥ }
         requires firing { IsTrue ((system_of self.old.job.now).is_firing firing.now) }
@@ -250,7 +251,7 @@ impl<'a> Parts<'a> {
     /// is looked at first.
     fn take_settled(&mut self, firing: &Firing) -> Result<Took, TakeRefusal>
         requires kept { Invariant self.old }
-        requires settled { self.old.done ≡ length self.old.log.items }
+        requires settled { self.old.applied_count ≡ length self.old.log.items }
         ensures kept { Invariant self.new }
         ensures answer { TakeAnswer (state_of self.old) firing.now result (state_of self.new) }
     {
@@ -300,6 +301,7 @@ impl<'a> Parts<'a> {
         for firing in firings {
             self.add_new(&mut news, firing)?;
         }
+        // Brings in that the set has no firing twice.
         let _count = news.len();
         Ok(news)
     }
@@ -307,7 +309,7 @@ impl<'a> Parts<'a> {
     /// Whether so many more firings may be taken. All that was begun is applied.
     fn has_room(&self, more: usize) -> bool
         requires kept { Invariant self.now }
-        requires settled { self.now.done ≡ length self.now.log.items }
+        requires settled { self.now.applied_count ≡ length self.now.log.items }
         ensures room { IsTrue result → count_of (state_of self.now) + more ≤ self.now.limit }
         ensures full { IsFalse result → self.now.limit < count_of (state_of self.now) + more }
     {
@@ -318,7 +320,7 @@ impl<'a> Parts<'a> {
     /// would be too long. All that was begun is applied.
     fn may_take(&self, firings: &[Firing]) -> Result<bool, AllocError>
         requires kept { Invariant self.now }
-        requires settled { self.now.done ≡ length self.now.log.items }
+        requires settled { self.now.applied_count ≡ length self.now.log.items }
         ensures fits { IfOk result (λ b. IsTrue b → Fits (state_of self.now) firings.now) }
         ensures long { IfOk result (λ b. IsFalse b → IsTooLong (state_of self.now) firings.now) }
     {

@@ -15,7 +15,7 @@ use Rattle.u_machine.proofs.Lists.{slice_get_Contains}
 use Rattle.u_replica.specs.declared.answer.MergeRefusal.TheVariants as merges
 use Rattle.u_replica.specs.declared.answer.MergeRefusal.{MergeRefusal}
 use Rattle.std.specs.Result.{IsErrAnd}
-use Rattle.u_replica.specs.Merging.{all_of, TakesNoMore, IsClosedUnder, LiesIn, IsAbove, IsLeastAbove, MergeAnswer}
+use Rattle.u_replica.specs.Merging.{all_of, IsTakenWithin, IsClosedUnder, LiesIn, IsAbove, IsLeastAbove, MergeAnswer}
 
 -- where nothing is parked, the taken set is the log
 taken_log : (m : State) → m.parked ≡ [] → Same (Taken m) (Contains m.log)
@@ -66,7 +66,7 @@ module _ (a b new : State) (p : IsSound a) (q : IsSound b) (c : IsClosure new) (
           elim (union (Cl-mono (system_of a.job) (Taken new) (λ f. Taken a f ⊎ Taken b f) (λ f. (t.taken f).0) e ((history_is e).0 k)))
           [ inl h ↦ inl (p.has e h) | inr h ↦ inr (right_has e h) ]
 
-  least_taken : (m : State) → TakesNoMore a m → TakesNoMore b m → TakesNoMore new m
+  least_taken : (m : State) → IsTakenWithin a m → IsTakenWithin b m → IsTakenWithin new m
   least_taken m x y f k = elim ((t.taken f).0 k) [ inl u ↦ x f u | inr u ↦ y f u ]
 
   pub least_above : IsLeastAbove a b new

@@ -1,5 +1,6 @@
 -- The marks of a replica: how much of each peer's log it has, and where a mark moves.
-use Rattle.std.specs.Prelude.{◌≡◌, ℕ, ◌+◌, ◌-◌, ◌≤◌, ◌<◌, ◌⊎◌, Bool, List, [], ◌∷◌, length, max, nat_eq, nat_le, nat_lt, ◌&&◌, not, if◌then◌else◌, slice_index_or, slice_set}
+use Rattle.std.specs.Prelude.{◌≡◌, ℕ, ◌+◌, ◌-◌, ◌≤◌, ◌<◌, ◌⊎◌, List, [], ◌∷◌, length, max, slice_index_or, slice_set}
+use Rattle.std.specs.Prelude.{Bool, nat_eq, nat_le, nat_lt, ◌&&◌, not, if◌then◌else◌}
 use Rattle.u_name.specs.Context.{IsBetween}
 use Rattle.u_delta.specs.declared.message.Mark.{Mark}
 use Rattle.u_delta.specs.declared.message.Delta.{Delta}

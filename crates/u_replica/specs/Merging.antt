@@ -16,9 +16,9 @@ use Rattle.u_replica.specs.declared.answer.MergeRefusal.TheVariants.{OtherJob, F
 abbrev pub all_of : State → List Firing
 all_of m = m.log ++ m.parked
 
--- the second has all that the first took
-abbrev pub TakesNoMore : State → State → Type 0
-TakesNoMore a b = (f : Firing) → Taken a f → Taken b f
+-- what the first took, the second took
+abbrev pub IsTakenWithin : State → State → Type 0
+IsTakenWithin a b = (f : Firing) → Taken a f → Taken b f
 
 -- the set has all that firings of M give which are enabled over it
 abbrev pub IsClosedUnder : JobParts → (Firing → Type 0) → List Entry → Type 0
@@ -39,7 +39,7 @@ pub record IsAbove (a b : State) (M : Firing → Type 0) (h : List Entry) : Type
 -- which are enabled over it; where neither side has parked firings it is the union of the two.
 pub record IsLeastAbove (a b new : State) : Type 0 where
   pub union : (f : Firing) → Taken new f ↔ (Taken a f ⊎ Taken b f)
-  pub least : (m : State) → TakesNoMore a m → TakesNoMore b m → TakesNoMore new m
+  pub least : (m : State) → IsTakenWithin a m → IsTakenWithin b m → IsTakenWithin new m
   pub above : IsAbove a b (Taken new) new.history
   pub history : (h : List Entry) → IsAbove a b (Taken new) h → LiesIn new.history h
   pub together : a.parked ≡ [] → b.parked ≡ [] → Same (Contains new.history) (λ e. Contains a.history e ⊎ Contains b.history e)

@@ -20,12 +20,16 @@ use Rattle.u_replica.specs.Merging.{MergeAnswer}
 abbrev pub Does : ReplicaState → Call → Answer → ReplicaState → Type 0
 Does old (calls.Machine c) answer new = (r : Reply) × (answer ≡ answers.Machine r) × machines.Does old.machine c r new.machine × ChangesMachine old new
 Does old (calls.Receive d) answer new = (r : Result (Unit {0}) ListRefusal) × (answer ≡ answers.Receive r) × ReceiveAnswer old d r new
-Does old (calls.Merge other) answer new = (r : Result (Unit {0}) MergeRefusal) × (answer ≡ answers.Merge r) × MergeAnswer old.machine other.now.machine r new.machine × ChangesMachine old new
+Does old (calls.Merge other) answer new =
+    (r : Result (Unit {0}) MergeRefusal) × (answer ≡ answers.Merge r)
+    × MergeAnswer old.machine other.now.machine r new.machine × ChangesMachine old new
 
 -- the calls have these answers, one after another, and each leaves a replica
 abbrev pub Obeys : ReplicaState → List Call → List Answer → ReplicaState → Type 0
 Obeys old [] answers new = (answers ≡ []) × (new ≡ old)
-Obeys old (c ∷ cs) answers new = (a : Answer) × (more : List Answer) × (mid : ReplicaState) × (answers ≡ a ∷ more) × Does old c a mid × IsReplica mid × Obeys mid cs more new
+Obeys old (c ∷ cs) answers new =
+    (a : Answer) × (more : List Answer) × (mid : ReplicaState) × (answers ≡ a ∷ more) × Does old c a mid × IsReplica mid
+    × Obeys mid cs more new
 
 -- the call was not refused for want of memory
 abbrev pub IsMet : Answer → Type 0

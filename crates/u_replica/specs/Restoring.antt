@@ -55,7 +55,8 @@ IsRestoreError job limit bytes NoMemory = Unit {0}
 
 -- the replica and how the checkpoint ended; or why there is none
 abbrev pub RestoreAnswer : JobParts → (limit number life : ℕ) → List ℕ → Result (ReplicaState × Ending) RestoreError → Type 0
-RestoreAnswer job limit number life bytes result = MatchResult result (λ p. IsRestored job limit number life bytes p.1 p.0) (λ error. IsRestoreError job limit bytes error)
+RestoreAnswer job limit number life bytes result =
+    MatchResult result (λ p. IsRestored job limit number life bytes p.1 p.0) (λ error. IsRestoreError job limit bytes error)
 
 -- a checkpoint's error, and a refused list's, as those of restoring
 abbrev pub error_of_reading : CheckpointError → RestoreError
@@ -88,8 +89,13 @@ MaySave job saved = IsMachine saved × (saved.job ≡ job) × ranges.AreFirings 
 
 -- for the text that was saved of a machine, the ending is whole and the replica took what that machine took
 abbrev pub RestoresWhole : JobParts → ℕ → List ℕ → Result (ReplicaState × Ending) RestoreError → Type 0
-RestoresWhole job limit bytes result = (saved : State) → MaySave job saved → bytes ≡ checkpoint_text (all_of saved) → MatchResult result (λ p. (p.1 ≡ Whole) × TookAll saved p.0) (IsNoRoom saved limit)
+RestoresWhole job limit bytes result =
+    (saved : State) → MaySave job saved → bytes ≡ checkpoint_text (all_of saved)
+    → MatchResult result (λ p. (p.1 ≡ Whole) × TookAll saved p.0) (IsNoRoom saved limit)
 
 -- for a front of such a text, the ending is torn, and the replica took the first ones
 abbrev pub RestoresFront : JobParts → ℕ → List ℕ → Result (ReplicaState × Ending) RestoreError → Type 0
-RestoresFront job limit bytes result = (saved : State) (k : ℕ) → MaySave job saved → k < length (checkpoint_text (all_of saved)) → bytes ≡ take k (checkpoint_text (all_of saved)) → MatchResult result (λ p. (p.1 ≡ Torn) × TookFront saved bytes p.0) (IsNoRoom saved limit)
+RestoresFront job limit bytes result =
+    (saved : State) (k : ℕ) → MaySave job saved → k < length (checkpoint_text (all_of saved))
+    → bytes ≡ take k (checkpoint_text (all_of saved))
+    → MatchResult result (λ p. (p.1 ≡ Torn) × TookFront saved bytes p.0) (IsNoRoom saved limit)

@@ -57,11 +57,13 @@ impl<'a> Replica<'a> {
         ensures holds { HoldsAlways self.new }
         ensures err { OnErr result (self.new ≡ self.old) }
     {
+        // Brings in what always holds.
         self.holds();
         let mut answers = Vec::new(alloc);
         answers.reserve(calls.len())?;
         for call in calls {
             let answer = self.obey(call);
+            // Brings in what holds after the call.
             self.holds();
             push_into_room(&mut answers, answer);
         }

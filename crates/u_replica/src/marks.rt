@@ -88,6 +88,7 @@ impl Marks {
     pub(crate) fn holds(&self)
         ensures { AreMarks self.now }
     {
+        // Brings in what the type keeps.
         let _all = &self.all;
     }
 

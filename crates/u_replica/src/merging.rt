@@ -35,7 +35,7 @@ fn all_taken(alloc: Global, machine: &Machine<'_>) -> Result<Vec<Firing>, AllocE
 fn is_same(left: &Job, right: &Job) -> bool
     ensures { IsTrue result ↔ (right.now ≡ left.now) }
 {
-    // The contracts of `blocks` say that the programs are within their limits.
+    // Brings in that the programs are within their limits.
     let _left = left.program().blocks();
     let _right = right.program().blocks();
     *right == *left
@@ -50,10 +50,12 @@ fn take_other(
     requires { other.now.job ≡ machine.old.job }
     ensures { MergeAnswer machine.old other.now result machine.new }
 {
+    // Brings in what always holds of both.
     machine.holds();
     other.holds();
     let all = all_taken(alloc, other)?;
     let taken = machine.take_all(&all);
+    // Brings in what holds after the call.
     machine.holds();
     match taken {
         Ok(()) => Ok(()),

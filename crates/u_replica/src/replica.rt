@@ -112,28 +112,30 @@ impl<'a> Replica<'a> {
         self.marks.of(peer)
     }
 
-    /// The ask for what the replica lacks of the peer's log. `peer` is another replica's number, 1 to 8.
-    pub fn ask(&self, peer: u8) -> Ask
-        requires { IsPeer self.now peer }
-        ensures { result ≡ ask_of self.now peer }
+    /// Takes a firing, from wherever it comes, as the machine's `take`. Where it is not enabled it is
+    /// parked until it is.
+    ///
+    /// # Errors
+    /// `NotAFiring` exactly where it is no firing of the job. `Full` where it is new and the replica has
+    /// taken as many as it may. `NoMemory` where there is no memory; it may have been taken then.
+    pub fn take(&mut self, firing: &Firing) -> Result<Took, TakeRefusal>
+        ensures answer { TakeAnswer self.old.machine firing.now result self.new.machine }
+        ensures alone { ChangesMachine self.old self.new }
     {
-        let mark = self.marks.of(peer);
-        Ask {
-            asker: self.number,
-            asked: peer,
-            life: mark.life,
-            count: mark.count,
-        }
+        self.machine.take(firing)
     }
 
-    /// What holds of each replica, after all calls. It does nothing, and callers cite its clause.
-    pub fn holds(&self)
-        ensures { HoldsAlways self.now }
+    /// Takes the firings of the list one after another, or none of them, as the machine's `take_all`.
+    ///
+    /// # Errors
+    /// `NotAFiring` with the place of the first that is no firing of the job. `Full` where the replica
+    /// may not take as many besides as the list has new ones. In both cases nothing is taken.
+    /// `NoMemory` where there is no memory; some of the first ones may have been taken then.
+    pub fn take_all(&mut self, firings: &[Firing]) -> Result<(), ListRefusal>
+        ensures answer { TakeAllAnswer self.old.machine firings.now result self.new.machine }
+        ensures alone { ChangesMachine self.old self.new }
     {
-        // Reading the number says that it is below 2^64.
-        let _life = self.life;
-        self.machine.holds();
-        self.marks.holds();
+        self.machine.take_all(firings)
     }
 
     /// Goes on where an earlier call found no memory, until all that was begun is applied.
@@ -163,32 +165,6 @@ impl<'a> Replica<'a> {
         self.machine.fire(pick)
     }
 
-    /// Takes a firing, from wherever it comes, as the machine's `take`. Where it is not enabled it is
-    /// parked until it is.
-    ///
-    /// # Errors
-    /// `NotAFiring` exactly where it is no firing of the job. `Full` where it is new and the replica has
-    /// taken as many as it may. `NoMemory` where there is no memory; it may have been taken then.
-    pub fn take(&mut self, firing: &Firing) -> Result<Took, TakeRefusal>
-        ensures answer { TakeAnswer self.old.machine firing.now result self.new.machine }
-        ensures alone { ChangesMachine self.old self.new }
-    {
-        self.machine.take(firing)
-    }
-
-    /// Takes the firings of the list one after another, or none of them, as the machine's `take_all`.
-    ///
-    /// # Errors
-    /// `NotAFiring` with the place of the first that is no firing of the job. `Full` where the replica
-    /// may not take as many besides as the list has new ones. In both cases nothing is taken.
-    /// `NoMemory` where there is no memory; some of the first ones may have been taken then.
-    pub fn take_all(&mut self, firings: &[Firing]) -> Result<(), ListRefusal>
-        ensures answer { TakeAllAnswer self.old.machine firings.now result self.new.machine }
-        ensures alone { ChangesMachine self.old self.new }
-    {
-        self.machine.take_all(firings)
-    }
-
     /// Applies the least ready firing again and again, until nothing is ready or it has done so
     /// `budget` times, as the machine's `run`.
     ///
@@ -202,6 +178,20 @@ impl<'a> Replica<'a> {
         ensures alone { ChangesMachine self.old self.new }
     {
         self.machine.run(budget)
+    }
+
+    /// The ask for what the replica lacks of the peer's log. `peer` is another replica's number, 1 to 8.
+    pub fn ask(&self, peer: u8) -> Ask
+        requires { IsPeer self.now peer }
+        ensures { result ≡ ask_of self.now peer }
+    {
+        let mark = self.marks.of(peer);
+        Ask {
+            asker: self.number,
+            asked: peer,
+            life: mark.life,
+            count: mark.count,
+        }
     }
 
     /// The part of the replica's log that the asker lacks: what the log has behind the firings that the
@@ -323,5 +313,15 @@ impl<'a> Replica<'a> {
             marks: Marks::new(),
         };
         Ok((replica, checkpoint.ending))
+    }
+
+    /// What holds of each replica, after all calls. It does nothing, and callers cite its clause.
+    pub fn holds(&self)
+        ensures { HoldsAlways self.now }
+    {
+        // Brings in that the life is below 2^64, and what the machine and the marks keep.
+        let _life = self.life;
+        self.machine.holds();
+        self.marks.holds();
     }
 }

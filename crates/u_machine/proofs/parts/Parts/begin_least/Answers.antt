@@ -4,7 +4,7 @@ use Rattle.u_rule.specs.EntryOrder.{FiringList}
 use Rattle.u_rule.specs.declared.firing.Firing.{Firing}
 use Rattle.u_sets.specs.Members.{IsWith}
 use Rattle.u_system.proofs.Member.{Contains-head}
-use Rattle.u_machine.proofs.Beginning.{unparked, begun_logged, begun_sorted, begun_idle, begun_takes}
+use Rattle.u_machine.proofs.Beginning.{unparked, begun_logged, begun_partitioned, begun_idle, begun_takes}
 use Rattle.u_machine.proofs.Lists.{first_is}
 use Rattle.u_machine.proofs.parts.Parts.begin_least.Goals as goal
 use Rattle.u_machine.proofs.parts.Parts.begin_least.Goals.{After-push_into_room}
@@ -33,7 +33,7 @@ returns-clause-kept c =
     let f = c.in-Some-pop_first.firing in
     record {
       logged = begun_logged m k f (was c) c.requires.settled c.requires.room c.insert.new.self c.pop_first.new.self c.push_into_room.new.list.items (with_it c) c.in_ok-insert.ensures.rises (one_more c) (logs c) c.in-Some-pop_first.ensures.without;
-      sorted = begun_sorted m k f (was c) c.requires.settled c.requires.room c.insert.new.self c.pop_first.new.self c.push_into_room.new.list.items (with_it c) c.in_ok-insert.ensures.rises (one_more c) (logs c) c.in-Some-pop_first.ensures.without;
+      partitioned = begun_partitioned m k f (was c) c.requires.settled c.requires.room c.insert.new.self c.pop_first.new.self c.push_into_room.new.list.items (with_it c) c.in_ok-insert.ensures.rises (one_more c) (logs c) c.in-Some-pop_first.ensures.without;
       idle = begun_idle m k f (was c) c.requires.settled c.requires.room c.insert.new.self c.pop_first.new.self c.push_into_room.new.list.items (with_it c) c.in_ok-insert.ensures.rises (one_more c) (logs c) c.in-Some-pop_first.ensures.without;
     }
 

@@ -1,7 +1,7 @@
 use Rattle.std.proofs.Common.{◌≡◌, ap, length, arith, length-append, [], ◌∷◌, ◌++◌, sym, subst, take, ◌∙◌}
 use Rattle.std.proofs.lemmas.List.{take-append-le}
 use Rattle.u_rule.specs.EntryOrder.{FiringList}
-use Rattle.u_machine.specs.Invariant.{IsLogged, IsSorted}
+use Rattle.u_machine.specs.Invariant.{IsLogged, IsPartitioned}
 use Rattle.u_machine.proofs.Settled.{not_logged, enabled_first}
 use Rattle.u_machine.proofs.Steps.{begins}
 use Rattle.u_machine.proofs.Sorting.{sorts_logged}
@@ -19,11 +19,11 @@ returns-clause-kept c =
     let rest = c.pop_front.new.self.items in
     let n = c.in-Some.ensures.items in
     let l = logs c in
-    let s : take m.done (m.log.items ++ f ∷ []) ≡ take m.done m.log.items = take-append-le m.done m.log.items (f ∷ []) k.logged.place in
+    let s : take m.applied_count (m.log.items ++ f ∷ []) ≡ take m.applied_count m.log.items = take-append-le m.applied_count m.log.items (f ∷ []) k.logged.place in
     record {
-      logged = subst (λ (log : FiringList). IsLogged m.job.now m.limit log m.done m.parked m.matcher) (sym l)
+      logged = subst (λ (log : FiringList). IsLogged m.job.now m.limit log m.applied_count m.parked m.matcher) (sym l)
           (begins _ _ _ _ _ _ k.logged f (c.requires.taken f (rest, n)) (not_logged m k f rest n) (enabled_first m k f rest n));
-      sorted = subst (λ (log : FiringList). IsSorted m.job.now log (take m.done log ++ m.parked) m.ready rest m.matcher) (sym l)
-          (rw s (sorts_logged _ _ _ _ _ _ k.sorted f rest n));
+      partitioned = subst (λ (log : FiringList). IsPartitioned m.job.now log (take m.applied_count log ++ m.parked) m.ready rest m.matcher) (sym l)
+          (rw s (sorts_logged _ _ _ _ _ _ k.partitioned f rest n));
       idle = λ e. let a = length-append m.log.items (f ∷ []) in let b = k.logged.place in let d = ap length l in absurd (omega (arith, e));
     }

@@ -14,8 +14,8 @@ returns-clause-kept c =
     let m = c.args.self.now in
     record {
       logged = applied _ _ _ _ _ _ k.logged f c.take_out.new.self c.requires.some at c.take_out.ensures.without c.take_out.ensures.rises c.take_out.ensures.count
-          (c.requires.all f (slice_get_at m.log.items m.done f c.requires.some at));
-      sorted = same_taken _ _ _ _ _ _ _ (λ g. let t = taken_still _ _ _ _ _ _ k.logged f c.take_out.new.self c.requires.some at c.take_out.ensures.without g in (t.1, t.0)) k.sorted;
+          (c.requires.all f (slice_get_at m.log.items m.applied_count f c.requires.some at));
+      partitioned = same_taken _ _ _ _ _ _ _ (λ g. let t = taken_still _ _ _ _ _ _ k.logged f c.take_out.new.self c.requires.some at c.take_out.ensures.without g in (t.1, t.0)) k.partitioned;
       idle = c.requires.idle;
     }
 

@@ -10,7 +10,7 @@ returns-clause-kept c =
     let n : c.len-self.result ≡ length m.log.items = omega arith in
     record {
       logged = rw (c.new.ensures, n) (all_applied _ _ _ _ _ _ k.logged c.requires.none (all_held m k c.requires.all));
-      sorted = rw (c.new.ensures, n) (same_taken _ _ _ _ _ _ _ (λ g. let t = all_taken_still _ _ _ _ _ _ k.logged c.requires.none g in (t.1, t.0)) k.sorted);
+      partitioned = rw (c.new.ensures, n) (same_taken _ _ _ _ _ _ _ (λ g. let t = all_taken_still _ _ _ _ _ _ k.logged c.requires.none g in (t.1, t.0)) k.partitioned);
       idle = λ e. c.requires.idle;
     }
 

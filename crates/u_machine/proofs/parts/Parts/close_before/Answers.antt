@@ -22,17 +22,17 @@ pub close-requires-clause-idle : goal.close-requires-clause-idle
 close-requires-clause-idle c e =
     let v = c.loop-self.invariant in
     let l = ap length v.still.log in
-    rw v.still.left (c.requires.idle (omega (arith, e, c.requires.to, v.to, c.loop-self-test.true)))
+    rw v.still.woken (c.requires.idle (omega (arith, e, c.requires.to, v.to, c.loop-self-test.true)))
 
 pub close-requires-clause-all : goal.close-requires-clause-all
 close-requires-clause-all c =
     let v = c.loop-self.invariant in
-    entered_still c.args.self.now c.loop-self.self c.loop-self.self.done v.still (c.requires.all c.loop-self.self.done v.from (omega (arith, v.to, c.loop-self-test.true)))
+    entered_still c.args.self.now c.loop-self.self c.loop-self.self.applied_count v.still (c.requires.all c.loop-self.self.applied_count v.from (omega (arith, v.to, c.loop-self-test.true)))
 
 pub loop-self-preserved : goal.loop-self-preserved
 loop-self-preserved c =
     let v = c.loop-self.invariant in
-    let d = c.close.ensures.done in
+    let d = c.close.ensures.applied_count in
     record {
       kept = c.close.ensures.kept;
       applies = applies_trans _ _ _ v.applies c.close.ensures.applies;

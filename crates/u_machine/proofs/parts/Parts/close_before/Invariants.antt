@@ -8,9 +8,9 @@ invariant-loop-self l = record {
   kept : Invariant l.self;
   applies : Applies (state_of l.fn.self) (state_of l.self);
   still : SameButApplied l.fn.self l.self;
-  from : l.fn.self.done ≤ l.self.done;
-  to : l.self.done ≤ l.place;
+  from : l.fn.self.applied_count ≤ l.self.applied_count;
+  to : l.self.applied_count ≤ l.place;
 }
 
 abbrev pub decreases-loop-self : goal.decreases-loop-self
-decreases-loop-self l = l.place - l.self.done
+decreases-loop-self l = l.place - l.self.applied_count

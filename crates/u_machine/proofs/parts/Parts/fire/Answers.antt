@@ -86,6 +86,6 @@ returns-clause-answer c =
       may_fire a c.if-is_full.false b.firing b.at,
       takes_between _ _ _ _ _ c.settle.ensures.applies b.takes c.settle-2.ensures.applies,
       settled_there c.settle-2.new.self c.settle-2.ensures.kept c.in_ok-settle-2.ensures.ok,
-      subst (λ (n : ℕ). slice_get (take c.settle-2.new.self.done c.settle-2.new.self.log.items) n ≡ Some b.firing) (let n = c.len-place.ensures in let e : length c.settle.new.self.log.items ≡ c.len-place.result = omega (arith, n) in e)
-          (fired_at c.settle.new.self.log.items b.firing c.begin_at.new.self.log.items c.settle-2.new.self.done c.settle-2.new.self.log.items b.log c.settle-2.ensures.log c.in_ok-settle-2.ensures.ok),
+      subst (λ (n : ℕ). slice_get (take c.settle-2.new.self.applied_count c.settle-2.new.self.log.items) n ≡ Some b.firing) (let n = c.len-place.ensures in let e : length c.settle.new.self.log.items ≡ c.len-place.result = omega (arith, n) in e)
+          (fired_at c.settle.new.self.log.items b.firing c.begin_at.new.self.log.items c.settle-2.new.self.applied_count c.settle-2.new.self.log.items b.log c.settle-2.ensures.log c.in_ok-settle-2.ensures.ok),
     )

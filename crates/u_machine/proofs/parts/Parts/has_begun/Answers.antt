@@ -9,12 +9,12 @@ returns-then-not-held c = ((λ t. absurd (cc)), λ m. absurd (false≢true (sym 
 pub returns-then-is_ready : goal.returns-then-is_ready
 returns-then-is_ready c = ((λ t. absurd (cc)), λ m. absurd (((begun_if c.args.self.now c.requires c.args.firing.now).0 m).1 (c.contains-is_ready.ensures.0 c.if-is_ready.true)))
 
-pub returns-then-awaits : goal.returns-then-awaits
-returns-then-awaits c = ((λ t. absurd (cc)), λ m. absurd (((begun_if c.args.self.now c.requires c.args.firing.now).0 m).2 (c.awaits.ensures.0 c.if-awaits.true)))
+pub returns-then-is_woken : goal.returns-then-is_woken
+returns-then-is_woken c = ((λ t. absurd (cc)), λ m. absurd (((begun_if c.args.self.now c.requires c.args.firing.now).0 m).2 (c.is_woken.ensures.0 c.if-is_woken.true)))
 
 pub returns : goal.returns
 returns c =
     let h = begun_if c.args.self.now c.requires c.args.firing.now in (
-      (λ t. h.1 (c.in-Ok.ensures.0 c.if-not-held.false, (λ r. not_both c.contains-is_ready.result (c.contains-is_ready.ensures.1 r) c.if-is_ready.false), λ w. not_both c.awaits.result (c.awaits.ensures.1 w) c.if-awaits.false)),
+      (λ t. h.1 (c.in-Ok.ensures.0 c.if-not-held.false, (λ r. not_both c.contains-is_ready.result (c.contains-is_ready.ensures.1 r) c.if-is_ready.false), λ w. not_both c.is_woken.result (c.is_woken.ensures.1 w) c.if-is_woken.false)),
       λ m. refl,
     )

@@ -11,5 +11,5 @@ returns-clause-settled c =
     let n = c.len.ensures in
     let p = c.requires.logged.place in
     let l = c.if-self-len.false in
-    let e : c.args.self.now.done ≡ length c.args.self.now.log.items = omega (arith, l) in
+    let e : c.args.self.now.applied_count ≡ length c.args.self.now.log.items = omega (arith, l) in
     ((λ t. settled_there c.args.self.now c.requires e), λ s. refl)

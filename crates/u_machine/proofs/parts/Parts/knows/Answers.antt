@@ -10,9 +10,9 @@ returns-then-has_begun c = ((λ t. log_taken _ _ _ _ _ _ c.requires.logged c.arg
 
 pub returns-else-has_begun : goal.returns-else-has_begun
 returns-else-has_begun c = (
-  (λ t. Contains-append_right (take c.args.self.now.done c.args.self.now.log.items) c.args.self.now.parked c.args.firing.now (c.contains.ensures.0 t)),
-  λ t. c.contains.ensures.1 (elim (Contains-append_cases (take c.args.self.now.done c.args.self.now.log.items) c.args.self.now.parked c.args.firing.now t) [
-    | inl a ↦ absurd (not_both c.has_begun.result (c.has_begun.ensures.1 (Contains-taken c.args.self.now.done c.args.self.now.log.items c.args.firing.now a)) c.if-has_begun.false)
+  (λ t. Contains-append_right (take c.args.self.now.applied_count c.args.self.now.log.items) c.args.self.now.parked c.args.firing.now (c.contains.ensures.0 t)),
+  λ t. c.contains.ensures.1 (elim (Contains-append_cases (take c.args.self.now.applied_count c.args.self.now.log.items) c.args.self.now.parked c.args.firing.now t) [
+    | inl a ↦ absurd (not_both c.has_begun.result (c.has_begun.ensures.1 (Contains-taken c.args.self.now.applied_count c.args.self.now.log.items c.args.firing.now a)) c.if-has_begun.false)
     | inr b ↦ b
   ]),
 )

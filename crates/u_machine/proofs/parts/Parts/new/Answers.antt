@@ -8,24 +8,24 @@ use Rattle.u_rule.specs.EntryOrder.{entry_cmp, EntryList, FiringList}
 use Rattle.u_sets.specs.Rising.{Rises}
 use Rattle.u_sets.specs.Members.{IsWith}
 use Rattle.u_machine.specs.State.{state}
-use Rattle.u_machine.proofs.Fresh.{only_one, fresh_log, fresh_sorted}
+use Rattle.u_machine.proofs.Fresh.{only_one, fresh_log, fresh_partitioned}
 use Rattle.u_machine.proofs.parts.Parts.new.Goals as goal
 
-starts : (c : goal.After-drop-found-2) → IsWith [] (start_of c.args.job.now) c.enter.new.self
+starts : (c : goal.After-drop-woken-2) → IsWith [] (start_of c.args.job.now) c.enter.new.self
 starts c =
     subst (λ (xs : EntryList). IsWith xs (start_of c.args.job.now) c.enter.new.self) c.new-matcher.ensures
-    (subst (λ (e : Entry). IsWith c.new-matcher.result e c.enter.new.self) c.start.ensures.start c.in_ok-found.ensures.ok)
+    (subst (λ (e : Entry). IsWith c.new-matcher.result e c.enter.new.self) c.start.ensures.start c.in_ok-woken.ensures.ok)
 
-held : (c : goal.After-drop-found-2) → c.enter.new.self ≡ start_of c.args.job.now ∷ []
+held : (c : goal.After-drop-woken-2) → c.enter.new.self ≡ start_of c.args.job.now ∷ []
 held c =
     only_one c.enter.new.self (start_of c.args.job.now) (subst (λ (xs : EntryList). Rises entry_cmp xs) c.history.ensures c.len-count.ensures.rises) (starts c)
 
 pub returns-clause-kept : goal.returns-clause-kept
 returns-clause-kept c = record {
   logged = rw (c.new.ensures.items, c.new-2.ensures, held c) (fresh_log c.args.job.now c.args.limit);
-  sorted = rw (c.new.ensures.items, c.new-2.ensures, c.new-3.ensures.items)
-      (fresh_sorted c.args.job.now c.args.limit c.enter.new.self c.in_ok-found.found.items c.in_ok-ready.ready (starts c)
-      (subst (λ (e : Entry). (f : Firing) → Contains c.in_ok-found.found.items f ↔ (Contains ((system_of c.args.job.now).needs f) e × Enabled (system_of c.args.job.now) (Contains c.enter.new.self) f)) c.start.ensures.start c.in_ok-found.ensures.exact)
+  partitioned = rw (c.new.ensures.items, c.new-2.ensures, c.new-3.ensures.items)
+      (fresh_partitioned c.args.job.now c.args.limit c.enter.new.self c.in_ok-woken.woken.items c.in_ok-ready.ready (starts c)
+      (subst (λ (e : Entry). (f : Firing) → Contains c.in_ok-woken.woken.items f ↔ (Contains ((system_of c.args.job.now).needs f) e × Enabled (system_of c.args.job.now) (Contains c.enter.new.self) f)) c.start.ensures.start c.in_ok-woken.ensures.exact)
       (subst (λ (fs : FiringList). Same (Contains c.in_ok-ready.ready) (Contains fs)) c.deref.ensures.value c.in_ok-ready.ensures));
   idle = λ e. rw c.new-3.ensures.items refl;
 }

@@ -31,7 +31,7 @@ returns-then-is_new-clause-kept c =
     let f = c.args.firing.now in
     record {
       logged = parks _ _ _ _ _ _ k.logged f c.insert.new.self (untaken m f c.requires.unapplied (unparked c)) c.requires.firing c.requires.room (added c) c.in_ok-is_new.ensures.rises (one_more c);
-      sorted = takes_early _ _ _ _ _ _ k.sorted f (take m.done m.log.items ++ c.insert.new.self) c.requires.unready (taken_more _ _ _ _ _ _ k.logged f c.insert.new.self (added c));
+      partitioned = takes_early _ _ _ _ _ _ k.partitioned f (take m.applied_count m.log.items ++ c.insert.new.self) c.requires.unready (taken_more _ _ _ _ _ _ k.logged f c.insert.new.self (added c));
       idle = k.idle;
     }
 
@@ -48,6 +48,6 @@ returns-clause-answer c =
     let m = c.args.self.now in
     let same = c.in_ok-is_new.ensures.still (λ t. not_both c.in_ok-is_new.is_new t c.if-is_new.false) in
     let has = (with_it (goal.at.returns-clause-answer c).In_ok-is_new c.args.firing.now).1 (inr refl) in (
-      Contains-append_right (take m.done m.log.items) m.parked c.args.firing.now (rw same at has),
+      Contains-append_right (take m.applied_count m.log.items) m.parked c.args.firing.now (rw same at has),
       rw same (settles_itself m c.requires.kept c.requires.settled),
     )

@@ -1,10 +1,10 @@
 use Rattle.std.proofs.Common.{arith, inl, inr, refl, subst, sym}
 use Rattle.u_rule.specs.EntryOrder.{FiringList}
-use Rattle.u_machine.specs.Invariant.{IsSorted, taken_of}
+use Rattle.u_machine.specs.Invariant.{IsPartitioned, taken_of}
 use Rattle.u_machine.proofs.Lists.{slice_get_Contains}
 use Rattle.u_machine.proofs.Going.{slice_get_below}
 use Rattle.u_machine.proofs.Steps.{entered}
-use Rattle.u_machine.proofs.Sorting.{found_more}
+use Rattle.u_machine.proofs.Sorting.{woken_more}
 use Rattle.u_machine.proofs.States.{Applies-history}
 use Rattle.u_machine.proofs.parts.Parts.put.Goals as goal
 
@@ -15,8 +15,8 @@ returns-clause-kept c =
     let (f, at, from, place, g) = c.requires.gives in
     record {
       logged = entered _ _ _ _ _ _ k.logged f c.args.entry.now c.enter_new.new.self (slice_get_Contains _ _ f place) g c.in_ok-entered.ensures.ok;
-      sorted = subst (λ (fs : FiringList). IsSorted m.job.now m.log.items (taken_of m) m.ready fs c.enter_new.new.self) (sym c.from.ensures.0)
-          (found_more _ _ _ _ _ _ k.sorted c.args.entry.now c.enter_new.new.self c.in-Some.found.items c.requires.idle (rw c.in-Some.is at c.in_ok-entered.ensures.new) c.in_ok-entered.ensures.ok (rw c.in-Some.is at c.in_ok-entered.ensures.exact) (rw c.in-Some.is at c.in_ok-entered.ensures.order));
+      partitioned = subst (λ (fs : FiringList). IsPartitioned m.job.now m.log.items (taken_of m) m.ready fs c.enter_new.new.self) (sym c.from.ensures.0)
+          (woken_more _ _ _ _ _ _ k.partitioned c.args.entry.now c.enter_new.new.self c.in-Some.woken.items c.requires.idle (rw c.in-Some.is at c.in_ok-entered.ensures.new) c.in_ok-entered.ensures.ok (rw c.in-Some.is at c.in_ok-entered.ensures.exact) (rw c.in-Some.is at c.in_ok-entered.ensures.order));
       idle = λ e. let b = slice_get_below m.log.items at f place in absurd (omega (arith, b, e, from));
     }
 

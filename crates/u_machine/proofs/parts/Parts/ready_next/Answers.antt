@@ -11,6 +11,6 @@ returns-in-Ok-clause-kept c =
     let n = c.in-Some.ensures.items in
     record {
       logged = k.logged;
-      sorted = sorts_ready _ _ _ _ _ _ k.sorted f rest c.insert.new.self n (λ t. c.requires.new f (rest, n) (parked_first m k f rest n t)) c.in-Ok.ensures.ok;
+      partitioned = sorts_ready _ _ _ _ _ _ k.partitioned f rest c.insert.new.self n (λ t. c.requires.new f (rest, n) (parked_first m k f rest n t)) c.in-Ok.ensures.ok;
       idle = λ e. absurd (not_idle m k f rest n (k.idle e));
     }

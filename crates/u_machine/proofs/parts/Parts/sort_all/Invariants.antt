@@ -1,5 +1,5 @@
 use Rattle.std.proofs.Common.{◌≡◌, length}
-use Rattle.u_machine.specs.Invariant.{state_of, left_of, Invariant, GoesOn}
+use Rattle.u_machine.specs.Invariant.{state_of, woken_of, Invariant, GoesOn}
 use Rattle.u_machine.proofs.parts.Parts.sort_all.Given as goal
 
 abbrev pub invariant-loop-self : goal.invariant-loop-self
@@ -10,4 +10,4 @@ invariant-loop-self l = record {
 }
 
 abbrev pub decreases-loop-self : goal.decreases-loop-self
-decreases-loop-self l = length (left_of l.self)
+decreases-loop-self l = length (woken_of l.self)

@@ -10,7 +10,7 @@ use Rattle.u_machine.proofs.parts.Parts.take_ready.Goals.{After-is_full}
 
 pub returns-then-is_full-clause-answer : goal.returns-then-is_full-clause-answer
 returns-then-is_full-clause-answer c = (
-  (c.requires.kept.sorted.fit c.args.firing.now c.requires.ready).0.0,
+  (c.requires.kept.partitioned.fit c.args.firing.now c.requires.ready).0.0,
   new_if_ready c.args.self.now c.requires.kept c.args.firing.now c.requires.ready,
   c.is_full.ensures.full c.if-is_full.true,
   settles_itself c.args.self.now c.requires.kept c.requires.settled,
@@ -18,7 +18,7 @@ returns-then-is_full-clause-answer c = (
 
 is_new : (c : After-is_full) → c.is_full.result ≡ false → IsNew (state_of c.args.self.now) c.args.firing.now
 is_new c e = record {
-  firing = (c.requires.kept.sorted.fit c.args.firing.now c.requires.ready).0.0;
+  firing = (c.requires.kept.partitioned.fit c.args.firing.now c.requires.ready).0.0;
   new = new_if_ready c.args.self.now c.requires.kept c.args.firing.now c.requires.ready;
   room = c.is_full.ensures.room e;
 }
@@ -39,7 +39,7 @@ pub returns-clause-answer : goal.returns-clause-answer
 returns-clause-answer c = (
   is_new (goal.at.returns-clause-answer c).After-is_full c.if-is_full.false,
   takes_between _ _ _ _ _ (Applies-refl _) c.in_ok-begin_ready.ensures.takes c.settle.ensures.applies,
-  applied_has c.args.self.now.log.items c.args.firing.now c.begin_ready.new.self.log.items c.settle.new.self.done c.settle.new.self.log.items
+  applied_has c.args.self.now.log.items c.args.firing.now c.begin_ready.new.self.log.items c.settle.new.self.applied_count c.settle.new.self.log.items
       c.in_ok-begin_ready.ensures.log c.settle.ensures.log c.in_ok-settle.ensures.ok,
   settled_there c.settle.new.self c.settle.ensures.kept c.in_ok-settle.ensures.ok,
 )

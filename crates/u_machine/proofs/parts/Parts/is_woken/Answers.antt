@@ -3,7 +3,7 @@ use Rattle.std.specs.Prelude.{Contains}
 use Rattle.std.proofs.lemmas.List.Elements.{Contains-append_right, Contains-append_cases}
 use Rattle.u_rule.specs.EntryOrder.{FiringList}
 use Rattle.u_machine.proofs.Settled.{not_both}
-use Rattle.u_machine.proofs.parts.Parts.awaits.Goals as goal
+use Rattle.u_machine.proofs.parts.Parts.is_woken.Goals as goal
 
 pub returns-else-is_among : goal.returns-else-is_among
 returns-else-is_among c =
