@@ -16,3 +16,4 @@ pub mod TakenLists
 pub mod Replies
 pub mod Obeying
 pub mod NewOnes
+pub mod Masked

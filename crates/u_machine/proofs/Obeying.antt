@@ -16,6 +16,8 @@ use Rattle.u_machine.specs.declared.commands.Reply.{Reply}
 use Rattle.u_machine.specs.declared.commands.Reply.TheVariants as replies
 use Rattle.u_machine.specs.declared.answer.Step.{Step}
 use Rattle.u_machine.specs.declared.answer.Step.TheVariants as step
+use Rattle.u_machine.specs.declared.answer.StepIn.{StepIn}
+use Rattle.u_machine.specs.declared.answer.StepIn.TheVariants as within
 use Rattle.u_machine.specs.declared.answer.Ran.{Ran}
 use Rattle.u_machine.specs.declared.answer.Ran.TheVariants as ran
 use Rattle.u_machine.specs.declared.answer.Took.{Took}
@@ -28,7 +30,7 @@ use Rattle.u_machine.specs.declared.answer.ListRefusal.{ListRefusal}
 use Rattle.u_machine.specs.declared.answer.ListRefusal.TheVariants as unlisted
 use Rattle.u_machine.specs.State.{State, Taken, IsSound, IsMachine, IsSettled}
 use Rattle.u_machine.specs.Headline.{IsClosure, KeepsItsPromise, Agree}
-use Rattle.u_machine.specs.Calls.{Applies, Takes, TakesOrNot, Fires, FireAnswer, TakeAnswer, RunAnswer}
+use Rattle.u_machine.specs.Calls.{Applies, Takes, TakesOrNot, Fires, FireAnswer, FireInAnswer, TakeAnswer, RunAnswer}
 use Rattle.u_machine.specs.Taking.{TakesAll, TakeAllAnswer}
 use Rattle.u_machine.specs.Obeying.{SettleAnswer, Does, Obeys, IsMet, AreMet, Extends}
 use Rattle.u_machine.proofs.States.{settled_is_Cl, quiet_whole}
@@ -69,6 +71,14 @@ module _ (old new : State) where
   fire_extends pick (Err refusals.NoMemory) (inl u) = applies_extends u.applies
   fire_extends pick (Err refusals.NoMemory) (inr (f, may, t)) = takes_or_not_extends f t
 
+  fire_in_extends : (buckets pick : ℕ) (r : Result StepIn Refusal) → FireInAnswer old buckets pick r new → Extends old new
+  fire_in_extends buckets pick (Ok within.Quiet) a = applies_extends a.1.applies
+  fire_in_extends buckets pick (Ok within.Elsewhere) a = applies_extends a.1.applies
+  fire_in_extends buckets pick (Ok (within.Fired place)) (f, may, t, st, at) = takes_extends f t
+  fire_in_extends buckets pick (Err refusals.Full) a = applies_extends a.2.applies
+  fire_in_extends buckets pick (Err refusals.NoMemory) (inl u) = applies_extends u.applies
+  fire_in_extends buckets pick (Err refusals.NoMemory) (inr (f, may, t)) = takes_or_not_extends f t
+
   take_extends : (f : Firing) (r : Result Took TakeRefusal) → TakeAnswer old f r new → Extends old new
   take_extends f (Ok took.Known) a = applies_extends a.1.applies
   take_extends f (Ok took.Taken) a = takes_extends f a.1
@@ -99,6 +109,7 @@ module _ (old new : State) where
   -- no call loses anything
   pub does_extends : (c : Command) (reply : Reply) → Does old c reply new → Extends old new
   does_extends (calls.Fire pick) reply (r, e, a) = fire_extends pick r a
+  does_extends (calls.FireIn buckets pick) reply (r, e, a) = fire_in_extends buckets pick r a
   does_extends (calls.Take f) reply (r, e, a) = take_extends f r a
   does_extends (calls.TakeAll fs) reply (r, e, a) = take_all_extends fs.items r a
   does_extends calls.Settle reply (r, e, a) = settle_extends r a
@@ -109,6 +120,13 @@ module _ (old new : State) where
   fire_settled pick (Ok (step.Fired place)) (f, may, t, st, at) m = st
   fire_settled pick (Err refusals.Full) a m = a.2.settled
   fire_settled pick (Err refusals.NoMemory) a m = absurd m
+
+  fire_in_settled : (buckets pick : ℕ) (r : Result StepIn Refusal) → FireInAnswer old buckets pick r new → IsMet (replies.FireIn r) → IsSettled new
+  fire_in_settled buckets pick (Ok within.Quiet) a m = a.1.settled
+  fire_in_settled buckets pick (Ok within.Elsewhere) a m = a.1.settled
+  fire_in_settled buckets pick (Ok (within.Fired place)) (f, may, t, st, at) m = st
+  fire_in_settled buckets pick (Err refusals.Full) a m = a.2.settled
+  fire_in_settled buckets pick (Err refusals.NoMemory) a m = absurd m
 
   take_settled : (f : Firing) (r : Result Took TakeRefusal) → TakeAnswer old f r new → IsMet (replies.Take r) → IsSettled new
   take_settled f (Ok took.Known) a m = a.1.settled
@@ -137,6 +155,7 @@ module _ (old new : State) where
   -- a call that has its memory leaves a settled machine
   pub does_settled : (c : Command) (reply : Reply) → Does old c reply new → IsMet reply → IsSettled new
   does_settled (calls.Fire pick) reply (r, e, a) m = fire_settled pick r a (subst IsMet e m)
+  does_settled (calls.FireIn buckets pick) reply (r, e, a) m = fire_in_settled buckets pick r a (subst IsMet e m)
   does_settled (calls.Take f) reply (r, e, a) m = take_settled f r a (subst IsMet e m)
   does_settled (calls.TakeAll fs) reply (r, e, a) m = take_all_settled fs.items r a (subst IsMet e m)
   does_settled calls.Settle reply (r, e, a) m = settle_settled r a (subst IsMet e m)

@@ -10,13 +10,16 @@ use Rattle.u_rule.specs.EntryOrder.{FiringList, firing_cmp}
 use Rattle.u_check.specs.Jobs.{JobParts}
 use Rattle.u_sets.specs.Rising.{Rises}
 use Rattle.u_machine.specs.declared.parts.Parts.{Parts}
+use Rattle.u_machine.specs.declared.answer.StepIn.{StepIn}
+use Rattle.u_machine.specs.declared.answer.Refusal.{Refusal}
+use Rattle.u_machine.specs.declared.answer.Refusal.TheVariants as refusals
 use Rattle.u_machine.specs.declared.answer.Took.{Took}
 use Rattle.u_machine.specs.declared.answer.TakeRefusal.{TakeRefusal}
 use Rattle.u_machine.specs.declared.answer.TakeRefusal.TheVariants.{NoMemory}
 use Rattle.u_machine.specs.declared.answer.TakeRefusal.TheVariants as untaken
 use Rattle.u_machine.specs.declared.answer.Took.TheVariants as took
 use Rattle.u_machine.specs.State.{State, IsReady, IsPick}
-use Rattle.u_machine.specs.Calls.{Applies, Settles, Takes, IsNew, TakeAnswer}
+use Rattle.u_machine.specs.Calls.{Applies, Settles, Takes, IsNew, FireInAnswer, TakeAnswer}
 use Rattle.u_machine.specs.Invariant.{state_of, Invariant, Lengthens}
 use Rattle.u_machine.proofs.States.{are_ready_before, room_before, applies_trans, takes_between, Applies-refl}
 use Rattle.u_machine.proofs.Settled.{kept_ready}
@@ -36,6 +39,10 @@ fired_at log f mid applied_count new e (rest, w) d = rw (take_all applied_count 
 -- the applied ones have it
 pub applied_has : (log : FiringList) (f : Firing) (mid : FiringList) (applied_count : ℕ) (new : FiringList) → mid ≡ log ++ f ∷ [] → Lengthens mid new → applied_count ≡ length new → Contains (take applied_count new) f
 applied_has log f mid applied_count new e l d = slice_get_Contains (take applied_count new) (length log) f (fired_at log f mid applied_count new e l d)
+
+pub fire_in_no_memory : (old new : State) (buckets pick : ℕ) (r : Result StepIn Refusal) → IsErrAnd r (λ e. e ≡ refusals.NoMemory) → FireInAnswer old buckets pick (Err refusals.NoMemory) new → FireInAnswer old buckets pick r new
+fire_in_no_memory old new buckets pick (Ok t) h w = absurd h
+fire_in_no_memory old new buckets pick (Err e) h w = subst (λ (x : Refusal). FireInAnswer old buckets pick (Err x) new) (sym h) w
 
 pub take_no_memory : (old new : State) (f : Firing) (r : Result Took TakeRefusal) → IsErrAnd r (λ e. e ≡ NoMemory) → TakeAnswer old f (Err NoMemory) new → TakeAnswer old f r new
 take_no_memory old new f (Ok t) h w = absurd h

@@ -6,7 +6,7 @@ use Rattle.u_rule.specs.declared.entry.Entry.{Entry}
 use Rattle.u_rule.specs.declared.firing.Firing.{Firing}
 use Rattle.u_rule.specs.Rule.{system_of}
 use Rattle.u_rule.specs.EntryOrder.{firing_cmp}
-use Rattle.u_machine.specs.State.{State, Taken, IsSettled, count_of, IsReady, IsPick, NothingReady}
+use Rattle.u_machine.specs.State.{State, Taken, IsSettled, count_of, IsReady, IsPick, IsReadyIn, IsPickIn, NothingReady}
 use Rattle.u_machine.specs.Headline.{IsWhole}
 use Rattle.u_machine.specs.declared.answer.Refusal.{Refusal}
 use Rattle.u_machine.specs.declared.answer.Refusal.TheVariants.{Full, NoMemory}
@@ -14,6 +14,8 @@ use Rattle.u_machine.specs.declared.answer.Ran.{Ran}
 use Rattle.u_machine.specs.declared.answer.Ran.TheVariants as ran
 use Rattle.u_machine.specs.declared.answer.Step.{Step}
 use Rattle.u_machine.specs.declared.answer.Step.TheVariants as step
+use Rattle.u_machine.specs.declared.answer.StepIn.{StepIn}
+use Rattle.u_machine.specs.declared.answer.StepIn.TheVariants as within
 use Rattle.u_machine.specs.declared.answer.Took.{Took}
 use Rattle.u_machine.specs.declared.answer.Took.TheVariants as took
 use Rattle.u_machine.specs.declared.answer.TakeRefusal.{TakeRefusal}
@@ -64,6 +66,26 @@ FireAnswer old pick (Err Full) new = ((f : Firing) × IsReady old f) × (count_o
 FireAnswer old pick (Ok (step.Fired place)) new =
     (f : Firing) × MayFire old pick f × Takes old f new × IsSettled new × (slice_get new.log place ≡ Some f)
 FireAnswer old pick (Err NoMemory) new = StaysUnsettled old new ⊎ ((f : Firing) × MayFire old pick f × TakesOrNot old f new)
+
+-- `pick` picks f of the ready firings whose bucket is in the mask, and there is room for it
+abbrev pub MayFireIn : State → ℕ → ℕ → Firing → Type 0
+MayFireIn m buckets pick f = IsPickIn m buckets pick f × (count_of m < m.limit)
+
+-- something is ready, and nothing of it has its bucket in the mask
+abbrev pub IsElsewhere : State → ℕ → Type 0
+IsElsewhere m buckets = ((f : Firing) × IsReady m f) × ((f : Firing) → IsReadyIn m buckets f → ⊥)
+
+-- nothing is ready, and the history is whole; or nothing that is ready is in the mask; or the picked
+-- firing of those in the mask is applied; or there is no room for it; or there is no memory, for what an
+-- earlier call began or for what the firing takes
+abbrev pub FireInAnswer : State → ℕ → ℕ → Result StepIn Refusal → State → Type 0
+FireInAnswer old buckets pick (Ok within.Quiet) new = NothingReady old × Settles old new × IsWhole new
+FireInAnswer old buckets pick (Ok within.Elsewhere) new = IsElsewhere old buckets × Settles old new
+FireInAnswer old buckets pick (Err Full) new = ((f : Firing) × IsReadyIn old buckets f) × (count_of old ≡ old.limit) × Settles old new
+FireInAnswer old buckets pick (Ok (within.Fired place)) new =
+    (f : Firing) × MayFireIn old buckets pick f × Takes old f new × IsSettled new × (slice_get new.log place ≡ Some f)
+FireInAnswer old buckets pick (Err NoMemory) new =
+    StaysUnsettled old new ⊎ ((f : Firing) × MayFireIn old buckets pick f × TakesOrNot old f new)
 
 -- f is a firing of the job that is not taken, and there is room for it
 pub record IsNew (m : State) (f : Firing) : Type 0 where

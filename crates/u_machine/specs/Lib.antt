@@ -1,4 +1,5 @@
 pub mod State
+pub mod Masks
 pub mod Headline
 pub mod Calls
 pub mod Taking

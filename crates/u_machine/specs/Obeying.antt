@@ -8,6 +8,7 @@ use Rattle.u_machine.specs.declared.commands.Command.TheVariants as calls
 use Rattle.u_machine.specs.declared.commands.Reply.{Reply}
 use Rattle.u_machine.specs.declared.commands.Reply.TheVariants as replies
 use Rattle.u_machine.specs.declared.answer.Step.{Step}
+use Rattle.u_machine.specs.declared.answer.StepIn.{StepIn}
 use Rattle.u_machine.specs.declared.answer.Ran.{Ran}
 use Rattle.u_machine.specs.declared.answer.Took.{Took}
 use Rattle.u_machine.specs.declared.answer.Refusal.{Refusal}
@@ -17,7 +18,7 @@ use Rattle.u_machine.specs.declared.answer.Refusal.TheVariants as refusals
 use Rattle.u_machine.specs.declared.answer.TakeRefusal.TheVariants as untaken
 use Rattle.u_machine.specs.declared.answer.ListRefusal.TheVariants as unlisted
 use Rattle.u_machine.specs.State.{State, Taken, IsMachine, IsSettled}
-use Rattle.u_machine.specs.Calls.{Applies, FireAnswer, TakeAnswer, RunAnswer}
+use Rattle.u_machine.specs.Calls.{Applies, FireAnswer, FireInAnswer, TakeAnswer, RunAnswer}
 use Rattle.u_machine.specs.Taking.{TakeAllAnswer}
 
 -- what was begun is applied, or some of it where there is no memory
@@ -28,6 +29,8 @@ SettleAnswer old (Err e) new = Applies old new
 -- the call has that answer, and leaves that state
 abbrev pub Does : State → Command → Reply → State → Type 0
 Does old (calls.Fire pick) reply new = (r : Result Step Refusal) × (reply ≡ replies.Fire r) × FireAnswer old pick r new
+Does old (calls.FireIn buckets pick) reply new =
+    (r : Result StepIn Refusal) × (reply ≡ replies.FireIn r) × FireInAnswer old buckets pick r new
 Does old (calls.Take f) reply new = (r : Result Took TakeRefusal) × (reply ≡ replies.Take r) × TakeAnswer old f r new
 Does old (calls.TakeAll fs) reply new = (r : Result (Unit {0}) ListRefusal) × (reply ≡ replies.TakeAll r) × TakeAllAnswer old fs.items r new
 Does old calls.Settle reply new = (r : Result (Unit {0}) AllocError) × (reply ≡ replies.Settle r) × SettleAnswer old r new
@@ -41,6 +44,7 @@ Obeys old (c ∷ cs) rs new = (r : Reply) × (more : List Reply) × (mid : State
 -- the call was not refused for want of memory
 abbrev pub IsMet : Reply → Type 0
 IsMet (replies.Fire (Err refusals.NoMemory)) = ⊥
+IsMet (replies.FireIn (Err refusals.NoMemory)) = ⊥
 IsMet (replies.Take (Err untaken.NoMemory)) = ⊥
 IsMet (replies.TakeAll (Err unlisted.NoMemory)) = ⊥
 IsMet (replies.Settle (Err e)) = ⊥

@@ -16,6 +16,17 @@ pub enum Step {
     Quiet,
 }
 
+/// What `fire_in` did.
+#[derive(Clone, Copy, PartialEq, Eq, Debug)]
+pub enum StepIn {
+    /// It applied a firing, which has this place in the list of applied firings; places count from 0.
+    Fired(usize),
+    /// Nothing is ready.
+    Quiet,
+    /// Something is ready, and nothing that is ready has its bucket in the mask.
+    Elsewhere,
+}
+
 /// Where `run` ended.
 #[derive(Clone, Copy, PartialEq, Eq, Debug)]
 pub enum Ran {

@@ -185,7 +185,8 @@ impl<'a> Parts<'a> {
     fn close(&mut self)
         requires kept { Invariant self.old }
         requires some { self.old.applied_count < length self.old.log.items }
-        requires idle { self.old.applied_count + 1 ≡ length self.old.log.items → woken_of self.old ≡ [] }
+        requires idle { self.old.applied_count + 1 ≡ length self.old.log.items
+            → woken_of self.old ≡ [] }
         requires all { HasEntered self.old self.old.applied_count }
         ensures kept { Invariant self.new }
         ensures applies { Applies (state_of self.old) (state_of self.new) }
@@ -200,7 +201,8 @@ impl<'a> Parts<'a> {
     fn close_all(&mut self)
         requires kept { Invariant self.old }
         requires idle { woken_of self.old ≡ [] }
-        requires none { self.old.applied_count + length self.old.parked ≡ length self.old.log.items }
+        requires none { self.old.applied_count + length self.old.parked
+            ≡ length self.old.log.items }
         requires all { EnteredBefore self.old (length self.old.log.items) }
         ensures kept { Invariant self.new }
         ensures applies { Applies (state_of self.old) (state_of self.new) }

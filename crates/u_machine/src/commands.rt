@@ -4,7 +4,7 @@ ghost use Rattle.u_machine.specs.State.{IsMachine, IsSettled};
 ghost use Rattle.u_machine.specs.Headline.{KeepsItsPromise};
 ghost use Rattle.u_machine.specs.Obeying.{Does, Obeys, AreMet, Extends};
 
-use crate::answer::{ListRefusal, Ran, Refusal, Step, TakeRefusal, Took};
+use crate::answer::{ListRefusal, Ran, Refusal, Step, StepIn, TakeRefusal, Took};
 use crate::machine::Machine;
 use crate::room::push_into_room;
 use std::alloc::{AllocError, Global};
@@ -15,6 +15,8 @@ use u_rule::Firing;
 pub enum Command {
     /// `fire`, with the number that picks one of the ready firings.
     Fire(usize),
+    /// `fire_in`, with the mask of buckets and the number that picks one of the ready firings in it.
+    FireIn(u64, usize),
     /// `take`.
     Take(Firing),
     /// `take_all`.
@@ -30,6 +32,8 @@ pub enum Command {
 pub enum Reply {
     /// What `fire` answered.
     Fire(Result<Step, Refusal>),
+    /// What `fire_in` answered.
+    FireIn(Result<StepIn, Refusal>),
     /// What `take` answered.
     Take(Result<Took, TakeRefusal>),
     /// What `take_all` answered.
@@ -47,6 +51,7 @@ impl<'a> Machine<'a> {
     {
         match command {
             Command::Fire(pick) => Reply::Fire(self.fire(*pick)),
+            Command::FireIn(buckets, pick) => Reply::FireIn(self.fire_in(*buckets, *pick)),
             Command::Take(firing) => Reply::Take(self.take(firing)),
             Command::TakeAll(firings) => Reply::TakeAll(self.take_all(firings)),
             Command::Settle => Reply::Settle(self.settle()),

@@ -6,10 +6,11 @@ mod applying;
 mod commands;
 mod firing;
 mod machine;
+mod masks;
 mod parts;
 mod room;
 mod taking;
 
-pub use answer::{ListRefusal, Ran, Refusal, Step, TakeRefusal, Took};
+pub use answer::{ListRefusal, Ran, Refusal, Step, StepIn, TakeRefusal, Took};
 pub use commands::{Command, Reply};
 pub use machine::Machine;

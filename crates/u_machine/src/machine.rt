@@ -9,10 +9,10 @@ ghost use Rattle.std.specs.Prelude.{◌≡◌, ◌↔◌, [], ◌∷◌, IfOk, I
 ghost use Rattle.u_rule.specs.Rule.{system_of};
 ghost use Rattle.u_machine.specs.State.{state, IsMachine, IsSettled, Taken};
 ghost use Rattle.u_machine.specs.Headline.{KeepsItsPromise, Agree};
-ghost use Rattle.u_machine.specs.Calls.{FireAnswer, RunAnswer, TakeAnswer, Applies, IsFresh, RunsPlainly};
+ghost use Rattle.u_machine.specs.Calls.{FireAnswer, FireInAnswer, RunAnswer, TakeAnswer, Applies, IsFresh, RunsPlainly};
 ghost use Rattle.u_machine.specs.Taking.{TakeAllAnswer};
 
-use crate::answer::{ListRefusal, Ran, Refusal, Step, TakeRefusal, Took};
+use crate::answer::{ListRefusal, Ran, Refusal, Step, StepIn, TakeRefusal, Took};
 use crate::parts::Parts;
 use std::alloc::{AllocError, Global};
 use std::marker::Model;
@@ -117,6 +117,25 @@ impl<'a> Machine<'a> {
         ensures { FireAnswer self.old pick result self.new }
     {
         let fired = self.parts.fire(pick)?;
+        Ok(fired)
+    }
+
+    /// Applies one ready firing whose bucket is in the mask, and then each parked one that is enabled by
+    /// it. Bit b of `buckets` stands for bucket b, of those that `bucket_of` gives the names of
+    /// activities. As in `fire`, the ready firings in the mask stand in order, and `pick` modulo their
+    /// number is the place of the one that is applied. That a worker fires by buckets is this project's
+    /// profile.
+    ///
+    /// Where nothing is ready at all it answers `Quiet`, and the history is all that can be derived from
+    /// the job. Where something is ready and nothing of it is in the mask it answers `Elsewhere`.
+    ///
+    /// # Errors
+    /// `Full` where a firing in the mask is ready and the machine has taken as many as it may, and
+    /// nothing is applied. `NoMemory` where there is no memory, as for `fire`.
+    pub fn fire_in(&mut self, buckets: u64, pick: usize) -> Result<StepIn, Refusal>
+        ensures { FireInAnswer self.old buckets pick result self.new }
+    {
+        let fired = self.parts.fire_in(buckets, pick)?;
         Ok(fired)
     }
 

@@ -1,7 +1,7 @@
 //! The parts of a machine.
 //!
 //! What a machine does with them is written in three files: `taking` takes firings, `applying` lets
-//! entries enter and firings be applied, and `firing` fires what is ready.
+//! entries enter and firings be applied, and `firing` fires what is ready. `masks` fires by buckets.
 ghost use Rattle.std.specs.Prelude.{◌≡◌, ◌↔◌, [], ◌∷◌, IfOk, IsTrue, Contains, length};
 ghost use Rattle.u_rule.specs.Rule.{system_of};
 ghost use Rattle.u_machine.specs.State.{IsSettled, state};
@@ -76,7 +76,8 @@ impl<'a> Parts<'a> {
     pub(crate) fn is_settled(&self) -> bool
         requires { Invariant self.now }
         ensures settled { IsTrue result ↔ IsSettled (state_of self.now) }
-        ensures applied_count { IsTrue result ↔ (self.now.applied_count ≡ length self.now.log.items) }
+        ensures applied_count { IsTrue result
+            ↔ (self.now.applied_count ≡ length self.now.log.items) }
     {
         if self.applied_count < self.log.len() {
             return false;

@@ -7,7 +7,7 @@
 ghost use Rattle.std.specs.Prelude.{◌≡◌, ◌≤◌, IfOk, IsOk, OnOk};
 ghost use Rattle.u_name.specs.Context.{IsBetween};
 ghost use Rattle.u_machine.specs.State.{IsSettled};
-ghost use Rattle.u_machine.specs.Calls.{Applies, FireAnswer, RunAnswer, TakeAnswer, IsFresh, RunsPlainly};
+ghost use Rattle.u_machine.specs.Calls.{Applies, FireAnswer, FireInAnswer, RunAnswer, TakeAnswer, IsFresh, RunsPlainly};
 ghost use Rattle.u_machine.specs.Taking.{TakeAllAnswer};
 ghost use Rattle.u_machine.specs.Obeying.{Does};
 ghost use Rattle.u_delta.specs.Marks.{IsDelta};
@@ -29,7 +29,7 @@ use std::alloc::{AllocError, Global};
 use std::marker::Model;
 use u_check::Job;
 use u_delta::{Ask, Delta, Mark, delta};
-use u_machine::{Command, ListRefusal, Machine, Ran, Refusal, Reply, Step, TakeRefusal, Took};
+use u_machine::{Command, ListRefusal, Machine, Ran, Refusal, Reply, Step, StepIn, TakeRefusal, Took};
 use u_rule::Firing;
 
 /// A machine with its number among the replicas, its life, and one mark for each peer.
@@ -163,6 +163,20 @@ impl<'a> Replica<'a> {
         ensures alone { ChangesMachine self.old self.new }
     {
         self.machine.fire(pick)
+    }
+
+    /// Applies one ready firing whose bucket is in the mask, and then each parked one that is enabled by
+    /// it, as the machine's `fire_in`. `Quiet` is returned exactly where nothing is ready, and
+    /// `Elsewhere` exactly where something is ready and nothing of it is in the mask.
+    ///
+    /// # Errors
+    /// `Full` where a firing in the mask is ready and the replica has taken as many as it may.
+    /// `NoMemory` where there is no memory; the picked firing may have been taken then.
+    pub fn fire_in(&mut self, buckets: u64, pick: usize) -> Result<StepIn, Refusal>
+        ensures answer { FireInAnswer self.old.machine buckets pick result self.new.machine }
+        ensures alone { ChangesMachine self.old self.new }
+    {
+        self.machine.fire_in(buckets, pick)
     }
 
     /// Applies the least ready firing again and again, until nothing is ready or it has done so

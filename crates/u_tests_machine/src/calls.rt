@@ -7,6 +7,7 @@ use u_rule::Firing;
 /// One call. Firings stand there as their texts.
 pub enum Call {
     Fire(usize),
+    FireIn(u64, usize),
     Take(&'static str),
     TakeAll(&'static [&'static str]),
     Settle,
@@ -26,6 +27,7 @@ fn firings_of(alloc: Global, texts: &[&str]) -> Result<Vec<Firing>, AllocError> 
 fn command_of(alloc: Global, call: &Call) -> Result<Command, AllocError> {
     match call {
         Call::Fire(pick) => Ok(Command::Fire(*pick)),
+        Call::FireIn(buckets, pick) => Ok(Command::FireIn(*buckets, *pick)),
         Call::Take(text) => Ok(Command::Take(firing_of(alloc, text)?)),
         Call::TakeAll(texts) => Ok(Command::TakeAll(firings_of(alloc, texts)?)),
         Call::Settle => Ok(Command::Settle),

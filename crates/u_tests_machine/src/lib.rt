@@ -22,6 +22,8 @@ mod machine_tests;
 #[cfg(test)]
 mod machines;
 #[cfg(test)]
+mod masks;
+#[cfg(test)]
 mod queue;
 #[cfg(test)]
 mod stepping;

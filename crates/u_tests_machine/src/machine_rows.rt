@@ -1,7 +1,7 @@
 //! Worked calls of machines, each row with what it shows.
 use crate::calls::Call;
 use crate::machines::{Claim, Row};
-use u_machine::{ListRefusal, Ran, Refusal, Reply, Step, TakeRefusal, Took};
+use u_machine::{ListRefusal, Ran, Refusal, Reply, Step, StepIn, TakeRefusal, Took};
 use u_plain::examples::{DOUBLE, FACTORIAL, SUM, TWO_CONSTANTS, TWO_WRITERS};
 
 /// Adds again and again, without an end.
@@ -13,6 +13,9 @@ const NOTHING_FIRED: Reply = Reply::Fire(Ok(Step::Quiet));
 
 /// `fire` found the machine full.
 const FIRES_NO_MORE: Reply = Reply::Fire(Err(Refusal::Full));
+
+/// `fire_in` found nothing ready in the mask.
+const ELSEWHERE: Reply = Reply::FireIn(Ok(StepIn::Elsewhere));
 
 /// `run` ended where nothing is ready.
 const QUIET: Reply = Reply::Run(Ok(Ran::Quiet));
@@ -56,6 +59,64 @@ const ROWS: &[Row] = &[
                 (Call::Fire(0), FIRES_NO_MORE),
             ],
             [2, 0, 4],
+        ),
+    ),
+    (
+        "the sum's first firing is in bucket 2",
+        SUM,
+        3,
+        100,
+        Claim::Answers(
+            &[
+                (Call::FireIn(0, 0), ELSEWHERE),
+                (Call::FireIn(4, 0), Reply::FireIn(Ok(StepIn::Fired(0)))),
+                (Call::Take("f -.main.1.1 3"), KNOWN),
+            ],
+            [1, 0, 3],
+        ),
+    ),
+    (
+        "in a mask, elsewhere comes before full",
+        DOUBLE,
+        4,
+        0,
+        Claim::Answers(
+            &[
+                (Call::FireIn(0, 0), ELSEWHERE),
+                (Call::FireIn(4, 0), Reply::FireIn(Err(Refusal::Full))),
+            ],
+            [0, 0, 1],
+        ),
+    ),
+    (
+        "in a mask, quiet comes before elsewhere",
+        DOUBLE,
+        4,
+        100,
+        Claim::Answers(
+            &[
+                (Call::Run(10), QUIET),
+                (Call::FireIn(0, 0), Reply::FireIn(Ok(StepIn::Quiet))),
+                (Call::FireIn(u64::MAX, 5), Reply::FireIn(Ok(StepIn::Quiet))),
+            ],
+            [3, 0, 5],
+        ),
+    ),
+    (
+        "the picked firing of those in the mask is fired, counted round and round",
+        TWO_CONSTANTS,
+        4,
+        100,
+        Claim::Answers(
+            &[
+                (Call::FireIn(4, 3), Reply::FireIn(Ok(StepIn::Fired(0)))),
+                (Call::FireIn(24, 3), Reply::FireIn(Ok(StepIn::Fired(1)))),
+                (Call::Take("f -.main.3.1 4"), KNOWN),
+                (Call::FireIn(16, 7), ELSEWHERE),
+                (Call::FireIn(8, 7), Reply::FireIn(Ok(StepIn::Fired(2)))),
+                (Call::Take("f -.main.2.1 4"), KNOWN),
+            ],
+            [3, 0, 5],
         ),
     ),
     (

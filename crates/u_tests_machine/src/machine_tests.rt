@@ -194,6 +194,15 @@ fn examples_are_as_the_scan_says_and_in_any_order(rt: HostRuntime) {
 }
 
 #[test]
+fn examples_fire_in_masks_as_the_scan_says(rt: HostRuntime) {
+    for ((text, argument), firings) in examples().iter().zip(firings().iter()) {
+        let claim = Claim::FiresIn(*firings);
+        let is_so = holds(rt.alloc(), text, *argument, 1000, &claim);
+        assert!(rt; is_so, "the example with {firings} firings");
+    }
+}
+
+#[test]
 fn what_waits_in_each_cut_of_an_example_is_as_the_scan_says(rt: HostRuntime) {
     for ((text, argument), firings) in examples().iter().zip(firings().iter()) {
         let claim = Claim::WaitsAsScanned(*firings);

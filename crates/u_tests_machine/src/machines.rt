@@ -2,6 +2,7 @@
 use crate::agreement::agrees_with_the_plain;
 use crate::calls::{Call, answers, has};
 use crate::logs::{Way, agrees_again};
+use crate::masks::fires_in_as_the_scan_says;
 use crate::stepping::fires_as_the_scan_says;
 use crate::traces::answers::{Wanted, tells};
 use crate::traces::scans::is_traced_after;
@@ -20,6 +21,9 @@ pub enum Claim {
     /// Each firing is the one that the first number picks of those that the scan finds ready, until
     /// it is quiet after so many.
     Fires(usize, usize),
+    /// Each call of `fire_in`, with masks of one bucket, of half of them, of none and of all in turn, does
+    /// what the scan says, until it is quiet after so many firings.
+    FiresIn(usize),
     /// Once it has run, so many other machines that get its firings in that way do as they have to.
     Again(Way, u64),
     /// It agrees with the plain programs before each firing, until it is quiet with so many applied
@@ -48,6 +52,7 @@ fn holds_of(alloc: Global, job: &Job, machine: &mut Machine<'_>, claim: &Claim) 
     match claim {
         Claim::Answers(calls, counts) => answers(alloc, machine, calls) && has(machine, *counts),
         Claim::Fires(pick, firings) => fires_as_the_scan_says(alloc, job, machine, *pick, *firings),
+        Claim::FiresIn(firings) => fires_in_as_the_scan_says(alloc, job, machine, *firings),
         Claim::Again(way, seeds) => agrees_again(alloc, machine, *way, *seeds),
         Claim::IsPlain(counts) => agrees_with_the_plain(alloc, job, machine, *counts),
         Claim::Tells(calls, entry, causes, story) => {
