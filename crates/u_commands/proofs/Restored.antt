@@ -52,7 +52,7 @@ module _ (job : JobParts) (fs gs : List Firing) (old new : State) (takes : Takes
   after f = ((λ t. elim ((fires.taken f).0 t) [ inl o ↦ inl ((before f).0 o) | inr g ↦ inr g ]), (λ t. (fires.taken f).1 (elim t [ inl c ↦ inl ((before f).1 c) | inr g ↦ inr g ])))
 
   same_job : new.job ≡ job
-  same_job = fires.job ∙ takes.job
+  same_job = fires.grows.job ∙ takes.grows.job
 
   closure : Same (Contains new.history) (Cl (system_of new.job) (SavedOrFired fs gs))
   closure e =
@@ -62,8 +62,8 @@ module _ (job : JobParts) (fs gs : List Firing) (old new : State) (takes : Takes
   pub goes_on : GoesOn job fs gs new
   goes_on = record {
     of = same_job;
-    limit = fires.limit ∙ takes.limit;
-    each = λ k f e. next_same (system_of job) firing_le (Taken old) (Contains fs) before (take k gs) f (rw takes.job at (fires.each k f e));
+    limit = fires.grows.limit ∙ takes.grows.limit;
+    each = λ k f e. next_same (system_of job) firing_le (Taken old) (Contains fs) before (take k gs) f (rw takes.grows.job at (fires.each k f e));
     taken = after;
     is = is;
     settled = settled;
@@ -80,7 +80,7 @@ module _ (job : JobParts) (fs : List Firing) (old new : State) (takes : TakesAll
     few = a.2;
     reported = r;
     quiet = ((λ e. a.4), (λ none. refl));
-    whole = λ e. rw (a.1.fires.job ∙ takes.job) at a.5.1;
+    whole = λ e. rw (a.1.fires.grows.job ∙ takes.grows.job) at a.5.1;
     many = λ e. absurd (cc);
   }
   reports_on ran.Paused report status a r = record {

@@ -1,5 +1,5 @@
 -- How a machine goes on over a list of calls.
-use Rattle.std.proofs.Common.{inl, inr, refl, sym, ◌∙◌, subst, List, [], ◌∷◌, ◌++◌, append_assoc, append-nil, Ok, Err, ap, take, ℕ}
+use Rattle.std.proofs.Common.{inl, inr, refl, subst, List, [], ◌∷◌, ◌++◌, Ok, Err, ap, take, ℕ}
 use Rattle.std.specs.Prelude.{Contains, Result, OnOk}
 use Rattle.std.proofs.lemmas.List.Elements.{Contains-append_left, Contains-push}
 use Rattle.std.specs.declared.alloc.AllocError.{AllocError}
@@ -33,36 +33,30 @@ use Rattle.u_machine.specs.Headline.{IsClosure, KeepsItsPromise, Agree}
 use Rattle.u_machine.specs.Calls.{Applies, Takes, TakesOrNot, Fires, FireAnswer, FireInAnswer, TakeAnswer, RunAnswer}
 use Rattle.u_machine.specs.Taking.{TakesAll, TakeAllAnswer}
 use Rattle.u_machine.specs.Obeying.{SettleAnswer, Does, Obeys, IsMet, AreMet, Extends}
-use Rattle.u_machine.proofs.States.{settled_is_Cl, quiet_whole}
+use Rattle.u_machine.proofs.States.{grows_refl, grows_trans, settled_is_Cl, quiet_whole}
 
 pub extends_refl : (m : State) → Extends m m
-extends_refl m = record { job = refl; limit = refl; taken = λ f t. t; log = ([], sym (append-nil m.log)); history = λ e k. k }
+extends_refl m = record { grows = grows_refl m; taken = λ f t. t }
 
 pub extends_trans : (a b c : State) → Extends a b → Extends b c → Extends a c
-extends_trans a b c p q = record {
-  job = q.job ∙ p.job;
-  limit = q.limit ∙ p.limit;
-  taken = λ f t. q.taken f (p.taken f t);
-  log = (p.log.0 ++ q.log.0, rw (q.log.1, p.log.1) (append_assoc a.log p.log.0 q.log.0));
-  history = λ e k. q.history e (p.history e k);
-}
+extends_trans a b c p q = record { grows = grows_trans a b c p.grows q.grows; taken = λ f t. q.taken f (p.taken f t) }
 
 module _ (old new : State) where
   applies_extends : Applies old new → Extends old new
-  applies_extends p = record { job = p.job; limit = p.limit; taken = λ f t. (p.taken f).0 t; log = p.log; history = p.history }
+  applies_extends p = record { grows = p.grows; taken = λ f t. (p.taken f).0 t }
 
   takes_extends : (f : Firing) → Takes old f new → Extends old new
-  takes_extends f p = record { job = p.job; limit = p.limit; taken = λ g t. (p.taken g).1 (inl t); log = p.log; history = p.history }
+  takes_extends f p = record { grows = p.grows; taken = λ g t. (p.taken g).1 (inl t) }
 
   takes_or_not_extends : (f : Firing) → TakesOrNot old f new → Extends old new
   takes_or_not_extends f (inl p) = applies_extends p
   takes_or_not_extends f (inr t) = takes_extends f t
 
   takes_all_extends : (fs : List Firing) → TakesAll old fs new → Extends old new
-  takes_all_extends fs p = record { job = p.job; limit = p.limit; taken = λ g t. (p.taken g).1 (inl t); log = p.log; history = p.history }
+  takes_all_extends fs p = record { grows = p.grows; taken = λ g t. (p.taken g).1 (inl t) }
 
   fires_extends : (gs : List Firing) → Fires old gs new → Extends old new
-  fires_extends gs p = record { job = p.job; limit = p.limit; taken = λ g t. (p.taken g).1 (inl t); log = p.log; history = p.history }
+  fires_extends gs p = record { grows = p.grows; taken = λ g t. (p.taken g).1 (inl t) }
 
   fire_extends : (pick : ℕ) (r : Result Step Refusal) → FireAnswer old pick r new → Extends old new
   fire_extends pick (Ok step.Quiet) a = applies_extends a.1.applies

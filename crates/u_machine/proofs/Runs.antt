@@ -20,7 +20,7 @@ use Rattle.u_machine.specs.declared.answer.Refusal.TheVariants.{Full, NoMemory}
 use Rattle.u_rule.specs.Rule.{system_of}
 use Rattle.u_rule.specs.EntryOrder.{firing_cmp}
 use Rattle.u_machine.proofs.Lists.{slice_get_Contains, nil_of_length}
-use Rattle.u_machine.proofs.States.{settled_is_Cl, ready_after, nothing_after}
+use Rattle.u_machine.proofs.States.{grows_trans, settled_is_Cl, ready_after, nothing_after}
 use Rattle.u_machine.specs.State.{State, Taken, IsReady, AreReady, IsPick, IsSound, NothingReady}
 use Rattle.u_machine.specs.Calls.{Applies, Takes, FireAnswer, Fires, Runs, RunAnswer, firing_le, IsFresh, IsPlainRun, RunsPlainly}
 
@@ -50,25 +50,25 @@ module _ (old m : State) (gs : List Firing) (r : Fires old gs m) where
   next_after f p =
       let q = picked_first m f p in
       record {
-        enabled = rw r.job at (Enabled-mono (system_of m.job) (Cl (system_of m.job) (Taken m)) (Cl (system_of m.job) (λ g. Taken old g ⊎ Contains gs g)) (Cl-mono (system_of m.job) (Taken m) (λ g. Taken old g ⊎ Contains gs g) there) f q.0.0);
+        enabled = rw r.grows.job at (Enabled-mono (system_of m.job) (Cl (system_of m.job) (Taken m)) (Cl (system_of m.job) (λ g. Taken old g ⊎ Contains gs g)) (Cl-mono (system_of m.job) (Taken m) (λ g. Taken old g ⊎ Contains gs g) there) f q.0.0);
         new = λ t. q.0.1 (back f t);
-        least = λ g en. elim (q.1 g (Enabled-mono (system_of m.job) (Cl (system_of m.job) (λ g. Taken old g ⊎ Contains gs g)) (Cl (system_of m.job) (Taken m)) (Cl-mono (system_of m.job) (λ g. Taken old g ⊎ Contains gs g) (Taken m) back) g (rw (← r.job) at en))) [ inl t ↦ inl (there g t) | inr l ↦ inr l ];
+        least = λ g en. elim (q.1 g (Enabled-mono (system_of m.job) (Cl (system_of m.job) (λ g. Taken old g ⊎ Contains gs g)) (Cl (system_of m.job) (Taken m)) (Cl-mono (system_of m.job) (λ g. Taken old g ⊎ Contains gs g) (Taken m) back) g (rw (← r.grows.job) at en))) [ inl t ↦ inl (there g t) | inr l ↦ inr l ];
       }
 
 -- with nothing parked, what is applied is what was taken
 pub applies_alone : (a b : State) → Applies a b → a.parked ≡ [] → (b.log ≡ a.log) × (b.parked ≡ [])
 applies_alone a b p e = (grown, nil_of_length b.parked (omega (arith, counted.1)))
   where
-    counted : (length p.log.0 ≡ 0) × (length b.parked ≡ 0)
+    counted : (length p.grows.log.0 ≡ 0) × (length b.parked ≡ 0)
     counted =
         let x = p.count in
-        let y = ap length p.log.1 in
-        let z = length-append a.log p.log.0 in
+        let y = ap length p.grows.log.1 in
+        let z = length-append a.log p.grows.log.0 in
         let w = ap length e in
         (omega arith, omega arith)
 
     grown : b.log ≡ a.log
-    grown = p.log.1 ∙ ap (λ (xs : List Firing). a.log ++ xs) (nil_of_length p.log.0 counted.0) ∙ append-nil a.log
+    grown = p.grows.log.1 ∙ ap (λ (xs : List Firing). a.log ++ xs) (nil_of_length p.grows.log.0 counted.0) ∙ append-nil a.log
 
 single : (xs : List Firing) (f : Firing) → Contains xs f → length xs ≤ 1 → xs ≡ f ∷ []
 single [] f m l = absurd (Contains-nil f m)
@@ -79,35 +79,32 @@ single (x ∷ xs) f m l =
 pub takes_alone : (a b : State) (f : Firing) → Takes a f b → (Taken a f → ⊥) → Contains b.log f → a.parked ≡ [] → (b.log ≡ a.log ++ f ∷ []) × (b.parked ≡ [])
 takes_alone a b f t new in_log e = (grown, nil_of_length b.parked last)
   where
-    in_rest : Contains t.log.0 f
-    in_rest = elim (Contains-append_cases a.log t.log.0 f (rw t.log.1 at in_log)) [ inl k ↦ absurd (new (Contains-append_left a.log a.parked f k)) | inr k ↦ k ]
+    in_rest : Contains t.grows.log.0 f
+    in_rest = elim (Contains-append_cases a.log t.grows.log.0 f (rw t.grows.log.1 at in_log)) [ inl k ↦ absurd (new (Contains-append_left a.log a.parked f k)) | inr k ↦ k ]
 
-    total : length t.log.0 + length b.parked ≡ 1
+    total : length t.grows.log.0 + length b.parked ≡ 1
     total =
         let x = t.count in
-        let y = ap length t.log.1 in
-        let z = length-append a.log t.log.0 in
+        let y = ap length t.grows.log.1 in
+        let z = length-append a.log t.grows.log.0 in
         let w = ap length e in
         omega arith
 
-    one : t.log.0 ≡ f ∷ []
-    one = single t.log.0 f in_rest (omega (arith, total))
+    one : t.grows.log.0 ≡ f ∷ []
+    one = single t.grows.log.0 f in_rest (omega (arith, total))
 
     last : length b.parked ≡ 0
     last = let x = ap length one in omega (arith, total)
 
     grown : b.log ≡ a.log ++ f ∷ []
-    grown = t.log.1 ∙ ap (λ (xs : List Firing). a.log ++ xs) one
+    grown = t.grows.log.1 ∙ ap (λ (xs : List Firing). a.log ++ xs) one
 
 pub Fires-nil : (old m : State) → Applies old m → Fires old [] m
 Fires-nil old m p = record {
-  job = p.job;
-  limit = p.limit;
+  grows = p.grows;
   each = EachPlace-nil (IsNextFrom (system_of old.job) firing_le (Taken old));
   taken = λ g. ((λ t. inl ((p.taken g).1 t)), λ s. elim s [ inl t ↦ (p.taken g).0 t | inr n ↦ absurd (Contains-nil g n) ]);
   count = let x = p.count in omega arith;
-  log = p.log;
-  history = p.history;
 }
 
 pub Runs-nil : (old m : State) → Applies old m → Runs old [] m
@@ -115,13 +112,10 @@ Runs-nil old m p = record { fires = Fires-nil old m p; alone = λ e. let q = app
 
 pub Fires-applies : (old m n : State) (gs : List Firing) → Fires old gs m → Applies m n → Fires old gs n
 Fires-applies old m n gs r p = record {
-  job = p.job ∙ r.job;
-  limit = p.limit ∙ r.limit;
+  grows = grows_trans old m n r.grows p.grows;
   each = r.each;
   taken = λ g. ((λ t. (r.taken g).0 ((p.taken g).1 t)), λ s. (p.taken g).0 ((r.taken g).1 s));
   count = p.count ∙ r.count;
-  log = (r.log.0 ++ p.log.0, rw (p.log.1, r.log.1) (append_assoc old.log r.log.0 p.log.0));
-  history = λ e k. p.history e (r.history e k);
 }
 
 pub Runs-applies : (old m n : State) (gs : List Firing) → Runs old gs m → Applies m n → Runs old gs n
@@ -129,13 +123,10 @@ Runs-applies old m n gs r p = record { fires = Fires-applies old m n gs r.fires 
 
 pub Fires-push : (old m n : State) (gs : List Firing) (f : Firing) → Fires old gs m → IsPick m 0 f → Takes m f n → Fires old (gs ++ f ∷ []) n
 Fires-push old m n gs f r p t = record {
-  job = t.job ∙ r.job;
-  limit = t.limit ∙ r.limit;
+  grows = grows_trans old m n r.grows t.grows;
   each = EachPlace-push (IsNextFrom (system_of old.job) firing_le (Taken old)) gs f r.each (next_after old m gs r f p);
   taken = λ g. ((λ k. to g ((t.taken g).0 k)), λ k. (t.taken g).1 (from g k));
   count = let x = t.count in let y = r.count in let z = length-append gs (f ∷ []) in omega arith;
-  log = (r.log.0 ++ t.log.0, rw (t.log.1, r.log.1) (append_assoc old.log r.log.0 t.log.0));
-  history = λ e k. t.history e (r.history e k);
 }
   where
     to : (g : Firing) → Taken m g ⊎ (f ≡ g) → Taken old g ⊎ Contains (gs ++ f ∷ []) g
@@ -156,7 +147,7 @@ Runs-push old m n gs f r p t in_log = record {
 pub run_fails : (old m n : State) (budget : ℕ) (gs : List Firing) (e : Refusal) → Runs old gs m → length gs < budget → FireAnswer m 0 (Err e) n → RunAnswer old budget (Err e) n
 run_fails old m n budget gs Full r l a =
     let p = a.2.applies in
-    (gs, Runs-applies old m n gs r p, l, a.2.settled, (a.0.0, ready_after m n p a.0.0 a.0.1), let x = p.count in let y = p.limit in omega (arith, a.1))
+    (gs, Runs-applies old m n gs r p, l, a.2.settled, (a.0.0, ready_after m n p a.0.0 a.0.1), let x = p.count in let y = p.grows.limit in omega (arith, a.1))
 run_fails old m n budget gs NoMemory r l (inl u) = (gs, Fires-applies old m n gs r.fires u.applies, omega arith)
 run_fails old m n budget gs NoMemory r l (inr (f, may, inl p)) = (gs, Fires-applies old m n gs r.fires p, omega arith)
 run_fails old m n budget gs NoMemory r l (inr (f, may, inr t)) =
@@ -186,7 +177,7 @@ run_plain old new budget gs r log parked few full =
     ended : (length gs ≡ budget) ⊎ NothingReady new → (length gs ≡ budget) ⊎ IsExhausted (system_of old.job) (λ g. Taken old g ⊎ Contains gs g)
     ended (inl e) = inl e
     ended (inr n) =
-        inr (λ f en. (r.fires.taken f).0 (n f (rw (← r.fires.job) at (Enabled-mono (system_of old.job) (Cl (system_of old.job) (λ g. Taken old g ⊎ Contains gs g)) (Cl (system_of old.job) (Taken new)) (Cl-mono (system_of old.job) (λ g. Taken old g ⊎ Contains gs g) (Taken new) (λ g. (r.fires.taken g).1)) f en))))
+        inr (λ f en. (r.fires.taken f).0 (n f (rw (← r.fires.grows.job) at (Enabled-mono (system_of old.job) (Cl (system_of old.job) (λ g. Taken old g ⊎ Contains gs g)) (Cl (system_of old.job) (Taken new)) (Cl-mono (system_of old.job) (λ g. Taken old g ⊎ Contains gs g) (Taken new) (λ g. (r.fires.taken g).1)) f en))))
 
 pub fails_with : (old new : State) (budget : ℕ) (x : Refusal) (r : Result Ran Refusal) → IsErrAnd r (λ e. e ≡ x) → RunAnswer old budget (Err x) new → RunAnswer old budget r new
 fails_with old new budget x (Ok t) h a = absurd h
@@ -196,21 +187,21 @@ pub run_done : (old new : State) (budget : ℕ) (end : Ran) → RunAnswer old bu
 run_done old new budget ran.Quiet (gs, r, few, st, none, all) log parked is =
     let q = run_plain old new budget gs r log parked few (inr none) in
     let h = settled_is_Cl new is st in
-    (record { job = r.fires.job; parked = q.1; plain = q.2; held = rw (← r.fires.job) h.1 }, λ _ e. ((λ k. (whole e).0 ((h.1 e).1 (rw r.fires.job k))), λ w. rw r.fires.job at ((h.1 e).0 ((whole e).1 w))))
+    (record { job = r.fires.grows.job; parked = q.1; plain = q.2; held = rw (← r.fires.grows.job) h.1 }, λ _ e. ((λ k. (whole e).0 ((h.1 e).1 (rw r.fires.grows.job k))), λ w. rw r.fires.grows.job at ((h.1 e).0 ((whole e).1 w))))
   where
     whole : Same (Contains new.history) (Whole (system_of old.job))
-    whole = rw (← r.fires.job) all.1
+    whole = rw (← r.fires.grows.job) all.1
 run_done old new budget ran.Paused (gs, r, few, st, ready) log parked is =
     let q = run_plain old new budget gs r log parked (omega (arith, few)) (inl few) in
     let h = settled_is_Cl new is st in
-    (record { job = r.fires.job; parked = q.1; plain = q.2; held = rw (← r.fires.job) h.1 }, λ e. absurd (cc))
+    (record { job = r.fires.grows.job; parked = q.1; plain = q.2; held = rw (← r.fires.grows.job) h.1 }, λ e. absurd (cc))
 
 -- what a run of a machine leaves that had taken nothing
 pub run_fresh : (old new : State) (budget : ℕ) (r : Result Ran Refusal) → RunAnswer old budget r new → IsSound new → IsFresh old → RunsPlainly old budget r new
 run_fresh old new budget (Ok end) a is f = (run_done old new budget end a f.0 f.1 is).0
 run_fresh old new budget (Err Full) (gs, r, below, st, ready, full) is f =
     let x = r.fires.count in
-    let y = r.fires.limit in
+    let y = r.fires.grows.limit in
     let z = ap length f.0 in
     let w = ap length f.1 in
     omega (arith, full)

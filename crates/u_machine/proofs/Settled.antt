@@ -102,15 +102,6 @@ begun_if p k f = (
   λ t. elim (k.partitioned.all f t.0) [ inl r ↦ absurd (t.1 r) | inr s ↦ elim s [ inl m ↦ m | inr w ↦ absurd (t.2 w) ] ],
 )
 
--- fewer firings were applied than may be taken
-pub below_limit : (p : Parts) → Invariant p → p.applied_count < length p.log.items → p.applied_count < p.limit
-below_limit p k l =
-    let f = get_or p.log.items p.applied_count blank_firing in
-    let m = k.logged.begun f (rw (drop_more p.log.items p.applied_count blank_firing l) (Contains-head f _)) in
-    let w = k.logged.is.within in
-    let t = length-take p.applied_count p.log.items in
-    omega (arith, m.1, l)
-
 -- the set of taken firings in another order of changes
 pub same_taken : (job : JobParts) (log taken more ready woken : FiringList) (history : EntryList) → Same (Contains more) (Contains taken) → IsPartitioned job log taken ready woken history → IsPartitioned job log more ready woken history
 same_taken job log taken more ready woken history e s = record { logged = s.logged; fit = λ f m. ((s.fit f m).0, λ t. (s.fit f m).1 ((e f).0 t)); neither = s.neither; once = s.once; all = s.all }

@@ -1,6 +1,6 @@
 -- How a state goes on.
 use Rattle.std.proofs.Common.{◌≡◌, ℕ, ◌<◌, List, [], ◌++◌, ◌⊎◌, inl, inr, subst, sym, refl, length, arith, append-nil, append_assoc, ◌∙◌}
-use Rattle.std.specs.Prelude.{Contains, ◌↔◌, Result, Ok, Err}
+use Rattle.std.specs.Prelude.{Contains, Result, Ok, Err}
 use Rattle.std.proofs.lemmas.List.Elements.{Contains-append_left, Contains-append_cases}
 use Rattle.u_system.specs.Firing.{Held, Enabled, Cl, Whole, Same, Closed}
 use Rattle.u_system.proofs.Held.{Enabled-mono}
@@ -12,35 +12,35 @@ use Rattle.u_machine.specs.declared.answer.Refusal.{Refusal}
 use Rattle.u_machine.specs.declared.answer.Refusal.TheVariants.{NoMemory}
 use Rattle.u_machine.specs.declared.answer.Step.{Step}
 use Rattle.u_rule.specs.Rule.{system_of}
-use Rattle.u_sets.specs.Rising.{Rises}
-use Rattle.u_rule.specs.EntryOrder.{firing_cmp}
 use Rattle.u_machine.specs.State.{NothingReady, IsReady, AreReady, count_of, State, state, Taken, IsSound, IsSettled}
 use Rattle.u_machine.specs.Headline.{IsWhole}
-use Rattle.u_machine.specs.Calls.{FireAnswer, Takes, Applies}
+use Rattle.u_machine.specs.Calls.{FireAnswer, Grows, Takes, Applies}
+
+pub grows_refl : (m : State) → Grows m m
+grows_refl m = record { job = refl; limit = refl; log = ([], sym (append-nil m.log)); history = λ e k. k }
+
+pub grows_trans : (a b c : State) → Grows a b → Grows b c → Grows a c
+grows_trans a b c p q = record {
+  job = q.job ∙ p.job;
+  limit = q.limit ∙ p.limit;
+  log = (p.log.0 ++ q.log.0, rw (q.log.1, p.log.1) (append_assoc a.log p.log.0 q.log.0));
+  history = λ e k. q.history e (p.history e k);
+}
 
 -- the history gains entries, and nothing else changes
 pub Applies-history : (m : State) (h : List Entry) → ((x : Entry) → Contains m.history x → Contains h x) → Applies m (state m.job m.limit m.log m.parked h)
 Applies-history m h kept = record {
-  job = refl;
-  limit = refl;
+  grows = record { job = refl; limit = refl; log = ([], sym (append-nil m.log)); history = kept };
   taken = λ f. ((λ t. t), (λ t. t));
   count = refl;
-  log = ([], sym (append-nil m.log));
-  history = kept;
 }
 
 pub applies_trans : (a b c : State) → Applies a b → Applies b c → Applies a c
 applies_trans a b c p q = record {
-  job = cc;
-  limit = cc;
+  grows = grows_trans a b c p.grows q.grows;
   taken = λ f. ((λ t. (q.taken f).0 ((p.taken f).0 t)), (λ t. (p.taken f).1 ((q.taken f).1 t)));
   count = q.count ∙ p.count;
-  log = (p.log.0 ++ q.log.0, joined);
-  history = λ e k. q.history e (p.history e k);
 }
-  where
-    joined : c.log ≡ a.log ++ (p.log.0 ++ q.log.0)
-    joined = rw (q.log.1, p.log.1) (append_assoc a.log p.log.0 q.log.0)
 
 -- a settled machine holds the closure of its taken set
 pub settled_is_Cl : (m : State) → IsSound m → IsSettled m → Same (Contains m.history) (Cl (system_of m.job) (Taken m)) × Same (Contains m.history) (Held (system_of m.job) m.log)
@@ -55,12 +55,9 @@ settled_is_Cl m is st = ((λ e. ((λ k. (held e).0 (st.held e k)), (λ k. is.has
 -- a taken firing stays the only new one where taken firings are applied before and after
 pub takes_between : (a b c d : State) (f : Firing) → Applies a b → Takes b f c → Applies c d → Takes a f d
 takes_between a b c d f p q r = record {
-  job = cc;
-  limit = cc;
+  grows = grows_trans a c d (grows_trans a b c p.grows q.grows) r.grows;
   taken = λ g. ((λ t. back g ((q.taken g).0 ((r.taken g).1 t))), (λ t. (r.taken g).0 ((q.taken g).1 (there g t))));
   count = let x = p.count in let y = q.count in let z = r.count in omega arith;
-  log = (p.log.0 ++ (q.log.0 ++ r.log.0), joined);
-  history = λ e k. r.history e (q.history e (p.history e k));
 }
   where
     back : (g : Firing) → Taken b g ⊎ (f ≡ g) → Taken a g ⊎ (f ≡ g)
@@ -71,36 +68,20 @@ takes_between a b c d f p q r = record {
     there g (inl t) = inl ((p.taken g).0 t)
     there g (inr e) = inr e
 
-    joined : d.log ≡ a.log ++ (p.log.0 ++ (q.log.0 ++ r.log.0))
-    joined = rw (r.log.1, q.log.1, p.log.1) (append_assoc (a.log ++ p.log.0) q.log.0 r.log.0 ∙ append_assoc a.log p.log.0 (q.log.0 ++ r.log.0))
-
 pub Applies-refl : (m : State) → Applies m m
-Applies-refl m = record { job = refl; limit = refl; taken = λ f. ((λ t. t), (λ t. t)); count = refl; log = ([], sym (append-nil m.log)); history = λ e k. k }
+Applies-refl m = record { grows = grows_refl m; taken = λ f. ((λ t. t), (λ t. t)); count = refl }
 
 module _ (a b : State) (f : Firing) (p : Applies a b) (new : Taken b f → ⊥) where
   pub not_taken : Taken a f → ⊥
   not_taken t = new ((p.taken f).0 t)
 
   pub room_before : count_of b < b.limit → count_of a < a.limit
-  room_before h = let x = p.count in let y = p.limit in omega arith
+  room_before h = let x = p.count in let y = p.grows.limit in omega arith
 
 -- what is ready on a settled machine
 module _ (m : State) (is : IsSound m) (st : IsSettled m) where
-  pub ready_of : (f : Firing) → Enabled (system_of m.job) (Contains m.history) f × (Contains m.log f → ⊥) → IsReady m f
-  ready_of f (en, new) = (
-    Enabled-mono (system_of m.job) (Contains m.history) (Cl (system_of m.job) (Taken m)) (λ e. ((settled_is_Cl m is st).0 e).0) f en,
-    λ t. elim (Contains-append_cases m.log m.parked f t) [ inl a ↦ new a | inr b ↦ st.none f b en ],
-  )
-
   pub over_history : (f : Firing) → Enabled (system_of m.job) (Cl (system_of m.job) (Taken m)) f → Enabled (system_of m.job) (Contains m.history) f
   over_history f = Enabled-mono (system_of m.job) (Cl (system_of m.job) (Taken m)) (Contains m.history) (λ e. ((settled_is_Cl m is st).0 e).1) f
-
-  pub are_ready : (found v : List Firing) → ((f : Firing) → Contains found f ↔ Enabled (system_of m.job) (Contains m.history) f) → ((f : Firing) → Contains v f → Contains found f × (Contains m.log f → ⊥)) → ((f : Firing) → Contains found f → Contains v f ⊎ Contains m.log f) → Rises firing_cmp v → AreReady m v
-  are_ready found v enabled exact all once = (
-    (λ f k. let p = exact f k in ready_of f ((enabled f).0 p.0, p.1)),
-    (λ f en. elim (all f ((enabled f).1 (over_history f en))) [ inl a ↦ inl a | inr b ↦ inr (Contains-append_left m.log m.parked f b) ]),
-    once,
-  )
 
   pub quiet_whole : NothingReady m → IsWhole m
   quiet_whole none = (closed, λ e. ((λ k. (whole e).0 (((settled_is_Cl m is st).1 e).0 k)), (λ w. ((settled_is_Cl m is st).1 e).1 ((whole e).1 w))))
@@ -119,18 +100,14 @@ module _ (m : State) (is : IsSound m) (st : IsSettled m) where
       closed : Closed (system_of m.job) (Contains m.history)
       closed f en e g = held_in e (inr (f, all f en, g))
 
-  -- a ready firing is enabled over the history
-  pub ready_enabled : (f : Firing) → IsReady m f → Enabled (system_of m.job) (Contains m.history) f
-  ready_enabled f r = over_history f r.0
-
 module _ (a b : State) (p : Applies a b) where
   enabled_before : (f : Firing) → Enabled (system_of b.job) (Cl (system_of b.job) (Taken b)) f → Enabled (system_of a.job) (Cl (system_of a.job) (Taken a)) f
   enabled_before f en =
-      rw (← p.job) (Enabled-mono (system_of b.job) (Cl (system_of b.job) (Taken b)) (Cl (system_of b.job) (Taken a)) (Cl-mono (system_of b.job) (Taken b) (Taken a) (λ g. (p.taken g).1)) f en)
+      rw (← p.grows.job) (Enabled-mono (system_of b.job) (Cl (system_of b.job) (Taken b)) (Cl (system_of b.job) (Taken a)) (Cl-mono (system_of b.job) (Taken b) (Taken a) (λ g. (p.taken g).1)) f en)
 
   enabled_after : (f : Firing) → Enabled (system_of a.job) (Cl (system_of a.job) (Taken a)) f → Enabled (system_of b.job) (Cl (system_of b.job) (Taken b)) f
   enabled_after f en =
-      rw p.job (Enabled-mono (system_of a.job) (Cl (system_of a.job) (Taken a)) (Cl (system_of a.job) (Taken b)) (Cl-mono (system_of a.job) (Taken a) (Taken b) (λ g. (p.taken g).0)) f en)
+      rw p.grows.job (Enabled-mono (system_of a.job) (Cl (system_of a.job) (Taken a)) (Cl (system_of a.job) (Taken b)) (Cl-mono (system_of a.job) (Taken a) (Taken b) (λ g. (p.taken g).0)) f en)
 
   pub ready_before : (f : Firing) → IsReady b f → IsReady a f
   ready_before f r = (enabled_before f r.0, λ t. r.1 ((p.taken f).0 t))

@@ -115,12 +115,9 @@ module _ (job : JobParts) (limit : ℕ) (log : FiringList) (applied_count : ℕ)
 
   pub parks_takes : (f : Firing) (parked_new : FiringList) → IsWith parked f parked_new → length parked_new ≡ length parked + 1 → Takes (state job limit (take applied_count log) parked history) f (state job limit (take applied_count log) parked_new history)
   parks_takes f parked_new p count = record {
-    job = refl;
-    limit = refl;
+    grows = record { job = refl; limit = refl; log = ([], sym (append-nil (take applied_count log))); history = λ e k. k };
     taken = taken_more f parked_new p;
     count = omega (arith, count);
-    log = ([], sym (append-nil (take applied_count log)));
-    history = λ e k. k;
   }
 
   -- the firing that was being applied is applied
@@ -162,12 +159,9 @@ module _ (job : JobParts) (limit : ℕ) (log : FiringList) (applied_count : ℕ)
 
     pub applied_more : length parked ≡ length less + 1 → Applies (state job limit (take applied_count log) parked history) (state job limit (take (applied_count + 1) log) less history)
     applied_more count = record {
-      job = refl;
-      limit = refl;
+      grows = record { job = refl; limit = refl; log = (f ∷ [], longer); history = λ e k. k };
       taken = taken_still;
       count = let a = length-append (take applied_count log) (f ∷ []) in let b = ap length longer in omega (arith, count);
-      log = (f ∷ [], longer);
-      history = λ e k. k;
     }
 
     pub applied : Rises firing_cmp less → length parked ≡ length less + 1 → ((e : Entry) → Contains ((system_of job).gives f) e → Contains history e) → IsLogged job limit log (applied_count + 1) less history
@@ -222,12 +216,9 @@ module _ (job : JobParts) (limit : ℕ) (log : FiringList) (applied_count : ℕ)
 
     pub all_applied_more : Applies (state job limit (take applied_count log) parked history) (state job limit (take (length log) log) [] history)
     all_applied_more = record {
-      job = refl;
-      limit = refl;
+      grows = record { job = refl; limit = refl; log = (drop applied_count log, take_all (length log) log (omega arith) ∙ sym (take-append-drop applied_count log)); history = λ e k. k };
       taken = all_taken_still;
       count = let a = length-take (length log) log in let b = length-take applied_count log in let c = l.place in omega (arith, none);
-      log = (drop applied_count log, take_all (length log) log (omega arith) ∙ sym (take-append-drop applied_count log));
-      history = λ e k. k;
     }
 
     pub all_applied : ((e : Entry) → Held (system_of job) log e → Contains history e) → IsLogged job limit log (length log) [] history

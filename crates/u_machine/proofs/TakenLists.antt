@@ -1,5 +1,5 @@
 -- Lists of firings that are taken one after another.
-use Rattle.std.proofs.Common.{◌≡◌, ◌<◌, ◌≤◌, ◌+◌, ◌⊎◌, inl, inr, sym, ◌∙◌, subst, arith, ap, length, List, [], ◌∷◌, ◌++◌, append_assoc, length-append, Ok, Err, ℕ, take, get_or}
+use Rattle.std.proofs.Common.{◌≡◌, ◌<◌, ◌≤◌, ◌+◌, ◌⊎◌, inl, inr, sym, ◌∙◌, subst, arith, ap, length, List, [], ◌∷◌, ◌++◌, length-append, Ok, Err, ℕ, take, get_or}
 use Rattle.std.specs.Prelude.{Contains, Result}
 use Rattle.std.specs.Result.{IsErrAnd}
 use Rattle.std.proofs.lemmas.List.{take_more}
@@ -18,6 +18,7 @@ use Rattle.u_machine.specs.Calls.{Applies, Takes, TakeAnswer}
 use Rattle.u_machine.specs.declared.answer.TakeRefusal.TheVariants as untaken
 use Rattle.u_machine.proofs.Lists.{Contains-taken}
 use Rattle.u_machine.proofs.Settled.{not_both}
+use Rattle.u_machine.proofs.States.{grows_trans}
 use Rattle.u_machine.specs.Taking.{AreFirings, AreNew, FoundNew, GainsNew, TakesAll, TakesSome, TakeAllAnswer}
 use Rattle.u_machine.proofs.Counting.{no_more}
 
@@ -34,26 +35,20 @@ goes_in old new y (inr (n, e)) x = (
 
 pub takes_none : (old new : State) → Applies old new → TakesAll old [] new
 takes_none old new p = record {
-  job = p.job;
-  limit = p.limit;
+  grows = p.grows;
   taken = λ g. ((λ t. inl ((p.taken g).1 t)), λ s. elim s [ inl t ↦ (p.taken g).0 t | inr n ↦ absurd (Contains-nil g n) ]);
-  log = p.log;
-  history = p.history;
 }
 
 module _ (old mid new : State) (fs : List Firing) (r : TakesAll old fs mid) where
   pub takes_applies : Applies mid new → TakesAll old fs new
   takes_applies p = record {
-    job = p.job ∙ r.job;
-    limit = p.limit ∙ r.limit;
+    grows = grows_trans old mid new r.grows p.grows;
     taken = λ g. ((λ t. (r.taken g).0 ((p.taken g).1 t)), λ s. (p.taken g).0 ((r.taken g).1 s));
-    log = (r.log.0 ++ p.log.0, rw (p.log.1, r.log.1) (append_assoc old.log r.log.0 p.log.0));
-    history = λ e k. p.history e (r.history e k);
   }
 
   -- one more that was taken before
   pub takes_known : (f : Firing) → Taken mid f → Applies mid new → TakesAll old (fs ++ f ∷ []) new
-  takes_known f k p = let q = takes_applies p in record { job = q.job; limit = q.limit; taken = λ g. (to g, back g); log = q.log; history = q.history }
+  takes_known f k p = let q = takes_applies p in record { grows = q.grows; taken = λ g. (to g, back g) }
     where
       to : (g : Firing) → Taken new g → Taken old g ⊎ Contains (fs ++ f ∷ []) g
       to g t = elim ((r.taken g).0 ((p.taken g).1 t)) [ inl a ↦ inl a | inr b ↦ inr (Contains-append_left fs (f ∷ []) g b) ]
@@ -64,13 +59,7 @@ module _ (old mid new : State) (fs : List Firing) (r : TakesAll old fs mid) wher
 
   -- one more that is taken
   pub takes_more : (f : Firing) → Takes mid f new → TakesAll old (fs ++ f ∷ []) new
-  takes_more f t = record {
-    job = t.job ∙ r.job;
-    limit = t.limit ∙ r.limit;
-    taken = λ g. (to g, back g);
-    log = (r.log.0 ++ t.log.0, rw (t.log.1, r.log.1) (append_assoc old.log r.log.0 t.log.0));
-    history = λ e k. t.history e (r.history e k);
-  }
+  takes_more f t = record { grows = grows_trans old mid new r.grows t.grows; taken = λ g. (to g, back g) }
     where
       to : (g : Firing) → Taken new g → Taken old g ⊎ Contains (fs ++ f ∷ []) g
       to g k = over ((t.taken g).0 k)
@@ -97,7 +86,7 @@ room_for start mid fs front news f is r are before m new room =
     let b = length-append mid.log mid.parked in
     let c = length-append (start.log ++ start.parked) news in
     let d = length-append start.log start.parked in
-    let e = r.limit in
+    let e = r.grows.limit in
     omega (arith, n, room)
   where
     among : (g : Firing) → Taken start g ⊎ Contains news g → Contains ((start.log ++ start.parked) ++ news) g
@@ -143,13 +132,7 @@ next_place fs i f l e = take_more fs i f l ∙ ap (λ (g : Firing). take i fs ++
 
 -- taken ones were applied before
 pub takes_after : (old start new : State) (fs : List Firing) → Applies old start → TakesAll start fs new → TakesAll old fs new
-takes_after old start new fs p r = record {
-  job = r.job ∙ p.job;
-  limit = r.limit ∙ p.limit;
-  taken = λ g. (to g, back g);
-  log = (p.log.0 ++ r.log.0, rw (r.log.1, p.log.1) (append_assoc old.log p.log.0 r.log.0));
-  history = λ e k. r.history e (p.history e k);
-}
+takes_after old start new fs p r = record { grows = grows_trans old start new p.grows r.grows; taken = λ g. (to g, back g) }
   where
     to : (g : Firing) → Taken new g → Taken old g ⊎ Contains fs g
     to g t = elim ((r.taken g).0 t) [ inl a ↦ inl ((p.taken g).1 a) | inr b ↦ inr b ]
@@ -173,7 +156,7 @@ module _ (start mid new : State) (fs news : List Firing) (i : ℕ) (f : Firing) 
   never_full room a = let n = room_for start mid fs (take i fs) news f is r are (λ g. Contains-taken i fs g) listed a.1 room in let e = a.2 in omega (arith, n)
 
   pub never_other : AreFirings start.job fs → TakeAnswer mid f (Err untaken.NotAFiring) new → ⊥
-  never_other all a = let h = rw r.job at a.0 in not_both ((system_of start.job).is_firing f) (all f listed) h
+  never_other all a = let h = rw r.grows.job at a.0 in not_both ((system_of start.job).is_firing f) (all f listed) h
 
 pub all_no_memory : (old new : State) (fs : List Firing) (r : Result (Unit {0}) ListRefusal) → IsErrAnd r (λ e. e ≡ NoMemory) → TakeAllAnswer old fs (Err NoMemory) new → TakeAllAnswer old fs r new
 all_no_memory old new fs (Ok u) h a = absurd h

@@ -21,14 +21,18 @@ use Rattle.u_machine.specs.declared.answer.Took.TheVariants as took
 use Rattle.u_machine.specs.declared.answer.TakeRefusal.{TakeRefusal}
 use Rattle.u_machine.specs.declared.answer.TakeRefusal.TheVariants as untaken
 
--- taken firings may be applied, and nothing is taken or lost
-pub record Applies (old new : State) : Type 0 where
+-- nothing is lost: the job and the limit stay, the log goes on, and the history keeps each entry
+pub record Grows (old new : State) : Type 0 where
   pub job : new.job ≡ old.job
   pub limit : new.limit ≡ old.limit
-  pub taken : (f : Firing) → Taken old f ↔ Taken new f
-  pub count : count_of new ≡ count_of old
   pub log : (rest : List Firing) × (new.log ≡ old.log ++ rest)
   pub history : (e : Entry) → Contains old.history e → Contains new.history e
+
+-- taken firings may be applied, and nothing is taken or lost
+pub record Applies (old new : State) : Type 0 where
+  pub grows : Grows old new
+  pub taken : (f : Firing) → Taken old f ↔ Taken new f
+  pub count : count_of new ≡ count_of old
 
 -- what was begun is applied, and nothing else changes; a settled machine stays as it is
 pub record Settles (old new : State) : Type 0 where
@@ -43,12 +47,9 @@ pub record StaysUnsettled (old new : State) : Type 0 where
 
 -- f is taken besides, and nothing is lost; taken firings may be applied
 pub record Takes (old : State) (f : Firing) (new : State) : Type 0 where
-  pub job : new.job ≡ old.job
-  pub limit : new.limit ≡ old.limit
+  pub grows : Grows old new
   pub taken : (g : Firing) → Taken new g ↔ (Taken old g ⊎ (f ≡ g))
   pub count : count_of new ≡ count_of old + 1
-  pub log : (rest : List Firing) × (new.log ≡ old.log ++ rest)
-  pub history : (e : Entry) → Contains old.history e → Contains new.history e
 
 -- f was taken, or not yet; whatever was begun may be applied
 abbrev pub TakesOrNot : State → Firing → State → Type 0
@@ -109,13 +110,10 @@ firing_le f g = (firing_cmp f g ≡ Less) ⊎ (f ≡ g)
 
 -- gs were fired one after another, each the least that was ready
 pub record Fires (old : State) (gs : List Firing) (new : State) : Type 0 where
-  pub job : new.job ≡ old.job
-  pub limit : new.limit ≡ old.limit
+  pub grows : Grows old new
   pub each : EachPlace (IsNextFrom (system_of old.job) firing_le (Taken old)) gs
   pub taken : (g : Firing) → Taken new g ↔ (Taken old g ⊎ Contains gs g)
   pub count : count_of new ≡ count_of old + length gs
-  pub log : (rest : List Firing) × (new.log ≡ old.log ++ rest)
-  pub history : (e : Entry) → Contains old.history e → Contains new.history e
 
 -- and all of them were applied; where nothing was parked before, they are all that was applied
 pub record Runs (old : State) (gs : List Firing) (new : State) : Type 0 where

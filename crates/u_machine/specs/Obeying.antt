@@ -1,8 +1,7 @@
 -- What a machine does on a list of calls.
-use Rattle.std.specs.Prelude.{◌≡◌, List, [], ◌∷◌, ◌++◌, Result, Ok, Err, Contains}
+use Rattle.std.specs.Prelude.{◌≡◌, List, [], ◌∷◌, Result, Ok, Err, Contains}
 use Rattle.std.specs.declared.alloc.AllocError.{AllocError}
 use Rattle.u_rule.specs.declared.firing.Firing.{Firing}
-use Rattle.u_rule.specs.declared.entry.Entry.{Entry}
 use Rattle.u_machine.specs.declared.commands.Command.{Command}
 use Rattle.u_machine.specs.declared.commands.Command.TheVariants as calls
 use Rattle.u_machine.specs.declared.commands.Reply.{Reply}
@@ -18,7 +17,7 @@ use Rattle.u_machine.specs.declared.answer.Refusal.TheVariants as refusals
 use Rattle.u_machine.specs.declared.answer.TakeRefusal.TheVariants as untaken
 use Rattle.u_machine.specs.declared.answer.ListRefusal.TheVariants as unlisted
 use Rattle.u_machine.specs.State.{State, Taken, IsMachine, IsSettled}
-use Rattle.u_machine.specs.Calls.{Applies, FireAnswer, FireInAnswer, TakeAnswer, RunAnswer}
+use Rattle.u_machine.specs.Calls.{Grows, Applies, FireAnswer, FireInAnswer, TakeAnswer, RunAnswer}
 use Rattle.u_machine.specs.Taking.{TakeAllAnswer}
 
 -- what was begun is applied, or some of it where there is no memory
@@ -56,8 +55,5 @@ AreMet rs = (r : Reply) → Contains rs r → IsMet r
 
 -- nothing is lost: more firings may be taken and applied, and more entries may have entered
 pub record Extends (old new : State) : Type 0 where
-  pub job : new.job ≡ old.job
-  pub limit : new.limit ≡ old.limit
+  pub grows : Grows old new
   pub taken : (f : Firing) → Taken old f → Taken new f
-  pub log : (rest : List Firing) × (new.log ≡ old.log ++ rest)
-  pub history : (e : Entry) → Contains old.history e → Contains new.history e

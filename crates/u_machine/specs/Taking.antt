@@ -1,14 +1,13 @@
 -- Lists of firings that a machine takes.
-use Rattle.std.specs.Prelude.{◌≡◌, ℕ, ◌<◌, ◌≤◌, ◌+◌, List, ◌++◌, ◌⊎◌, ◌↔◌, length, take, IsTrue, false, Contains, Result, Ok, Err, slice_get, Some}
+use Rattle.std.specs.Prelude.{◌≡◌, ℕ, ◌<◌, ◌≤◌, ◌+◌, List, ◌⊎◌, ◌↔◌, length, take, IsTrue, false, Contains, Result, Ok, Err, slice_get, Some}
 use Rattle.u_system.specs.Firing.{Distinct}
-use Rattle.u_rule.specs.declared.entry.Entry.{Entry}
 use Rattle.u_rule.specs.declared.firing.Firing.{Firing}
 use Rattle.u_check.specs.Jobs.{JobParts}
 use Rattle.u_rule.specs.Rule.{system_of}
 use Rattle.u_machine.specs.declared.answer.ListRefusal.{ListRefusal}
 use Rattle.u_machine.specs.declared.answer.ListRefusal.TheVariants.{NotAFiring, Full, NoMemory}
 use Rattle.u_machine.specs.State.{State, Taken, IsSettled, count_of}
-use Rattle.u_machine.specs.Calls.{Settles, StaysUnsettled}
+use Rattle.u_machine.specs.Calls.{Grows, Settles, StaysUnsettled}
 
 -- each of the list is a firing of the job
 abbrev pub AreFirings : JobParts → List Firing → Type 0
@@ -23,11 +22,8 @@ pub record IsFirstOther (job : JobParts) (fs : List Firing) (place : ℕ) : Type
 
 -- fs are taken besides, and nothing is lost; taken firings may be applied
 pub record TakesAll (old : State) (fs : List Firing) (new : State) : Type 0 where
-  pub job : new.job ≡ old.job
-  pub limit : new.limit ≡ old.limit
+  pub grows : Grows old new
   pub taken : (g : Firing) → Taken new g ↔ (Taken old g ⊎ Contains fs g)
-  pub log : (rest : List Firing) × (new.log ≡ old.log ++ rest)
-  pub history : (e : Entry) → Contains old.history e → Contains new.history e
 
 -- those of the list that are not taken
 pub record FoundNew (m : State) (fs news : List Firing) : Type 0 where

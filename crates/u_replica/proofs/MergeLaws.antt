@@ -29,7 +29,7 @@ module _ (a b new : State) (p : IsSound a) (q : IsSound b) (c : IsClosure new) (
   Has e = Cl (system_of a.job) (Taken new) e
 
   history_is : Same (Contains new.history) Has
-  history_is = rw t.job at c
+  history_is = rw t.grows.job at c
 
   right_lies : (e : Entry) → Contains b.history e → Cl (system_of a.job) (Taken b) e
   right_lies = rw same at q.lies
@@ -44,7 +44,7 @@ module _ (a b new : State) (p : IsSound a) (q : IsSound b) (c : IsClosure new) (
   from_right f k = (t.taken f).1 (inr k)
 
   left_in : LiesIn a.history new.history
-  left_in = t.history
+  left_in = t.grows.history
 
   right_in : LiesIn b.history new.history
   right_in e k = (history_is e).1 (Cl-mono (system_of a.job) (Taken b) (Taken new) from_right e (right_lies e k))

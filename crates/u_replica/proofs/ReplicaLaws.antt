@@ -30,10 +30,10 @@ use Rattle.u_replica.proofs.MarkLaws.{marks_no_less}
 
 module _ (old new : State) where
   applies_extends : Applies old new → machines.Extends old new
-  applies_extends p = record { job = p.job; limit = p.limit; taken = λ f t. (p.taken f).0 t; log = p.log; history = p.history }
+  applies_extends p = record { grows = p.grows; taken = λ f t. (p.taken f).0 t }
 
   takes_extends : (fs : List Firing) → TakesAll old fs new → machines.Extends old new
-  takes_extends fs p = record { job = p.job; limit = p.limit; taken = λ g t. (p.taken g).1 (inl t); log = p.log; history = p.history }
+  takes_extends fs p = record { grows = p.grows; taken = λ g t. (p.taken g).1 (inl t) }
 
   take_all_extends : (fs : List Firing) (r : Result (Unit {0}) ListRefusal) → TakeAllAnswer old fs r new → machines.Extends old new
   take_all_extends fs (Ok u) a = takes_extends fs a.2

@@ -29,7 +29,9 @@ use std::alloc::{AllocError, Global};
 use std::marker::Model;
 use u_check::Job;
 use u_delta::{Ask, Delta, Mark, delta};
-use u_machine::{Command, ListRefusal, Machine, Ran, Refusal, Reply, Step, StepIn, TakeRefusal, Took};
+use u_machine::{
+    Command, ListRefusal, Machine, Ran, Refusal, Reply, Step, StepIn, TakeRefusal, Took,
+};
 use u_rule::Firing;
 
 /// A machine with its number among the replicas, its life, and one mark for each peer.

@@ -82,9 +82,9 @@ goes_trans x y z p q = record {
 }
 
 machine_goes : (x y : ReplicaState) → machines.Extends x.machine y.machine → ChangesMachine x y → GoesOn x y
-machine_goes x y grows alone = record {
+machine_goes x y goes alone = record {
   life = ap (λ (r : ReplicaState). r.life) alone;
-  log = grows.log;
+  log = goes.grows.log;
   marks = λ peer b. subst (λ (ms : List Mark). IsNoLess (mark_of x.marks peer) (mark_of ms peer)) (sym (ap (λ (r : ReplicaState). r.marks) alone)) (no_less_refl (mark_of x.marks peer));
 }
 
@@ -120,7 +120,7 @@ module _ (old new : WorldState) (is : IsWorld old) (j : ℕ) (x : ReplicaState) 
       let eight = (is.members d.receiver b c.replicas.at).is.marks.eight in
       record {
         life = ap (λ (r : ReplicaState). r.life) h.1;
-        log = (list_extends b.machine a.machine d.firings (Ok tt) h.0).log;
+        log = (list_extends b.machine a.machine d.firings (Ok tt) h.0).grows.log;
         marks = λ peer i. subst (λ (ms : List Mark). IsNoLess (mark_of b.marks peer) (mark_of ms peer)) (sym (ap (λ (r : ReplicaState). r.marks) h.1))
             (elim (mark_moves b.number d b.marks eight peer i) [
               | inl s ↦ subst (λ (m : Mark). IsNoLess (mark_of b.marks peer) m) (sym s) (no_less_refl (mark_of b.marks peer))

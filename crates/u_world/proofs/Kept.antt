@@ -47,10 +47,10 @@ use Rattle.u_world.proofs.Moves.{changed, Moves, put_keeps, still_honest, machin
 
 module _ (old new : State) where
   applies_extends : Applies old new → machines.Extends old new
-  applies_extends p = record { job = p.job; limit = p.limit; taken = λ f t. (p.taken f).0 t; log = p.log; history = p.history }
+  applies_extends p = record { grows = p.grows; taken = λ f t. (p.taken f).0 t }
 
   takes_extends : (fs : List Firing) → TakesAll old fs new → machines.Extends old new
-  takes_extends fs p = record { job = p.job; limit = p.limit; taken = λ g t. (p.taken g).1 (inl t); log = p.log; history = p.history }
+  takes_extends fs p = record { grows = p.grows; taken = λ g t. (p.taken g).1 (inl t) }
 
   pub fire_extends : (pick : ℕ) (r : Result Fired Refusal) → FireAnswer old pick r new → machines.Extends old new
   fire_extends pick r a = does_extends old new (calls.Fire pick) (replies.Fire r) (r, refl, a)
@@ -141,13 +141,13 @@ module _ (old : WorldState) (is : IsWorld old) (k : ℕ) (new : WorldState) wher
         let l = c.replicas in
         let t = l.how.0 in
         let e = l.how.1 in
-        let grows = list_extends l.before.machine l.after.machine d.firings (Ok u) t in
+        let goes = list_extends l.before.machine l.after.machine d.firings (Ok u) t in
         moves_keep (Receives d (Ok u)) c (record {
           number = ap (λ (r : ReplicaState). r.number) e;
-          job = grows.job;
-          limit = grows.limit;
-          later = inr (ap (λ (r : ReplicaState). r.life) e, grows.log);
-          honest = λ j p apart b. subst (λ marks. IsTrueMark (mark_of marks p.number) l.after p) (sym (ap (λ (r : ReplicaState). r.marks) e)) (moved_honest l.before l.after l.at l.holds t.2 grows j p apart b);
+          job = goes.grows.job;
+          limit = goes.grows.limit;
+          later = inr (ap (λ (r : ReplicaState). r.life) e, goes.grows.log);
+          honest = λ j p apart b. subst (λ marks. IsTrueMark (mark_of marks p.number) l.after p) (sym (ap (λ (r : ReplicaState). r.marks) e)) (moved_honest l.before l.after l.at l.holds t.2 goes j p apart b);
         })
     receive_keeps (Err x) c =
         let h = c.replicas.how in
@@ -169,8 +169,8 @@ module _ (old : WorldState) (is : IsWorld old) (k : ℕ) (new : WorldState) wher
       let b = is.members k l.before l.at in
       moves_keep (StartsAgain old bytes) c (record {
         number = ap (λ (r : ReplicaState). r.number) r.beside;
-        job = r.takes.job ∙ sym b.job;
-        limit = r.takes.limit ∙ sym b.limit;
+        job = r.takes.grows.job ∙ sym b.job;
+        limit = r.takes.grows.limit ∙ sym b.limit;
         later = inl (omega (arith, ap (λ (r : ReplicaState). r.life) r.beside));
         honest = λ j p apart b. again_honest l.before l.after (ap (λ (r : ReplicaState). r.marks) r.beside) j p b;
       })

@@ -112,9 +112,9 @@ module _ (w : WorldState) (is : IsWorld w) (k : ℕ) (before after : ReplicaStat
   }
 
 -- a call of the replica's machine, which loses nothing
-module _ (w : WorldState) (is : IsWorld w) (k : ℕ) (before after : ReplicaState) (at : At w.replicas k before) (grows : machines.Extends before.machine after.machine) where
+module _ (w : WorldState) (is : IsWorld w) (k : ℕ) (before after : ReplicaState) (at : At w.replicas k before) (goes : machines.Extends before.machine after.machine) where
   took_more : TookMore before after
-  took_more f t = grows.taken f t
+  took_more f t = goes.taken f t
 
   -- the mark for a peer, where it did not move
   pub still_honest : (j : ℕ) (p : ReplicaState) → (k ≡ j → ⊥) → At w.replicas j p → IsTrueMark (mark_of before.marks p.number) after p
@@ -123,8 +123,8 @@ module _ (w : WorldState) (is : IsWorld w) (k : ℕ) (before after : ReplicaStat
   pub machine_moves : ChangesMachine before after → Moves w k before after
   machine_moves alone = record {
     number = ap (λ (r : ReplicaState). r.number) alone;
-    job = grows.job;
-    limit = grows.limit;
-    later = inr (ap (λ (r : ReplicaState). r.life) alone, grows.log);
+    job = goes.grows.job;
+    limit = goes.grows.limit;
+    later = inr (ap (λ (r : ReplicaState). r.life) alone, goes.grows.log);
     honest = λ j p apart b. subst (λ marks. IsTrueMark (mark_of marks p.number) after p) (sym (ap (λ (r : ReplicaState). r.marks) alone)) (still_honest j p apart b);
   }

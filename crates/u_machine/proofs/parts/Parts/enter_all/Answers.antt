@@ -23,7 +23,7 @@ loop-entry-preserved c =
       goes = goes_on _ _ _ c.loop-entry.invariant.goes c.enter.ensures.goes;
       idle = c.in_ok-enter.ensures.idle;
       all = each_more (λ (e : Entry). Contains c.enter.new.self.matcher e) c.args.given.now c.loop-entry.entry-index c.entry-item.result c.loop-entry-test.true c.entry-item.is c.in_ok-enter.ensures.has
-          (λ e m. c.enter.ensures.applies.history e (c.loop-entry.invariant.all e m));
+          (λ e m. c.enter.ensures.applies.grows.history e (c.loop-entry.invariant.all e m));
     }
 
 pub returns-clause-has : goal.returns-clause-has

@@ -42,7 +42,7 @@ returns-then-is_full-clause-answer c =
     let n = c.len-count.ensures.len in
     let z = c.if-count-eq0.false in (
       (get_or p.ready 0 d, ready_before (state_of c.args.self.now) (state_of p) c.settle.ensures.applies _ ((are a).0 _ (Contains-get_or p.ready 0 d (omega (arith, n))))),
-      sym c.settle.ensures.applies.count ∙ c.is_full.ensures.full c.if-is_full.true ∙ c.settle.ensures.applies.limit,
+      sym c.settle.ensures.applies.count ∙ c.is_full.ensures.full c.if-is_full.true ∙ c.settle.ensures.applies.grows.limit,
       settles c.args.self.now p c.requires c.settle.ensures.applies c.settle.ensures.kept c.in_ok-settle.ensures.ok c.settle.ensures.still,
     )
 

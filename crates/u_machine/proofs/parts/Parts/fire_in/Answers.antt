@@ -79,7 +79,7 @@ returns-then-is_full-clause-answer c =
     let p = c.settle.new.self in
     let r = is_ready_in a in (
       (c.in-Some.picked.now, (ready_before (state_of old) (state_of p) c.settle.ensures.applies c.in-Some.picked.now r.0, r.1)),
-      sym c.settle.ensures.applies.count ∙ c.is_full.ensures.full c.if-is_full.true ∙ c.settle.ensures.applies.limit,
+      sym c.settle.ensures.applies.count ∙ c.is_full.ensures.full c.if-is_full.true ∙ c.settle.ensures.applies.grows.limit,
       settles old p c.requires c.settle.ensures.applies c.settle.ensures.kept c.in_ok-settle.ensures.ok c.settle.ensures.still,
     )
 

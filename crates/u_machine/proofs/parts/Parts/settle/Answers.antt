@@ -8,7 +8,7 @@ pub close_before-requires-clause-all : goal.close_before-requires-clause-all
 close_before-requires-clause-all c k from to =
     let v = c.loop-place.invariant in
     let g = c.enter_given.ensures.goes in
-    entered_longer c.loop-place.self c.enter_given.new.self k g c.enter_given.ensures.applies.history (omega (arith, to, v.to)) (v.all k (omega (arith, from, g.applied_count)) to)
+    entered_longer c.loop-place.self c.enter_given.new.self k g c.enter_given.ensures.applies.grows.history (omega (arith, to, v.to)) (v.all k (omega (arith, from, g.applied_count)) to)
 
 pub returns-in_default-clause-applies : goal.returns-in_default-clause-applies
 returns-in_default-clause-applies c = applies_trans _ _ _ (applies_trans _ _ _ c.loop-place.invariant.applies c.enter_given.ensures.applies) c.close_before.ensures.applies
@@ -22,7 +22,7 @@ loop-place-smaller c =
     let v = c.loop-place.invariant in
     let w = log_within c.loop-place.self v.kept in
     let b : c.loop-place.place < length c.loop-place.self.log.items = omega arith in
-    let l = v.applies.limit in
+    let l = v.applies.grows.limit in
     omega (arith, w, b)
 
 pub loop-place-preserved : goal.loop-place-preserved
@@ -37,7 +37,7 @@ loop-place-preserved c =
       idle = c.in-Ok.ensures.idle;
       from = omega (arith, v.from, e.goes.applied_count);
       to = let l = lengthens_le _ _ e.goes.log in omega (arith, b, l);
-      all = entered_more c.loop-place.self c.enter_given.new.self c.loop-place.place e.goes e.applies.history b v.all c.in-Ok.ensures.has;
+      all = entered_more c.loop-place.self c.enter_given.new.self c.loop-place.place e.goes e.applies.grows.history b v.all c.in-Ok.ensures.has;
     }
 
 pub returns-clause-applies : goal.returns-clause-applies

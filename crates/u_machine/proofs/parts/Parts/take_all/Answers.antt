@@ -17,14 +17,14 @@ use Rattle.u_machine.proofs.parts.Parts.take_all.Goals.{After-may_take, After-ta
 
 -- all of the list are firings of the job
 are_firings : (c : After-may_take) → AreFirings c.args.self.now.job.now c.args.firings.now
-are_firings c = subst (λ (j : JobParts). AreFirings j c.args.firings.now) c.settle.ensures.applies.job c.in_default.ensures.none
+are_firings c = subst (λ (j : JobParts). AreFirings j c.args.firings.now) c.settle.ensures.applies.grows.job c.in_default.ensures.none
 
 -- what fits after settling fitted before
 fits_before : (c : After-may_take) → Fits (state_of c.settle.new.self) c.args.firings.now → Fits (state_of c.args.self.now) c.args.firings.now
 fits_before c (news, are, room) =
     let p = c.settle.ensures.applies in
     let w = p.count in
-    let v = p.limit in
+    let v = p.grows.limit in
     (news, new_before (state_of c.args.self.now) (state_of c.settle.new.self) c.args.firings.now news p are, omega (arith, room, w, v))
 
 -- settling failed: an earlier call had left something
@@ -35,7 +35,7 @@ returns-in_err-settle-clause-answer c =
 
 pub returns-in-Some-clause-answer : goal.returns-in-Some-clause-answer
 returns-in-Some-clause-answer c = (
-  subst (λ (j : JobParts). IsFirstOther j c.args.firings.now c.in-Some.place) c.settle.ensures.applies.job c.in-Some.ensures.some,
+  subst (λ (j : JobParts). IsFirstOther j c.args.firings.now c.in-Some.place) c.settle.ensures.applies.grows.job c.in-Some.ensures.some,
   settles c.args.self.now c.settle.new.self c.requires c.settle.ensures.applies c.settle.ensures.kept c.in_ok-settle.ensures.ok c.settle.ensures.still,
 )
 
@@ -44,7 +44,7 @@ pub returns-in_err-fits-clause-answer : goal.returns-in_err-fits-clause-answer
 returns-in_err-fits-clause-answer c =
     all_no_memory (state_of c.args.self.now) (state_of c.settle.new.self) c.args.firings.now _ c.from_residual-in_err-fits.ensures.1
     (inr (
-      subst (λ (j : JobParts). AreFirings j c.args.firings.now) c.settle.ensures.applies.job c.in_default.ensures.none,
+      subst (λ (j : JobParts). AreFirings j c.args.firings.now) c.settle.ensures.applies.grows.job c.in_default.ensures.none,
       inl (settles c.args.self.now c.settle.new.self c.requires c.settle.ensures.applies c.settle.ensures.kept c.in_ok-settle.ensures.ok c.settle.ensures.still),
     ))
 
@@ -54,7 +54,7 @@ returns-then-not-fits-clause-answer c =
     let p = c.settle.ensures.applies in
     let (news, are, room) = c.in_ok-fits.ensures.long c.if-not-fits.true in
     let w = p.count in
-    let v = p.limit in (
+    let v = p.grows.limit in (
       are_firings a,
       (news, new_before (state_of c.args.self.now) (state_of c.settle.new.self) c.args.firings.now news p are, omega (arith, room, w, v)),
       settles c.args.self.now c.settle.new.self c.requires p c.settle.ensures.kept c.in_ok-settle.ensures.ok c.settle.ensures.still,
