@@ -1,8 +1,9 @@
 #!/usr/bin/env bash
 # Runs the built program on the cases of tests/cases, and compares standard output, standard error
 # and the exit status with what stands there; runs the examples of README.md, docs/LANGUAGE.md and
-# docs/programs; compares the manual page and the completions with `--help`, and what README counts with
-# what there is; and compares programs/ and the example of docs/LIBRARY.md with the code that tests run. The last line is 'N passed, M failed'.
+# docs/programs; compares the manual page and the completions with `--help`, what README counts with what
+# there is, and the names that docs/THEOREMS.md lists with those of its promises; and compares programs/ and
+# the example of docs/LIBRARY.md with the code that tests run. The last line is 'N passed, M failed'.
 #
 # The lines of a case:
 #   case: NAME            begins a case
@@ -264,6 +265,10 @@ expect_same 'a checkpoint is completed' programs/double.u "$(completed u restore
 expect_same 'README counts the definitions of the headline' \
     "$(tests/definitions.py u_world/Headline | tail -n 1)" \
     "$(grep -o '[0-9]* pages, [0-9,]* lines' README.md)"
+
+expect_same 'THEOREMS lists the names of its promises, each once' \
+    "$(sed -n 's/^| <a id="\([a-z-]*\)"><\/a>.*/\1/p' docs/THEOREMS.md | awk '!seen[$0]++')" \
+    "$(grep -o '](#[a-z-]*)' docs/THEOREMS.md | tr -d '](#)')"
 
 # The programs that tests run are constants of u_plain, and have to be the files of the folder programs.
 for file in programs/*.u; do
