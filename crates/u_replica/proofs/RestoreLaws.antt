@@ -28,7 +28,7 @@ use Rattle.u_replica.specs.ReplicaState.{ReplicaState, replica}
 use Rattle.u_replica.specs.CheckpointText.{checkpoint_text}
 use Rattle.u_replica.specs.Checkpoints as ranges
 use Rattle.u_replica.specs.Checkpoints.{IsCheckpointOf, IsCheckpointErrorOf, IsFrontOf}
-use Rattle.u_replica.specs.Restoring.{blank, IsRestored, IsRestoreError, RestoreAnswer, error_of_reading, error_of_taking, IsNoRoom, MaySave, RestoresWhole, RestoresFront}
+use Rattle.u_replica.specs.Restoring.{blank, IsRestored, IsRestoreError, RestoreAnswer, error_of_reading, error_of_taking, IsNoRoom, IsNoRoomFor, MaySave, MayWrite, RestoresWritten, RestoresWhole, RestoresFront}
 
 -- what reading a checkpoint says of a text that was written, and of a front of it
 abbrev pub ReadsWhole : List ℕ → Result Checkpoint CheckpointError → Type 0
@@ -37,7 +37,40 @@ ReadsWhole bytes r = (fs : List Firing) → ranges.AreFirings fs → bytes ≡ c
 abbrev pub ReadsFront : List ℕ → Result Checkpoint CheckpointError → Type 0
 ReadsFront bytes r = (fs : List Firing) (k : ℕ) → ranges.AreFirings fs → k < length (checkpoint_text fs) → bytes ≡ take k (checkpoint_text fs) → MatchResult r (λ c. (c.ending ≡ Torn) × IsFrontOf bytes c.firings fs) (λ error. error ≡ checkpoints.NoMemory)
 
+-- a machine took these, and nothing else
+took : (job : JobParts) (limit : ℕ) (fs : List Firing) (new : State) → TakesAll (blank job limit) fs new → Same (Taken new) (Contains fs)
+took job limit fs new t f = (
+  λ k. elim ((t.taken f).0 k) [ inl x ↦ absurd (Contains-nil f x) | inr x ↦ x ],
+  λ k. (t.taken f).1 (inr k),
+)
+
+same_length : (saved : State) → length (all_of saved) ≡ count_of saved
+same_length saved = length-append saved.log saved.parked
+
+-- a machine of the job
+
+module _ (job : JobParts) (saved : State) (m : MaySave job saved) where
+  -- what it took may be written
+  may_write : MayWrite job (all_of saved)
+  may_write = (m.2, λ f k. subst (λ j. IsTrue ((system_of j).is_firing f)) m.1 (m.0.sound.firings f k))
+
+  -- no more firings than it took are too many only where it took more than the limit
+  no_room_saved : (limit : ℕ) (fs : List Firing) (e : RestoreError) → length fs ≤ count_of saved → IsNoRoomFor job limit fs e → IsNoRoom saved limit e
+  no_room_saved limit fs e few (inl x) = inl x
+  no_room_saved limit fs e few (inr x) =
+      let long : IsTooLong (blank job limit) fs = x.1 in
+      let n = no_more long.0 fs long.1.once (λ f k. (long.1.found.new f k).0) in
+      inr (x.0, omega (arith, long.2, n, few))
+
 module _ (job : JobParts) (limit number life : ℕ) (bytes : List ℕ) where
+  -- what was saved was written
+  pub whole_of_written : (r : Result (ReplicaState × Ending) RestoreError) → RestoresWritten job limit bytes r → RestoresWhole job limit bytes r
+  whole_of_written (Ok p) h saved m text =
+      let w = h (all_of saved) (may_write job saved m) text in
+      (w.0, took job limit (all_of saved) p.0.machine w.1)
+  whole_of_written (Err e) h saved m text =
+      no_room_saved job saved m limit (all_of saved) e (omega (arith, same_length saved)) (h (all_of saved) (may_write job saved m) text)
+
   -- the bytes were not read
 
   pub unread_error : (e : CheckpointError) → IsCheckpointErrorOf bytes e → IsRestoreError job limit bytes (error_of_reading e)
@@ -45,8 +78,11 @@ module _ (job : JobParts) (limit number life : ℕ) (bytes : List ℕ) where
   unread_error (checkpoints.TooLong n) h = h
   unread_error checkpoints.NoMemory h = tt
 
+  pub unread_written : (e : CheckpointError) → ReadsWhole bytes (Err e) → RestoresWritten job limit bytes (Err (error_of_reading e))
+  unread_written e h fs m t = inl (ap error_of_reading (h fs m.0 t))
+
   pub unread_whole : (e : CheckpointError) → ReadsWhole bytes (Err e) → RestoresWhole job limit bytes (Err (error_of_reading e))
-  unread_whole e h saved m t = inl (ap error_of_reading (h (all_of saved) m.2 t))
+  unread_whole e h = whole_of_written (Err (error_of_reading e)) (unread_written e h)
 
   pub unread_front : (e : CheckpointError) → ReadsFront bytes (Err e) → RestoresFront job limit bytes (Err (error_of_reading e))
   unread_front e h saved k m l t = inl (ap error_of_reading (h (all_of saved) k m.2 l t))
@@ -57,9 +93,12 @@ module _ (job : JobParts) (limit number life : ℕ) (bytes : List ℕ) where
   no_machine (Ok u) h = absurd h
   no_machine (Err e) h = subst (λ e. IsRestoreError job limit bytes e) (sym h) tt
 
+  pub no_machine_written : (r : Result (ReplicaState × Ending) RestoreError) → IsErrAnd r (λ e. e ≡ restores.NoMemory) → RestoresWritten job limit bytes r
+  no_machine_written (Ok u) h fs m t = absurd h
+  no_machine_written (Err e) h fs m t = inl h
+
   pub no_machine_whole : (r : Result (ReplicaState × Ending) RestoreError) → IsErrAnd r (λ e. e ≡ restores.NoMemory) → RestoresWhole job limit bytes r
-  no_machine_whole (Ok u) h saved m t = absurd h
-  no_machine_whole (Err e) h saved m t = inl h
+  no_machine_whole r h = whole_of_written r (no_machine_written r h)
 
   pub no_machine_front : (r : Result (ReplicaState × Ending) RestoreError) → IsErrAnd r (λ e. e ≡ restores.NoMemory) → RestoresFront job limit bytes r
   no_machine_front (Ok u) h saved k m l t = absurd h
@@ -73,58 +112,47 @@ module _ (job : JobParts) (limit number life : ℕ) (bytes : List ℕ) where
     untaken_error lists.Full h t = record { firings = c.firings; ending = c.ending; read = h; so = subst (λ (fs : List Firing). AreFirings job fs × IsTooLong (blank job limit) fs) is (t.0, t.1) }
     untaken_error lists.NoMemory h t = tt
 
-    -- which have nothing that the saved machine did not take
-    no_room : (r : ListRefusal) (saved : State) → MaySave job saved → ((f : Firing) → Contains c.firings f → Taken saved f) → length c.firings ≤ count_of saved → TakeAllAnswer (blank job limit) fs (Err r) new → IsNoRoom saved limit (error_of_taking r)
-    no_room (lists.NotAFiring place) saved m within few t =
+    -- where all of them are firings of the job
+    no_room : (r : ListRefusal) → AreFirings job c.firings → TakeAllAnswer (blank job limit) fs (Err r) new → IsNoRoomFor job limit c.firings (error_of_taking r)
+    no_room (lists.NotAFiring place) own t =
         let f : IsFirstOther job c.firings place = subst (λ (fs : List Firing). IsFirstOther job fs place) is t.0 in
-        let own : IsTrue ((system_of saved.job).is_firing f.other) = m.0.sound.firings f.other (within f.other (slice_get_Contains c.firings place f.other f.at)) in
-        let there : IsTrue ((system_of job).is_firing f.other) = subst (λ j. IsTrue ((system_of j).is_firing f.other)) m.1 own in
+        let there : IsTrue ((system_of job).is_firing f.other) = own f.other (slice_get_Contains c.firings place f.other f.at) in
         absurd (let n : true ≡ false = sym there ∙ f.none in cc)
-    no_room lists.Full saved m within few t =
-        let long : IsTooLong (blank job limit) c.firings = subst (λ (fs : List Firing). IsTooLong (blank job limit) fs) is t.1 in
-        let n = no_more long.0 c.firings long.1.once (λ f k. (long.1.found.new f k).0) in
-        inr (refl, omega (arith, long.2, n, few))
-    no_room lists.NoMemory saved m within few t = inl refl
+    no_room lists.Full own t = inr (refl, subst (λ (fs : List Firing). IsTooLong (blank job limit) fs) is t.1)
+    no_room lists.NoMemory own t = inl refl
 
-    same_length : (saved : State) → length (all_of saved) ≡ count_of saved
-    same_length saved = length-append saved.log saved.parked
-
-    pub untaken_whole : (r : ListRefusal) → ReadsWhole bytes (Ok c) → TakeAllAnswer (blank job limit) fs (Err r) new → RestoresWhole job limit bytes (Err (error_of_taking r))
-    untaken_whole r h t saved m text =
-        let e = (h (all_of saved) m.2 text).1 in
-        no_room r saved m (λ f k. subst (λ (fs : List Firing). Contains fs f) e k) (omega (arith, ap (λ (fs : List Firing). length fs) e, same_length saved)) t
+    pub untaken_written : (r : ListRefusal) → ReadsWhole bytes (Ok c) → TakeAllAnswer (blank job limit) fs (Err r) new → RestoresWritten job limit bytes (Err (error_of_taking r))
+    untaken_written r h t gs m text =
+        let e = (h gs m.0 text).1 in
+        let own : AreFirings job c.firings = subst (λ (fs : List Firing). AreFirings job fs) (sym e) m.1 in
+        subst (λ (fs : List Firing). IsNoRoomFor job limit fs (error_of_taking r)) e (no_room r own t)
 
     pub untaken_front : (r : ListRefusal) → ReadsFront bytes (Ok c) → TakeAllAnswer (blank job limit) fs (Err r) new → RestoresFront job limit bytes (Err (error_of_taking r))
     untaken_front r h t saved k m l text =
         let e = (h (all_of saved) k m.2 l text).1 in
-        no_room r saved m (λ f k. Contains-taken e.count (all_of saved) f (subst (λ (fs : List Firing). Contains fs f) e.first k)) (omega (arith, ap (λ (fs : List Firing). length fs) e.first, length-take e.count (all_of saved), same_length saved)) t
+        let own : AreFirings job c.firings = λ f k. (may_write job saved m).1 f (Contains-taken e.count (all_of saved) f (subst (λ (fs : List Firing). Contains fs f) e.first k)) in
+        let few : length c.firings ≤ count_of saved = omega (arith, ap (λ (fs : List Firing). length fs) e.first, length-take e.count (all_of saved), same_length saved) in
+        no_room_saved job saved m limit c.firings (error_of_taking r) few (no_room r own t)
 
     -- they were taken
 
     abbrev Restored : ReplicaState
     Restored = replica new number life fresh_marks
 
+    taken_read : (u : Unit {0}) → TakeAllAnswer (blank job limit) fs (Ok u) new → TakesAll (blank job limit) c.firings new
+    taken_read u t = subst (λ (fs : List Firing). TakesAll (blank job limit) fs new) is t.2
+
     pub restored : (u : Unit {0}) → IsCheckpointOf bytes c.ending c.firings → TakeAllAnswer (blank job limit) fs (Ok u) new → IsRestored job limit number life bytes c.ending Restored
     restored u h t =
-        let taken = subst (λ (fs : List Firing). TakeAllAnswer (blank job limit) fs (Ok u) new) is t in
-        record { firings = c.firings; read = h; of_job = taken.0; takes = taken.2; settled = taken.3; beside = refl }
+        let own = subst (λ (fs : List Firing). AreFirings job fs) is t.0 in
+        record { firings = c.firings; read = h; of_job = own; takes = taken_read u t; settled = t.3; beside = refl }
 
-    -- the machine took these, and nothing else
-    took : (u : Unit {0}) → TakeAllAnswer (blank job limit) fs (Ok u) new → Same (Taken new) (Contains c.firings)
-    took u t f = (
-      λ k. elim ((taken.taken f).0 k) [ inl x ↦ absurd (Contains-nil f x) | inr x ↦ x ],
-      λ k. (taken.taken f).1 (inr k),
-    )
-      where
-        taken : TakesAll (blank job limit) c.firings new
-        taken = subst (λ (fs : List Firing). TakesAll (blank job limit) fs new) is t.2
-
-    pub restored_whole : (u : Unit {0}) → ReadsWhole bytes (Ok c) → TakeAllAnswer (blank job limit) fs (Ok u) new → RestoresWhole job limit bytes (Ok (Restored, c.ending))
-    restored_whole u h t saved m text =
-        let e = h (all_of saved) m.2 text in
-        (e.0, subst (λ (fs : List Firing). Same (Taken new) (Contains fs)) e.1 (took u t))
+    pub restored_written : (u : Unit {0}) → ReadsWhole bytes (Ok c) → TakeAllAnswer (blank job limit) fs (Ok u) new → RestoresWritten job limit bytes (Ok (Restored, c.ending))
+    restored_written u h t gs m text =
+        let e = h gs m.0 text in
+        (e.0, subst (λ (fs : List Firing). TakesAll (blank job limit) fs new) e.1 (taken_read u t))
 
     pub restored_front : (u : Unit {0}) → ReadsFront bytes (Ok c) → TakeAllAnswer (blank job limit) fs (Ok u) new → RestoresFront job limit bytes (Ok (Restored, c.ending))
     restored_front u h t saved k m l text =
         let e = h (all_of saved) k m.2 l text in
-        (e.0, record { firings = c.firings; front = e.1; taken = took u t })
+        (e.0, record { firings = c.firings; front = e.1; taken = took job limit c.firings new (taken_read u t) })

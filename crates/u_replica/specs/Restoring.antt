@@ -69,6 +69,21 @@ error_of_taking (lists.NotAFiring place) = NotAFiring place
 error_of_taking lists.Full = Full
 error_of_taking lists.NoMemory = NoMemory
 
+-- firings of the job, whose parts are in their ranges
+abbrev pub MayWrite : JobParts → List Firing → Type 0
+MayWrite job fs = ranges.AreFirings fs × AreFirings job fs
+
+-- there is no memory, or the firings are more than may be taken
+abbrev pub IsNoRoomFor : JobParts → ℕ → List Firing → RestoreError → Type 0
+IsNoRoomFor job limit fs error = (error ≡ NoMemory) ⊎ ((error ≡ Full) × IsTooLong (blank job limit) fs)
+
+-- for the text that was written of such firings, the ending is whole, and the replica took them and nothing
+-- else
+abbrev pub RestoresWritten : JobParts → ℕ → List ℕ → Result (ReplicaState × Ending) RestoreError → Type 0
+RestoresWritten job limit bytes result =
+    (fs : List Firing) → MayWrite job fs → bytes ≡ checkpoint_text fs
+    → MatchResult result (λ p. (p.1 ≡ Whole) × TakesAll (blank job limit) fs p.0.machine) (IsNoRoomFor job limit fs)
+
 -- there is no memory, or the saved machine took more than the limit
 abbrev pub IsNoRoom : State → ℕ → RestoreError → Type 0
 IsNoRoom saved limit error = (error ≡ NoMemory) ⊎ ((error ≡ Full) × (limit < count_of saved))

@@ -17,7 +17,7 @@ ghost use Rattle.u_replica.specs.Receiving.{ReceiveAnswer};
 ghost use Rattle.u_replica.specs.Merging.{all_of, MergeAnswer};
 ghost use Rattle.u_replica.specs.CheckpointText.{checkpoint_text};
 ghost use Rattle.u_replica.specs.Checkpoints.{AreFirings};
-ghost use Rattle.u_replica.specs.Restoring.{RestoreAnswer, RestoresWhole, RestoresFront};
+ghost use Rattle.u_replica.specs.Restoring.{RestoreAnswer, RestoresWritten, RestoresWhole, RestoresFront};
 
 use crate::answer::{MergeRefusal, RestoreError};
 use crate::checkpoint::{Ending, write_checkpoint};
@@ -88,6 +88,13 @@ impl<'a> Replica<'a> {
         ensures { result.now ≡ self.now.machine }
     {
         &self.machine
+    }
+
+    /// The machine, for a caller who is done with the replica.
+    pub fn into_machine(self) -> Machine<'a>
+        ensures { result ≡ self.entry.machine }
+    {
+        self.machine
     }
 
     /// The replica's number, 1 to 8.
@@ -290,8 +297,9 @@ impl<'a> Replica<'a> {
     /// replica knows nothing of its peers. `number` is 1 to 8, and `life` at least 1; a replica that
     /// starts again takes its own number and a life that it did not live before.
     ///
-    /// Of what `save` returned for this job the replica takes what the saved one took, and of a front of
-    /// it the first ones of that; then it is refused for want of room or of memory alone.
+    /// Of what `write_checkpoint` wrote of any firings of this job the replica takes exactly these; so
+    /// of what `save` returned for this job it takes what the saved one took, and of a front of that the
+    /// first ones. Then it is refused for want of room or of memory alone.
     ///
     /// # Errors
     /// `BadLine` and `TooLong` with the first line, counted from 1, that no checkpoint has in its place
@@ -309,6 +317,7 @@ impl<'a> Replica<'a> {
         requires number { IsBetween 1 number 8 }
         requires born { 1 ≤ life }
         ensures answer { RestoreAnswer job.now limit number life bytes.now result }
+        ensures written { RestoresWritten job.now limit bytes.now result }
         ensures whole { RestoresWhole job.now limit bytes.now result }
         ensures front { RestoresFront job.now limit bytes.now result }
     {

@@ -1,8 +1,10 @@
 use Rattle.std.proofs.Common.{sym, subst, Err, Ok}
 use Rattle.u_machine.specs.State.{State}
 use Rattle.u_machine.specs.Taking.{TakeAllAnswer}
-use Rattle.u_replica.specs.Restoring.{IsRestoreError, IsNoRoom}
-use Rattle.u_replica.proofs.RestoreLaws.{untaken_error, untaken_whole, untaken_front, restored, restored_whole, restored_front}
+use Rattle.u_replica.specs.Marking.{fresh_marks}
+use Rattle.u_replica.specs.ReplicaState.{replica}
+use Rattle.u_replica.specs.Restoring.{IsRestoreError, IsNoRoom, RestoresWritten}
+use Rattle.u_replica.proofs.RestoreLaws.{whole_of_written, untaken_error, untaken_written, untaken_front, restored, restored_written, restored_front}
 use Rattle.u_replica.proofs.replica.Replica.restore.Goals as goal
 
 pub returns-in-Err-take_all-clause-answer : goal.returns-in-Err-take_all-clause-answer
@@ -12,12 +14,17 @@ returns-in-Err-take_all-clause-answer c =
     subst (λ e. IsRestoreError a.job.now a.limit a.bytes.now e) (sym c.untaken.ensures)
     (untaken_error a.job.now a.limit a.number a.life a.bytes.now c.in-Ok.checkpoint c.as_slice.result.now c.as_slice.ensures c.take_all.new.self c.in-Err-take_all.refusal c.in-Ok.ensures.answer t)
 
-pub returns-in-Err-take_all-clause-whole : goal.returns-in-Err-take_all-clause-whole
-returns-in-Err-take_all-clause-whole c = λ saved m text.
+pub returns-in-Err-take_all-clause-written : goal.returns-in-Err-take_all-clause-written
+returns-in-Err-take_all-clause-written c =
     let a = c.args in
     let t = subst (λ (m : State). TakeAllAnswer m c.as_slice.result.now (Err c.in-Err-take_all.refusal) c.take_all.new.self) c.in_ok-machine.ensures c.in-Err-take_all.ensures in
-    subst (λ e. IsNoRoom saved a.limit e) (sym c.untaken.ensures)
-    (untaken_whole a.job.now a.limit a.number a.life a.bytes.now c.in-Ok.checkpoint c.as_slice.result.now c.as_slice.ensures c.take_all.new.self c.in-Err-take_all.refusal c.in-Ok.ensures.back t saved m text)
+    subst (λ e. RestoresWritten a.job.now a.limit a.bytes.now (Err e)) (sym c.untaken.ensures)
+    (untaken_written a.job.now a.limit a.number a.life a.bytes.now c.in-Ok.checkpoint c.as_slice.result.now c.as_slice.ensures c.take_all.new.self c.in-Err-take_all.refusal c.in-Ok.ensures.back t)
+
+pub returns-in-Err-take_all-clause-whole : goal.returns-in-Err-take_all-clause-whole
+returns-in-Err-take_all-clause-whole c =
+    let a = c.args in
+    whole_of_written a.job.now a.limit a.number a.life a.bytes.now (Err c.untaken.result) (returns-in-Err-take_all-clause-written c)
 
 pub returns-in-Err-take_all-clause-front : goal.returns-in-Err-take_all-clause-front
 returns-in-Err-take_all-clause-front c = λ saved k m l text.
@@ -33,11 +40,16 @@ returns-clause-answer c =
     let n = c.new-2.ensures in
     rw n (restored a.job.now a.limit a.number a.life a.bytes.now c.in-Ok.checkpoint c.as_slice.result.now c.as_slice.ensures c.take_all.new.self c.in-Ok-take_all.field-0 c.in-Ok.ensures.answer t)
 
+pub returns-clause-written : goal.returns-clause-written
+returns-clause-written c =
+    let a = c.args in
+    let t = subst (λ (m : State). TakeAllAnswer m c.as_slice.result.now (Ok c.in-Ok-take_all.field-0) c.take_all.new.self) c.in_ok-machine.ensures c.in-Ok-take_all.ensures in
+    restored_written a.job.now a.limit a.number a.life a.bytes.now c.in-Ok.checkpoint c.as_slice.result.now c.as_slice.ensures c.take_all.new.self c.in-Ok-take_all.field-0 c.in-Ok.ensures.back t
+
 pub returns-clause-whole : goal.returns-clause-whole
 returns-clause-whole c =
     let a = c.args in
-    let t = subst (λ (m : State). TakeAllAnswer m c.as_slice.result.now (Ok c.in-Ok-take_all.field-0) c.take_all.new.self) c.in_ok-machine.ensures c.in-Ok-take_all.ensures in
-    restored_whole a.job.now a.limit a.number a.life a.bytes.now c.in-Ok.checkpoint c.as_slice.result.now c.as_slice.ensures c.take_all.new.self c.in-Ok-take_all.field-0 c.in-Ok.ensures.back t
+    whole_of_written a.job.now a.limit a.number a.life a.bytes.now (Ok (replica c.take_all.new.self a.number a.life fresh_marks, c.in-Ok.checkpoint.ending)) (returns-clause-written c)
 
 pub returns-clause-front : goal.returns-clause-front
 returns-clause-front c =
