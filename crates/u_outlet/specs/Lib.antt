@@ -1,0 +1,4 @@
+pub mod Ends
+pub mod Fronts
+pub mod Sound
+pub mod Writing
