@@ -1,0 +1,9 @@
+pub mod Crossing
+pub mod Ended
+pub mod Firings
+pub mod Living
+pub mod Moving
+pub mod Pairs
+pub mod Reporting
+pub mod Sharing
+pub mod Soundness

@@ -1,0 +1,60 @@
+-- What a fleet promises, in the words of those who use it.
+--
+-- A fleet runs one job in several threads. Each worker has a replica of its own. It applies firings, publishes
+-- what it applied, pulls what the others published, and may be stopped, or start again from what it saved, after
+-- any of its rounds. No schedule of the threads and no such event changes what is reported: the report has the
+-- published lists, each of them one run of the job, and a machine that took what they have and nothing else.
+use Rattle.std.specs.Prelude.{◌≡◌, ℕ, ◌+◌, List, [], length, ◌<◌, Contains, All, slice_index_or}
+use Rattle.u_system.specs.Firing.{Derivation, Same}
+use Rattle.u_check.specs.Jobs.{JobParts}
+use Rattle.u_rule.specs.Rule.{system_of}
+use Rattle.u_rule.specs.declared.firing.Firing.{Firing}
+use Rattle.u_machine.specs.State.{State, Taken, IsSettled, NothingReady}
+use Rattle.u_machine.specs.Headline.{IsWhole}
+use Rattle.u_outlet.specs.Sound.{IsSound}
+use Rattle.u_fleet.specs.Workers.{HasEnded}
+use Rattle.u_fleet.specs.declared.gate.Turn.{Turn}
+use Rattle.u_fleet.specs.declared.plan.FleetPlan.{FleetPlan}
+use Rattle.u_fleet.specs.declared.plan.End.{End}
+use Rattle.u_fleet.specs.declared.plan.End.TheVariants.{Done, Stopped}
+
+-- one of the lists has the firing
+abbrev pub IsPublished : List (List Firing) → Firing → Type 0
+IsPublished lists f = (fs : List Firing) × Contains lists fs × Contains fs f
+
+-- each of the lists is one run of the job
+abbrev pub AreRuns : JobParts → List (List Firing) → Type 0
+AreRuns job lists = All (λ fs. Derivation (system_of job) fs) lists
+
+-- each worker was stopped
+abbrev pub AreStopped : List End → Type 0
+AreStopped ends = (end : End) → Contains ends end → end ≡ Stopped
+
+-- nothing is taken
+abbrev pub TookNone : State → Type 0
+TookNone m = (f : Firing) → Taken m f → ⊥
+
+-- the machine took exactly what is published, parks none of it, and is settled
+pub record TookPublished (job : JobParts) (lists : List (List Firing)) (m : State) : Type 0 where
+  pub job_is : m.job ≡ job
+  pub taken : Same (Taken m) (IsPublished lists)
+  pub parked : m.parked ≡ []
+  pub settled : IsSettled m
+
+-- There is a published list and an end for each worker of the plan, and they are those of a worker.
+pub record HaveEnded (may : ℕ → ℕ → Turn → Type 0) (job : JobParts) (plan : FleetPlan) (lists : List (List Firing)) (ends : List End) : Type 0 where
+  pub one_list : length lists ≡ plan.workers
+  pub one_end : length ends ≡ plan.workers
+  pub each : (k : ℕ) → k < plan.workers → HasEnded may job plan.limit plan.rounds (k + 1) (slice_index_or lists k []) (slice_index_or ends k Done)
+
+-- The headline of a fleet, for every gate and every schedule. There is a published list and an end for each
+-- worker. Each list is one run of the job, and has the whole history if its worker is done; a worker is stopped
+-- only if the gate may say so, and is full only if more firings are sound than it may take. Every published firing
+-- is sound. The machine took exactly the published firings. If some worker is done, nothing is ready in the
+-- machine, and its history is whole; and else all workers are stopped.
+pub record IsReport (may : ℕ → ℕ → Turn → Type 0) (job : JobParts) (plan : FleetPlan) (m : State) (lists : List (List Firing)) (ends : List End) : Type 0 where
+  pub ended : HaveEnded may job plan lists ends
+  pub sound : (f : Firing) → IsPublished lists f → IsSound job f
+  pub took : TookPublished job lists m
+  pub done : Contains ends Done → NothingReady m × IsWhole m
+  pub none_done : (Contains ends Done → ⊥) → AreStopped ends

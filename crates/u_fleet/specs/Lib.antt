@@ -1,0 +1,7 @@
+pub mod Fleets
+pub mod Gains
+pub mod Headline
+pub mod Plans
+pub mod Shares
+pub mod Workers
+pub mod Working
