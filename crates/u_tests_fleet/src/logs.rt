@@ -1,0 +1,38 @@
+//! Sound firings, from the logs of machines, and lists of firings.
+ghost use Rattle.std.specs.Prelude.{◌≡◌, All};
+ghost use Rattle.u_outlet.specs.Sound.{IsSound};
+
+use std::alloc::Global;
+use u_machine::Machine;
+use u_outlet::Named;
+use u_plain::worked::put_firings;
+use u_rule::Firing;
+
+/// The first so many firings that the machine applied, or all where there are fewer.
+pub fn front<'a, J: Named>(machine: &'a Machine<'_>, count: usize) -> &'a [Firing]
+    requires { J.job ≡ machine.now.job }
+    ensures { All (IsSound J.job) result.now }
+{
+    machine.holds();
+    let log = machine.applied();
+    &log[..count.min(log.len())]
+}
+
+/// Whether these are the firings of that text, a line each. Want of memory is a no.
+pub fn have_text(alloc: Global, firings: &[Firing], text: &str) -> bool {
+    let mut out = Vec::new(alloc);
+    put_firings(&mut out, firings).is_ok() && out.as_slice() == text.as_bytes()
+}
+
+/// Whether the list begins with the front.
+pub fn begins_with(list: &[Firing], front: &[Firing]) -> bool {
+    if list.len() < front.len() {
+        return false;
+    }
+    for place in 0..front.len() {
+        if list[place].compare(&front[place]).is_ne() {
+            return false;
+        }
+    }
+    true
+}
