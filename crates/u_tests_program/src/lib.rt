@@ -21,6 +21,10 @@ mod program_tests;
 #[cfg(test)]
 mod sets_tests;
 #[cfg(test)]
+mod strict_tests;
+#[cfg(test)]
+mod strict_texts;
+#[cfg(test)]
 mod text_tests;
 #[cfg(test)]
 mod worked_texts;

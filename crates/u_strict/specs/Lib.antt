@@ -1,0 +1,4 @@
+pub mod Arcs
+pub mod Breaches
+pub mod Strict
+pub mod Tables
