@@ -1,0 +1,15 @@
+pub mod Named
+pub mod Clash
+pub mod Checked
+pub mod Givers
+pub mod Same
+pub mod Rooted
+pub mod Senders
+pub mod GuardsTell
+pub mod Loops
+pub mod Sources
+pub mod OnlyWrites
+pub mod RootAnswers
+pub mod Stricter
+pub mod Rounds
+pub mod Theorem
