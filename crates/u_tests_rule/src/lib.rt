@@ -4,6 +4,8 @@
 #[cfg(test)]
 mod derived;
 #[cfg(test)]
+mod determinacy_tests;
+#[cfg(test)]
 mod firing_tests;
 #[cfg(test)]
 mod history_tests;

@@ -1,0 +1,3 @@
+pub mod Flow
+pub mod Meetings
+pub mod Findings
