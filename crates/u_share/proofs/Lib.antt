@@ -1,0 +1,14 @@
+pub mod Pieces
+pub mod Fronts
+pub mod Seen
+pub mod Written
+pub mod Faults
+pub mod Taken
+pub mod Going
+pub mod Ending
+pub mod Heard
+pub mod Printing
+pub mod Turned
+pub mod Fired
+pub mod Quieted
+pub mod Steps

@@ -1,0 +1,10 @@
+//! Why a member reads no more.
+
+/// Why a member reads no more.
+#[derive(Clone, Copy, PartialEq, Eq, Debug)]
+pub enum Ended {
+    /// Nothing is ready.
+    Quiet,
+    /// The input ended.
+    Input,
+}
