@@ -1,10 +1,14 @@
 -- What a new machine that ran says of its job.
-use Rattle.std.proofs.Common.{◌≡◌, ◌∙◌, sym, ap, refl, subst, ℕ, List, [], ◌++◌, append-nil, length, Contains, Result, Ok, Err}
+use Rattle.std.proofs.Common.{◌≡◌, ◌∙◌, sym, ap, refl, subst, inl, inr, ℕ, List, [], ◌++◌, append-nil, length, Contains, Result, Ok, Err}
 use Rattle.std.specs.Prelude.{IfErr}
 use Rattle.std.specs.Result.{IsErrAnd}
 use Rattle.u_check.specs.Jobs.{JobParts}
 use Rattle.u_system.specs.Firing.{Held, Same, Enabled, Cl}
 use Rattle.u_system.proofs.Held.{Enabled-mono}
+use Rattle.u_system.proofs.Plain.{Plain-derivation}
+use Rattle.u_strict.specs.Strict.{IsStrict}
+use Rattle.u_determinate.specs.Determinate.{IsDeterminate}
+use Rattle.u_determinate.specs.Theorem.{IsDeterminateJob}
 use Rattle.u_rule.specs.Rule.{system_of}
 use Rattle.u_rule.specs.EntryOrder.{FiringList}
 use Rattle.u_rule.specs.declared.entry.Entry.{Entry}
@@ -14,7 +18,7 @@ use Rattle.u_machine.specs.declared.answer.Ran.TheVariants as ran
 use Rattle.u_machine.specs.declared.answer.Refusal.{Refusal}
 use Rattle.u_machine.specs.declared.answer.Refusal.TheVariants as refusals
 use Rattle.u_machine.specs.State.{State, Taken, IsMachine, IsSettled, NothingReady, IsReady}
-use Rattle.u_machine.specs.Calls.{RunAnswer}
+use Rattle.u_machine.specs.Calls.{RunAnswer, firing_le}
 use Rattle.u_machine.proofs.States.{settled_is_Cl}
 use Rattle.u_machine.proofs.Runs.{run_done}
 use Rattle.u_history.specs.declared.report.Ending.{Ending}
@@ -85,13 +89,16 @@ module _ (old new : State) (budget : ℕ) (log : old.log ≡ []) (parked : old.p
       record { of = d.0.job; parked = d.0.parked; run = to.0; held = to.1 }
 
 -- and its report
-pub reports_run : (job : JobParts) (budget : ℕ) (end : Ending) (m : State) (report : List ℕ) (status : ℕ) → RanTo job budget end m → ReportsMachine m end report status → ReportsRunOfJob job budget report status
-reports_run job budget end m report status to r =
+pub reports_run : (job : JobParts) (budget : ℕ) (end : Ending) (m : State) (report : List ℕ) (status : ℕ) → (IsDeterminate job.program.blocks → IsDeterminateJob job) → (IsStrict job.program.blocks → IsDeterminateJob job) → RanTo job budget end m → ReportsMachine m end report status → ReportsRunOfJob job budget report status
+reports_run job budget end m report status determinate strict to r =
     record {
       state = end;
       fs = m.log;
       run = record {
         run = to.run;
+        clashes = λ e.
+            let derivation = Plain-derivation (system_of job) firing_le budget m.log to.run.plain in
+            elim e [ inl s ↦ (strict s).runs m.log derivation | inr d ↦ (determinate d).runs m.log derivation ];
         reported = report_same (Contains m.history) (Held (system_of job) m.log) to.held end (length m.log) 0 report (none_parked m end report to.parked r.reported);
         ended = status_same (Contains m.history) (Held (system_of job) m.log) to.held end status r.ended;
       };

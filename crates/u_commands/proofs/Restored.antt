@@ -137,6 +137,8 @@ module _ (job : JobParts) (number life : ℕ) (checkpoint : List ℕ) (ending : 
   restored_refused faults.EntryNotHeld r = r
   restored_refused faults.Full r = fills_checkpoint r
   restored_refused faults.NoMemory r = tt
+  restored_refused faults.NoThread r = r
+  restored_refused faults.NoReader r = r
   restored_refused faults.NotReadable r = r
   restored_refused faults.NotWritten r = r
 

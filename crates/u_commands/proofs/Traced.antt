@@ -72,5 +72,7 @@ module _ (bytes word text : List ℕ) (old : Option (List ℕ)) where
   not_traced faults.EntryNotHeld h = (inr (inr h), kept old)
   not_traced faults.Full h = (inr (inr h), kept old)
   not_traced faults.NoMemory h = (inr (inr h), kept old)
+  not_traced faults.NoThread h = (inr (inr h), kept old)
+  not_traced faults.NoReader h = (inr (inr h), kept old)
   not_traced faults.NotReadable h = (inr (inr h), kept old)
   not_traced faults.NotWritten h = absurd h.so.2

@@ -7,7 +7,7 @@ use Rattle.u_history.specs.declared.outcome.Outcome.{Outcome}
 use Rattle.u_history.specs.declared.report.Ending.{Ending}
 use Rattle.u_history.specs.Clashes.{cell_pairs, port_values}
 use Rattle.u_history.specs.OutcomeParts.{IsOutcomeOf, judged_of}
-use Rattle.u_history.specs.Report.{verdict_line}
+use Rattle.u_history.specs.Report.{state_line, verdict_line}
 use Rattle.u_history.specs.Verdicts.{Judgement}
 use Rattle.u_waits.specs.Answers.{AreWaits}
 use Rattle.u_waits.specs.Text.{waits_text}
@@ -34,9 +34,9 @@ waits_after job budget end m written status to told =
       told = subst (λ (j : JobParts). TellsWaits j (Contains m.history) end written status) to.of told;
     }
 
--- the lines of what waits over a machine's history, and the verdict on it
-pub tells_waits : (m : State) (end : Ending) (es : List Entry) (job : JobParts) (o : Outcome) (w : Waiting) (told judged : Judgement) (none lines written : List ℕ) (status : ℕ) → es ≡ m.history → job ≡ m.job → IsOutcomeOf (Contains es) o → AreWaits job (Contains es) w → told ≡ judged_of o → judged ≡ judged_of o → none ≡ [] → lines ≡ none ++ waits_text w → written ≡ lines ++ verdict_line told → status ≡ status_of end judged → TellsWaits m.job (Contains m.history) end written status
-tells_waits m end es job o w told judged none lines written status same of said exact t j empty l text ended =
+-- the lines of what waits over a machine's history, its state, and the verdict on it
+pub tells_waits : (m : State) (end : Ending) (es : List Entry) (job : JobParts) (o : Outcome) (w : Waiting) (told judged : Judgement) (none lines stated written : List ℕ) (status : ℕ) → es ≡ m.history → job ≡ m.job → IsOutcomeOf (Contains es) o → AreWaits job (Contains es) w → told ≡ judged_of o → judged ≡ judged_of o → none ≡ [] → lines ≡ none ++ waits_text w → stated ≡ lines ++ state_line end → written ≡ stated ++ verdict_line told → status ≡ status_of end judged → TellsWaits m.job (Contains m.history) end written status
+tells_waits m end es job o w told judged none lines stated written status same of said exact t j empty l s text ended =
     record {
       waits = w;
       exact = subst (λ (p : JobParts). AreWaits p (Contains m.history) w) of (subst (λ (xs : List Entry). AreWaits job (Contains xs) w) same exact);
@@ -49,6 +49,6 @@ tells_waits m end es job o w told judged none lines written status same of said 
         outcome = subst (λ (xs : List Entry). IsOutcomeOf (Contains xs) o) same said;
         is = refl;
       };
-      is = text ∙ ap (λ (xs : List ℕ). xs ++ verdict_line told) (l ∙ ap (λ (xs : List ℕ). xs ++ waits_text w) empty) ∙ ap (λ (v : Judgement). waits_text w ++ verdict_line v) t;
+      is = rw (text, s, l, empty, t) (append_assoc (waits_text w) (state_line end) (verdict_line (judged_of o)));
       ended = ended ∙ ap (λ (v : Judgement). status_of end v) j;
     }

@@ -1,5 +1,5 @@
 -- What `check` returns for the bytes of a program.
-use Rattle.std.specs.Prelude.{◌≡◌, ℕ, ◌+◌, List, [], ◌∷◌, ◌++◌, Option, Result, Ok, Err, codes, decimal, length}
+use Rattle.std.specs.Prelude.{◌≡◌, ℕ, ◌+◌, Bool, true, false, List, [], ◌∷◌, ◌++◌, Option, Result, Ok, Err, codes, decimal, length}
 use Rattle.std.specs.Io.KnownBytes.{Keeps}
 use Rattle.u_program.specs.Parts.{BlockParts, ProgramParts}
 use Rattle.u_program.specs.declared.read_error.ReadError.{ReadError}
@@ -8,7 +8,10 @@ use Rattle.u_program.specs.Answer.{IsTextOf}
 use Rattle.u_program.specs.FirstBad.{IsBadLine, IsTooMany, IsTruncated}
 use Rattle.u_check.specs.Rules.{IsChecked, IsFirstBreach}
 use Rattle.u_check.specs.declared.rule.Breach.{Breach}
-use Rattle.u_commands.specs.Outputs.{WritesAll, WritesPrefix}
+use Rattle.u_strict.specs.Breaches.{number_of, IsAnswer}
+use Rattle.u_strict.specs.declared.answer.Strictness.{Strictness}
+use Rattle.u_strict.specs.declared.answer.Strictness.TheVariants.{Strict, Loose}
+use Rattle.u_commands.specs.Outputs.{WritesAll, WritesPrefix, numbered}
 use Rattle.u_commands.specs.declared.command_error.CommandError.{CommandError}
 use Rattle.u_commands.specs.declared.command_error.CommandError.TheVariants as faults
 
@@ -32,11 +35,27 @@ pub record BreaksRule (bytes : List ℕ) (breach : Breach) : Type 0 where
   pub text : IsTextOf bytes program
   pub first : IsFirstBreach program.blocks breach.rule breach.block breach.statement
 
--- the line of some program with this text, which breaks no rule
-pub record Checks (bytes line : List ℕ) : Type 0 where
+-- `strict`, or `not strict rule R block B at A`
+unfoldable pub strictness_line : Strictness → List ℕ
+strictness_line Strict = codes "strict\n"
+strictness_line (Loose rule block at) =
+    numbered (codes "not strict rule ") (number_of rule)
+    ++ (numbered (codes " block ") block ++ (numbered (codes " at ") at ++ (10 ∷ [])))
+
+-- behind the old bytes stands, if it is asked for, the line of what holds of the program
+abbrev pub TellsStrictness : List BlockParts → Bool → List ℕ → List ℕ → Type 0
+TellsStrictness p false old new = new ≡ old
+TellsStrictness p true old new = (s : Strictness) × IsAnswer p s × (new ≡ old ++ strictness_line s)
+
+-- the lines that tell of a program which breaks no rule of the checker
+abbrev pub ChecksProgram : List BlockParts → Bool → List ℕ → Type 0
+ChecksProgram p strict lines = TellsStrictness p strict (checked_line p) lines
+
+-- those of some program with this text
+pub record Checks (bytes : List ℕ) (strict : Bool) (lines : List ℕ) : Type 0 where
   pub program : ProgramParts
   pub is : IsCheckedOf bytes program
-  pub line_is : line ≡ checked_line program.blocks
+  pub lines_are : ChecksProgram program.blocks strict lines
 
 -- why there is no checked program
 abbrev pub CheckRefused : List ℕ → CommandError → Type 0
@@ -48,15 +67,15 @@ CheckRefused bytes faults.NoMemory = Unit {0}
 CheckRefused bytes fault = ⊥
 
 -- what stands before and after, for each answer
-abbrev pub CheckTextAnswer : List ℕ → Option (List ℕ) → Result ℕ CommandError → Option (List ℕ) → Type 0
-CheckTextAnswer bytes old (Ok status) new = (status ≡ 0) × ((line : List ℕ) × Checks bytes line × WritesAll old new line)
-CheckTextAnswer bytes old (Err (faults.LineNotAllowed n)) new = IsBadLine bytes n × Keeps old new
-CheckTextAnswer bytes old (Err (faults.TooMany n)) new = IsTooMany bytes n × Keeps old new
-CheckTextAnswer bytes old (Err faults.CutShort) new = IsTruncated bytes × Keeps old new
-CheckTextAnswer bytes old (Err (faults.Rule breach)) new = BreaksRule bytes breach × Keeps old new
-CheckTextAnswer bytes old (Err faults.NoMemory) new = Keeps old new
-CheckTextAnswer bytes old (Err faults.NotWritten) new = (line : List ℕ) × Checks bytes line × WritesPrefix old new line
-CheckTextAnswer bytes old (Err fault) new = ⊥
+abbrev pub CheckTextAnswer : List ℕ → Bool → Option (List ℕ) → Result ℕ CommandError → Option (List ℕ) → Type 0
+CheckTextAnswer bytes strict old (Ok status) new = (status ≡ 0) × ((lines : List ℕ) × Checks bytes strict lines × WritesAll old new lines)
+CheckTextAnswer bytes strict old (Err (faults.LineNotAllowed n)) new = IsBadLine bytes n × Keeps old new
+CheckTextAnswer bytes strict old (Err (faults.TooMany n)) new = IsTooMany bytes n × Keeps old new
+CheckTextAnswer bytes strict old (Err faults.CutShort) new = IsTruncated bytes × Keeps old new
+CheckTextAnswer bytes strict old (Err (faults.Rule breach)) new = BreaksRule bytes breach × Keeps old new
+CheckTextAnswer bytes strict old (Err faults.NoMemory) new = Keeps old new
+CheckTextAnswer bytes strict old (Err faults.NotWritten) new = (lines : List ℕ) × Checks bytes strict lines × WritesPrefix old new lines
+CheckTextAnswer bytes strict old (Err fault) new = ⊥
 
 abbrev pub error_of : ReadError → CommandError
 error_of (read_errors.BadLine n) = faults.LineNotAllowed n

@@ -1,5 +1,5 @@
 -- What `run` answers to the bytes of a program and the word of an argument.
-use Rattle.std.specs.Prelude.{◌≡◌, ℕ, List, [], ◌++◌, Option, Result, Ok, Err, Contains, length, ℤ}
+use Rattle.std.specs.Prelude.{◌≡◌, ℕ, List, [], ◌++◌, ◌⊎◌, Option, Result, Ok, Err, Contains, length, ℤ}
 use Rattle.std.specs.Io.KnownBytes.{Keeps}
 use Rattle.u_program.specs.Parts.{ProgramParts}
 use Rattle.u_program.specs.Answer.{IsTextOf}
@@ -17,6 +17,9 @@ use Rattle.u_machine.specs.Calls.{firing_le, RunAnswer}
 use Rattle.u_machine.specs.declared.answer.Ran.{Ran}
 use Rattle.u_machine.specs.declared.answer.Ran.TheVariants as ran
 use Rattle.u_machine.specs.declared.answer.Refusal.TheVariants as refusals
+use Rattle.u_strict.specs.Strict.{IsStrict}
+use Rattle.u_determinate.specs.Determinate.{IsDeterminate}
+use Rattle.u_determinate.specs.Theorem.{OnlyWritesClash}
 use Rattle.u_history.specs.declared.report.Ending.{Ending}
 use Rattle.u_history.specs.declared.report.Ending.TheVariants as states
 use Rattle.u_history.specs.Outcomes.{IsOutcome, CellPairs, PortValues}
@@ -73,9 +76,15 @@ pub record RanTo (job : JobParts) (firings : ℕ) (state : Ending) (m : State) :
   pub run : RunsTo job firings state m.log
   pub held : Same (Contains m.history) (Held (system_of job) m.log)
 
+-- if the program is strict or determinate, fs holds two values at a port, or two answers, only with two writes of one cell
+abbrev pub ClashesByWrites : JobParts → List Firing → Type 0
+ClashesByWrites job fs =
+    (IsStrict job.program.blocks ⊎ IsDeterminate job.program.blocks) → OnlyWritesClash (Held (system_of job) fs)
+
 -- The report and the status of such a run: those of what fs holds; no firing is parked.
 pub record IsReportedRun (job : JobParts) (firings : ℕ) (state : Ending) (fs : List Firing) (report : List ℕ) (status : ℕ) : Type 0 where
   pub run : RunsTo job firings state fs
+  pub clashes : ClashesByWrites job fs
   pub reported : IsReportOf (Held (system_of job) fs) state (length fs) 0 report
   pub ended : IsStatusOf (Held (system_of job) fs) state status
 

@@ -21,6 +21,8 @@ status_of_error (faults.EntryNotAllowed n) = 2
 status_of_error faults.EntryNotHeld = 3
 status_of_error faults.Full = 4
 status_of_error faults.NoMemory = 5
+status_of_error faults.NoThread = 5
+status_of_error faults.NoReader = 5
 status_of_error faults.NotReadable = 5
 status_of_error faults.NotWritten = 5
 

@@ -11,7 +11,7 @@ use Rattle.u_rule.specs.declared.firing.Firing.{Firing}
 use Rattle.u_history.specs.declared.report.Ending.{Ending}
 use Rattle.u_history.specs.Outcomes.{IsOutcome, CellPairs, PortValues}
 use Rattle.u_history.specs.Verdicts.{Judgement, judged}
-use Rattle.u_history.specs.Report.{verdict_line}
+use Rattle.u_history.specs.Report.{state_line, verdict_line}
 use Rattle.u_waits.specs.Answers.{AreWaits}
 use Rattle.u_waits.specs.Text.{waits_text}
 use Rattle.u_waits.specs.declared.answer.Waiting.{Waiting}
@@ -31,13 +31,13 @@ pub record IsVerdictOn (H : Entry → Type 0) (verdict : Judgement) : Type 0 whe
   pub outcome : IsOutcome H answers cells ports faults
   pub is : verdict ≡ judged answers cells ports faults
 
--- The lines of what waits over H, and behind them the verdict on H. The status is that of the verdict.
+-- The lines of what waits over H, and behind them the state and the verdict on H. The status is that of both.
 pub record TellsWaits (job : JobParts) (H : Entry → Type 0) (state : Ending) (written : List ℕ) (status : ℕ) : Type 0 where
   pub waits : Waiting
   pub exact : AreWaits job H waits
   pub verdict : Judgement
   pub judged : IsVerdictOn H verdict
-  pub is : written ≡ waits_text waits ++ verdict_line verdict
+  pub is : written ≡ waits_text waits ++ (state_line state ++ verdict_line verdict)
   pub ended : status ≡ status_of state verdict
 
 -- the same of the history that the plain run of a job holds, with so many firings at most

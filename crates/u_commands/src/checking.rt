@@ -1,14 +1,17 @@
 //! The command `check`.
 ghost use Rattle.std.specs.Prelude.{◌≡◌, ◌≤◌, ◌*◌, ◌+◌, ◌++◌, IfOk, IfErr, MatchResult, length};
 ghost use Rattle.u_program.specs.Limits.{IsProgram, the_limits};
+ghost use Rattle.u_strict.specs.Breaches.{IsAnswer};
 ghost use Rattle.u_commands.specs.Checks.{statements_of, checked_line, IsCheckedOf, CheckRefused, CheckTextAnswer, error_of};
+ghost use Rattle.u_commands.specs.Checks.{strictness_line, TellsStrictness, ChecksProgram};
 
 use crate::command_error::CommandError;
-use crate::output::write_whole;
+use crate::output::{push_numbered, write_whole};
 use std::alloc::{AllocError, Global};
 use std::io::Write;
 use u_check::{Checked, check};
 use u_program::{Block, Program, ReadError, read};
+use u_strict::{Strictness, strictness};
 use u_text::push_long;
 
 /// The fault that is told of a program's text.
@@ -63,22 +66,69 @@ fn checked_line(alloc: Global, program: &Program) -> Result<Vec<u8>, AllocError>
     Ok(line)
 }
 
+/// Appends the line that says whether a program is strict, or the first place where it is not.
+#[tactic(auto, unfolding(crate::specs::Checks::strictness_line), using(crate::proofs::Waited::join4))]
+fn push_strictness(lines: &mut Vec<u8>, strictness: Strictness) -> Result<(), AllocError>
+    ensures { IfOk result (λ u. lines.new.items ≡ lines.old.items ++ strictness_line strictness) }
+{
+    match strictness {
+        Strictness::Strict => lines.extend_from_slice(b"strict\n")?,
+        Strictness::Loose { rule, block, at } => {
+            push_numbered(lines, b"not strict rule ", u64::from(rule.number()))?;
+            push_numbered(lines, b" block ", block as u64)?;
+            push_numbered(lines, b" at ", at as u64)?;
+            lines.push(b'\n')?;
+        }
+    }
+    Ok(())
+}
+
+/// Appends that line, if it is asked for.
+fn tell_strictness(
+    lines: &mut Vec<u8>,
+    checked: &Checked,
+    alloc: Global,
+    asked: bool,
+) -> Result<(), AllocError>
+    ensures { IfOk result
+        (λ u. TellsStrictness checked.now.blocks asked lines.old.items lines.new.items) }
+{
+    if asked {
+        let strictness = strictness(alloc, checked)?;
+        push_strictness(lines, strictness)?;
+    }
+    Ok(())
+}
+
+/// All lines that tell of a checked program.
+fn checked_lines(alloc: Global, checked: &Checked, strict: bool) -> Result<Vec<u8>, AllocError>
+    ensures { IfOk result (λ v. ChecksProgram checked.now.blocks strict v.items) }
+{
+    let mut lines = checked_line(alloc, checked.program())?;
+    tell_strictness(&mut lines, checked, alloc, strict)?;
+    Ok(lines)
+}
+
 /// Checks the program with this text and writes the line `checked BLOCKS STATEMENTS`: how many
-/// blocks it has, and how many statements all blocks have together. Answers the exit status, 0.
+/// blocks it has, and how many statements all blocks have together. If `strict` is asked for, a second
+/// line says `strict`, or `not strict rule R block B at A`, the first place where the program is not.
+/// Returns the exit status, 0.
 ///
 /// # Errors
 /// A fault of the program's text or of the checker, in that order, or want of memory: nothing is
-/// written. `NotWritten`: a prefix of the line is written.
+/// written. `NotWritten`: a prefix of the lines is written.
 pub fn check_text<W: Write>(
     alloc: Global,
     program: &[u8],
+    strict: bool,
     writer: &mut W,
 ) -> Result<u8, CommandError>
-    ensures { CheckTextAnswer program.now (W.contents writer.old) result (W.contents writer.new) }
+    ensures { CheckTextAnswer program.now strict (W.contents writer.old) result
+        (W.contents writer.new) }
 {
     let checked = checked_of(alloc, program)?;
-    let line = checked_line(alloc, checked.program())?;
-    match write_whole(writer, &line) {
+    let lines = checked_lines(alloc, &checked, strict)?;
+    match write_whole(writer, &lines) {
         Ok(()) => Ok(0),
         Err(_) => Err(CommandError::NotWritten),
     }

@@ -48,6 +48,12 @@ pub enum CommandError {
     /// There is no memory.
     #[error("no memory")]
     NoMemory,
+    /// The runtime made no thread.
+    #[error("no thread")]
+    NoThread,
+    /// A published log had no place for one more reader.
+    #[error("no reader")]
+    NoReader,
     /// The input could not be read.
     #[error("not readable")]
     NotReadable,
@@ -68,8 +74,7 @@ impl From<AllocError> for CommandError {
 
 impl CommandError {
     /// The exit status: 2 where a text is refused, 3 where an entry is not held, 4 where there is no
-    /// room for more firings, 5 where
-    /// the machine's surroundings fail.
+    /// room for more firings, 5 where the machine's surroundings fail.
     pub fn status(&self) -> u8
         ensures { result ≡ status_of_error self.now }
     {
@@ -86,7 +91,11 @@ impl CommandError {
             | CommandError::EntryNotAllowed(_) => 2,
             CommandError::EntryNotHeld => 3,
             CommandError::Full => 4,
-            CommandError::NoMemory | CommandError::NotReadable | CommandError::NotWritten => 5,
+            CommandError::NoMemory
+            | CommandError::NoThread
+            | CommandError::NoReader
+            | CommandError::NotReadable
+            | CommandError::NotWritten => 5,
         }
     }
 }

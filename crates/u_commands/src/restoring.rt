@@ -6,7 +6,7 @@ ghost use Rattle.u_commands.specs.Restores.{most_taken, fault_of, ending_line, R
 
 use crate::command_error::CommandError;
 use crate::output::{joined, write_whole};
-use crate::run::{FIRING_LIMIT, ending_of, job_of, told};
+use crate::run::{FIRING_LIMIT, ending_of, job_of, report_of};
 use std::alloc::Global;
 use std::io::Write;
 use u_check::Job;
@@ -76,7 +76,7 @@ pub fn run_behind(
         Ok(ran) => ending_of(ran),
         Err(refusal) => return Err(fault_of(refusal)),
     };
-    let (report, status) = told(alloc, replica.machine(), state)?;
+    let (report, status) = report_of(alloc, replica.machine(), state)?;
     let written = joined(alloc, front, &report)?;
     Ok((written, status))
 }

@@ -16,6 +16,7 @@ use crate::output::write_whole;
 use std::alloc::{AllocError, Global};
 use std::io::Write;
 use u_check::Job;
+use u_determinate::only_writes_clash;
 use u_history::{Counts, Ending, Verdict, report_text};
 use u_machine::{Machine, Ran, Refusal};
 
@@ -74,7 +75,7 @@ fn counts(machine: &Machine<'_>) -> Counts
 }
 
 /// The report of a machine, and the exit status.
-pub(crate) fn told(
+pub fn report_of(
     alloc: Global,
     machine: &Machine<'_>,
     state: Ending,
@@ -127,13 +128,16 @@ fn run_job(alloc: Global, job: &Job, firings: usize) -> Result<(Vec<u8>, u8), Co
     ensures memory { IfErr result (λ e. e ≡ faults.NoMemory) }
 {
     let (machine, state) = ran(alloc, job, firings)?;
-    let told = told(alloc, &machine, state)?;
+    // Brings in what clashes there are if the program is strict or determinate.
+    only_writes_clash(job);
+    let told = report_of(alloc, &machine, state)?;
     Ok(told)
 }
 
 /// Runs the program with this text on the argument that the word gives, with so many firings at
 /// most, and writes the report. Answers the exit status: 0 for a quiet report with one answer, 3 for
-/// another quiet report, 4 for a paused one.
+/// another quiet report, 4 for a paused one. If the program is strict or determinate, a report without a
+/// `cell` line has no `port` line, and one `answer` line at most.
 ///
 /// # Errors
 /// A fault of the program's text, of the checker or of the argument, in that order, or want of

@@ -1,5 +1,6 @@
 //! The command `waits`.
 ghost use Rattle.std.specs.Prelude.{◌≡◌, ◌≤◌, Contains, IfOk, IfErr};
+ghost use Rattle.u_history.specs.Report.{state_line};
 ghost use Rattle.u_commands.specs.Waits.{TellsWaits, WaitsAfterRun, WaitsTextAnswer};
 ghost use Rattle.u_commands.specs.declared.command_error.CommandError.TheVariants as faults;
 
@@ -13,7 +14,18 @@ use u_history::Ending;
 use u_machine::Machine;
 use u_waits::waits;
 
-/// What the machine waits for, the verdict on its history, and the exit status.
+/// The line of a report that names its state.
+#[tactic(auto, unfolding(u_history::specs::Report::state_line))]
+fn state_line(state: Ending) -> &'static [u8]
+    ensures { result.now ≡ state_line state }
+{
+    match state {
+        Ending::Quiet => b"state quiet\n",
+        Ending::Paused => b"state paused\n",
+    }
+}
+
+/// What the machine waits for, its state, the verdict on its history, and the exit status.
 fn told(alloc: Global, machine: &Machine<'_>, state: Ending) -> Result<(Vec<u8>, u8), AllocError>
     ensures { IfOk result (λ p. TellsWaits machine.now.job (Contains machine.now.history) state
         p.0.items p.1) }
@@ -22,6 +34,7 @@ fn told(alloc: Global, machine: &Machine<'_>, state: Ending) -> Result<(Vec<u8>,
     let waits = waits(alloc, machine.job(), machine.history())?;
     let mut text = Vec::new(alloc);
     waits.write_text(&mut text)?;
+    text.extend_from_slice(state_line(state))?;
     outcome.verdict().write_text(&mut text)?;
     Ok((text, status(state, outcome.verdict())))
 }
@@ -39,8 +52,8 @@ fn waits_job(alloc: Global, job: &Job, firings: usize) -> Result<(Vec<u8>, u8), 
 
 /// Runs the program with this text on the argument that the word gives, with so many firings at
 /// most, and writes what waits then: a line for each activity that has a token at some port and lacks
-/// one at another, a line for each read of a cell that has no write, and the verdict of the run's
-/// report. Returns the exit status, that of `run_text`.
+/// one at another, a line for each read of a cell that has no write, and the state and the verdict of
+/// the run's report. Returns the exit status, that of `run_text`.
 ///
 /// # Errors
 /// As `run_text`. `NotWritten`: a prefix is written.

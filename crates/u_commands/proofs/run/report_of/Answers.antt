@@ -5,7 +5,7 @@ use Rattle.u_history.specs.Clashes.{cell_pairs, port_values}
 use Rattle.u_history.specs.OutcomeParts.{IsOutcomeOf}
 use Rattle.u_history.specs.Verdicts.{Judgement}
 use Rattle.u_commands.specs.Statuses.{status_of}
-use Rattle.u_commands.proofs.run.told.Goals as goal
+use Rattle.u_commands.proofs.run.report_of.Goals as goal
 
 pub returns : goal.returns
 returns c =
