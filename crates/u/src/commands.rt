@@ -1,13 +1,15 @@
 //! What each command does: it reads FILE, or standard input at the word `stdin`, and writes to standard
 //! output. Each returns the exit status.
 ghost use Rattle.std.specs.Prelude.{◌≤◌};
-ghost use Rattle.u_words.specs.Numbers.{IsReplicas};
+ghost use Rattle.u_words.specs.Numbers.{IsOneToEight};
 
 use std::io::Read;
+use std::sync::Wait;
+use std::thread::Threads;
 use std::{fs, io};
 use u_cli::{
-    CommandError, STORED_PROGRAM, check_text, explain_text, read_input, restore_text, run_text,
-    save_text, trace_text, waits_text, world_text,
+    CommandError, STORED_PROGRAM, check_text, explain_text, fleet_text, read_input, restore_text,
+    run_text, save_text, trace_text, waits_text, world_text,
 };
 
 /// The argument of the stored run, and how often it may fire.
@@ -27,10 +29,10 @@ pub fn stored(rt: &HostRuntime) -> Result<u8, CommandError> {
     )
 }
 
-/// `check FILE`.
-pub fn check(rt: &HostRuntime, file: &str) -> Result<u8, CommandError> {
+/// `check FILE`, and whether the program is strict, if that is asked for.
+pub fn check(rt: &HostRuntime, file: &str, strict: bool) -> Result<u8, CommandError> {
     let program = read_file(rt, file)?;
-    check_text(rt.alloc(), &program, &mut io::writer(rt))
+    check_text(rt.alloc(), &program, strict, &mut io::writer(rt))
 }
 
 /// `explain FILE`. Where FILE can't be read, its path and the system's own words for the cause stand
@@ -138,7 +140,7 @@ pub fn world(
     seed: u64,
     events: usize,
 ) -> Result<u8, CommandError>
-    requires { IsReplicas replicas }
+    requires { IsOneToEight replicas }
 {
     let program = read_file(rt, file)?;
     let mut out = io::writer(rt);
@@ -150,6 +152,32 @@ pub fn world(
         replicas,
         seed,
         events,
+        &mut out,
+    )
+}
+
+/// `fleet FILE ARG`, with 1 to 8 workers, each a thread from `threads`, and so many rounds for each.
+pub fn fleet<T: Threads + Wait + Sync>(
+    rt: &HostRuntime,
+    threads: &T,
+    file: &str,
+    argument: &str,
+    workers: u8,
+    rounds: u32,
+) -> Result<u8, CommandError>
+    requires workers { IsOneToEight workers }
+    requires rounds { rounds ≤ 1000 }
+{
+    let program = read_file(rt, file)?;
+    let mut out = io::writer(rt);
+    let argument = argument.as_bytes();
+    fleet_text(
+        threads,
+        rt.alloc(),
+        &program,
+        argument,
+        workers,
+        rounds,
         &mut out,
     )
 }

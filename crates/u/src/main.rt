@@ -9,14 +9,16 @@ mod commands;
 use std::alloc::Global;
 use std::io;
 use std::process::ExitCode;
+use std::sync::Wait;
+use std::thread::Threads;
 use u_cli::CommandError;
-use u_words::{Request, not_text, parse};
+use u_words::{Request, below_zero, not_text, parse};
 
 /// The exit status of a command line that is not allowed.
 const USAGE: u8 = 1;
 
 fn main(rt: HostRuntime) -> ExitCode {
-    match answer(&rt) {
+    match answer(&rt, &rt) {
         Ok(status) => ExitCode::from(status),
         Err(fault) => {
             let _ = eprintln!(rt; "u: {fault}");
@@ -25,8 +27,8 @@ fn main(rt: HostRuntime) -> ExitCode {
     }
 }
 
-/// Does what the command line asks for. The answer is the exit status.
-fn answer(rt: &HostRuntime) -> Result<u8, CommandError> {
+/// Does what the command line asks for. Returns the exit status. A fleet has its threads from `threads`.
+fn answer<T: Threads + Wait + Sync>(rt: &HostRuntime, threads: &T) -> Result<u8, CommandError> {
     let alloc: Global = rt.alloc();
     let words = match arguments(rt) {
         Ok(words) => words,
@@ -37,33 +39,54 @@ fn answer(rt: &HostRuntime) -> Result<u8, CommandError> {
         Err(Missing::NoMemory) => return Err(CommandError::NoMemory),
     };
     match parse(alloc, words.as_slice()) {
-        Ok(request) => follow(rt, request),
-        Err(error) => {
-            let unknown = error.kind() == clap::error::ErrorKind::UnknownArgument;
-            let status = show(rt, error)?;
-            if unknown && words.iter().any(|word| is_below_zero(word.as_str())) {
-                let _ = eprintln!(rt; "\n  tip: a number below zero is written with n: n1 is -1");
-            }
-            Ok(status)
-        }
+        Ok(request) => follow(rt, threads, request),
+        Err(error) => show_mistake(rt, words.as_slice(), error),
     }
 }
 
-/// Whether a word is a minus with a digit behind it.
-fn is_below_zero(word: &str) -> bool {
-    match word.as_bytes() {
-        [b'-', digit, ..] => digit.is_ascii_digit(),
-        _ => false,
+/// Prints a mistake in the words, or help or the version. A number with a minus is told apart from other
+/// words that look like an option.
+fn show_mistake(
+    rt: &HostRuntime,
+    words: &[String],
+    error: clap::Error,
+) -> Result<u8, CommandError> {
+    let number = match error.kind() {
+        clap::error::ErrorKind::UnknownArgument => number_below_zero(words),
+        _ => None,
+    };
+    match number {
+        Some(word) => match below_zero(rt.alloc(), word) {
+            Ok(mistake) => show(rt, mistake),
+            Err(_) => Err(CommandError::NoMemory),
+        },
+        None => show(rt, error),
     }
+}
+
+/// The first word that is a minus with a digit behind it.
+fn number_below_zero(words: &[String]) -> Option<&str> {
+    for word in words {
+        if let [b'-', digit, ..] = word.as_bytes() {
+            if digit.is_ascii_digit() {
+                return Some(word.as_str());
+            }
+        }
+    }
+    None
 }
 
 /// Does what is asked for with the files and the words of the request.
-fn follow(rt: &HostRuntime, request: Request<'_>) -> Result<u8, CommandError>
+fn follow<T: Threads + Wait + Sync>(
+    rt: &HostRuntime,
+    threads: &T,
+    request: Request<'_>,
+) -> Result<u8, CommandError>
     requires { IsInRange request }
 {
     match request {
         Request::Stored => commands::stored(rt),
-        Request::Check { file } => commands::check(rt, file),
+        Request::Check { file, strict } => commands::check(rt, file, strict),
         Request::Explain { file } => commands::explain(rt, file),
         Request::Run {
             file,
@@ -97,6 +120,12 @@ fn follow(rt: &HostRuntime, request: Request<'_>) -> Result<u8, CommandError>
             seed,
             events,
         } => commands::world(rt, file, argument, replicas, seed, events),
+        Request::Fleet {
+            file,
+            argument,
+            workers,
+            rounds,
+        } => commands::fleet(rt, threads, file, argument, workers, rounds),
     }
 }
 

@@ -116,6 +116,8 @@ ends_refused w first g (faults.EntryNotAllowed n) r = r
 ends_refused w first g faults.EntryNotHeld r = r
 ends_refused w first g faults.Full r = inr (first, g, (r.0, r.2))
 ends_refused w first g faults.NoMemory r = tt
+ends_refused w first g faults.NoThread r = r
+ends_refused w first g faults.NoReader r = r
 ends_refused w first g faults.NotReadable r = r
 ends_refused w first g faults.NotWritten r = r
 
@@ -135,5 +137,7 @@ module _ (bytes word : List ℕ) (n seed count : ℕ) (old : Option (List ℕ)) 
   not_told faults.EntryNotHeld h = (inr h, kept old)
   not_told faults.Full h = (inr h, kept old)
   not_told faults.NoMemory h = (inr h, kept old)
+  not_told faults.NoThread h = (inr h, kept old)
+  not_told faults.NoReader h = (inr h, kept old)
   not_told faults.NotReadable h = (inr h, kept old)
   not_told faults.NotWritten h = absurd h.so

@@ -1,1 +1,2 @@
+pub mod AllDone
 pub mod Gathering

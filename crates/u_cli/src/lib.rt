@@ -1,10 +1,12 @@
 //! What the program does, over bytes: the texts that come in, and the bytes and the status that go out.
-//! The commands of one machine are those of `u_commands`, which this crate passes on; the command of
-//! replicas stands here.
+//! The commands of one machine are those of `u_commands`, which this crate passes on; the commands
+//! of several replicas, in a world and in threads, stand here.
 #![tactic(auto)]
 
+mod fleets;
 mod worlds;
 
+pub use fleets::{FLEET_BUDGET, FLEET_FIRINGS, fleet_text};
 pub use u_commands::{
     CommandError, FIRING_LIMIT, INPUT_LIMIT, RESTORED_FIRINGS, STORED_PROGRAM, Unwritten,
     argument_of, check_text, explain_text, read_input, restore_text, run_text, save_text,

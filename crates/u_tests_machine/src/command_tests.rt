@@ -67,7 +67,7 @@ fn reports(alloc: Global, run: &Run) -> bool {
 /// Whether a check of the program writes this line.
 fn checks(alloc: Global, program: &[u8], line: &[u8]) -> bool {
     let mut out = Vec::new(alloc);
-    check_text(alloc, program, &mut out) == Ok(0) && out.as_slice() == line
+    check_text(alloc, program, false, &mut out) == Ok(0) && out.as_slice() == line
 }
 
 #[test]
@@ -118,7 +118,7 @@ fn tells_of_a_run(alloc: Global, count: usize) -> bool {
 /// The same of a check.
 fn tells_of_a_check(alloc: Global, count: usize) -> bool {
     let mut torn = Torn { left: count };
-    let told = check_text(alloc, STORED_PROGRAM, &mut torn);
+    let told = check_text(alloc, STORED_PROGRAM, false, &mut torn);
     is_told(&told, &torn)
 }
 
@@ -267,6 +267,8 @@ const FAULTS: &[(CommandError, &str, u8)] = &[
     (CommandError::EntryNotHeld, "entry not held", 3),
     (CommandError::Full, "full", 4),
     (CommandError::NoMemory, "no memory", 5),
+    (CommandError::NoThread, "no thread", 5),
+    (CommandError::NoReader, "no reader", 5),
     (CommandError::NotReadable, "not readable", 5),
     (CommandError::NotWritten, "not written", 5),
 ];

@@ -10,6 +10,6 @@ IsFirings n = (1 ≤ n) × (n ≤ 1000000)
 abbrev pub IsNumberText : ℕ → List ℕ → Type 0
 IsNumberText n word = word ≡ decimal n
 
--- how many replicas a world has
-abbrev pub IsReplicas : ℕ → Type 0
-IsReplicas n = (1 ≤ n) × (n ≤ 8)
+-- how many replicas a world has, or workers a fleet: from one to eight
+abbrev pub IsOneToEight : ℕ → Type 0
+IsOneToEight n = (1 ≤ n) × (n ≤ 8)

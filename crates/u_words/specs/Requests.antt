@@ -1,23 +1,25 @@
 -- The asks for of a command line.
-use Rattle.std.specs.Prelude.{◌≡◌, ℕ, ◌≤◌, List, [], Option, Some, None, codes}
+use Rattle.std.specs.Prelude.{◌≡◌, ◌↔◌, ℕ, ◌≤◌, Bool, true, List, [], Option, Some, None, codes}
 use Rattle.clap.specs.Words.{first_value}
 use Rattle.clap.specs.declared.parser.matches.Found.{Found}
 use Rattle.u_words.specs.declared.words.Request.{Request}
-use Rattle.u_words.specs.declared.words.Request.TheVariants.{Stored, Check, Explain, Run, Save, Restore, Trace, Waits, World}
-use Rattle.u_words.specs.Numbers.{IsFirings, IsReplicas, IsNumberText}
+use Rattle.u_words.specs.declared.words.Request.TheVariants.{Stored, Check, Explain, Run, Save, Restore, Trace, Waits, World, Fleet}
+use Rattle.u_words.specs.Numbers.{IsFirings, IsOneToEight, IsNumberText}
 
 -- the numbers of a request are in their ranges: what runs may fire from one to a million times,
--- and a world has one to eight replicas and at most a hundred thousand events
+-- a world has one to eight replicas and at most a hundred thousand events, and a fleet one to eight
+-- workers with at most a thousand rounds
 abbrev pub IsInRange : Request → Type 0
 IsInRange Stored = Unit {0}
-IsInRange (Check file) = Unit {0}
+IsInRange (Check file strict) = Unit {0}
 IsInRange (Explain file) = Unit {0}
 IsInRange (Run file argument firings) = IsFirings firings
 IsInRange (Save file argument firings) = IsFirings firings
 IsInRange (Restore file argument checkpoint) = Unit {0}
 IsInRange (Trace file argument entry) = Unit {0}
 IsInRange (Waits file argument firings) = IsFirings firings
-IsInRange (World file argument replicas seed events) = IsReplicas replicas × (events ≤ 100000)
+IsInRange (World file argument replicas seed events) = IsOneToEight replicas × (events ≤ 100000)
+IsInRange (Fleet file argument workers rounds) = IsOneToEight workers × (rounds ≤ 1000)
 
 abbrev pub text_or_none : Option (List ℕ) → List ℕ
 text_or_none None = []
@@ -27,9 +29,14 @@ text_or_none (Some text) = text
 abbrev pub word_of : Found → List ℕ → List ℕ
 word_of found name = text_or_none (first_value found name)
 
--- a check, with the word that was found for it
+-- an option without a value is chosen, or is not
+abbrev pub IsFlag : Bool → List ℕ → Type 0
+IsFlag chosen word = (chosen ≡ true) ↔ (word ≡ codes "true")
+
+-- a check, with the words that were found for it
 abbrev pub IsCheckRequest : Found → Request → Type 0
-IsCheckRequest found (Check file) = file.now ≡ word_of found (codes "FILE")
+IsCheckRequest found (Check file strict) =
+    (file.now ≡ word_of found (codes "FILE")) × IsFlag strict (word_of found (codes "strict"))
 IsCheckRequest found request = ⊥
 
 -- an explanation, with the word that was found for it
@@ -81,9 +88,20 @@ abbrev pub IsWorldRequest : Found → Request → Type 0
 IsWorldRequest found (World file argument replicas seed events) =
     (file.now ≡ word_of found (codes "FILE"))
     × (argument.now ≡ word_of found (codes "ARG"))
-    × IsReplicas replicas
+    × IsOneToEight replicas
     × IsNumberText replicas (word_of found (codes "replicas"))
     × IsNumberText seed (word_of found (codes "seed"))
     × (events ≤ 100000)
     × IsNumberText events (word_of found (codes "events"))
 IsWorldRequest found request = ⊥
+
+-- a fleet, with the words that were found for it
+abbrev pub IsFleetRequest : Found → Request → Type 0
+IsFleetRequest found (Fleet file argument workers rounds) =
+    (file.now ≡ word_of found (codes "FILE"))
+    × (argument.now ≡ word_of found (codes "ARG"))
+    × IsOneToEight workers
+    × IsNumberText workers (word_of found (codes "workers"))
+    × (rounds ≤ 1000)
+    × IsNumberText rounds (word_of found (codes "rounds"))
+IsFleetRequest found request = ⊥

@@ -5,4 +5,4 @@ mod number;
 mod words;
 
 pub use number::{firings_of, number_of};
-pub use words::{Request, not_text, parse};
+pub use words::{Request, below_zero, not_text, parse};

@@ -2,8 +2,8 @@
 ghost use Rattle.std.specs.Prelude.{◌≡◌, IfOk, IfSome, codes};
 ghost use Rattle.clap.specs.Words.{found_of};
 ghost use Rattle.u_words.specs.Requests.{IsInRange, IsCheckRequest, IsRunRequest, IsSaveRequest, IsRestoreRequest, IsTraceRequest, IsWorldRequest, word_of};
-ghost use Rattle.u_words.specs.Requests.{IsExplainRequest, IsWaitsRequest};
-ghost use Rattle.u_words.specs.Numbers.{IsFirings, IsReplicas, IsNumberText};
+ghost use Rattle.u_words.specs.Requests.{IsExplainRequest, IsWaitsRequest, IsFleetRequest, IsFlag};
+ghost use Rattle.u_words.specs.Numbers.{IsFirings, IsOneToEight, IsNumberText};
 
 use crate::number::{firings_of, number_of};
 use clap::error::ErrorKind;
@@ -34,6 +34,12 @@ const TRACE: &str = "trace";
 /// The word of the command that lets events happen between replicas.
 const WORLD: &str = "world";
 
+/// The word of the command that runs a fleet.
+const FLEET: &str = "fleet";
+
+/// The most rounds of a worker.
+const MOST_ROUNDS: u64 = 1_000;
+
 /// What stands below the help of the program: the exit statuses, and an example.
 const STATUSES: &str = "Exit status:
   0  an answer, or all that was asked for
@@ -50,9 +56,10 @@ Example: ./u run programs/double.u 4";
 pub enum Request<'a> {
     /// There is no word: the stored run.
     Stored,
-    /// `check FILE`.
+    /// `check FILE`: whether the program is strict, only if `strict` asks for it.
     Check {
         file: &'a str,
+        strict: bool,
     },
     /// `explain FILE`.
     Explain {
@@ -96,6 +103,13 @@ pub enum Request<'a> {
         seed: u64,
         events: usize,
     },
+    /// `fleet FILE ARG`: 1 to 8 workers, and at most 1000 rounds for each.
+    Fleet {
+        file: &'a str,
+        argument: &'a str,
+        workers: u8,
+        rounds: u32,
+    },
 }
 
 /// The request in the words of a command line, the first of which is the program's name. The error
@@ -114,6 +128,7 @@ pub fn parse<'a>(alloc: Global, words: &'a [String]) -> Result<Request<'a>, Erro
         Some((name, trace)) if name == TRACE => Ok(trace_request(trace)),
         Some((name, waits)) if name == WAITS => waits_request(alloc, waits),
         Some((name, world)) if name == WORLD => world_request(alloc, world),
+        Some((name, fleet)) if name == FLEET => fleet_request(alloc, fleet),
         Some((_, run)) => run_request(alloc, run),
     }
 }
@@ -126,12 +141,22 @@ pub fn not_text(alloc: Global) -> Result<Error, AllocError> {
     )
 }
 
+/// The mistake that the word is a number with a minus, which is taken for an option.
+pub fn below_zero(alloc: Global, word: &str) -> Result<Error, AllocError> {
+    let message = format!(in alloc;
+        "unexpected argument '{word}' found: a number below zero is written with n: n1 is -1"
+    )?;
+    told(commands(alloc), message.as_str())
+}
+
 /// The words of `check`.
 fn check_request<'a>(matches: &ArgMatches<'a>) -> Request<'a>
     ensures { IsCheckRequest (found_of matches.now) result }
 {
-    let file = text(matches, "FILE");
-    Request::Check { file }
+    Request::Check {
+        file: text(matches, "FILE"),
+        strict: flag(matches, "strict"),
+    }
 }
 
 /// The words of `explain`.
@@ -211,7 +236,7 @@ fn waits_request<'a>(alloc: Global, matches: &ArgMatches<'a>) -> Result<Request<
 fn world_request<'a>(alloc: Global, matches: &ArgMatches<'a>) -> Result<Request<'a>, Error>
     ensures { IfOk result (λ o. IsWorldRequest (found_of matches.now) o) }
 {
-    let Some(replicas) = replicas(matches) else {
+    let Some(replicas) = one_to_eight(matches, "replicas") else {
         return Err(other_spelling(alloc, world(alloc, "u world"), matches, "replicas", "K")?);
     };
     let Some(seed) = number_of(text(matches, "seed"), u64::MAX) else {
@@ -229,12 +254,30 @@ fn world_request<'a>(alloc: Global, matches: &ArgMatches<'a>) -> Result<Request<
     })
 }
 
-/// The number of replicas, from 1 to 8.
-fn replicas(matches: &ArgMatches<'_>) -> Option<u8>
-    ensures { IfSome result (λ n. IsReplicas n
-        × IsNumberText n (word_of (found_of matches.now) (codes "replicas"))) }
+/// The words of `fleet`.
+fn fleet_request<'a>(alloc: Global, matches: &ArgMatches<'a>) -> Result<Request<'a>, Error>
+    ensures { IfOk result (λ o. IsFleetRequest (found_of matches.now) o) }
 {
-    match number_of(text(matches, "replicas"), 9) {
+    let Some(workers) = one_to_eight(matches, "workers") else {
+        return Err(other_spelling(alloc, fleet(alloc, "u fleet"), matches, "workers", "N")?);
+    };
+    let Some(rounds) = number_of(text(matches, "rounds"), MOST_ROUNDS) else {
+        return Err(other_spelling(alloc, fleet(alloc, "u fleet"), matches, "rounds", "R")?);
+    };
+    Ok(Request::Fleet {
+        file: text(matches, "FILE"),
+        argument: text(matches, "ARG"),
+        workers,
+        rounds: rounds as u32,
+    })
+}
+
+/// The number from 1 to 8 that an option has.
+fn one_to_eight(matches: &ArgMatches<'_>, option: &str) -> Option<u8>
+    ensures { IfSome result (λ n. IsOneToEight n
+        × IsNumberText n (word_of (found_of matches.now) option.now)) }
+{
+    match number_of(text(matches, option), 9) {
         Some(number) if 1 <= number && number <= 8 => Some(number as u8),
         _ => None,
     }
@@ -261,6 +304,13 @@ fn other_spelling(
         "invalid value '{word}' for '--{option} <{value}>': a number has no sign and no leading zero"
     )?;
     told(command, message.as_str())
+}
+
+/// Whether the option stands in the words.
+fn flag(matches: &ArgMatches<'_>, name: &str) -> bool
+    ensures { IsFlag result (word_of (found_of matches.now) name.now) }
+{
+    text(matches, name) == "true"
 }
 
 fn text<'a>(matches: &ArgMatches<'a>, name: &str) -> &'a str
@@ -292,7 +342,8 @@ fn commands<'a>(alloc: Global) -> Result<Command<'a>, AllocError> {
     let all = with(all, restore(alloc))?;
     let all = with(all, trace(alloc))?;
     let all = with(all, waits(alloc, WAITS))?;
-    with(all, world(alloc, WORLD))
+    let all = with(all, world(alloc, WORLD))?;
+    with(all, fleet(alloc, FLEET))
 }
 
 /// The command with one more below it.
@@ -333,8 +384,14 @@ fn check<'a>(alloc: Global) -> Result<Command<'a>, AllocError> {
         alloc,
         CHECK,
         "Checks the program and prints how many blocks and statements it has",
-        "Example: ./u check programs/double.u",
-    )
+        "Example: ./u check programs/double.u --strict",
+    )?
+    .arg(choice(alloc, "strict").help("Say also whether the program is strict, or where it is not"))
+}
+
+/// An option that takes no value.
+fn choice<'a>(alloc: Global, name: &'a str) -> Arg<'a> {
+    Arg::new(alloc, name).long(name).action(ArgAction::SetTrue)
 }
 
 fn explain<'a>(alloc: Global) -> Result<Command<'a>, AllocError> {
@@ -406,6 +463,37 @@ fn world<'a>(alloc: Global, name: &'a str) -> Result<Command<'a>, AllocError> {
     .arg(number_of_replicas(alloc))?
     .arg(seed(alloc))?
     .arg(number_of_events(alloc))
+}
+
+fn fleet<'a>(alloc: Global, name: &'a str) -> Result<Command<'a>, AllocError> {
+    of_run(
+        alloc,
+        name,
+        "Runs the program on several threads that publish what they fire, and prints the report",
+        "Example: ./u fleet programs/sum.u 3 --workers 4 --rounds 8",
+    )?
+    .arg(number_of_workers(alloc))?
+    .arg(number_of_rounds(alloc))
+}
+
+fn number_of_workers<'a>(alloc: Global) -> Arg<'a> {
+    Arg::new(alloc, "workers")
+        .long("workers")
+        .value_name("N")
+        .help("How many workers, from 1 to 8")
+        .action(ArgAction::Set)
+        .default_value("2")
+        .value_parser(value_parser!(u32).range(1..=8))
+}
+
+fn number_of_rounds<'a>(alloc: Global) -> Arg<'a> {
+    Arg::new(alloc, "rounds")
+        .long("rounds")
+        .value_name("R")
+        .help("How many rounds of a worker, at most 1000, before it fires all that is left")
+        .action(ArgAction::Set)
+        .default_value("8")
+        .value_parser(value_parser!(u32).range(0..=1000))
 }
 
 fn number_of_replicas<'a>(alloc: Global) -> Arg<'a> {

@@ -1,0 +1,84 @@
+-- A fleet whose gate lets each worker go on: none is stopped, so some worker is done, and the report is whole.
+use Rattle.std.specs.Prelude.{◌≡◌, ℕ, zero, suc, ◌≤◌, ◌<◌, ◌⊎◌, List, [], ◌∷◌, length, Contains, slice_index_or, Option, Err, refl}
+use Rattle.std.proofs.Common.{inl, inr, subst, sym, arith, ap, ◌∙◌}
+use Rattle.u_system.proofs.Member.{Contains-nil, Contains-head, Contains-tail, Contains-cons_cases}
+use Rattle.u_check.specs.Jobs.{JobParts}
+use Rattle.u_rule.specs.declared.firing.Firing.{Firing}
+use Rattle.u_machine.specs.State.{State, NothingReady}
+use Rattle.u_machine.specs.Headline.{IsWhole}
+use Rattle.u_history.specs.declared.report.Ending.TheVariants.{Quiet}
+use Rattle.u_fleet.specs.Headline.{IsReport, AreStopped}
+use Rattle.u_fleet.specs.Workers.{EndsWith}
+use Rattle.u_fleet.specs.declared.plan.End.{End}
+use Rattle.u_fleet.specs.declared.plan.End.TheVariants.{Done, Stopped, Full, NoMemory}
+use Rattle.u_commands.specs.Runs.{ReportsMachine}
+use Rattle.u_commands.specs.Restores.{HasJob}
+use Rattle.u_commands.specs.declared.command_error.CommandError.{CommandError}
+use Rattle.u_commands.specs.declared.command_error.CommandError.TheVariants as faults
+use Rattle.u_commands.proofs.Known.{kept}
+use Rattle.u_cli.specs.Fleets.{fleet_plan, goes, TellsFleet, FleetRefused, FleetTextAnswer}
+
+-- what is so of the later ones is so of all, where the first is not done
+behind : (end : End) (ends : List End) → (end ≡ Done → ⊥) → Contains ends Done ⊎ (Contains ends Done → ⊥) → Contains (end ∷ ends) Done ⊎ (Contains (end ∷ ends) Done → ⊥)
+behind end ends other later =
+    elim later [
+      | inl c ↦ inl (Contains-tail end Done ends c)
+      | inr n ↦ inr (λ c. elim (Contains-cons_cases end Done ends c) [ inl e ↦ other e | inr d ↦ n d ])
+    ]
+
+-- some worker is done, or none is
+some_done : (ends : List End) → Contains ends Done ⊎ (Contains ends Done → ⊥)
+some_done [] = inr (Contains-nil Done)
+some_done (Done ∷ ends) = inl (Contains-head Done ends)
+some_done (Stopped ∷ ends) = behind Stopped ends (λ e. absurd (cc)) (some_done ends)
+some_done (Full ∷ ends) = behind Full ends (λ e. absurd (cc)) (some_done ends)
+some_done (NoMemory ∷ ends) = behind NoMemory ends (λ e. absurd (cc)) (some_done ends)
+
+-- the first worker is stopped, where all are
+first_stopped : (ends : List End) (workers : ℕ) → 1 ≤ workers → length ends ≡ workers → AreStopped ends → slice_index_or ends 0 Done ≡ Stopped
+first_stopped [] workers low count all = absurd (omega (arith, low, count))
+first_stopped (end ∷ ends) workers low count all = all end (Contains-head end ends)
+
+-- no worker is stopped by a gate that lets each go on
+not_stopped : (job : JobParts) (limit rounds worker : ℕ) (fs : List Firing) (end : End) → EndsWith goes job limit rounds worker fs end → end ≡ Stopped → ⊥
+not_stopped job limit rounds worker fs Done e s = absurd (cc)
+not_stopped job limit rounds worker fs Stopped e s = let t = e.2 in absurd (cc)
+not_stopped job limit rounds worker fs Full e s = absurd (cc)
+not_stopped job limit rounds worker fs NoMemory e s = absurd (cc)
+
+module _ (job : JobParts) (workers rounds : ℕ) (low : 1 ≤ workers) (m : State) (lists : List (List Firing)) (ends : List End) (r : IsReport goes job (fleet_plan workers rounds) m lists ends) where
+  done : Contains ends Done
+  done =
+      elim (some_done ends) [
+        | inl c ↦ c
+        | inr n ↦
+            let first = r.ended.each 0 low in
+            absurd (not_stopped job 100000 rounds 1 (slice_index_or lists 0 []) (slice_index_or ends 0 Done) first.ends (first_stopped ends workers low r.ended.one_end (r.none_done n)))
+      ]
+
+  -- so the report is that of the whole history
+  pub tells_fleet : (report : List ℕ) (status : ℕ) → ReportsMachine m Quiet report status → TellsFleet job workers rounds report status
+  tells_fleet report status reported =
+      let whole = r.done done in
+      record { machine = m; published = lists; ends = ends; fleet = r; ready = whole.0; whole = whole.1; reported = reported }
+
+-- nothing is written where nothing is told of the fleet of a job
+module _ (bytes word : List ℕ) (workers rounds : ℕ) (old : Option (List ℕ)) where
+  pub fleet_not_told : (fault : CommandError) → HasJob bytes word (λ job. FleetRefused job fault) → FleetTextAnswer bytes word workers rounds old (Err fault) old
+  fleet_not_told (faults.LineNotAllowed n) h = (inr h, kept old)
+  fleet_not_told (faults.TooMany n) h = (inr h, kept old)
+  fleet_not_told faults.CutShort h = (inr h, kept old)
+  fleet_not_told (faults.Rule b) h = (inr h, kept old)
+  fleet_not_told faults.ArgumentNotAllowed h = (inr h, kept old)
+  fleet_not_told faults.InputTooLong h = (inr h, kept old)
+  fleet_not_told (faults.CheckpointLineNotAllowed n) h = (inr h, kept old)
+  fleet_not_told (faults.CheckpointLineTooLong n) h = (inr h, kept old)
+  fleet_not_told (faults.OtherFiring n) h = (inr h, kept old)
+  fleet_not_told (faults.EntryNotAllowed n) h = (inr h, kept old)
+  fleet_not_told faults.EntryNotHeld h = (inr h, kept old)
+  fleet_not_told faults.Full h = (inr h, kept old)
+  fleet_not_told faults.NoMemory h = (inr h, kept old)
+  fleet_not_told faults.NoThread h = (inr h, kept old)
+  fleet_not_told faults.NoReader h = (inr h, kept old)
+  fleet_not_told faults.NotReadable h = (inr h, kept old)
+  fleet_not_told faults.NotWritten h = absurd h.so
