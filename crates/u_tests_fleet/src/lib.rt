@@ -13,6 +13,8 @@ mod fleets;
 #[cfg(test)]
 mod gate_tests;
 #[cfg(test)]
+mod gates;
+#[cfg(test)]
 mod gather_tests;
 #[cfg(test)]
 mod logs;
