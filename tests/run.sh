@@ -299,15 +299,9 @@ for file in tests/explain/*.u; do
     fi
 done
 
-# The example of docs/LIBRARY.md is part of a program that the gate runs.
-if sed -n '/^```rust$/,/^```$/p' docs/LIBRARY.md | sed '1d;$d' |
-    cmp -s -- - <(sed -n '/^\/\/\/ How many firings a short sum/,/^\/\/\/ Has the machine .* prints/p' \
-        crates/u_bench/src/main.rt | sed '$d' | sed '$d'); then
-    passed=$((passed + 1))
-else
-    failed=$((failed + 1))
-    echo 'FAILED: the example of docs/LIBRARY.md is not that of u_bench'
-fi
+# The example of docs/LIBRARY.md is a program that the gate runs.
+expect_same 'the example of docs/LIBRARY.md is u_example' "$(cat crates/u_example/src/main.rt)" \
+    "$(sed -n '/^```rust$/,/^```$/p' docs/LIBRARY.md | sed '1d;$d')"
 
 echo "$passed passed, $failed failed"
 [ "$failed" -eq 0 ]
