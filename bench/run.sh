@@ -25,6 +25,10 @@
 # Worlds: on the sum of 100, with 1,015 firings, 2, 4 and 8 replicas live through 1,000 and 10,000 random
 # events of one seed. A row says the seconds and the greatest memory.
 #
+# Fleets: the sum of 9998 and the nested loops of 146 on fleets of 1, 2, 4 and 8 workers, the best of three
+# by the clock, beside a run of the same. A row says the seconds, how many times as long as the run a
+# fleet took, and the greatest memory. A fleet of four may take six times as long and ten times the memory.
+#
 # Where `rt` is on PATH, it then builds `u_bench` and times firings of a long sum that a machine takes
 # last one first, of which a hundred thousand may take three times as long as running them.
 set -u
@@ -247,6 +251,35 @@ timed_world() {
     fi
 }
 
+# The greatest memory of one run of the command in KiB, or 0 where it is not measured.
+most_memory() {
+    if [ -x /usr/bin/time ]; then
+        /usr/bin/time -q -f %M -o "$temp/memory" "$binary" "$@" >"$temp/out"
+        cat -- "$temp/memory"
+    else
+        echo 0
+    fi
+}
+
+# Times a program on an argument, run alone and by fleets.
+timed_fleets() {
+    local program=$1 argument=$2 running memory workers most
+    timed_command run "$program" "$argument"
+    running=$spent
+    memory=$(most_memory run "$program" "$argument")
+    for workers in 1 2 4 8; do
+        timed_command fleet "$program" "$argument" --workers "$workers"
+        most=$(most_memory fleet "$program" "$argument" --workers "$workers")
+        printf '%12s %10s %8s %8s %8s %10s\n' "$(basename -- "$program" .u) $argument" "$workers" \
+            "$(seconds "$running")" "$(seconds "$spent")" \
+            "$(awk -v a="$spent" -v b="$running" 'BEGIN { printf "%.2f", a / b }')" "$most"
+        if [ "$workers" -eq 4 ] && { [ "$spent" -gt $((running * 6)) ] || [ "$most" -gt $((memory * 10)) ]; }; then
+            echo "a fleet of $workers for $program took more than 6 times a run, or 10 times its memory" >&2
+            failed=1
+        fi
+    done
+}
+
 hashing
 printf '%12s %10s %8s %8s %10s\n' 'run of' firings seconds hashings KiB
 timed_firings "$top/programs/sum.u" 9998 100000 96 90000
@@ -270,6 +303,10 @@ printf '%12s %10s %8s %10s\n' replicas events seconds KiB
 for events in 1000 10000; do
     for replicas in 2 4 8; do timed_world "$replicas" "$events"; done
 done
+
+printf '%12s %10s %8s %8s %8s %10s\n' 'fleet for' workers run seconds times KiB
+timed_fleets "$top/programs/sum.u" 9998
+timed_fleets "$top/programs/nested.u" 146
 
 # Each call fires 15 times where it makes two others, and 5 times where it makes none; 5 firings are there
 # without it.
