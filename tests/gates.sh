@@ -1,7 +1,7 @@
 #!/usr/bin/env bash
 # Tries the tests of u_tests_fleet on wrong bodies of u_fleet that no contract refuses: tests/gates/TEST/NAME.edit
 # is a change of u_fleet, of the form of the edits in crates/u_fleet/must-fail, with which TEST has to fail.
-# Without a change each TEST has to pass. It runs the sources by `rt try`, some three minutes for each change,
+# Without a change each TEST has to pass. It runs the sources by `rt try`, some five minutes for each change,
 # and is no part of the gate. The last line is 'N passed, M failed'.
 set -u
 export LC_ALL=C
