@@ -7,3 +7,5 @@ pub mod PickLaws
 pub mod CauseLaws
 pub mod PutLaws
 pub mod Entries
+pub mod HoldingLaws
+pub mod BlameLaws

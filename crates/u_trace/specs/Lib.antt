@@ -4,3 +4,5 @@ pub mod Answers
 pub mod Places
 pub mod Givers
 pub mod Marks
+pub mod Holding
+pub mod Blames

@@ -11,7 +11,7 @@ use u_rule::{Entry, Firing, gives};
 
 /// The entries that a firing of the job gives. The caller's firing is one of the job, so want of
 /// memory is the one refusal that comes.
-fn given_by(alloc: Global, job: &Job, firing: &Firing) -> Result<Vec<Entry>, AllocError>
+pub(crate) fn given_by(alloc: Global, job: &Job, firing: &Firing) -> Result<Vec<Entry>, AllocError>
     ensures { IfOk result (λ v. v.items ≡ (system_of job.now).gives firing.now) }
 {
     match gives(alloc, job, firing) {

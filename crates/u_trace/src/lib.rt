@@ -8,14 +8,23 @@
 //! allows. Both questions and the choice of the first giver are this project's.
 #![tactic(auto)]
 
+mod blame_error;
+mod blamed;
+mod blaming;
 mod causing;
+mod finding;
 mod givers;
+mod holding;
+mod joining;
 mod marks;
 mod picking;
 mod places;
 mod telling;
 mod trace_error;
 
+pub use blame_error::BlameError;
+pub use blamed::{Blame, BlamedWrite};
+pub use blaming::blame;
 pub use causing::causes;
 pub use telling::story;
 pub use trace_error::TraceError;

@@ -33,7 +33,7 @@ fn is_known(job: &Job, givers: &Places<Entry>, entry: &Entry) -> bool
 ///
 /// # Errors
 /// `AllocError` where there is no memory.
-fn told(
+pub(crate) fn told(
     alloc: Global,
     job: &Job,
     log: &[Firing],

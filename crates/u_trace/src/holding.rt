@@ -1,0 +1,51 @@
+//! What firings hold.
+ghost use Rattle.std.specs.Prelude.{IfOk, OnOk, Contains};
+ghost use Rattle.u_rule.specs.Rule.{system_of};
+ghost use Rattle.u_sets.specs.Members.{IsUnion};
+ghost use Rattle.u_system.specs.Firing.{Held, Same};
+ghost use Rattle.u_trace.specs.Holding.{GainsGiven};
+
+use crate::givers::given_by;
+use std::alloc::{AllocError, Global};
+use u_check::Job;
+use u_history::History;
+use u_rule::{Entry, Firing, start};
+
+/// Puts copies of the entries in.
+fn put_entries(held: &mut History, entries: &[Entry]) -> Result<(), AllocError>
+    ensures { OnOk result (IsUnion held.old entries.now held.new) }
+{
+    for entry in entries {
+        let _ = held.insert(entry.copy()?)?;
+    }
+    Ok(())
+}
+
+/// Puts what the firings give in.
+fn put_given(
+    alloc: Global,
+    job: &Job,
+    firings: &[Firing],
+    held: &mut History,
+) -> Result<(), AllocError>
+    ensures { OnOk result (GainsGiven (system_of job.now) held.old firings.now held.new) }
+{
+    for firing in firings {
+        let given = given_by(alloc, job, firing)?;
+        put_entries(held, &given)?;
+    }
+    Ok(())
+}
+
+/// What the firings hold: the start token of the job, and all that they give.
+///
+/// # Errors
+/// `AllocError` where there is no memory.
+pub(crate) fn held_by(alloc: Global, job: &Job, firings: &[Firing]) -> Result<History, AllocError>
+    ensures { IfOk result (λ h. Same (Contains h) (Held (system_of job.now) firings.now)) }
+{
+    let mut held = History::new(alloc);
+    let _ = held.insert(start(job))?;
+    put_given(alloc, job, firings, &mut held)?;
+    Ok(held)
+}
