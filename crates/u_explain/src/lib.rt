@@ -1,4 +1,4 @@
-//! Why a program is refused, told to people.
+//! Why a program is refused, or is not strict or not determinate, told to people.
 //!
 //! `explain` tells of the bytes of a program's text why they are refused: the line with its number,
 //! a mark under the byte from which on no allowed line goes on, what was expected there, what
@@ -7,9 +7,16 @@
 //! some line of a sort, and `text_place` and `scanning` which sorts may stand where. `expected` says
 //! what may stand behind a front, and `telling_expected`, `accidents`, `line_causes`,
 //! `rule_sentences`, `rule_causes` and `telling_breach` have the sentences.
+//!
+//! `explain_meeting` tells of a program that is allowed and not determinate what meets where, and
+//! `explain_loose` of one that is not strict which rule of strict programs it breaks, and how. `arcs`
+//! finds the destinations that lead to a port, `rounds` what goes round within a turn, and
+//! `tests_of_loops` what a `next` or a `last` depends on; `telling_meeting`, `telling_loose` and
+//! `telling_sources` have the sentences.
 #![tactic(auto)]
 
 mod accidents;
+mod arcs;
 mod breaking;
 mod expected;
 mod explaining;
@@ -17,17 +24,26 @@ mod fronts;
 mod line_causes;
 mod lines;
 mod lists;
+mod rounds;
 mod rule_causes;
 mod rule_sentences;
 mod scanning;
 mod source;
+mod spot;
 mod telling;
 mod telling_breach;
 mod telling_expected;
+mod telling_loose;
+mod telling_meeting;
+mod telling_sources;
+mod tests_of_loops;
 mod text_place;
 mod words;
+mod words_of_kinds;
 
 pub use explaining::explain;
 pub use line_causes::Refused;
 pub use lines::refused_at;
+pub use telling_loose::explain_loose;
+pub use telling_meeting::explain_meeting;
 pub use text_place::{TextPlace, line_left};

@@ -2,6 +2,7 @@
 use crate::breaking::{Sent, unfed_port};
 use crate::scanning::Part;
 use crate::telling::{Piece, say, tell};
+use crate::words_of_kinds::{article_of, behind_arrow, push_statement};
 use std::alloc::AllocError;
 use u_check::{Rule, held_by, ports_of, statement_at};
 use u_program::{Block, Constant, Kind, Statement, kind_word};
@@ -17,14 +18,6 @@ pub struct Breaking<'a> {
     pub statement: &'a Statement,
     /// The destination that breaks the rule, where one does.
     pub sent: Option<Sent>,
-}
-
-/// The article before the word of a kind, with its space.
-fn article_of(kind: &Kind) -> &'static str {
-    match kind_word(kind).first() {
-        Some(b'a' | b'e') => "an ",
-        _ => "a ",
-    }
 }
 
 /// The words for a region: `region 0`, or `loop 2`.
@@ -59,24 +52,6 @@ fn push_count(out: &mut Vec<u8>, count: usize, what: &str) -> Result<(), AllocEr
         say(out, "s")?;
     }
     Ok(())
-}
-
-/// `statement 2, an add,` for the statement of that number.
-fn push_statement(
-    out: &mut Vec<u8>,
-    number: usize,
-    statement: &Statement,
-) -> Result<(), AllocError> {
-    tell(
-        out,
-        &[
-            Piece::Words("statement "),
-            Piece::Number(number),
-            Piece::Words(", "),
-            Piece::Words(article_of(statement.kind())),
-            Piece::Quoted(kind_word(statement.kind())),
-        ],
-    )
 }
 
 /// Rule 3.
@@ -432,12 +407,8 @@ pub fn tell_breach(out: &mut Vec<u8>, rule: Rule, it: &Breaking<'_>) -> Result<(
 
 /// The index of the word of the statement's line under which the mark stands.
 pub fn marked_word(rule: Rule, it: &Breaking<'_>) -> usize {
-    let arrow = match it.statement.kind() {
-        Kind::Const(_) | Kind::Enter(_) | Kind::Apply(_) => 4,
-        _ => 3,
-    };
     if let Some(sent) = &it.sent {
-        return sent.words.saturating_add(arrow + 1);
+        return sent.words.saturating_add(behind_arrow(it.statement.kind()));
     }
     match rule {
         Rule::RegionExists | Rule::LoopStatementsInLoops | Rule::EndInOuterRegion => 1,

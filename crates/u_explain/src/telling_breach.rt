@@ -15,7 +15,10 @@ use u_program::Block;
 const LISTED: usize = 8;
 
 /// Shows a line of a block, with a mark under the word of that index.
-fn show_part(
+///
+/// # Errors
+/// `AllocError` where there is no memory.
+pub fn show_part(
     out: &mut Vec<u8>,
     bytes: &[u8],
     block: usize,
@@ -88,8 +91,11 @@ fn tell_same_name(
     )
 }
 
-/// The line in which the block begins.
-fn tell_block(
+/// Appends the line in which the block begins.
+///
+/// # Errors
+/// `AllocError` where there is no memory.
+pub fn tell_block(
     out: &mut Vec<u8>,
     bytes: &[u8],
     number: usize,
