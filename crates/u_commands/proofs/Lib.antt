@@ -5,4 +5,6 @@ pub mod ArgumentLaws
 pub mod Saved
 pub mod Restored
 pub mod Traced
+pub mod Blamed
 pub mod Waited
+pub mod Explained

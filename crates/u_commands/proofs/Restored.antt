@@ -135,6 +135,9 @@ module _ (job : JobParts) (number life : ℕ) (checkpoint : List ℕ) (ending : 
   restored_refused (faults.OtherFiring n) r = absurd r
   restored_refused (faults.EntryNotAllowed n) r = r
   restored_refused faults.EntryNotHeld r = r
+  restored_refused (faults.NameNotAllowed n) r = r
+  restored_refused faults.NameTooDeep r = r
+  restored_refused faults.PortNotClashed r = r
   restored_refused faults.Full r = fills_checkpoint r
   restored_refused faults.NoMemory r = tt
   restored_refused faults.NoThread r = r

@@ -19,6 +19,9 @@ use Rattle.u_commands.specs.Waits.{TellsWaits, WaitsAfterRun}
 pub join2 : (o a b n1 n2 : List ℕ) → n1 ≡ o ++ a → n2 ≡ n1 ++ b → n2 ≡ o ++ (a ++ b)
 join2 o a b n1 n2 p q = rw (q, p) (append_assoc o a b)
 
+pub join3 : (o a b c w n1 n2 n3 : List ℕ) → n1 ≡ o ++ a → n2 ≡ n1 ++ b → w ≡ c → n3 ≡ n2 ++ w → n3 ≡ o ++ (a ++ (b ++ c))
+join3 o a b c w n1 n2 n3 p q is r = rw (r, is, q, p) (simp append_assoc)
+
 pub join4 : (o a b c d n1 n2 n3 n4 : List ℕ) → n1 ≡ o ++ a → n2 ≡ n1 ++ b → n3 ≡ n2 ++ c → n4 ≡ n3 ++ d → n4 ≡ o ++ (a ++ (b ++ (c ++ d)))
 join4 o a b c d n1 n2 n3 n4 p q r s = rw (s, r, q, p) (simp append_assoc)
 

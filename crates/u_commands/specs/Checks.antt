@@ -11,7 +11,13 @@ use Rattle.u_check.specs.declared.rule.Breach.{Breach}
 use Rattle.u_strict.specs.Breaches.{number_of, IsAnswer}
 use Rattle.u_strict.specs.declared.answer.Strictness.{Strictness}
 use Rattle.u_strict.specs.declared.answer.Strictness.TheVariants.{Strict, Loose}
+use Rattle.u_guards.specs.Meetings as meetings
+use Rattle.u_guards.specs.declared.verdict.Determinacy.{Determinacy}
+use Rattle.u_guards.specs.declared.verdict.Determinacy.TheVariants.{Determinate, Meets}
+use Rattle.u_guards.specs.declared.verdict.Meeting.{Meeting}
+use Rattle.u_guards.specs.declared.verdict.Meeting.TheVariants.{Arcs, Ends, Calls, Turns}
 use Rattle.u_commands.specs.Outputs.{WritesAll, WritesPrefix, numbered}
+use Rattle.u_commands.specs.declared.checking.Asked.{Asked}
 use Rattle.u_commands.specs.declared.command_error.CommandError.{CommandError}
 use Rattle.u_commands.specs.declared.command_error.CommandError.TheVariants as faults
 
@@ -47,15 +53,38 @@ abbrev pub TellsStrictness : List BlockParts → Bool → List ℕ → List ℕ 
 TellsStrictness p false old new = new ≡ old
 TellsStrictness p true old new = (s : Strictness) × IsAnswer p s × (new ≡ old ++ strictness_line s)
 
--- the lines that tell of a program which breaks no rule of the checker
-abbrev pub ChecksProgram : List BlockParts → Bool → List ℕ → Type 0
-ChecksProgram p strict lines = TellsStrictness p strict (checked_line p) lines
+-- what meets at a place
+abbrev pub meeting_words : Meeting → List ℕ
+meeting_words Arcs = codes " two arcs\n"
+meeting_words Ends = codes " two ends\n"
+meeting_words Calls = codes " two applies\n"
+meeting_words Turns = codes " next and last\n"
+
+-- `determinate`, or `not determinate block B at A WHAT`
+unfoldable pub determinacy_line : Determinacy → List ℕ
+determinacy_line Determinate = codes "determinate\n"
+determinacy_line (Meets place) =
+    numbered (codes "not determinate block ") place.block
+    ++ (numbered (codes " at ") place.at ++ meeting_words place.meeting)
+
+-- behind the old bytes stands, if it is asked for, the line of whether the program is determinate
+abbrev pub TellsDeterminacy : List BlockParts → Bool → List ℕ → List ℕ → Type 0
+TellsDeterminacy p false old new = new ≡ old
+TellsDeterminacy p true old new =
+    (d : Determinacy) × meetings.IsAnswer p d × (new ≡ old ++ determinacy_line d)
+
+-- The lines that tell of a program which breaks no rule of the checker: how large it is, and behind
+-- that what is asked for, whether it is strict before whether it is determinate.
+pub record ChecksProgram (p : List BlockParts) (asked : Asked) (lines : List ℕ) : Type 0 where
+  pub middle : List ℕ
+  pub strict : TellsStrictness p asked.strict (checked_line p) middle
+  pub determinate : TellsDeterminacy p asked.determinate middle lines
 
 -- those of some program with this text
-pub record Checks (bytes : List ℕ) (strict : Bool) (lines : List ℕ) : Type 0 where
+pub record Checks (bytes : List ℕ) (asked : Asked) (lines : List ℕ) : Type 0 where
   pub program : ProgramParts
   pub is : IsCheckedOf bytes program
-  pub lines_are : ChecksProgram program.blocks strict lines
+  pub lines_are : ChecksProgram program.blocks asked lines
 
 -- why there is no checked program
 abbrev pub CheckRefused : List ℕ → CommandError → Type 0
@@ -67,15 +96,15 @@ CheckRefused bytes faults.NoMemory = Unit {0}
 CheckRefused bytes fault = ⊥
 
 -- what stands before and after, for each answer
-abbrev pub CheckTextAnswer : List ℕ → Bool → Option (List ℕ) → Result ℕ CommandError → Option (List ℕ) → Type 0
-CheckTextAnswer bytes strict old (Ok status) new = (status ≡ 0) × ((lines : List ℕ) × Checks bytes strict lines × WritesAll old new lines)
-CheckTextAnswer bytes strict old (Err (faults.LineNotAllowed n)) new = IsBadLine bytes n × Keeps old new
-CheckTextAnswer bytes strict old (Err (faults.TooMany n)) new = IsTooMany bytes n × Keeps old new
-CheckTextAnswer bytes strict old (Err faults.CutShort) new = IsTruncated bytes × Keeps old new
-CheckTextAnswer bytes strict old (Err (faults.Rule breach)) new = BreaksRule bytes breach × Keeps old new
-CheckTextAnswer bytes strict old (Err faults.NoMemory) new = Keeps old new
-CheckTextAnswer bytes strict old (Err faults.NotWritten) new = (lines : List ℕ) × Checks bytes strict lines × WritesPrefix old new lines
-CheckTextAnswer bytes strict old (Err fault) new = ⊥
+abbrev pub CheckTextAnswer : List ℕ → Asked → Option (List ℕ) → Result ℕ CommandError → Option (List ℕ) → Type 0
+CheckTextAnswer bytes asked old (Ok status) new = (status ≡ 0) × ((lines : List ℕ) × Checks bytes asked lines × WritesAll old new lines)
+CheckTextAnswer bytes asked old (Err (faults.LineNotAllowed n)) new = IsBadLine bytes n × Keeps old new
+CheckTextAnswer bytes asked old (Err (faults.TooMany n)) new = IsTooMany bytes n × Keeps old new
+CheckTextAnswer bytes asked old (Err faults.CutShort) new = IsTruncated bytes × Keeps old new
+CheckTextAnswer bytes asked old (Err (faults.Rule breach)) new = BreaksRule bytes breach × Keeps old new
+CheckTextAnswer bytes asked old (Err faults.NoMemory) new = Keeps old new
+CheckTextAnswer bytes asked old (Err faults.NotWritten) new = (lines : List ℕ) × Checks bytes asked lines × WritesPrefix old new lines
+CheckTextAnswer bytes asked old (Err fault) new = ⊥
 
 abbrev pub error_of : ReadError → CommandError
 error_of (read_errors.BadLine n) = faults.LineNotAllowed n

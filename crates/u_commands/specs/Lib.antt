@@ -8,4 +8,5 @@ pub mod Runs
 pub mod Saves
 pub mod Restores
 pub mod Traces
+pub mod Blaming
 pub mod Waits

@@ -6,7 +6,7 @@ use Rattle.u_history.specs.Verdicts.{Judgement, says_clashed, says_faulted, says
 use Rattle.u_commands.specs.declared.command_error.CommandError.{CommandError}
 use Rattle.u_commands.specs.declared.command_error.CommandError.TheVariants as faults
 
--- 2 where a text is refused, 3 where an entry is not held, 4 where there is no room for more firings, 5 where the surroundings fail
+-- 2 where a text is refused, 3 where an entry is not held or a port has fewer than two values, 4 where there is no room for more firings, 5 where the surroundings fail
 abbrev pub status_of_error : CommandError → ℕ
 status_of_error (faults.LineNotAllowed n) = 2
 status_of_error (faults.TooMany n) = 2
@@ -19,6 +19,9 @@ status_of_error (faults.CheckpointLineTooLong n) = 2
 status_of_error (faults.OtherFiring n) = 2
 status_of_error (faults.EntryNotAllowed n) = 2
 status_of_error faults.EntryNotHeld = 3
+status_of_error (faults.NameNotAllowed n) = 2
+status_of_error faults.NameTooDeep = 2
+status_of_error faults.PortNotClashed = 3
 status_of_error faults.Full = 4
 status_of_error faults.NoMemory = 5
 status_of_error faults.NoThread = 5

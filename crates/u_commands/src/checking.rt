@@ -4,15 +4,26 @@ ghost use Rattle.u_program.specs.Limits.{IsProgram, the_limits};
 ghost use Rattle.u_strict.specs.Breaches.{IsAnswer};
 ghost use Rattle.u_commands.specs.Checks.{statements_of, checked_line, IsCheckedOf, CheckRefused, CheckTextAnswer, error_of};
 ghost use Rattle.u_commands.specs.Checks.{strictness_line, TellsStrictness, ChecksProgram};
+ghost use Rattle.u_commands.specs.Checks.{meeting_words, determinacy_line, TellsDeterminacy};
 
 use crate::command_error::CommandError;
 use crate::output::{push_numbered, write_whole};
 use std::alloc::{AllocError, Global};
 use std::io::Write;
 use u_check::{Checked, check};
+use u_guards::{Determinacy, Meeting, determinacy};
 use u_program::{Block, Program, ReadError, read};
 use u_strict::{Strictness, strictness};
 use u_text::push_long;
+
+/// What is asked of a program that breaks no rule of the checker.
+#[derive(Clone, Copy, Debug, PartialEq, Eq)]
+pub struct Asked {
+    /// Whether it is strict.
+    pub strict: bool,
+    /// Whether it is determinate.
+    pub determinate: bool,
+}
 
 /// The fault that is told of a program's text.
 fn error_of(error: ReadError) -> CommandError
@@ -68,7 +79,7 @@ fn checked_line(alloc: Global, program: &Program) -> Result<Vec<u8>, AllocError>
 
 /// Appends the line that says whether a program is strict, or the first place where it is not.
 #[tactic(auto, unfolding(crate::specs::Checks::strictness_line), using(crate::proofs::Waited::join4))]
-fn push_strictness(lines: &mut Vec<u8>, strictness: Strictness) -> Result<(), AllocError>
+pub(crate) fn push_strictness(lines: &mut Vec<u8>, strictness: Strictness) -> Result<(), AllocError>
     ensures { IfOk result (λ u. lines.new.items ≡ lines.old.items ++ strictness_line strictness) }
 {
     match strictness {
@@ -88,31 +99,82 @@ fn tell_strictness(
     lines: &mut Vec<u8>,
     checked: &Checked,
     alloc: Global,
-    asked: bool,
+    asked: Asked,
 ) -> Result<(), AllocError>
     ensures { IfOk result
-        (λ u. TellsStrictness checked.now.blocks asked lines.old.items lines.new.items) }
+        (λ u. TellsStrictness checked.now.blocks asked.strict lines.old.items lines.new.items) }
 {
-    if asked {
+    if asked.strict {
         let strictness = strictness(alloc, checked)?;
         push_strictness(lines, strictness)?;
     }
     Ok(())
 }
 
+/// What meets at a place, in words, and a newline.
+fn meeting_words(meeting: Meeting) -> &'static [u8]
+    ensures { result.now ≡ meeting_words meeting }
+{
+    match meeting {
+        Meeting::Arcs => b" two arcs\n",
+        Meeting::Ends => b" two ends\n",
+        Meeting::Calls => b" two applies\n",
+        Meeting::Turns => b" next and last\n",
+    }
+}
+
+/// Appends the line that says whether a program is determinate, or the first place where it is not.
+#[tactic(auto, unfolding(crate::specs::Checks::determinacy_line))]
+pub(crate) fn push_determinacy(
+    lines: &mut Vec<u8>,
+    determinacy: Determinacy,
+) -> Result<(), AllocError>
+    ensures { IfOk result
+        (λ u. lines.new.items ≡ lines.old.items ++ determinacy_line determinacy) }
+{
+    match determinacy {
+        Determinacy::Determinate => lines.extend_from_slice(b"determinate\n")?,
+        Determinacy::Meets(place) => {
+            push_numbered(lines, b"not determinate block ", place.block as u64)?;
+            push_numbered(lines, b" at ", place.at as u64)?;
+            lines.extend_from_slice(meeting_words(place.meeting))?;
+        }
+    }
+    Ok(())
+}
+
+/// Appends that line, if it is asked for.
+fn tell_determinacy(
+    lines: &mut Vec<u8>,
+    checked: &Checked,
+    alloc: Global,
+    asked: Asked,
+) -> Result<(), AllocError>
+    ensures { IfOk result (λ u.
+        TellsDeterminacy checked.now.blocks asked.determinate lines.old.items lines.new.items) }
+{
+    if asked.determinate {
+        let determinacy = determinacy(alloc, checked)?;
+        push_determinacy(lines, determinacy)?;
+    }
+    Ok(())
+}
+
 /// All lines that tell of a checked program.
-fn checked_lines(alloc: Global, checked: &Checked, strict: bool) -> Result<Vec<u8>, AllocError>
-    ensures { IfOk result (λ v. ChecksProgram checked.now.blocks strict v.items) }
+fn checked_lines(alloc: Global, checked: &Checked, asked: Asked) -> Result<Vec<u8>, AllocError>
+    ensures { IfOk result (λ v. ChecksProgram checked.now.blocks asked v.items) }
 {
     let mut lines = checked_line(alloc, checked.program())?;
-    tell_strictness(&mut lines, checked, alloc, strict)?;
+    tell_strictness(&mut lines, checked, alloc, asked)?;
+    tell_determinacy(&mut lines, checked, alloc, asked)?;
     Ok(lines)
 }
 
 /// Checks the program with this text and writes the line `checked BLOCKS STATEMENTS`: how many
-/// blocks it has, and how many statements all blocks have together. If `strict` is asked for, a second
-/// line says `strict`, or `not strict rule R block B at A`, the first place where the program is not.
-/// Returns the exit status, 0.
+/// blocks it has, and how many statements all blocks have together. Behind it stand the lines that are
+/// asked for: `strict`, or `not strict rule R block B at A`, the first place where the program is not;
+/// and `determinate`, or `not determinate block B at A WHAT`, the first place where it is not, and what
+/// meets there: `two arcs`, `two ends`, `two applies`, or `next and last`. Returns the exit status, 0.
 ///
 /// # Errors
 /// A fault of the program's text or of the checker, in that order, or want of memory: nothing is
@@ -120,14 +182,14 @@ fn checked_lines(alloc: Global, checked: &Checked, strict: bool) -> Result<Vec<u
 pub fn check_text<W: Write>(
     alloc: Global,
     program: &[u8],
-    strict: bool,
+    asked: Asked,
     writer: &mut W,
 ) -> Result<u8, CommandError>
-    ensures { CheckTextAnswer program.now strict (W.contents writer.old) result
+    ensures { CheckTextAnswer program.now asked (W.contents writer.old) result
         (W.contents writer.new) }
 {
     let checked = checked_of(alloc, program)?;
-    let lines = checked_lines(alloc, &checked, strict)?;
+    let lines = checked_lines(alloc, &checked, asked)?;
     match write_whole(writer, &lines) {
         Ok(()) => Ok(0),
         Err(_) => Err(CommandError::NotWritten),

@@ -42,6 +42,15 @@ pub enum CommandError {
     /// The run does not hold the entry.
     #[error("entry not held")]
     EntryNotHeld,
+    /// The name is no name's text. The number is the offset of the first byte with which none goes on.
+    #[error("name not allowed at byte {0}")]
+    NameNotAllowed(usize),
+    /// The name's context is deeper than 64: its text begins with 65 `(` or more.
+    #[error("name too deep")]
+    NameTooDeep,
+    /// The run holds fewer than two values at the port.
+    #[error("port not clashed")]
+    PortNotClashed,
     /// There are more firings than the replica may take.
     #[error("full")]
     Full,
@@ -73,7 +82,8 @@ impl From<AllocError> for CommandError {
 }
 
 impl CommandError {
-    /// The exit status: 2 where a text is refused, 3 where an entry is not held, 4 where there is no
+    /// The exit status: 2 where a text is refused, 3 where an entry is not held or a port has
+    /// fewer than two values, 4 where there is no
     /// room for more firings, 5 where the machine's surroundings fail.
     pub fn status(&self) -> u8
         ensures { result ≡ status_of_error self.now }
@@ -88,8 +98,10 @@ impl CommandError {
             | CommandError::CheckpointLineNotAllowed(_)
             | CommandError::CheckpointLineTooLong(_)
             | CommandError::OtherFiring(_)
-            | CommandError::EntryNotAllowed(_) => 2,
-            CommandError::EntryNotHeld => 3,
+            | CommandError::EntryNotAllowed(_)
+            | CommandError::NameNotAllowed(_)
+            | CommandError::NameTooDeep => 2,
+            CommandError::EntryNotHeld | CommandError::PortNotClashed => 3,
             CommandError::Full => 4,
             CommandError::NoMemory
             | CommandError::NoThread

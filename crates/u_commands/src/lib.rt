@@ -3,6 +3,7 @@
 #![tactic(auto)]
 
 mod argument;
+mod blaming;
 mod checking;
 mod command_error;
 mod explaining;
@@ -15,7 +16,8 @@ mod tracing;
 mod waiting;
 
 pub use argument::argument_of;
-pub use checking::check_text;
+pub use blaming::blame_text;
+pub use checking::{Asked, check_text};
 pub use command_error::CommandError;
 pub use explaining::explain_text;
 pub use input::{INPUT_LIMIT, read_input};
