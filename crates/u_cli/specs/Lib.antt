@@ -1,2 +1,3 @@
 pub mod Fleets
+pub mod Shares
 pub mod Worlds
