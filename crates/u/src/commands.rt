@@ -1,15 +1,16 @@
 //! What each command does: it reads FILE, or standard input at the word `stdin`, and writes to standard
 //! output. Each returns the exit status.
 ghost use Rattle.std.specs.Prelude.{◌≤◌};
-ghost use Rattle.u_words.specs.Numbers.{IsOneToEight};
+ghost use Rattle.u_words.specs.Numbers.{IsOneToEight, IsPort};
 
-use std::io::Read;
+use std::io::{Read, Write};
 use std::sync::Wait;
 use std::thread::Threads;
 use std::{fs, io};
 use u_cli::{
-    CommandError, STORED_PROGRAM, check_text, explain_text, fleet_text, read_input, restore_text,
-    run_text, save_text, trace_text, waits_text, world_text,
+    Asked, Bus, CommandError, Plan, STORED_PROGRAM, blame_text, check_text, explain_text,
+    fleet_text, read_input, restore_text, run_text, save_text, share_text, trace_text, waits_text,
+    world_text,
 };
 
 /// The argument of the stored run, and how often it may fire.
@@ -29,17 +30,17 @@ pub fn stored(rt: &HostRuntime) -> Result<u8, CommandError> {
     )
 }
 
-/// `check FILE`, and whether the program is strict, if that is asked for.
-pub fn check(rt: &HostRuntime, file: &str, strict: bool) -> Result<u8, CommandError> {
+/// `check FILE`, and whether the program is strict or determinate, if that is asked for.
+pub fn check(rt: &HostRuntime, file: &str, asked: Asked) -> Result<u8, CommandError> {
     let program = read_file(rt, file)?;
-    check_text(rt.alloc(), &program, strict, &mut io::writer(rt))
+    check_text(rt.alloc(), &program, asked, &mut io::writer(rt))
 }
 
-/// `explain FILE`. Where FILE can't be read, its path and the system's own words for the cause stand
+/// `explain FILE`, and why the program is not strict, if that is asked for. Where FILE can't be read, its path and the system's own words for the cause stand
 /// behind `not readable`.
-pub fn explain(rt: &HostRuntime, file: &str) -> Result<u8, CommandError> {
+pub fn explain(rt: &HostRuntime, file: &str, strict: bool) -> Result<u8, CommandError> {
     match read_file(rt, file) {
-        Ok(program) => explain_text(rt.alloc(), &program, &mut io::writer(rt)),
+        Ok(program) => explain_text(rt.alloc(), &program, strict, &mut io::writer(rt)),
         Err(CommandError::NotReadable) if file != "stdin" => not_readable(rt, file),
         Err(fault) => Err(fault),
     }
@@ -117,6 +118,28 @@ pub fn trace(
     )
 }
 
+/// `blame FILE ARG NAME PORT`.
+pub fn blame(
+    rt: &HostRuntime,
+    file: &str,
+    argument: &str,
+    activity: &str,
+    port: u8,
+) -> Result<u8, CommandError>
+    requires { IsPort port }
+{
+    let program = read_file(rt, file)?;
+    let mut out = io::writer(rt);
+    blame_text(
+        rt.alloc(),
+        &program,
+        argument.as_bytes(),
+        activity.as_bytes(),
+        port,
+        &mut out,
+    )
+}
+
 /// `waits FILE ARG`, after so many firings at most.
 pub fn waits(
     rt: &HostRuntime,
@@ -180,6 +203,38 @@ pub fn fleet<T: Threads + Wait + Sync>(
         rounds,
         &mut out,
     )
+}
+
+/// `share FILE ARG`: takes part in a run as the plan says. The bus is standard input and output. The report
+/// goes to the file with the path `report`, or to standard error.
+pub fn share(
+    rt: &HostRuntime,
+    file: &str,
+    argument: &str,
+    plan: Plan,
+    report: Option<&str>,
+) -> Result<u8, CommandError>
+    requires { plan.limit ≤ 1000000 }
+{
+    let program = read_path(rt, file)?;
+    let mut bus = Bus {
+        reader: rt.reader(),
+        writer: io::writer(rt),
+        notices: rt.stderr(),
+    };
+    let (text, status) = share_text(rt.alloc(), &program, argument.as_bytes(), plan, &mut bus)?;
+    match write_report(rt, report, &text) {
+        Ok(()) => Ok(status),
+        Err(_) => Err(CommandError::NotWritten),
+    }
+}
+
+/// Writes the text of a report to the file with that path, or to standard error.
+fn write_report(rt: &HostRuntime, path: Option<&str>, text: &[u8]) -> Result<(), io::Error> {
+    match path {
+        Some(path) => fs::create(rt, path)?.write_all(text),
+        None => rt.stderr().write_all(text),
+    }
 }
 
 /// All bytes of FILE, or of standard input at the word `stdin`.

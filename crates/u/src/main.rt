@@ -11,7 +11,7 @@ use std::io;
 use std::process::ExitCode;
 use std::sync::Wait;
 use std::thread::Threads;
-use u_cli::CommandError;
+use u_cli::{Asked, CommandError, member_plan};
 use u_words::{Request, below_zero, not_text, parse};
 
 /// The exit status of a command line that is not allowed.
@@ -86,8 +86,19 @@ fn follow<T: Threads + Wait + Sync>(
 {
     match request {
         Request::Stored => commands::stored(rt),
-        Request::Check { file, strict } => commands::check(rt, file, strict),
-        Request::Explain { file } => commands::explain(rt, file),
+        Request::Check {
+            file,
+            strict,
+            determinate,
+        } => commands::check(
+            rt,
+            file,
+            Asked {
+                strict,
+                determinate,
+            },
+        ),
+        Request::Explain { file, strict } => commands::explain(rt, file, strict),
         Request::Run {
             file,
             argument,
@@ -108,6 +119,12 @@ fn follow<T: Threads + Wait + Sync>(
             argument,
             entry,
         } => commands::trace(rt, file, argument, entry),
+        Request::Blame {
+            file,
+            argument,
+            activity,
+            port,
+        } => commands::blame(rt, file, argument, activity, port),
         Request::Waits {
             file,
             argument,
@@ -126,6 +143,13 @@ fn follow<T: Threads + Wait + Sync>(
             workers,
             rounds,
         } => commands::fleet(rt, threads, file, argument, workers, rounds),
+        Request::Share {
+            file,
+            argument,
+            follow,
+            burst,
+            report,
+        } => commands::share(rt, file, argument, member_plan(burst, follow), report),
     }
 }
 

@@ -13,3 +13,7 @@ IsNumberText n word = word ≡ decimal n
 -- how many replicas a world has, or workers a fleet: from one to eight
 abbrev pub IsOneToEight : ℕ → Type 0
 IsOneToEight n = (1 ≤ n) × (n ≤ 8)
+
+-- which port of an activity: the first, the second or the third
+abbrev pub IsPort : ℕ → Type 0
+IsPort n = (1 ≤ n) × (n ≤ 3)

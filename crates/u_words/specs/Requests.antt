@@ -1,25 +1,28 @@
 -- The asks for of a command line.
-use Rattle.std.specs.Prelude.{◌≡◌, ◌↔◌, ℕ, ◌≤◌, Bool, true, List, [], Option, Some, None, codes}
+use Rattle.std.specs.Prelude.{◌≡◌, ◌↔◌, ℕ, ◌≤◌, Bool, true, List, [], Option, Some, None, codes, option_map}
 use Rattle.clap.specs.Words.{first_value}
 use Rattle.clap.specs.declared.parser.matches.Found.{Found}
 use Rattle.u_words.specs.declared.words.Request.{Request}
-use Rattle.u_words.specs.declared.words.Request.TheVariants.{Stored, Check, Explain, Run, Save, Restore, Trace, Waits, World, Fleet}
-use Rattle.u_words.specs.Numbers.{IsFirings, IsOneToEight, IsNumberText}
+use Rattle.u_words.specs.declared.words.Request.TheVariants.{Stored, Check, Explain, Run, Save, Restore, Trace, Blame, Waits, World, Fleet, Share}
+use Rattle.u_words.specs.Numbers.{IsFirings, IsOneToEight, IsPort, IsNumberText}
 
 -- the numbers of a request are in their ranges: what runs may fire from one to a million times,
--- a world has one to eight replicas and at most a hundred thousand events, and a fleet one to eight
--- workers with at most a thousand rounds
+-- a port is the first, the second or the third, a world has one to eight replicas and at most a
+-- hundred thousand events, a fleet one to eight workers with at most a thousand rounds, and a member of
+-- a bus fires one to a million times between two reads
 abbrev pub IsInRange : Request → Type 0
 IsInRange Stored = Unit {0}
-IsInRange (Check file strict) = Unit {0}
-IsInRange (Explain file) = Unit {0}
+IsInRange (Check file strict determinate) = Unit {0}
+IsInRange (Explain file strict) = Unit {0}
 IsInRange (Run file argument firings) = IsFirings firings
 IsInRange (Save file argument firings) = IsFirings firings
 IsInRange (Restore file argument checkpoint) = Unit {0}
 IsInRange (Trace file argument entry) = Unit {0}
+IsInRange (Blame file argument activity port) = IsPort port
 IsInRange (Waits file argument firings) = IsFirings firings
 IsInRange (World file argument replicas seed events) = IsOneToEight replicas × (events ≤ 100000)
 IsInRange (Fleet file argument workers rounds) = IsOneToEight workers × (rounds ≤ 1000)
+IsInRange (Share file argument follow burst report) = IsFirings burst
 
 abbrev pub text_or_none : Option (List ℕ) → List ℕ
 text_or_none None = []
@@ -35,13 +38,16 @@ IsFlag chosen word = (chosen ≡ true) ↔ (word ≡ codes "true")
 
 -- a check, with the words that were found for it
 abbrev pub IsCheckRequest : Found → Request → Type 0
-IsCheckRequest found (Check file strict) =
-    (file.now ≡ word_of found (codes "FILE")) × IsFlag strict (word_of found (codes "strict"))
+IsCheckRequest found (Check file strict determinate) =
+    (file.now ≡ word_of found (codes "FILE"))
+    × IsFlag strict (word_of found (codes "strict"))
+    × IsFlag determinate (word_of found (codes "determinate"))
 IsCheckRequest found request = ⊥
 
--- an explanation, with the word that was found for it
+-- an explanation, with the words that were found for it
 abbrev pub IsExplainRequest : Found → Request → Type 0
-IsExplainRequest found (Explain file) = file.now ≡ word_of found (codes "FILE")
+IsExplainRequest found (Explain file strict) =
+    (file.now ≡ word_of found (codes "FILE")) × IsFlag strict (word_of found (codes "strict"))
 IsExplainRequest found request = ⊥
 
 -- these are the words that were found for FILE, ARG and the number of firings
@@ -78,6 +84,16 @@ IsTraceRequest found (Trace file argument entry) =
     × (entry.now ≡ word_of found (codes "ENTRY"))
 IsTraceRequest found request = ⊥
 
+-- a blaming, with the words that were found for it
+abbrev pub IsBlameRequest : Found → Request → Type 0
+IsBlameRequest found (Blame file argument activity port) =
+    (file.now ≡ word_of found (codes "FILE"))
+    × (argument.now ≡ word_of found (codes "ARG"))
+    × (activity.now ≡ word_of found (codes "NAME"))
+    × IsPort port
+    × IsNumberText port (word_of found (codes "PORT"))
+IsBlameRequest found request = ⊥
+
 -- what waits, with the words that were found for it
 abbrev pub IsWaitsRequest : Found → Request → Type 0
 IsWaitsRequest found (Waits file argument firings) = AreRunWords found file.now argument.now firings
@@ -105,3 +121,14 @@ IsFleetRequest found (Fleet file argument workers rounds) =
     × (rounds ≤ 1000)
     × IsNumberText rounds (word_of found (codes "rounds"))
 IsFleetRequest found request = ⊥
+
+-- a part in a run over a bus, with the words that were found for it; the report's file may be none
+abbrev pub IsShareRequest : Found → Request → Type 0
+IsShareRequest found (Share file argument follow burst report) =
+    (file.now ≡ word_of found (codes "FILE"))
+    × (argument.now ≡ word_of found (codes "ARG"))
+    × IsFlag follow (word_of found (codes "follow"))
+    × IsFirings burst
+    × IsNumberText burst (word_of found (codes "burst"))
+    × (option_map (λ s. s.now) report ≡ first_value found (codes "report"))
+IsShareRequest found request = ⊥

@@ -3,7 +3,8 @@ ghost use Rattle.std.specs.Prelude.{◌≡◌, IfOk, IfSome, codes};
 ghost use Rattle.clap.specs.Words.{found_of};
 ghost use Rattle.u_words.specs.Requests.{IsInRange, IsCheckRequest, IsRunRequest, IsSaveRequest, IsRestoreRequest, IsTraceRequest, IsWorldRequest, word_of};
 ghost use Rattle.u_words.specs.Requests.{IsExplainRequest, IsWaitsRequest, IsFleetRequest, IsFlag};
-ghost use Rattle.u_words.specs.Numbers.{IsFirings, IsOneToEight, IsNumberText};
+ghost use Rattle.u_words.specs.Requests.{IsBlameRequest, IsShareRequest};
+ghost use Rattle.u_words.specs.Numbers.{IsFirings, IsOneToEight, IsPort, IsNumberText};
 
 use crate::number::{firings_of, number_of};
 use clap::error::ErrorKind;
@@ -37,6 +38,12 @@ const WORLD: &str = "world";
 /// The word of the command that runs a fleet.
 const FLEET: &str = "fleet";
 
+/// The word of the command that finds the cell behind two values.
+const BLAME: &str = "blame";
+
+/// The word of the command that takes part in a run over a bus.
+const SHARE: &str = "share";
+
 /// The most rounds of a worker.
 const MOST_ROUNDS: u64 = 1_000;
 
@@ -56,14 +63,17 @@ Example: ./u run programs/double.u 4";
 pub enum Request<'a> {
     /// There is no word: the stored run.
     Stored,
-    /// `check FILE`: whether the program is strict, only if `strict` asks for it.
+    /// `check FILE`: whether the program is strict, only if `strict` asks for it, and whether it is
+    /// determinate, only if `determinate` does.
     Check {
         file: &'a str,
         strict: bool,
+        determinate: bool,
     },
-    /// `explain FILE`.
+    /// `explain FILE`: why the program is not strict, only if `strict` asks for it.
     Explain {
         file: &'a str,
+        strict: bool,
     },
     /// `run FILE ARG`: at most `firings` firings, from 1 to 1000000.
     Run {
@@ -89,6 +99,13 @@ pub enum Request<'a> {
         argument: &'a str,
         entry: &'a str,
     },
+    /// `blame FILE ARG NAME PORT`: the port of an activity, from 1 to 3.
+    Blame {
+        file: &'a str,
+        argument: &'a str,
+        activity: &'a str,
+        port: u8,
+    },
     /// `waits FILE ARG`: what waits after at most `firings` firings, from 1 to 1000000.
     Waits {
         file: &'a str,
@@ -110,6 +127,15 @@ pub enum Request<'a> {
         workers: u8,
         rounds: u32,
     },
+    /// `share FILE ARG`: at most `burst` firings, from 1 to 1000000, between two reads, and the file of the
+    /// report, if it is not standard error.
+    Share {
+        file: &'a str,
+        argument: &'a str,
+        follow: bool,
+        burst: usize,
+        report: Option<&'a str>,
+    },
 }
 
 /// The request in the words of a command line, the first of which is the program's name. The error
@@ -126,9 +152,11 @@ pub fn parse<'a>(alloc: Global, words: &'a [String]) -> Result<Request<'a>, Erro
         Some((name, save)) if name == SAVE => save_request(alloc, save),
         Some((name, restore)) if name == RESTORE => Ok(restore_request(restore)),
         Some((name, trace)) if name == TRACE => Ok(trace_request(trace)),
+        Some((name, blame)) if name == BLAME => blame_request(alloc, blame),
         Some((name, waits)) if name == WAITS => waits_request(alloc, waits),
         Some((name, world)) if name == WORLD => world_request(alloc, world),
         Some((name, fleet)) if name == FLEET => fleet_request(alloc, fleet),
+        Some((name, share)) if name == SHARE => share_request(alloc, share),
         Some((_, run)) => run_request(alloc, run),
     }
 }
@@ -156,6 +184,7 @@ fn check_request<'a>(matches: &ArgMatches<'a>) -> Request<'a>
     Request::Check {
         file: text(matches, "FILE"),
         strict: flag(matches, "strict"),
+        determinate: flag(matches, "determinate"),
     }
 }
 
@@ -165,6 +194,7 @@ fn explain_request<'a>(matches: &ArgMatches<'a>) -> Request<'a>
 {
     Request::Explain {
         file: text(matches, "FILE"),
+        strict: flag(matches, "strict"),
     }
 }
 
@@ -218,6 +248,39 @@ fn trace_request<'a>(matches: &ArgMatches<'a>) -> Request<'a>
     }
 }
 
+/// The words of `blame`.
+fn blame_request<'a>(alloc: Global, matches: &ArgMatches<'a>) -> Result<Request<'a>, Error>
+    ensures { IfOk result (λ o. IsBlameRequest (found_of matches.now) o) }
+{
+    match port(matches) {
+        Some(port) => Ok(Request::Blame {
+            file: text(matches, "FILE"),
+            argument: text(matches, "ARG"),
+            activity: text(matches, "NAME"),
+            port,
+        }),
+        None => Err(no_port(alloc, matches)?),
+    }
+}
+
+/// The number of a port, from 1 to 3, that the word is.
+fn port(matches: &ArgMatches<'_>) -> Option<u8>
+    ensures { IfSome result (λ n. IsPort n
+        × IsNumberText n (word_of (found_of matches.now) (codes "PORT"))) }
+{
+    match number_of(text(matches, "PORT"), 9) {
+        Some(number) if 1 <= number && number <= 3 => Some(number as u8),
+        _ => None,
+    }
+}
+
+/// The mistake that the word is no port.
+fn no_port(alloc: Global, matches: &ArgMatches<'_>) -> Result<Error, AllocError> {
+    let word = text(matches, "PORT");
+    let message = format!(in alloc; "invalid value '{word}' for '<PORT>': a port is 1, 2 or 3")?;
+    told(blame(alloc), message.as_str())
+}
+
 /// The words of `waits`.
 fn waits_request<'a>(alloc: Global, matches: &ArgMatches<'a>) -> Result<Request<'a>, Error>
     ensures { IfOk result (λ o. IsWaitsRequest (found_of matches.now) o) }
@@ -269,6 +332,22 @@ fn fleet_request<'a>(alloc: Global, matches: &ArgMatches<'a>) -> Result<Request<
         argument: text(matches, "ARG"),
         workers,
         rounds: rounds as u32,
+    })
+}
+
+/// The words of `share`.
+fn share_request<'a>(alloc: Global, matches: &ArgMatches<'a>) -> Result<Request<'a>, Error>
+    ensures { IfOk result (λ o. IsShareRequest (found_of matches.now) o) }
+{
+    let Some(burst) = firings_of(text(matches, "burst")) else {
+        return Err(other_spelling(alloc, share(alloc, "u share"), matches, "burst", "B")?);
+    };
+    Ok(Request::Share {
+        file: text(matches, "FILE"),
+        argument: text(matches, "ARG"),
+        follow: flag(matches, "follow"),
+        burst,
+        report: matches.get_str("report"),
     })
 }
 
@@ -341,9 +420,11 @@ fn commands<'a>(alloc: Global) -> Result<Command<'a>, AllocError> {
     let all = with(all, save(alloc, SAVE))?;
     let all = with(all, restore(alloc))?;
     let all = with(all, trace(alloc))?;
+    let all = with(all, blame(alloc))?;
     let all = with(all, waits(alloc, WAITS))?;
     let all = with(all, world(alloc, WORLD))?;
-    with(all, fleet(alloc, FLEET))
+    let all = with(all, fleet(alloc, FLEET))?;
+    with(all, share(alloc, SHARE))
 }
 
 /// The command with one more below it.
@@ -386,7 +467,12 @@ fn check<'a>(alloc: Global) -> Result<Command<'a>, AllocError> {
         "Checks the program and prints how many blocks and statements it has",
         "Example: ./u check programs/double.u --strict",
     )?
-    .arg(choice(alloc, "strict").help("Say also whether the program is strict, or where it is not"))
+    .arg(choice(alloc, "strict").help(
+        "Say also whether the program is strict, or where it is not",
+    ))?
+    .arg(choice(alloc, "determinate").help(
+        "Say also whether the program is determinate, or where it is not",
+    ))
 }
 
 /// An option that takes no value.
@@ -400,7 +486,8 @@ fn explain<'a>(alloc: Global) -> Result<Command<'a>, AllocError> {
         EXPLAIN,
         "Says where and why the program is refused, in more words than check",
         "Example: ./u explain programs/double.u",
-    )
+    )?
+    .arg(choice(alloc, "strict").help("Say of an allowed program why it is not strict"))
 }
 
 fn run<'a>(alloc: Global, name: &'a str) -> Result<Command<'a>, AllocError> {
@@ -443,6 +530,21 @@ fn trace<'a>(alloc: Global) -> Result<Command<'a>, AllocError> {
     .arg(word(alloc, "ENTRY").help("The entry's text, one word: 'a 8' is the answer 8"))
 }
 
+fn blame<'a>(alloc: Global) -> Result<Command<'a>, AllocError> {
+    of_run(
+        alloc,
+        BLAME,
+        "Runs the program and prints the cell whose two writes lie behind two values at a port",
+        "Example: ./u blame programs/two_writers.u 0 -.main.10.1 1",
+    )?
+    .arg(
+        word(alloc, "NAME")
+            .allow_hyphen_values(true)
+            .help("The activity's name, as the report prints it"),
+    )?
+    .arg(word(alloc, "PORT").help("The port's number: 1, 2 or 3"))
+}
+
 fn waits<'a>(alloc: Global, name: &'a str) -> Result<Command<'a>, AllocError> {
     of_run(
         alloc,
@@ -474,6 +576,36 @@ fn fleet<'a>(alloc: Global, name: &'a str) -> Result<Command<'a>, AllocError> {
     )?
     .arg(number_of_workers(alloc))?
     .arg(number_of_rounds(alloc))
+}
+
+fn share<'a>(alloc: Global, name: &'a str) -> Result<Command<'a>, AllocError> {
+    of_run(
+        alloc,
+        name,
+        "Takes part in a run over a bus: reads firings from standard input and writes its own",
+        "Example: ./u share programs/sum.u 3 --report report < /dev/null",
+    )?
+    .arg(choice(alloc, "follow").help("Fire only while no one else does"))?
+    .arg(burst(alloc))?
+    .arg(report(alloc))
+}
+
+fn burst<'a>(alloc: Global) -> Arg<'a> {
+    Arg::new(alloc, "burst")
+        .long("burst")
+        .value_name("B")
+        .help("The most firings between two reads, from 1 to 1000000")
+        .action(ArgAction::Set)
+        .default_value("64")
+        .value_parser(value_parser!(u32).range(1..=1000000))
+}
+
+fn report<'a>(alloc: Global) -> Arg<'a> {
+    Arg::new(alloc, "report")
+        .long("report")
+        .value_name("PATH")
+        .help("The file of the report, in place of standard error")
+        .action(ArgAction::Set)
 }
 
 fn number_of_workers<'a>(alloc: Global) -> Arg<'a> {
