@@ -5,8 +5,8 @@ use std::alloc::Global;
 use std::io;
 use std::io::Read;
 use u_cli::{
-    CommandError, FIRING_LIMIT, INPUT_LIMIT, STORED_PROGRAM, argument_of, check_text, read_input,
-    run_text, trace_text, world_text, write_whole,
+    Asked, CommandError, FIRING_LIMIT, INPUT_LIMIT, STORED_PROGRAM, argument_of, check_text,
+    read_input, run_text, trace_text, world_text, write_whole,
 };
 use u_plain::examples::DOUBLE;
 use u_words::{firings_of, number_of};
@@ -64,10 +64,16 @@ fn reports(alloc: Global, run: &Run) -> bool {
         && out.as_slice() == *report
 }
 
+/// Neither whether a program is strict nor whether it is determinate.
+const NOTHING_MORE: Asked = Asked {
+    strict: false,
+    determinate: false,
+};
+
 /// Whether a check of the program writes this line.
 fn checks(alloc: Global, program: &[u8], line: &[u8]) -> bool {
     let mut out = Vec::new(alloc);
-    check_text(alloc, program, false, &mut out) == Ok(0) && out.as_slice() == line
+    check_text(alloc, program, NOTHING_MORE, &mut out) == Ok(0) && out.as_slice() == line
 }
 
 #[test]
@@ -118,7 +124,7 @@ fn tells_of_a_run(alloc: Global, count: usize) -> bool {
 /// The same of a check.
 fn tells_of_a_check(alloc: Global, count: usize) -> bool {
     let mut torn = Torn { left: count };
-    let told = check_text(alloc, STORED_PROGRAM, false, &mut torn);
+    let told = check_text(alloc, STORED_PROGRAM, NOTHING_MORE, &mut torn);
     is_told(&told, &torn)
 }
 
@@ -265,6 +271,13 @@ const FAULTS: &[(CommandError, &str, u8)] = &[
         2,
     ),
     (CommandError::EntryNotHeld, "entry not held", 3),
+    (
+        CommandError::NameNotAllowed(7),
+        "name not allowed at byte 7",
+        2,
+    ),
+    (CommandError::NameTooDeep, "name too deep", 2),
+    (CommandError::PortNotClashed, "port not clashed", 3),
     (CommandError::Full, "full", 4),
     (CommandError::NoMemory, "no memory", 5),
     (CommandError::NoThread, "no thread", 5),

@@ -10,6 +10,8 @@
 #[cfg(test)]
 mod agreement;
 #[cfg(test)]
+mod blames;
+#[cfg(test)]
 mod calls;
 #[cfg(test)]
 mod command_tests;
