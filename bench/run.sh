@@ -29,6 +29,10 @@
 # by the clock, beside a run of the same. A row says the seconds, how many times as long as the run a
 # fleet took, and the greatest memory. A fleet of four may take six times as long and ten times the memory.
 #
+# Members: a million firings of the sum of 99998 go out of a member through a pipe, and come into a follower
+# through another one, the best of three by the clock, beside a run of the same. Each may take three times as
+# long as the run, and one and a half times the memory.
+#
 # Where `rt` is on PATH, it then builds `u_bench` and times firings of a long sum that a machine takes
 # last one first, of which a hundred thousand may take three times as long as running them.
 set -u
@@ -280,6 +284,48 @@ timed_fleets() {
     done
 }
 
+# Times a member whose lines come from a file and go to another, each through a pipe, and prints its row. Its
+# report has to be that of the run, which took $3 microseconds and $4 KiB.
+timed_member() {
+    local from=$1 to=$2 running=$3 memory=$4 start took turn best='' most=0
+    shift 4
+    for turn in 1 2 3; do
+        start=$(now)
+        if [ -x /usr/bin/time ]; then
+            cat -- "$from" | /usr/bin/time -q -f %M -o "$temp/memory" "$binary" share \
+                "$top/programs/sum.u" 99998 --report "$temp/report" "$@" | cat >"$to"
+        else
+            cat -- "$from" | "$binary" share "$top/programs/sum.u" 99998 --report "$temp/report" \
+                "$@" | cat >"$to"
+        fi
+        took=$(($(now) - start))
+        if [ -z "$best" ] || [ "$took" -lt "$best" ]; then best=$took; fi
+        [ ! -x /usr/bin/time ] || most=$(cat -- "$temp/memory")
+        if ! cmp -s -- "$temp/report" "$temp/wanted"; then
+            echo "a member that reads $from does not report what a run does" >&2
+            failed=1
+        fi
+    done
+    printf '%12s %10s %8s %8s %8s %10s\n' "${1:---lead}" "$(wc -l <"$to")" "$(seconds "$running")" \
+        "$(seconds "$best")" "$(awk -v a="$best" -v b="$running" 'BEGIN { printf "%.2f", a / b }')" "$most"
+    if [ "$best" -gt $((running * 3)) ] || [ $((most * 2)) -gt $((memory * 3)) ]; then
+        echo 'a member took more than three times as long as a run, or one and a half times its memory' >&2
+        failed=1
+    fi
+}
+
+# Times a member that prints a million firings, and one that takes them.
+timed_members() {
+    local running memory
+    timed_command run "$top/programs/sum.u" 99998 --firings 1000000
+    running=$spent
+    cp -- "$temp/out" "$temp/wanted"
+    memory=$(most_memory run "$top/programs/sum.u" 99998 --firings 1000000)
+    timed_member /dev/null "$temp/lines" "$running" "$memory"
+    timed_member "$temp/lines" "$temp/rest" "$running" "$memory" --follow
+    rm -f -- "$temp/lines" "$temp/rest"
+}
+
 hashing
 printf '%12s %10s %8s %8s %10s\n' 'run of' firings seconds hashings KiB
 timed_firings "$top/programs/sum.u" 9998 100000 96 90000
@@ -307,6 +353,9 @@ done
 printf '%12s %10s %8s %8s %8s %10s\n' 'fleet for' workers run seconds times KiB
 timed_fleets "$top/programs/sum.u" 9998
 timed_fleets "$top/programs/nested.u" 146
+
+printf '%12s %10s %8s %8s %8s %10s\n' member printed run seconds times KiB
+timed_members
 
 # Each call fires 15 times where it makes two others, and 5 times where it makes none; 5 firings are there
 # without it.
