@@ -59,6 +59,7 @@ make_files() {
         for k in {2..1000}; do printf '%s 0 add ->\n' "$k"; done
     } >"$temp/statements_1000"
     make_checkpoints
+    make_bus
 }
 
 # Checkpoints of the sum of 3 after five firings, whole, torn and spoilt.
@@ -75,6 +76,14 @@ make_checkpoints() {
     printf 'u-history 1\nf -.main.17.1 9\nend 1\n' >"$temp/never_enabled"
     { echo 'u-history 1'; head -c 32769 /dev/zero | tr '\0' x; echo; } >"$temp/long_line"
     { echo 'u-history 1'; seq -f 'f -.main.17.1 %.0f' 1 1000001; echo 'end 1000001'; } >"$temp/too_many"
+}
+
+# What a member of a bus reads: a firing of the double of 4, an empty line, a firing that no run makes, two
+# lines that are none of the job, one that is too long, and one that is cut short.
+make_bus() {
+    printf '%s\n' 'f -.main.1.1 4' '' 'f -.main.3.1 9' 'no line' 'f -.main.9.1 1' >"$temp/bus"
+    { head -c 32769 /dev/zero | tr '\0' x; echo; printf 'f -.main.2.1 4 4'; } >>"$temp/bus"
+    ln -s -- "$binary" "$temp/u"
 }
 
 begin_case() {
@@ -283,21 +292,36 @@ for file in programs/*.u; do
     fi
 done
 
-# What `explain` says of each program of tests/explain: the line that `check` says, without its `u: `, and
-# behind it what stands beside the program. The exit status is that of `check`.
-for file in tests/explain/*.u; do
-    "$binary" check "$file" >/dev/null 2>"$temp/said"
-    status=$?
-    sed 's/^u: //' "$temp/said" | cat -- - "${file%.u}.out" >"$temp/wanted"
-    "$binary" explain "$file" >"$temp/got" 2>"$temp/err"
-    if [ $? -eq "$status" ] && [ ! -s "$temp/err" ] && cmp -s -- "$temp/wanted" "$temp/got"; then
-        passed=$((passed + 1))
-    else
-        failed=$((failed + 1))
-        echo "FAILED: what is said of $file"
-        diff -- "$temp/wanted" "$temp/got" | sed 's/^/  /'
-    fi
+# What `check` says of the promises of each program of tests/determinate: what stands beside the program.
+for file in tests/determinate/*.u; do
+    expect_same "what check says of $file" "$(cat "${file%.u}.out")" \
+        "$("$binary" check "$file" --strict --determinate 2>&1)"
 done
+for file in programs/*.u; do
+    expect_same "$file is determinate" determinate "$("$binary" check "$file" --determinate | tail -n 1)"
+done
+
+# What `explain` says of each program of a folder: the line for which `check` refuses it, without its `u: `,
+# and behind it what stands beside the program. The exit status is that of `check`.
+expect_explained() {
+    local folder=$1 file status
+    shift
+    for file in "$folder"/*.u; do
+        "$binary" check "$file" >/dev/null 2>"$temp/said"
+        status=$?
+        sed 's/^u: //' "$temp/said" | cat -- - "${file%.u}.out" >"$temp/wanted"
+        "$binary" explain "$file" "$@" >"$temp/got" 2>"$temp/err"
+        if [ $? -eq "$status" ] && [ ! -s "$temp/err" ] && cmp -s -- "$temp/wanted" "$temp/got"; then
+            passed=$((passed + 1))
+        else
+            failed=$((failed + 1))
+            echo "FAILED: what is said of $file"
+            diff -- "$temp/wanted" "$temp/got" | sed 's/^/  /'
+        fi
+    done
+}
+expect_explained tests/explain
+expect_explained tests/explain/strict --strict
 
 # The example of docs/LIBRARY.md is a program that the gate runs.
 expect_same 'the example of docs/LIBRARY.md is u_example' "$(cat crates/u_example/src/main.rt)" \

@@ -1,5 +1,7 @@
-/* A library for LD_PRELOAD that refuses the allocations of a program whose numbers, counted from 1,
- * stand in FAIL_AT between commas, as FAIL_AT=12,40. It prints to standard error
+/* A library for LD_PRELOAD under which a program's surroundings fail. With SHORT=1 each read and each write to
+ * standard output gets one byte at most. FAIL_READ=K and FAIL_WRITE=K fail the read, or the write to standard
+ * output, of that number, counted from 1, and all behind it. It refuses the allocations whose numbers, counted
+ * from 1, stand in FAIL_AT between commas, as FAIL_AT=12,40. Where FAIL_AT is set it prints to standard error
  *   refused N in call K      or      refused N elsewhere
  *   call K had A to B        the allocations of the call (B is A - 1 where it had none)
  *   allocations N            at the end: how many there were
@@ -8,9 +10,11 @@
 #define _GNU_SOURCE
 #include <dlfcn.h>
 #include <errno.h>
+#include <stdatomic.h>
 #include <stddef.h>
 #include <stdlib.h>
 #include <string.h>
+#include <sys/syscall.h>
 #include <unistd.h>
 
 enum { MOST_REFUSED = 8, EARLY_BYTES = 16384 };
@@ -22,14 +26,19 @@ static void *(*real_aligned_alloc)(size_t, size_t);
 static int (*real_posix_memalign)(void **, size_t, size_t);
 static void (*real_free)(void *);
 static ssize_t (*real_write)(int, const void *, size_t);
+static ssize_t (*real_read)(int, void *, size_t);
 
 static unsigned long refused[MOST_REFUSED];
 static int refused_count;
-static unsigned long allocations;
+static atomic_ulong allocations; /* threads allocate side by side */
 static unsigned long calls;
 static unsigned long call_began;
 static int in_call;
 static int is_ready;
+static int is_told; /* what is refused and counted is told */
+static int is_short;
+static unsigned long fail_read, fail_write;
+static unsigned long reads, writes;
 
 /* What dlsym itself allocates before the real functions are known. */
 static _Alignas(16) char early[EARLY_BYTES];
@@ -72,6 +81,8 @@ static void say(const char *first, unsigned long one, const char *second, unsign
 {
     char line[160];
     size_t length = 0;
+    if (!is_told)
+        return;
     put(line, &length, first);
     put_number(line, &length, one);
     if (second) {
@@ -101,8 +112,19 @@ static void read_refused(void)
     }
 }
 
+/* The number that the variable has, or 0. */
+static unsigned long number_in(const char *name)
+{
+    const char *text = getenv(name);
+    return text ? strtoul(text, NULL, 10) : 0;
+}
+
 __attribute__((constructor)) static void begin(void)
 {
+    is_told = getenv("FAIL_AT") != NULL;
+    is_short = number_in("SHORT") != 0;
+    fail_read = number_in("FAIL_READ");
+    fail_write = number_in("FAIL_WRITE");
     real_calloc = dlsym(RTLD_NEXT, "calloc");
     real_malloc = dlsym(RTLD_NEXT, "malloc");
     real_realloc = dlsym(RTLD_NEXT, "realloc");
@@ -110,25 +132,37 @@ __attribute__((constructor)) static void begin(void)
     real_posix_memalign = dlsym(RTLD_NEXT, "posix_memalign");
     real_free = dlsym(RTLD_NEXT, "free");
     real_write = dlsym(RTLD_NEXT, "write");
+    real_read = dlsym(RTLD_NEXT, "read");
     read_refused();
     is_ready = 1;
 }
 
 __attribute__((destructor)) static void end(void)
 {
-    say("allocations ", allocations, NULL, 0, NULL, 0);
+    static int is_said;
+    if (!is_said)
+        say("allocations ", allocations, NULL, 0, NULL, 0);
+    is_said = 1;
+}
+
+/* A program that ends by it runs no destructors. */
+void _exit(int status)
+{
+    end();
+    syscall(SYS_exit_group, status);
+    __builtin_unreachable();
 }
 
 /* Counts an allocation, and answers whether it is to be refused. */
 static int is_refused(void)
 {
-    allocations++;
+    unsigned long number = atomic_fetch_add(&allocations, 1) + 1;
     for (int place = 0; place < refused_count; place++) {
-        if (refused[place] == allocations) {
+        if (refused[place] == number) {
             if (in_call)
-                say("refused ", allocations, " in call ", calls, NULL, 0);
+                say("refused ", number, " in call ", calls, NULL, 0);
             else
-                say("refused ", allocations, " elsewhere", (unsigned long)-1, NULL, 0);
+                say("refused ", number, " elsewhere", (unsigned long)-1, NULL, 0);
             errno = ENOMEM;
             return 1;
         }
@@ -187,6 +221,12 @@ ssize_t write(int file, const void *bytes, size_t count)
         in_call = 0;
         say("call ", calls, " had ", call_began + 1, " to ", allocations);
     }
+    if (file == 1 && fail_write != 0 && ++writes >= fail_write) {
+        errno = EIO;
+        return -1;
+    }
+    if (file == 1 && is_short && count > 1)
+        count = 1;
     ssize_t written = real_write(file, bytes, count);
     if (file == 1 && count == 5 && memcmp(bytes, "call\n", 5) == 0) {
         in_call = 1;
@@ -194,4 +234,17 @@ ssize_t write(int file, const void *bytes, size_t count)
         call_began = allocations;
     }
     return written;
+}
+
+ssize_t read(int file, void *bytes, size_t count)
+{
+    if (!real_read)
+        real_read = dlsym(RTLD_NEXT, "read");
+    if (fail_read != 0 && ++reads >= fail_read) {
+        errno = EIO;
+        return -1;
+    }
+    if (is_short && count > 1)
+        count = 1;
+    return real_read(file, bytes, count);
 }

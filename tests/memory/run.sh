@@ -30,12 +30,9 @@ failed=0
 
 # Makes a copy of the repository with the program in it, and has it proved and built.
 build() {
-    local copy=$temp/copy crate file
-    mkdir -p "$copy/crates" && cp -a "$top/HANDLES" "$copy/" || return 1
-    for crate in system text name value program check rule match history machine; do
-        cp -a "$top/crates/u_$crate" "$copy/crates/" || return 1
-        grep "^u_$crate:" "$top/crates.txt" >>"$copy/crates.txt" || return 1
-    done
+    local copy=$temp/copy file
+    mkdir -p "$copy/crates" && cp -a "$top/HANDLES" "$top/crates.txt" "$copy/" || return 1
+    cp -a "$top"/crates/* "$copy/crates/" || return 1
     mkdir -p "$copy/crates/u_refused/src" || return 1
     for file in "$here"/src/*.rt.txt; do
         cp "$file" "$copy/crates/u_refused/src/$(basename "$file" .txt)" || return 1

@@ -1,0 +1,357 @@
+#!/usr/bin/env python3
+"""Runs the built program where its surroundings fail and its texts are damaged, and compares what it says.
+
+    tests/hostile.py [--seed S] [--damaged N] [PART..]
+
+memory   each allocation of a command is refused in turn, one a run: the run ends with `u: no memory` and
+         status 5 and nothing on standard output, or just as one in which nothing is refused
+writes   standard output takes a byte at a time, and fails at each byte in turn: what was written is a front
+         of the output, and the run ends with `u: not written` and status 5
+reads    input comes a byte at a time, and fails at each byte in turn: nothing is written, and the run ends
+         with `u: not readable` and status 5
+damaged  N programs, checkpoints, entries, names and lines of a bus that were changed at random: a status of
+         the table, one named refusal or whole output, the same answer of a checkpoint and of a bus, and at
+         most a second of processor time
+
+Without a PART all four are run. The library that refuses, cuts and fails is tests/memory/refuse.c. The program
+is the built one, or U_BINARY. The last line is 'N passed, M failed'.
+"""
+import argparse
+import os
+import random
+import re
+import resource
+import subprocess
+import sys
+import tempfile
+from concurrent.futures import ThreadPoolExecutor
+
+TOP = os.path.dirname(os.path.dirname(os.path.abspath(__file__)))
+BINARY = os.environ.get("U_BINARY", f"{TOP}/crates/u/out/u")
+SAID = re.compile(rb"^(refused|call|allocations) .*\n", re.MULTILINE)
+COUNT = re.compile(rb"^allocations (\d+)$", re.MULTILINE)
+# How long a run may take by the clock, in seconds, and of a processor.
+LIMIT, MOST_SECONDS = 60, 1.0
+DOUBLE, SUM, WRITERS = "programs/double.u", "programs/sum.u", "programs/two_writers.u"
+CHECKPOINT = b"u-history 1\nf -.main.1.1 3\nf -.main.2.1 3\nf -.main.3.1 3\nf -.main.4.1 0\nend 4\n"
+BUS = b"f -.main.1.1 3\nf -.main.2.1 3\n\nf -.main.3.1 3\nf (-.main.L1.1).main.5.1 3\n"
+REFUSED = b"u-program 1\nblock main\n1 0 begin -> 2.1\n2 0 add -> 3.1\n3 0 end ->\n"
+# What may stand behind `u: ` where a text is refused, or an entry or a port is not there.
+NAMED = re.compile(
+    rb"u: (program line \d+ not allowed|program line \d+ has too many|program cut short"
+    rb"|rule \d+ block \d+ statement \d+|argument not allowed|entry not allowed at byte \d+"
+    rb"|name not allowed at byte \d+|checkpoint line \d+ not allowed|checkpoint line \d+ too long"
+    rb"|firing \d+ not of this job|entry not held|port not clashed)\n"
+)
+NOTICE = re.compile(rb"u: line \d+ (too long|not allowed|not of this job|cut short)\n")
+
+
+class Ended:
+    """How a run ended: its status, what it wrote, and how many allocations it had."""
+
+    def __init__(self, ran):
+        self.status, self.out = ran.returncode, ran.stdout
+        self.error = SAID.sub(b"", ran.stderr)
+        counted = COUNT.search(ran.stderr)
+        self.allocations = int(counted[1]) if counted else 0
+
+    def is_same(self, other):
+        return (self.status, self.out, self.error) == (other.status, other.out, other.error)
+
+    def __str__(self):
+        return f"status {self.status}, output {self.out[-200:]}, error {self.error[-200:]}"
+
+
+def bound():
+    resource.setrlimit(resource.RLIMIT_CPU, (int(MOST_SECONDS) + 1, int(MOST_SECONDS) + 1))
+
+
+def run(words, given=b"", library=None, bounded=False, **settings):
+    """A run of the program, with the library's settings."""
+    how = dict(os.environ, **{name: str(value) for name, value in settings.items()})
+    if library:
+        how["LD_PRELOAD"] = library
+    return Ended(
+        subprocess.run(
+            [BINARY, *words],
+            input=given,
+            capture_output=True,
+            env=how,
+            cwd=TOP,
+            timeout=LIMIT,
+            preexec_fn=bound if bounded else None,
+        )
+    )
+
+
+class Tally:
+    """What passed and what failed."""
+
+    def __init__(self):
+        self.passed = self.failed = 0
+
+    def add(self, name, count, wrong):
+        """Counts a test, which made so many runs, and shows up to three that ended as none may."""
+        if count and not wrong:
+            self.passed += 1
+            print(f"{name}: {count} runs, each as it must be", flush=True)
+            return
+        self.failed += 1
+        print(f"{name}: {count} runs, {len(wrong)} of them as none may be", flush=True)
+        for what, ended in wrong[:3]:
+            print(f"    {what}: {ended}")
+
+
+def side_by_side(numbers, one):
+    """What `one` returns for each of the numbers, with as many runs side by side as there are processors."""
+    with ThreadPoolExecutor(os.cpu_count()) as pool:
+        return zip(numbers, pool.map(one, numbers))
+
+
+def commands(room):
+    """Command lines, and what stands on standard input."""
+    for words in (
+        [],
+        ["--help"],
+        ["run"],
+        ["check", DOUBLE, "--strict", "--determinate"],
+        ["check", f"{room}/refused"],
+        ["explain", DOUBLE, "--strict"],
+        ["explain", f"{room}/refused"],
+        ["run", DOUBLE, "4"],
+        ["run", SUM, "3"],
+        ["run", WRITERS, "0"],
+        ["run", "programs/factorial.u", "2", "--firings", "30"],
+        ["run", DOUBLE, "01"],
+        ["save", SUM, "2", "--firings", "9"],
+        ["restore", SUM, "3", f"{room}/checkpoint"],
+        ["trace", DOUBLE, "4", "a 8"],
+        ["trace", DOUBLE, "4", "a 9"],
+        ["blame", WRITERS, "0", "-.main.10.1", "1"],
+        ["waits", SUM, "2", "--firings", "9"],
+        ["world", DOUBLE, "4", "--events", "20"],
+        ["fleet", DOUBLE, "4"],
+        ["fleet", SUM, "3", "--workers", "2", "--rounds", "8"],
+    ):
+        yield words, b""
+    yield ["run", "stdin", "4"], b"u-program 1\nblock main\n1 0 begin -> 2.1\n2 0 end ->\n"
+    yield ["share", SUM, "3", "--burst", "5"], BUS
+
+
+def is_share(words):
+    return words[:1] == ["share"]
+
+
+def ends_without_memory(words, ended):
+    """Whether the run ended for want of memory, and wrote nothing, or, of a member, lines and notices before it."""
+    faults = [b"u: no memory\n"]
+    if words[:1] == ["fleet"]:
+        faults += [b"u: no thread\n", b"u: no reader\n"]
+    if is_share(words):
+        return ended.status == 5 and ended.error.endswith(faults[0])
+    return ended.status == 5 and ended.error in faults and ended.out == b""
+
+
+def refuse_memory(tally, room, library):
+    """Refuses each allocation. A fleet's allocations differ from run to run, so it gets half as many again."""
+    for words, given in commands(room):
+        whole = run(words, given, library, FAIL_AT=0)
+        count = whole.allocations * 3 // 2 if words[:1] == ["fleet"] else whole.allocations
+        wrong = [
+            (f"allocation {number}", ended)
+            for number, ended in side_by_side(
+                range(1, count + 1), lambda number: run(words, given, library, FAIL_AT=number)
+            )
+            if not ended.is_same(whole) and not ends_without_memory(words, ended)
+        ]
+        tally.add(f"memory: {shown(words, room)}", count, wrong)
+
+
+def fail_writes(tally, room, library):
+    """Lets standard output take a byte at a time, and fail at each byte."""
+    for words, given in commands(room):
+        whole = run(words, given)
+        if not whole.out:
+            continue
+        slow = run(words, given, library, SHORT=1)
+        wrong = [] if slow.is_same(whole) else [("a byte at a time", slow)]
+        for number, ended in side_by_side(
+            range(1, len(whole.out) + 1), lambda number: run(words, given, library, SHORT=1, FAIL_WRITE=number)
+        ):
+            front = ended.out == whole.out[: number - 1]
+            if ended.status != 5 or not ended.error.endswith(b"u: not written\n") or not front:
+                wrong.append((f"byte {number}", ended))
+        tally.add(f"writes: {shown(words, room)}", len(whole.out) + 1, wrong)
+
+
+def fail_reads(tally, room, library):
+    """Lets input come a byte at a time, and fail at each byte."""
+    inputs = (
+        (["run", SUM, "3"], b"", os.path.getsize(f"{TOP}/{SUM}")),
+        (["check", DOUBLE], b"", os.path.getsize(f"{TOP}/{DOUBLE}")),
+        (["run", "stdin", "4"], b"u-program 1\nblock main\n1 0 begin -> 2.1\n2 0 end ->\n", 50),
+        (["restore", DOUBLE, "4", f"{room}/double"], b"", os.path.getsize(f"{TOP}/{DOUBLE}") + 18),
+        (["share", DOUBLE, "4", "--follow"], b"f -.main.1.1 4\nf -.main.2.1 4 4\n", os.path.getsize(f"{TOP}/{DOUBLE}") + 33),
+    )
+    for words, given, count in inputs:
+        whole = run(words, given)
+        slow = run(words, given, library, SHORT=1)
+        wrong = [] if slow.is_same(whole) else [("a byte at a time", slow)]
+        for number, ended in side_by_side(
+            range(1, count + 1), lambda number: run(words, given, library, SHORT=1, FAIL_READ=number)
+        ):
+            front = whole.out.startswith(ended.out) if is_share(words) else ended.out == b""
+            if ended.status != 5 or not ended.error.endswith(b"u: not readable\n") or not front:
+                wrong.append((f"read {number}", ended))
+        tally.add(f"reads: {shown(words, room)}", count + 1, wrong)
+
+
+def shown(words, room):
+    return " ".join(words).replace(room, "TEMP") or "the stored run"
+
+
+def damage(chance, text):
+    """The text with one to three changes: cut, a byte changed, added or left out, a line left out, doubled or moved."""
+    for _ in range(chance.randint(1, 3)):
+        place = chance.randrange(len(text) + 1)
+        kind = chance.randrange(7)
+        if kind == 0:
+            text = text[:place]
+        elif kind == 1:
+            text = text[:place] + chance.choice(BYTES) + text[place + 1 :]
+        elif kind == 2:
+            text = text[:place] + chance.choice(BYTES) + text[place:]
+        elif kind == 3:
+            text = text[:place] + text[place + 1 :]
+        else:
+            lines = text.splitlines(keepends=True)
+            if lines:
+                line = lines.pop(chance.randrange(len(lines)))
+                to = chance.randrange(len(lines) + 1)
+                lines[to:to] = [line] * (kind - 4)
+            text = b"".join(lines)
+    return text
+
+
+BYTES = [bytes([byte]) for byte in b"0123456789 .()-\n\r\tfatwelL@&#n\x00\x7f\x80\xff/>,[]"]
+
+
+def programs():
+    for name in sorted(os.listdir(f"{TOP}/programs")):
+        with open(f"{TOP}/programs/{name}", "rb") as file:
+            yield file.read()
+
+
+def same_answer(ended):
+    """Whether the report has the answer of the sum of 3, and no other."""
+    return ended.status == 0 and ended.out.endswith(b"\nanswer 6\nverdict answer 6\n")
+
+
+def is_word(text):
+    """Whether the text can be a word of a command line that is no option."""
+    return b"\0" not in text and not text.startswith(b"-")
+
+
+def damaged_run(chance, texts, room):
+    """A run over a damaged text, and whether it ended as it may."""
+    kind = chance.randrange(6)
+    if kind < 3:
+        text = damage(chance, chance.choice(texts))
+        words = (["check", "stdin"], ["explain", "stdin"], ["run", "stdin", "3", "--firings", "200"])[kind]
+        ended = run(words, text, bounded=True)
+        named = (2,) if kind == 1 else ()
+        right = (ended.status in (0, 3, 4) + named and not ended.error) or is_refusal(ended)
+    elif kind == 3:
+        text = damage(chance, CHECKPOINT)
+        with tempfile.NamedTemporaryFile(dir=room) as file:
+            file.write(text)
+            file.flush()
+            words = ["restore", SUM, "3", file.name]
+            ended = run(words, bounded=True)
+        right = same_answer(ended) or is_refusal(ended)
+    elif kind == 4:
+        text = damage(chance, b"t (-.main.L1.1).main.8.2 1 2")
+        words = ["trace", SUM, "3", os.fsdecode(text)] if is_word(text) else ["check", DOUBLE]
+        ended = run(words, bounded=True)
+        right = ended.status == 0 or is_refusal(ended) or (ended.status == 1 and not is_utf8(text))
+    else:
+        text = damage(chance, BUS)
+        words = ["share", SUM, "3", "--follow", "--report", "/dev/stdout"]
+        ended = run(words, text, bounded=True)
+        right = same_answer(ended) and not NOTICE.sub(b"", ended.error)
+    return text, words, ended, right
+
+
+def is_utf8(text):
+    try:
+        text.decode()
+        return True
+    except UnicodeDecodeError:
+        return False
+
+
+def is_refusal(ended):
+    """Whether the run ended with one named refusal and nothing else."""
+    return ended.status in (2, 3) and ended.out == b"" and NAMED.fullmatch(ended.error) is not None
+
+
+def damage_texts(tally, room, seed, count):
+    """Runs over that many damaged texts."""
+    texts = list(programs())
+    wrong = []
+
+    def one(number):
+        return damaged_run(random.Random(f"{seed} {number}"), texts, room)
+
+    refused = 0
+    for number, (text, words, ended, right) in side_by_side(range(count), one):
+        refused += is_refusal(ended)
+        if not right:
+            wrong.append((f"number {number}, {' '.join(words[:2])} of {text[:400]}", ended))
+    print(f"damaged: {refused} of {count} were refused by name")
+    tally.add(f"damaged: seed {seed}", count, wrong)
+
+
+def built_library(room):
+    """The library that refuses, or None if it can't be built."""
+    library = f"{room}/refuse.so"
+    source = f"{TOP}/tests/memory/refuse.c"
+    words = ["cc", "-std=c11", "-O2", "-Wall", "-shared", "-fPIC", "-o", library, source, "-ldl"]
+    return library if subprocess.run(words).returncode == 0 else None
+
+
+def make_files(room):
+    for name, text in (
+        ("checkpoint", CHECKPOINT),
+        ("refused", REFUSED),
+        ("double", b"u-history 1\nend 0\n"),
+    ):
+        with open(f"{room}/{name}", "wb") as file:
+            file.write(text)
+
+
+def main():
+    parser = argparse.ArgumentParser(description="Failing surroundings and damaged texts.")
+    parser.add_argument("--seed", type=int, default=1)
+    parser.add_argument("--damaged", type=int, default=2000, metavar="N")
+    parser.add_argument("parts", nargs="*", metavar="PART", help="memory, writes, reads, damaged")
+    asked = parser.parse_args()
+    parts = asked.parts or ["memory", "writes", "reads", "damaged"]
+    tally = Tally()
+    with tempfile.TemporaryDirectory() as room:
+        make_files(room)
+        library = built_library(room)
+        if library is None or not os.access(BINARY, os.X_OK):
+            print(f"{BINARY} or the library is not built", file=sys.stderr)
+            print("0 passed, 1 failed")
+            return 1
+        for part, test in (("memory", refuse_memory), ("writes", fail_writes), ("reads", fail_reads)):
+            if part in parts:
+                test(tally, room, library)
+        if "damaged" in parts:
+            damage_texts(tally, room, asked.seed, asked.damaged)
+    print(f"{tally.passed} passed, {tally.failed} failed")
+    return 0 if tally.failed == 0 else 1
+
+
+sys.exit(main())
