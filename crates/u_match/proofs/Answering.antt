@@ -1,17 +1,16 @@
 -- The firings that are gathered from lists of what a token meets are those that it wakes.
-use Rattle.std.proofs.Common.{◌≡◌, ◌↔◌, ◌⊎◌, inl, inr, sym, subst, ap, ◌∙◌, refl, arith, ℕ, ◌≤◌, ◌<◌, List, [], ◌∷◌, length, Contains, zero, suc}
-use Rattle.u_name.specs.Name.{Activity}
+use Rattle.std.proofs.Common.{◌≡◌, ◌↔◌, ◌⊎◌, inl, inr, sym, ap, ◌∙◌, refl, arith, ℕ, ◌≤◌, ◌<◌, List, [], length, Contains, zero, suc}
 use Rattle.u_value.specs.declared.value.Value.{Value}
 use Rattle.u_check.specs.Jobs.{JobParts}
 use Rattle.u_rule.specs.Parts.{TokenParts}
 use Rattle.u_rule.specs.Ports.{ports_at}
 use Rattle.u_rule.specs.declared.entry.Entry.{Entry}
 use Rattle.u_rule.specs.declared.firing.Firing.{Firing}
-use Rattle.u_sets.specs.Members.{SomeOf, AreThose, Gains}
+use Rattle.u_sets.specs.Members.{SomeOf, Gains}
 use Rattle.u_system.proofs.Member.{Contains-nil}
 use Rattle.u_match.specs.Keys.{IsMet}
 use Rattle.u_match.specs.Joins.{IsOne, JoinsSome, JoinsPair}
-use Rattle.u_match.proofs.Made.{Woken, OneMet, TwoMet, ThreeMet, one_woken, two_woken, three_woken, cases_of, counted, few_at}
+use Rattle.u_match.proofs.Made.{Woken, OneMet, TwoMet, ThreeMet, one_woken, two_woken, three_woken, cases_of, counted}
 
 pub one_of : (p n : ℕ) → 1 ≤ p → p ≤ n → n ≡ 1 → p ≡ 1
 one_of p n low high e = omega (arith, low, high, e)

@@ -1,16 +1,19 @@
 -- A table of reads stays complete, and is complete with an entry that was noted.
 use Rattle.std.proofs.Common.{◌≡◌, ◌⊎◌, inl, inr, sym, subst, ap, ◌∙◌, refl, arith, ℕ, List, Contains}
-use Rattle.u_name.specs.Name.{Activity}
 use Rattle.u_value.specs.declared.value.Value.{Value}
 use Rattle.u_rule.specs.Parts.{TokenParts, token}
 use Rattle.u_rule.specs.declared.entry.Entry.{Entry}
 use Rattle.u_rule.specs.declared.entry.Entry.TheVariants as entries
-use Rattle.u_match.specs.KeyedLists.{KeepsAll}
-use Rattle.u_match.specs.Keys.{ReadTable, cell_eq, IsMet, Notes, IsCompleteWith}
+use Rattle.u_system.specs.Firing.{Within}
+use Rattle.u_match.specs.Keys.{ReadTable, IsMet, Notes, IsComplete, IsCompleteWith}
 use Rattle.u_match.proofs.Noted.{notes_still}
 use Rattle.u_match.proofs.MetValues.{same_token, held_met}
 
-module _ (old new : ReadTable) (es : List Entry) (kept : KeepsAll cell_eq old new) where
+-- what has more is complete too
+pub complete_still : (old new : ReadTable) (es : List Entry) → Within (Contains new) old → IsComplete old es → IsComplete new es
+complete_still old new es kept c a v w m n = notes_still a v w old new kept (c a v w m n)
+
+module _ (old new : ReadTable) (es : List Entry) (kept : Within (Contains new) old) where
   -- an entry that is no token
   pub with_other : (entry : Entry) → ((t : TokenParts) → entry ≡ entries.Token t → ⊥) → IsCompleteWith old es entry new
   with_other entry no_token more c w a v u m n = notes_still a v u old new kept (c a v u (there (token a 1 v) m) (there (token a 2 u) n))

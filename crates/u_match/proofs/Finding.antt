@@ -1,34 +1,24 @@
 -- Which cell a firing reads, and when it is enabled.
-use Rattle.std.proofs.Common.{◌≡◌, ◌↔◌, ◌∙◌, ◌≤◌, ◌+◌, ◌-◌, get_or, take, drop, inl, inr, sym, ap, subst, refl, arith, ℕ, Bool, true, IsTrue, List, [], ◌∷◌, length, Contains, Ok, Some, None, Option}
+use Rattle.std.proofs.Common.{◌≡◌, ◌↔◌, ◌∙◌, ◌≤◌, ◌+◌, ◌-◌, get_or, take, drop, inl, inr, sym, ap, subst, refl, arith, ℕ, true, List, [], ◌∷◌, length, Some, None, Option}
 use Rattle.std.specs.Prelude.{◌==◌}
-use Rattle.std.specs.Ordering.{is_eq}
-use Rattle.std.specs.Cmp.{tied_itself, Equal-is}
-use Rattle.std.specs.declared.cmp.Ordering.TheVariants.{Equal}
 use Rattle.std.proofs.lemmas.Bool.{and_parts, eqb-true}
 use Rattle.std.proofs.lemmas.List.{take_all}
 use Rattle.std.proofs.lemmas.List.Elements.{Contains-append_left, Contains-append_right, Contains-append_cases}
 use Rattle.u_system.specs.Firing.{Enabled, Within}
 use Rattle.u_system.proofs.Member.{Contains-head, Contains-tail, Contains-cons_cases}
 use Rattle.u_name.specs.Name.{Activity}
-use Rattle.u_name.specs.NameOrder.{name_cmp, name_cmp_total, name_cmp_ties}
-use Rattle.u_name.specs.Cell.{CellOf}
 use Rattle.u_value.specs.declared.value.Value.{Value}
 use Rattle.u_value.specs.declared.value.Value.TheVariants as values
-use Rattle.u_value.specs.ExactOrders.{value_cmp_total, value_cmp_ties}
-use Rattle.u_value.specs.Values.{value_cmp}
 use Rattle.u_program.specs.Parts.{StatementParts, BlockParts}
 use Rattle.u_check.specs.Jobs.{JobParts}
 use Rattle.u_check.specs.Kinds.{ports_of}
-use Rattle.u_rule.specs.Parts.{TokenParts, token, ValueList}
+use Rattle.u_rule.specs.Parts.{token, ValueList}
 use Rattle.u_rule.specs.Rule.{system_of, is_firing_of, is_firing_at, needs_of, tokens_from}
 use Rattle.u_rule.specs.Fits.{statement_of, fits_at}
 use Rattle.u_rule.specs.Structures.{cell_named, reads_cell, has_its_write, write_read}
-use Rattle.u_rule.specs.EntryOrder.{write_of}
-use Rattle.u_rule.specs.declared.parts.Write.{Write}
 use Rattle.u_rule.specs.declared.entry.Entry.{Entry}
 use Rattle.u_rule.specs.declared.entry.Entry.TheVariants as entries
 use Rattle.u_rule.specs.declared.firing.Firing.{Firing}
-use Rattle.u_rule.specs.declared.firing.Written.{Written}
 use Rattle.u_match.specs.ReadCells.{HasReadCell}
 use Rattle.u_rule.proofs.FiringShapes.{read_or_none, reads}
 

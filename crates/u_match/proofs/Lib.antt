@@ -1,4 +1,3 @@
-pub mod Puts
 pub mod Steps
 pub mod Wakes
 pub mod Noted
@@ -9,3 +8,5 @@ pub mod WriteWaking
 pub mod Completing
 pub mod Naming
 pub mod Finding
+pub mod Finite
+pub mod Ordered

@@ -1,5 +1,5 @@
 -- The firings that a token wakes are those of the job that are made of what it meets.
-use Rattle.std.proofs.Common.{◌≡◌, ◌↔◌, ◌⊎◌, inl, inr, sym, subst, ap, ◌∙◌, refl, arith, ℕ, ◌≤◌, ◌<◌, List, [], ◌∷◌, length, IsTrue, Bool, true, ◌&&◌, ◌==◌, Contains, Option, Some, None, Ok}
+use Rattle.std.proofs.Common.{◌≡◌, ◌⊎◌, inl, inr, sym, subst, ap, ◌∙◌, refl, arith, ℕ, ◌≤◌, List, [], ◌∷◌, length, IsTrue, true, ◌==◌, Contains, Option, Some, None, Ok}
 use Rattle.std.proofs.lemmas.Bool.{and_parts, eqb-true}
 use Rattle.u_name.specs.Name.{Activity}
 use Rattle.u_name.specs.Cell.{CellOf}
@@ -17,11 +17,8 @@ use Rattle.u_rule.specs.declared.entry.Entry.{Entry}
 use Rattle.u_rule.specs.declared.entry.Entry.TheVariants as entries
 use Rattle.u_rule.specs.declared.firing.Firing.{Firing}
 use Rattle.u_rule.specs.declared.firing.Written.{Written}
-use Rattle.u_sets.specs.Members.{SomeOf}
-use Rattle.u_system.proofs.Member.{Contains-nil}
-use Rattle.u_history.specs.Outcomes.{PairIn}
 use Rattle.u_match.specs.Keys.{IsMet}
-use Rattle.u_match.specs.Joins.{IsOne, IsTwo, IsThree, IsReading, ReadsCell, JoinsTwo, JoinsSome, JoinsThird, JoinsPair}
+use Rattle.u_match.specs.Joins.{IsOne, IsThree, JoinsTwo}
 use Rattle.u_match.specs.Waking.{IsWokenBy}
 use Rattle.u_match.proofs.MetValues.{Held, own_token, met_held, held_met, same_token}
 use Rattle.u_rule.proofs.FiringShapes.{OneValue, TwoValues, ThreeValues, Reading, Shape, shape_of, few_ports, rebuilt, needs_one, needs_two, needs_three, needs_read}

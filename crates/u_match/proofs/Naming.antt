@@ -1,5 +1,5 @@
 -- Which tokens name a cell with what they meet.
-use Rattle.std.proofs.Common.{◌≡◌, ◌⊎◌, inl, inr, sym, ◌∙◌, refl, arith, ℕ, ◌≤◌, ◌==◌, [], ◌∷◌, Bool, true, false, Contains, Ok}
+use Rattle.std.proofs.Common.{◌≡◌, ◌⊎◌, inl, inr, ◌∙◌, refl, arith, ℕ, ◌==◌, [], ◌∷◌, Bool, true, false, Ok}
 use Rattle.std.specs.Prelude.{ℤ}
 use Rattle.std.proofs.lemmas.Bool.Decides.{nat_tests}
 use Rattle.u_name.specs.Cell.{CellOf}

@@ -1,5 +1,6 @@
 -- A list of firings that is gathered step by step.
-use Rattle.std.proofs.Common.{◌≡◌, ◌↔◌, ◌⊎◌, inl, inr, subst, ℕ, List, [], ◌∷◌, Contains, IsTrue, Option, Some, None, Ok}
+use Rattle.std.proofs.Common.{◌≡◌, ◌↔◌, ◌⊎◌, inl, inr, subst, List, [], ◌∷◌, ◌++◌, Contains, IsTrue, Option, Some, None, Ok}
+use Rattle.std.proofs.lemmas.List.Elements.{Contains-append_left, Contains-push, Contains-push_cases}
 use Rattle.u_name.specs.Cell.{CellOf}
 use Rattle.u_name.specs.Name.{Activity}
 use Rattle.u_value.specs.declared.value.Value.{Value}
@@ -13,6 +14,17 @@ use Rattle.u_sets.specs.Members.{SomeOf, Gains}
 use Rattle.u_sets.proofs.Steps.{nothing}
 use Rattle.u_history.specs.Outcomes.{PairIn}
 use Rattle.u_match.specs.Joins.{IsKept, IsReading, ReadsCell}
+
+-- behind the others
+pub put_last : (g : Firing) (old new : List Firing) → new ≡ old ++ g ∷ [] → Gains old (λ f. g ≡ f) new
+put_last g old new e = rw e (λ f. (to f, back f))
+  where
+    to : (f : Firing) → Contains (old ++ g ∷ []) f → Contains old f ⊎ (g ≡ f)
+    to f m = Contains-push_cases old g f m
+
+    back : (f : Firing) → Contains old f ⊎ (g ≡ f) → Contains (old ++ g ∷ []) f
+    back f (inl k) = Contains-append_left old (g ∷ []) f k
+    back f (inr h) = subst (λ (x : Firing). Contains (old ++ g ∷ []) x) h (Contains-push old g)
 
 -- the firing, by another name
 pub renamed : (job : JobParts) (g h : Firing) (old new : List Firing) → g ≡ h → Gains old (IsKept job g) new → Gains old (IsKept job h) new

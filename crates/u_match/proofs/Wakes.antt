@@ -9,7 +9,7 @@ use Rattle.u_rule.specs.EntryOrder.{entry_cmp}
 use Rattle.u_rule.specs.ExactOrders.{entry_cmp_total, entry_cmp_ties}
 use Rattle.u_rule.specs.declared.entry.Entry.{Entry}
 use Rattle.u_rule.specs.declared.firing.Firing.{Firing}
-use Rattle.u_sets.specs.Members.{SomeOf, IsWith, Gains}
+use Rattle.u_sets.specs.Members.{SomeOf, IsWith, AreThose, Gains}
 use Rattle.u_match.specs.Waking.{IsWokenBy}
 
 pub same_entry : (a b : Entry) → IsTrue (is_eq (entry_cmp a b)) ↔ (a ≡ b)
@@ -41,3 +41,13 @@ tested job entry H f ns first second h r n x y is t has held = (
 -- what is woken over the old set and the entry, is woken over the new one
 pub over : (job : JobParts) (entry : Entry) (old new : List Entry) → IsWith old entry new → (f : Firing) → IsWokenBy job entry (λ x. Contains old x ⊎ (entry ≡ x)) f ↔ IsWokenBy job entry (Contains new) f
 over job entry old new w f = ((λ k. (k.0, (k.1.0, λ e m. (w e).1 (k.1.1 e m)))), λ k. (k.0, (k.1.0, λ e m. (w e).0 (k.1.1 e m))))
+
+-- of an entry that is there, the set is that with it
+pub with_known : (entry : Entry) (es : List Entry) → Contains es entry → IsWith es entry es
+with_known entry es m e = ((λ k. inl k), λ s. elim s [ inl k ↦ k | inr h ↦ subst (λ (x : Entry). Contains es x) h m ])
+
+-- the list of those that are woken over the old set and the entry, is that over the new one
+pub woken_over : (job : JobParts) (entry : Entry) (old new : List Entry) (found : List Firing) → IsWith old entry new → AreThose (IsWokenBy job entry (λ x. Contains old x ⊎ (entry ≡ x))) found → AreThose (IsWokenBy job entry (Contains new)) found
+woken_over job entry old new found w all f =
+    let same = over job entry old new w f in
+    ((λ m. same.0 ((all f).0 m)), λ k. (all f).1 (same.1 k))

@@ -1,9 +1,7 @@
 -- What a write wakes is made of a read that waits for its cell; faults and answers wake nothing.
-use Rattle.std.proofs.Common.{◌≡◌, ◌↔◌, ◌⊎◌, inl, inr, sym, subst, ap, ◌∙◌, refl, arith, List, [], ◌∷◌, Contains, Some, None, Ok}
-use Rattle.u_name.specs.Name.{Activity}
+use Rattle.std.proofs.Common.{◌≡◌, ◌↔◌, ◌⊎◌, inl, inr, sym, subst, ap, ◌∙◌, refl, List, [], ◌∷◌, Contains, Some, None, Ok}
 use Rattle.u_name.specs.Cell.{CellOf}
 use Rattle.u_value.specs.declared.value.Value.{Value}
-use Rattle.u_value.specs.declared.fault_kind.FaultKind.{FaultKind}
 use Rattle.u_check.specs.Jobs.{JobParts}
 use Rattle.u_rule.specs.Parts.{TokenParts, token}
 use Rattle.u_rule.specs.Rule.{needs_of}
@@ -16,7 +14,8 @@ use Rattle.u_rule.specs.declared.firing.Written.{Written}
 use Rattle.u_rule.specs.declared.parts.Write.{Write}
 use Rattle.u_sets.specs.Members.{SomeOf}
 use Rattle.u_system.proofs.Member.{Contains-nil}
-use Rattle.u_match.specs.Keys.{ReadTable, reads_of, read, IsComplete}
+use Rattle.u_match.specs.declared.meeting.Read.{Read}
+use Rattle.u_match.specs.Keys.{ReadTable, read, IsComplete}
 use Rattle.u_match.specs.Joins.{IsWoken}
 use Rattle.u_match.specs.Waking.{IsWokenBy}
 use Rattle.u_rule.proofs.FiringShapes.{OneValue, TwoValues, ThreeValues, Reading, Shape, shape_of, rebuilt, needs_one, needs_two, needs_three, needs_read}
@@ -76,34 +75,40 @@ module _ (reads : ReadTable) (es : List Entry) (c : IsComplete reads es) (write 
   token_there : (t : TokenParts) → Held (entries.Token t) → Contains es (entries.Token t)
   token_there t h = elim h [ inl m ↦ m | inr e ↦ absurd (cc) ]
 
-  -- what the write wakes is one of the reads that wait for its cell, with the write
-  pub woken_waits : (f : Firing) → IsWokenBy job (entries.Write write) Held f → SomeOf (reads_of reads write.cell) (IsWoken write) f
+  -- one of the reads that wait for its cell, with the write
+  abbrev Waits : Firing → Type 0
+  Waits f = (r : Read) × Contains reads (write.cell, r) × IsWoken write r f
+
+  -- what the write wakes is one of these
+  pub woken_waits : (f : Firing) → IsWokenBy job (entries.Write write) Held f → Waits f
   woken_waits f w =
       elim ((need_of job Held f (entries.Write write) w).kind)
       [ inl (t, h) ↦ absurd (cc) | inr (v, u, x, cell, k, n, h) ↦ by v u x cell k n (same_write (write_of cell x.writer x.value) write h) ]
     where
-      by : (v u : Value) (x : Written) (cell : CellOf) → f ≡ firing f.activity (v ∷ u ∷ []) (Some x) → cell_named (v ∷ u ∷ []) ≡ Ok cell → write_of cell x.writer x.value ≡ write → SomeOf (reads_of reads write.cell) (IsWoken write) f
+      by : (v u : Value) (x : Written) (cell : CellOf) → f ≡ firing f.activity (v ∷ u ∷ []) (Some x) → cell_named (v ∷ u ∷ []) ≡ Ok cell → write_of cell x.writer x.value ≡ write → Waits f
       by v u x cell k n e = (read f.activity v u, there, made)
         where
           held : (y : Entry) → (entries.Token (token f.activity 1 v) ≡ y) ⊎ ((entries.Token (token f.activity 2 u) ≡ y) ⊎ (wrote cell x.writer x.value ≡ y)) → Held y
           held y s = w.1.1 y (subst (λ (z : Firing). Contains (needs_of z) y) (sym k) ((needs_read f.activity v u x cell n y).1 s))
 
-          noted : Contains (reads_of reads cell) (read f.activity v u)
+          noted : Contains reads (cell, read f.activity v u)
           noted =
               c f.activity v u (token_there (token f.activity 1 v) (held (entries.Token (token f.activity 1 v)) (inl refl)))
               (token_there (token f.activity 2 u) (held (entries.Token (token f.activity 2 u)) (inr (inl refl)))) cell n
 
-          there : Contains (reads_of reads write.cell) (read f.activity v u)
-          there = subst (λ (q : CellOf). Contains (reads_of reads q) (read f.activity v u)) (ap (λ (z : Write). z.cell) e) noted
+          there : Contains reads (write.cell, read f.activity v u)
+          there = subst (λ (q : CellOf). Contains reads (q, read f.activity v u)) (ap (λ (z : Write). z.cell) e) noted
 
           made : firing f.activity (v ∷ u ∷ []) (Some (written write.writer write.value)) ≡ f
           made = sym (k ∙ ap (λ (z : Write). firing f.activity (v ∷ u ∷ []) (Some (written z.writer z.value))) e)
 
   -- those that it wakes among those that are made of reads that wait, are all that it wakes
-  pub answered_write : (entry : Entry) (made seen found : List Firing) (waiting : List _) → entry ≡ entries.Write write → waiting ≡ reads_of reads write.cell → seen ≡ made → ((f : Firing) → Contains made f ↔ SomeOf waiting (IsWoken write) f)
+  pub answered_write : (entry : Entry) (made seen found : List Firing) (waiting : List Read) → entry ≡ entries.Write write → ((r : Read) → Contains waiting r ↔ Contains reads (write.cell, r)) → ((f : Firing) → Contains seen f ↔ Contains made f) → ((f : Firing) → Contains made f ↔ SomeOf waiting (IsWoken write) f)
       → ((f : Firing) → Contains found f ↔ (Contains seen f × IsWokenBy job entry (λ x. Contains es x ⊎ (entry ≡ x)) f))
       → (f : Firing) → Contains found f ↔ IsWokenBy job entry (λ x. Contains es x ⊎ (entry ≡ x)) f
-  answered_write entry made seen found waiting is at e all some f = (
-    (λ m. ((some f).0 m).1),
-    (λ w. (some f).1 (subst (λ (xs : List Firing). Contains xs f) (sym e) ((all f).1 (subst (λ (rs : List _). SomeOf rs (IsWoken write) f) (sym at) (woken_waits f (subst (λ (x : Entry). IsWokenBy job x (λ y. Contains es y ⊎ (x ≡ y)) f) is w)))), w)),
-  )
+  answered_write entry made seen found waiting is at same all some f = ((λ m. ((some f).0 m).1), λ w. (some f).1 ((same f).1 ((all f).1 (waits w)), w))
+    where
+      waits : IsWokenBy job entry (λ x. Contains es x ⊎ (entry ≡ x)) f → SomeOf waiting (IsWoken write) f
+      waits w =
+          let (r, m, k) = woken_waits f (subst (λ (x : Entry). IsWokenBy job x (λ y. Contains es y ⊎ (x ≡ y)) f) is w) in
+          (r, (at r).1 m, k)

@@ -1,8 +1,7 @@
 -- Where entries meet: tokens at the ports of an activity, and reads with writes at a cell.
-use Rattle.std.specs.Prelude.{◌≡◌, ℕ, Bool, List, ◌∷◌, [], ◌⊎◌, Contains, Ok}
+use Rattle.std.specs.Prelude.{◌≡◌, ℕ, List, ◌∷◌, [], ◌⊎◌, Contains, Ok}
 use Rattle.u_name.specs.Name.{Activity}
 use Rattle.u_name.specs.Cell.{CellOf}
-use Rattle.u_name.specs.contracts.cell.CellPartialEq.TheImpl as cell_partial
 use Rattle.u_value.specs.declared.value.Value.{Value}
 use Rattle.u_rule.specs.Parts.{TokenParts, token}
 use Rattle.u_rule.specs.Structures.{cell_named}
@@ -11,22 +10,13 @@ use Rattle.u_rule.specs.declared.entry.Entry.{Entry}
 use Rattle.u_rule.specs.declared.entry.Entry.TheVariants as entries
 use Rattle.u_history.specs.Outcomes.{ValueAt}
 use Rattle.u_match.specs.declared.meeting.Read.{Read}
-use Rattle.u_match.specs.declared.table.Table.{Table}
-use Rattle.u_match.specs.KeyedLists.{under, KeepsAll}
 
 abbrev pub read : Activity → Value → Value → Read
 read activity structure index = record { activity = activity; structure = structure; index = index }
 
-abbrev pub cell_eq : CellOf → CellOf → Bool
-cell_eq = (cell_partial.ghosts).eq
-
 -- the reads that wait, by their cells
 abbrev pub ReadTable : Type 0
-ReadTable = Table CellOf Read
-
--- those that wait for a cell
-abbrev pub reads_of : ReadTable → CellOf → List Read
-reads_of reads c = under cell_eq reads c
+ReadTable = List (CellOf × Read)
 
 -- at its own port a token meets its own value, and at another port of its activity each value of H there
 abbrev pub IsMet : (Entry → Type 0) → TokenParts → ℕ → Value → Type 0
@@ -34,7 +24,7 @@ IsMet H t p v = ((t.port ≡ p) × (t.value ≡ v)) ⊎ ((t.port ≡ p → ⊥) 
 
 -- where the two values name a cell, the activity's read of it is in the table
 abbrev pub Notes : Activity → Value → Value → ReadTable → Type 0
-Notes a v w reads = (c : CellOf) → cell_named (v ∷ w ∷ []) ≡ Ok c → Contains (reads_of reads c) (read a v w)
+Notes a v w reads = (c : CellOf) → cell_named (v ∷ w ∷ []) ≡ Ok c → Contains reads (c, read a v w)
 
 -- no two values name a cell of which the token has one, unless it lies at the third port
 abbrev pub NamesNone : TokenParts → Type 0

@@ -1,5 +1,6 @@
-pub mod KeyedLists
 pub mod Keys
+pub mod ReadOrder
+pub mod Finite
 pub mod Joins
 pub mod Waking
 pub mod ReadCells

@@ -1,11 +1,35 @@
--- Which firings an entry wakes.
-use Rattle.std.specs.Prelude.{Contains}
+-- Which firings an entry wakes, and what comes of an entry that enters.
+use Rattle.std.specs.Prelude.{◌≡◌, List, ◌∷◌, Contains, Result, Ok, Err}
+use Rattle.std.specs.declared.alloc.AllocError.{AllocError}
 use Rattle.u_check.specs.Jobs.{JobParts}
 use Rattle.u_rule.specs.Rule.{system_of}
+use Rattle.u_rule.specs.Parts.{TokenParts}
+use Rattle.u_rule.specs.EntryOrder.{firing_cmp}
 use Rattle.u_rule.specs.declared.entry.Entry.{Entry}
+use Rattle.u_rule.specs.declared.entry.Entry.TheVariants as entries
 use Rattle.u_rule.specs.declared.firing.Firing.{Firing}
 use Rattle.u_system.specs.Firing.{Enabled}
+use Rattle.u_sets.specs.Members.{AreThose, IsWith, HasOr}
+use Rattle.u_sets.specs.Rising.{Rises}
+use Rattle.u_match.specs.declared.matcher.Entered.{Entered}
+use Rattle.u_match.specs.declared.matcher.Entered.TheVariants as entered
 
 -- f needs the entry, and is enabled over H
 abbrev pub IsWokenBy : JobParts → Entry → (Entry → Type 0) → Firing → Type 0
 IsWokenBy job entry H f = Contains ((system_of job).needs f) entry × Enabled (system_of job) H f
+
+-- the entry is a token, and the firings that it wakes over H are those of a list that has some
+pub record WakesSome (job : JobParts) (entry : Entry) (H : Entry → Type 0) : Type 0 where
+  pub token : (t : TokenParts) × (entry ≡ entries.Token t)
+  pub first : Firing
+  pub rest : List Firing
+  pub exact : AreThose (IsWokenBy job entry H) (first ∷ rest)
+
+-- the entry was there; or it is new and enters, with the firings that it wakes, in order; or it is new,
+-- and nothing changes since it would wake many; or there is no memory, and nothing changes
+abbrev pub EnterAnswer : JobParts → List Entry → Entry → Result Entered AllocError → List Entry → Type 0
+EnterAnswer job old entry (Ok entered.Known) new = Contains old entry × (new ≡ old)
+EnterAnswer job old entry (Ok (entered.Woken v)) new =
+    (Contains old entry → ⊥) × IsWith old entry new × AreThose (IsWokenBy job entry (Contains new)) v.items × Rises firing_cmp v.items
+EnterAnswer job old entry (Ok entered.Many) new = (Contains old entry → ⊥) × (new ≡ old) × WakesSome job entry (HasOr old entry)
+EnterAnswer job old entry (Err _) new = new ≡ old

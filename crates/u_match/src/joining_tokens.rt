@@ -1,53 +1,64 @@
 //! The firings of a job that a token makes with what it meets. What it meets is in the history, so each
-//! of them has all that it needs; which of them are firings of the job is tested as they are made.
-ghost use Rattle.std.specs.Prelude.{◌≡◌, ◌↔◌, ◌⊎◌, [], ◌∷◌, OnOk, IfOk, Contains};
+//! of them has all that it needs; which of them are firings of the job is tested as they are made. They
+//! are gathered in no order, and put in order once all are there.
+ghost use Rattle.std.specs.Prelude.{◌≡◌, ◌↔◌, ◌⊎◌, [], ◌∷◌, OnOk, IfOk, IfErr, Contains};
 ghost use Rattle.u_rule.specs.declared.entry.Entry.TheVariants.{Token as token_entry};
 ghost use Rattle.u_rule.specs.EntryOrder.{firing_cmp};
 ghost use Rattle.u_sets.specs.Rising.{Rises};
 ghost use Rattle.u_sets.specs.Members.{SomeOf, AreThose, Gains, HasOr};
+ghost use Rattle.u_match.specs.Finite.{HasSome};
 ghost use Rattle.u_match.specs.Joins.{IsKept, IsOne, IsThree, IsReading, ReadsCell, JoinsTwo, JoinsSome, JoinsThird, JoinsPair};
-ghost use Rattle.u_match.specs.Waking.{IsWokenBy};
+ghost use Rattle.u_match.specs.Waking.{IsWokenBy, WakesSome};
 
+use crate::halt::Halt;
 use crate::making_firings::{of_one, of_read, of_three, of_two};
 use crate::meeting::{met_at, port_of};
+use crate::ordering::put_in_order;
 use std::alloc::{AllocError, Global};
 use u_check::Job;
 use u_history::History;
 use u_name::Name;
 use u_rule::{Firing, Token, Written, cell_at, is_firing, ports_at};
-use u_sets::place_in;
 use u_value::Value;
 
-/// What the firings of one activity are made over: the job, the history, and the activity.
+/// What the firings of one activity are made over: the job, the history, and the activity; and how many
+/// there may be at most.
 #[derive(Clone, Copy)]
 struct Joining<'a> {
     alloc: Global,
     job: &'a Job,
     history: &'a History,
     activity: &'a Name,
+    most: usize,
 }
 
 impl Joining<'_> {
-    /// Puts the firing in its place, if it is one of the job.
-    fn add(&self, found: &mut Vec<Firing>, firing: Firing) -> Result<(), AllocError>
-        requires { Rises firing_cmp found.old.items }
-        ensures rises { Rises firing_cmp found.new.items }
+    /// Adds the firing, if it is one of the job.
+    fn add(&self, found: &mut Vec<Firing>, firing: Firing) -> Result<(), Halt>
         ensures ok { OnOk result
             (Gains found.old.items (IsKept self.now.job.now firing) found.new.items) }
+        ensures many { IfErr result
+            (λ e. e ≡ Halt.TooMany → HasSome
+            (IsKept self.now.job.now firing)) }
     {
-        if is_firing(self.job, &firing) {
-            place_in(found, firing)?;
+        if !is_firing(self.job, &firing) {
+            return Ok(());
         }
+        if found.len() >= self.most {
+            return Err(Halt::TooMany);
+        }
+        found.push(firing)?;
         Ok(())
     }
 
     /// Adds the firings of one value of the list.
-    fn add_ones(&self, firsts: &[Value], found: &mut Vec<Firing>) -> Result<(), AllocError>
-        requires { Rises firing_cmp found.old.items }
-        ensures rises { Rises firing_cmp found.new.items }
+    fn add_ones(&self, firsts: &[Value], found: &mut Vec<Firing>) -> Result<(), Halt>
         ensures ok { OnOk result
             (Gains found.old.items
             (SomeOf firsts.now (IsOne self.now.job.now self.now.activity.now)) found.new.items) }
+        ensures many { IfErr result
+            (λ e. e ≡ Halt.TooMany → HasSome
+            (SomeOf firsts.now (IsOne self.now.job.now self.now.activity.now))) }
     {
         for first in firsts {
             let single = of_one(self.alloc, self.activity, first)?;
@@ -63,14 +74,16 @@ impl Joining<'_> {
         second: &Value,
         writes: &[Written],
         found: &mut Vec<Firing>,
-    ) -> Result<(), AllocError>
-        requires { Rises firing_cmp found.old.items }
-        ensures rises { Rises firing_cmp found.new.items }
+    ) -> Result<(), Halt>
         ensures ok { OnOk result
             (Gains found.old.items
             (SomeOf writes.now
             (IsReading self.now.job.now self.now.activity.now first.now second.now))
             found.new.items) }
+        ensures many { IfErr result
+            (λ e. e ≡ Halt.TooMany → HasSome
+            (SomeOf writes.now
+            (IsReading self.now.job.now self.now.activity.now first.now second.now))) }
     {
         for write in writes {
             let reading = of_read(self.alloc, self.activity, first, second, write)?;
@@ -80,19 +93,16 @@ impl Joining<'_> {
     }
 
     /// Adds the firings of two values that read a write of the cell that these name.
-    fn add_reads(
-        &self,
-        first: &Value,
-        second: &Value,
-        found: &mut Vec<Firing>,
-    ) -> Result<(), AllocError>
-        requires { Rises firing_cmp found.old.items }
-        ensures rises { Rises firing_cmp found.new.items }
+    fn add_reads(&self, first: &Value, second: &Value, found: &mut Vec<Firing>) -> Result<(), Halt>
         ensures ok { OnOk result
             (Gains found.old.items
             (ReadsCell self.now.job.now (Contains self.now.history.now) self.now.activity.now
             first.now second.now)
             found.new.items) }
+        ensures many { IfErr result
+            (λ e. e ≡ Halt.TooMany → HasSome
+            (ReadsCell self.now.job.now (Contains self.now.history.now) self.now.activity.now
+            first.now second.now)) }
     {
         let named = cell_at(first, second)?;
         let cell = match named {
@@ -105,19 +115,16 @@ impl Joining<'_> {
     }
 
     /// Adds the firings that have these two values, and besides nothing or a write.
-    fn add_two(
-        &self,
-        first: &Value,
-        second: &Value,
-        found: &mut Vec<Firing>,
-    ) -> Result<(), AllocError>
-        requires { Rises firing_cmp found.old.items }
-        ensures rises { Rises firing_cmp found.new.items }
+    fn add_two(&self, first: &Value, second: &Value, found: &mut Vec<Firing>) -> Result<(), Halt>
         ensures ok { OnOk result
             (Gains found.old.items
             (JoinsTwo self.now.job.now (Contains self.now.history.now) self.now.activity.now
             first.now second.now)
             found.new.items) }
+        ensures many { IfErr result
+            (λ e. e ≡ Halt.TooMany → HasSome
+            (JoinsTwo self.now.job.now (Contains self.now.history.now) self.now.activity.now
+            first.now second.now)) }
     {
         let joined = of_two(self.alloc, self.activity, first, second)?;
         self.add(found, joined)?;
@@ -131,14 +138,16 @@ impl Joining<'_> {
         first: &Value,
         seconds: &[Value],
         found: &mut Vec<Firing>,
-    ) -> Result<(), AllocError>
-        requires { Rises firing_cmp found.old.items }
-        ensures rises { Rises firing_cmp found.new.items }
+    ) -> Result<(), Halt>
         ensures ok { OnOk result
             (Gains found.old.items
             (JoinsSome self.now.job.now (Contains self.now.history.now) self.now.activity.now
             seconds.now first.now)
             found.new.items) }
+        ensures many { IfErr result
+            (λ e. e ≡ Halt.TooMany → HasSome
+            (JoinsSome self.now.job.now (Contains self.now.history.now) self.now.activity.now
+            seconds.now first.now)) }
     {
         for second in seconds {
             self.add_two(first, second, found)?;
@@ -152,15 +161,18 @@ impl Joining<'_> {
         firsts: &[Value],
         seconds: &[Value],
         found: &mut Vec<Firing>,
-    ) -> Result<(), AllocError>
-        requires { Rises firing_cmp found.old.items }
-        ensures rises { Rises firing_cmp found.new.items }
+    ) -> Result<(), Halt>
         ensures ok { OnOk result
             (Gains found.old.items
             (SomeOf firsts.now
             (JoinsSome self.now.job.now (Contains self.now.history.now) self.now.activity.now
             seconds.now))
             found.new.items) }
+        ensures many { IfErr result
+            (λ e. e ≡ Halt.TooMany → HasSome
+            (SomeOf firsts.now
+            (JoinsSome self.now.job.now (Contains self.now.history.now) self.now.activity.now
+            seconds.now))) }
     {
         for first in firsts {
             self.add_seconds(first, seconds, found)?;
@@ -175,13 +187,14 @@ impl Joining<'_> {
         second: &Value,
         thirds: &[Value],
         found: &mut Vec<Firing>,
-    ) -> Result<(), AllocError>
-        requires { Rises firing_cmp found.old.items }
-        ensures rises { Rises firing_cmp found.new.items }
+    ) -> Result<(), Halt>
         ensures ok { OnOk result
             (Gains found.old.items
             (JoinsThird self.now.job.now self.now.activity.now thirds.now first.now second.now)
             found.new.items) }
+        ensures many { IfErr result
+            (λ e. e ≡ Halt.TooMany → HasSome
+            (JoinsThird self.now.job.now self.now.activity.now thirds.now first.now second.now)) }
     {
         for third in thirds {
             let tripled = of_three(self.alloc, self.activity, first, second, third)?;
@@ -197,13 +210,14 @@ impl Joining<'_> {
         seconds: &[Value],
         thirds: &[Value],
         found: &mut Vec<Firing>,
-    ) -> Result<(), AllocError>
-        requires { Rises firing_cmp found.old.items }
-        ensures rises { Rises firing_cmp found.new.items }
+    ) -> Result<(), Halt>
         ensures ok { OnOk result
             (Gains found.old.items
             (JoinsPair self.now.job.now self.now.activity.now seconds.now thirds.now first.now)
             found.new.items) }
+        ensures many { IfErr result
+            (λ e. e ≡ Halt.TooMany → HasSome
+            (JoinsPair self.now.job.now self.now.activity.now seconds.now thirds.now first.now)) }
     {
         for second in seconds {
             self.add_thirds(first, second, thirds, found)?;
@@ -218,14 +232,16 @@ impl Joining<'_> {
         seconds: &[Value],
         thirds: &[Value],
         found: &mut Vec<Firing>,
-    ) -> Result<(), AllocError>
-        requires { Rises firing_cmp found.old.items }
-        ensures rises { Rises firing_cmp found.new.items }
+    ) -> Result<(), Halt>
         ensures ok { OnOk result
             (Gains found.old.items
             (SomeOf firsts.now
             (JoinsPair self.now.job.now self.now.activity.now seconds.now thirds.now))
             found.new.items) }
+        ensures many { IfErr result
+            (λ e. e ≡ Halt.TooMany → HasSome
+            (SomeOf firsts.now
+            (JoinsPair self.now.job.now self.now.activity.now seconds.now thirds.now))) }
     {
         for first in firsts {
             self.add_pairs(first, seconds, thirds, found)?;
@@ -234,19 +250,22 @@ impl Joining<'_> {
     }
 }
 
-/// The firings of the job that the token wakes where it enters the history. They stand in order, each
-/// once. What lies at a port is asked of the history only where the activity has that port.
-pub(crate) fn woken_by_token(
+/// The firings of the job that the token wakes where it enters the history, in no order. What lies at a
+/// port is asked of the history only where the activity has that port.
+fn gathered(
     alloc: Global,
     job: &Job,
     history: &History,
     token: &Token,
-) -> Result<Vec<Firing>, AllocError>
+    most: usize,
+) -> Result<Vec<Firing>, Halt>
     ensures exact { IfOk result
         (λ v. AreThose
         (IsWokenBy job.now (token_entry token.now) (HasOr history.now (token_entry token.now)))
         v.items) }
-    ensures rises { IfOk result (λ v. Rises firing_cmp v.items) }
+    ensures many { IfErr result
+        (λ e. e ≡ Halt.TooMany → WakesSome job.now (token_entry token.now)
+        (HasOr history.now (token_entry token.now))) }
 {
     let mut found = Vec::new(alloc);
     let activity = token.activity();
@@ -259,6 +278,7 @@ pub(crate) fn woken_by_token(
         job,
         history,
         activity,
+        most,
     };
     let first = port_of(token, 1)?;
     let firsts = met_at(history, token, &first);
@@ -275,5 +295,32 @@ pub(crate) fn woken_by_token(
     let third = port_of(token, 3)?;
     let thirds = met_at(history, token, &third);
     joining.add_threes(firsts, seconds, thirds, &mut found)?;
+    Ok(found)
+}
+
+/// The firings of the job that the token wakes where it enters the history. They stand in order, each
+/// once.
+///
+/// # Errors
+/// `TooMany` where there are more than `most`, and it gives up on the first that is one too many.
+/// `NoMemory` where there is no memory.
+pub(crate) fn woken_by_token(
+    alloc: Global,
+    job: &Job,
+    history: &History,
+    token: &Token,
+    most: usize,
+) -> Result<Vec<Firing>, Halt>
+    ensures exact { IfOk result
+        (λ v. AreThose
+        (IsWokenBy job.now (token_entry token.now) (HasOr history.now (token_entry token.now)))
+        v.items) }
+    ensures rises { IfOk result (λ v. Rises firing_cmp v.items) }
+    ensures many { IfErr result
+        (λ e. e ≡ Halt.TooMany → WakesSome job.now (token_entry token.now)
+        (HasOr history.now (token_entry token.now))) }
+{
+    let mut found = gathered(alloc, job, history, token, most)?;
+    put_in_order(&mut found);
     Ok(found)
 }

@@ -12,12 +12,13 @@
 #![tactic(auto)]
 
 mod enabling;
+mod halt;
 mod joining_tokens;
 mod making_firings;
 mod matcher;
 mod meeting;
 mod noting_reads;
-mod table;
+mod ordering;
 mod waking_reads;
 
-pub use matcher::Matcher;
+pub use matcher::{Entered, Matcher};

@@ -1,5 +1,5 @@
 //! Sets of entries that say what each new entry enables.
-ghost use Rattle.std.specs.Prelude.{◌≡◌, ◌↔◌, [], IfOk, IfSome, IfNone, OnOk, OnErr, IsTrue, Contains, ◌⊎◌, length};
+ghost use Rattle.std.specs.Prelude.{◌≡◌, ◌↔◌, [], IfOk, IfErr, OnOk, OnErr, IsTrue, Contains, ◌⊎◌, length};
 ghost use Rattle.u_rule.specs.declared.entry.Entry.{Entry};
 ghost use Rattle.u_rule.specs.declared.firing.Firing.{Firing};
 ghost use Rattle.u_rule.specs.EntryOrder.{firing_cmp};
@@ -7,19 +7,33 @@ ghost use Rattle.u_rule.specs.Rule.{system_of};
 ghost use Rattle.u_system.specs.Firing.{Enabled};
 ghost use Rattle.u_sets.specs.Rising.{Rises};
 ghost use Rattle.u_sets.specs.Members.{IsWith, AreThose, HasOr};
-ghost use Rattle.u_match.specs.Waking.{IsWokenBy};
+ghost use Rattle.u_match.specs.Waking.{IsWokenBy, WakesSome, EnterAnswer};
 
 use crate::enabling::has_all_of;
+use crate::halt::Halt;
 use crate::joining_tokens::woken_by_token;
 use crate::meeting::Reads;
 use crate::noting_reads::note;
-use crate::table::Table;
 use crate::waking_reads::Entering;
 use std::alloc::{AllocError, Global};
 use std::marker::Model;
 use u_check::Job;
 use u_history::History;
 use u_rule::{Entry, Firing};
+
+/// As many firings are made as a token enters, and no more.
+const MOST_AT_ONCE: usize = 16;
+
+/// What came of an entry that enters.
+#[derive(Drop)]
+pub enum Entered {
+    /// It was there already.
+    Known,
+    /// It is new, and wakes these firings, in order and each once.
+    Woken(Vec<Firing>),
+    /// It is a new token and wakes so many firings that they were not made, and it did not enter.
+    Many,
+}
 
 /// A history, with the reads that wait in it. Contracts see the list of its entries, in order.
 #[derive(Drop)]
@@ -50,7 +64,7 @@ impl Matcher {
         Matcher {
             alloc,
             history: History::new(alloc),
-            reads: Table::new(alloc),
+            reads: Reads::new(alloc),
         }
     }
 
@@ -86,14 +100,17 @@ impl Matcher {
         has_all_of(&self.history, job, firing)
     }
 
-    /// The firings that the entry wakes where it enters.
-    fn woken(&self, job: &Job, entry: &Entry) -> Result<Vec<Firing>, AllocError>
+    /// The firings that the entry wakes where it enters. Of those that a token wakes there may be so many
+    /// at most.
+    fn woken(&self, job: &Job, entry: &Entry, most: usize) -> Result<Vec<Firing>, Halt>
         ensures exact { IfOk result
             (λ v. AreThose (IsWokenBy job.now entry.now (HasOr self.now entry.now)) v.items) }
         ensures rises { IfOk result (λ v. Rises firing_cmp v.items) }
+        ensures many { IfErr result
+            (λ e. e ≡ Halt.TooMany → WakesSome job.now entry.now (HasOr self.now entry.now)) }
     {
         match entry {
-            Entry::Token(token) => woken_by_token(self.alloc, job, &self.history, token),
+            Entry::Token(token) => woken_by_token(self.alloc, job, &self.history, token, most),
             Entry::Write(write) => {
                 let entering = Entering {
                     alloc: self.alloc,
@@ -101,29 +118,35 @@ impl Matcher {
                     entries: &self.history,
                     entry,
                 };
-                entering.woken_by_write(&self.reads, write)
+                let found = entering.woken_by_write(&self.reads, write)?;
+                Ok(found)
             }
             Entry::Fault(_fault) => Ok(Vec::new(self.alloc)),
             Entry::Answer(_value) => Ok(Vec::new(self.alloc)),
         }
     }
 
-    /// Lets the entry enter the set, and answers the firings of the job that it wakes, with whether the
-    /// entry is new.
-    fn admit(&mut self, job: &Job, entry: &Entry) -> Result<(Vec<Firing>, bool), AllocError>
+    /// All the firings that the entry wakes where it enters. More than the largest `usize` have no room.
+    fn all_woken(&self, job: &Job, entry: &Entry) -> Result<Vec<Firing>, AllocError>
         ensures exact { IfOk result
-            (λ r. AreThose (IsWokenBy job.now entry.now (Contains self.new)) r.0.items) }
-        ensures order { IfOk result (λ r. Rises firing_cmp r.0.items) }
-        ensures new { IfOk result (λ r. IsTrue r.1 ↔ (Contains self.old entry.now → ⊥)) }
-        ensures still { IfOk result (λ r. (IsTrue r.1 → ⊥) → self.new ≡ self.old) }
+            (λ v. AreThose (IsWokenBy job.now entry.now (HasOr self.now entry.now)) v.items) }
+        ensures rises { IfOk result (λ v. Rises firing_cmp v.items) }
+    {
+        match self.woken(job, entry, usize::MAX) {
+            Ok(found) => Ok(found),
+            Err(_) => Err(AllocError),
+        }
+    }
+
+    /// Lets the entry enter the set, with the reads that it makes.
+    fn admit(&mut self, entry: &Entry) -> Result<(), AllocError>
         ensures ok { OnOk result (IsWith self.old entry.now self.new) }
         ensures err { OnErr result (self.new ≡ self.old) }
     {
-        let found = self.woken(job, entry)?;
         let copy = entry.copy()?;
-        note(self.alloc, &self.history, &mut self.reads, entry)?;
-        let added = self.history.insert(copy)?;
-        Ok((found, added))
+        note(&self.history, &mut self.reads, entry)?;
+        self.history.insert(copy)?;
+        Ok(())
     }
 
     /// Lets the entry enter the set, and answers the firings of the job that it wakes: those that need
@@ -142,28 +165,56 @@ impl Matcher {
         ensures ok { OnOk result (IsWith self.old entry.now self.new) }
         ensures err { OnErr result (self.new ≡ self.old) }
     {
-        let (found, _) = self.admit(job, entry)?;
+        let found = self.all_woken(job, entry)?;
+        self.admit(entry)?;
         Ok(found)
     }
 
-    /// Lets the entry enter the set, and answers the firings of the job that it wakes, as `enter` does,
-    /// where it was not there already.
+    /// Lets the entry enter the set, unless it is there already or is a token that wakes more than 16
+    /// firings. Of these no more than that are made before it answers `Many`, and the token did not enter
+    /// then. What a write wakes is always made.
     ///
     /// # Errors
     /// `AllocError` where there is no memory; the set stays as it was.
-    pub fn enter_new(&mut self, job: &Job, entry: &Entry) -> Result<Option<Vec<Firing>>, AllocError>
-        ensures exact { IfOk result (λ o. IfSome o
-            (λ v. AreThose (IsWokenBy job.now entry.now (Contains self.new)) v.items)) }
-        ensures order { IfOk result (λ o. IfSome o (λ v. Rises firing_cmp v.items)) }
-        ensures new { IfOk result (λ o. IfSome o (λ v. Contains self.old entry.now → ⊥)) }
-        ensures still { IfOk result (λ o. IfNone o (self.new ≡ self.old)) }
+    pub fn enter_few(&mut self, job: &Job, entry: &Entry) -> Result<Entered, AllocError>
+        ensures { EnterAnswer job.now self.old entry.now result self.new }
+    {
+        if self.contains(entry) {
+            return Ok(Entered::Known);
+        }
+        let found = match self.woken(job, entry, MOST_AT_ONCE) {
+            Ok(found) => found,
+            Err(Halt::TooMany) => return Ok(Entered::Many),
+            Err(Halt::NoMemory) => return Err(AllocError),
+        };
+        self.admit(entry)?;
+        Ok(Entered::Woken(found))
+    }
+
+    /// Lets the entry enter the set. The firings that it wakes are not made: `woken_by` makes them.
+    ///
+    /// # Errors
+    /// `AllocError` where there is no memory; the set stays as it was.
+    pub fn enter_alone(&mut self, entry: &Entry) -> Result<(), AllocError>
         ensures ok { OnOk result (IsWith self.old entry.now self.new) }
         ensures err { OnErr result (self.new ≡ self.old) }
     {
-        let (found, is_new) = self.admit(job, entry)?;
-        if !is_new {
-            return Ok(None);
-        }
-        Ok(Some(found))
+        self.admit(entry)?;
+        Ok(())
+    }
+
+    /// The firings of the job that an entry of the set wakes, in order and each once: those that need
+    /// it, and whose needs are all in the set.
+    ///
+    /// # Errors
+    /// `AllocError` where there is no memory.
+    pub fn woken_by(&self, job: &Job, entry: &Entry) -> Result<Vec<Firing>, AllocError>
+        requires { Contains self.now entry.now }
+        ensures exact { IfOk result
+            (λ v. AreThose (IsWokenBy job.now entry.now (Contains self.now)) v.items) }
+        ensures order { IfOk result (λ v. Rises firing_cmp v.items) }
+    {
+        let found = self.all_woken(job, entry)?;
+        Ok(found)
     }
 }

@@ -3,18 +3,20 @@ ghost use Rattle.std.specs.Prelude.{◌≡◌, IfOk, Contains};
 ghost use Rattle.u_sets.specs.Members.{AreThose};
 ghost use Rattle.u_history.specs.Clashes.{port_of};
 ghost use Rattle.u_match.specs.Keys.{IsMet};
+ghost use Rattle.u_match.specs.ReadOrder.{read_ties};
 
-use crate::table::Table;
 use std::alloc::AllocError;
 use std::slice;
 use u_history::{History, Port};
 use u_name::{Cell, Name};
+use u_order::ExactOrd;
 use u_rule::Token;
+use u_sets::KeyedSet;
 use u_value::Value;
 
 /// A read of a cell, which waits for the cell's writes: an activity, with the structure and the index
 /// that stand at its first two ports.
-#[derive(Drop)]
+#[derive(PartialEq, Eq, PartialOrd, Ord, Hash, Drop)]
 pub(crate) struct Read {
     /// The activity that reads.
     pub activity: Name,
@@ -24,8 +26,12 @@ pub(crate) struct Read {
     pub index: Value,
 }
 
-/// The reads that wait for each cell.
-pub(crate) type Reads = Table<Cell, Read>;
+impl ExactOrd for Read {
+    ghost exact = { read_ties };
+}
+
+/// The reads that wait for each cell, each once.
+pub(crate) type Reads = KeyedSet<Cell, Read>;
 
 /// That port of the token's activity.
 pub(crate) fn port_of(token: &Token, number: u8) -> Result<Port, AllocError>

@@ -1,12 +1,12 @@
-//! How the reads that an entry makes go into the table. Where memory runs out the table may have more
-//! than before, and nothing is lost.
+//! How the reads that an entry makes go into the table, each once. Where memory runs out the table may
+//! have more than before, and nothing is lost.
 ghost use Rattle.std.specs.Prelude.{◌≡◌, ◌⊎◌, OnOk, IsFalse, Contains};
 ghost use Rattle.u_value.specs.declared.value.Value.{Value};
-ghost use Rattle.u_match.specs.KeyedLists.{KeepsAll};
-ghost use Rattle.u_match.specs.Keys.{cell_eq, IsMet, Notes, NamesNone, IsCompleteWith};
+ghost use Rattle.u_system.specs.Firing.{Within};
+ghost use Rattle.u_match.specs.Keys.{IsMet, Notes, NamesNone, IsCompleteWith};
 
 use crate::meeting::{Read, Reads, met_at, port_of};
-use std::alloc::{AllocError, Global};
+use std::alloc::AllocError;
 use u_history::History;
 use u_name::Name;
 use u_rule::{Entry, Token, cell_at};
@@ -14,13 +14,12 @@ use u_value::Value;
 
 /// Notes the read of the cell that the structure and the index name, where they name one.
 fn note_read(
-    alloc: Global,
     reads: &mut Reads,
     activity: &Name,
     structure: &Value,
     index: &Value,
 ) -> Result<(), AllocError>
-    ensures kept { KeepsAll cell_eq reads.old reads.new }
+    ensures kept { Within (Contains reads.new) reads.old }
     ensures ok { OnOk result (Notes activity.now structure.now index.now reads.new) }
 {
     let named = cell_at(structure, index)?;
@@ -33,43 +32,41 @@ fn note_read(
         structure: structure.copy()?,
         index: index.copy()?,
     };
-    reads.put(alloc, cell, read)?;
+    reads.insert(cell, read)?;
     Ok(())
 }
 
 /// Notes the reads of the cells that the structure names with one of the indices.
 fn note_indices(
-    alloc: Global,
     reads: &mut Reads,
     activity: &Name,
     structure: &Value,
     indices: &[Value],
 ) -> Result<(), AllocError>
-    ensures kept { KeepsAll cell_eq reads.old reads.new }
+    ensures kept { Within (Contains reads.new) reads.old }
     ensures ok { OnOk result
         ((w : Value) → Contains indices.now w → Notes activity.now structure.now w reads.new) }
 {
     for index in indices {
-        note_read(alloc, reads, activity, structure, index)?;
+        note_read(reads, activity, structure, index)?;
     }
     Ok(())
 }
 
 /// Notes the reads of the cells that one of the structures names with one of the indices.
 fn note_reads(
-    alloc: Global,
     reads: &mut Reads,
     activity: &Name,
     structures: &[Value],
     indices: &[Value],
 ) -> Result<(), AllocError>
-    ensures kept { KeepsAll cell_eq reads.old reads.new }
+    ensures kept { Within (Contains reads.new) reads.old }
     ensures ok { OnOk result
         ((v : Value) → Contains structures.now v → (w : Value) → Contains indices.now w
         → Notes activity.now v w reads.new) }
 {
     for structure in structures {
-        note_indices(alloc, reads, activity, structure, indices)?;
+        note_indices(reads, activity, structure, indices)?;
     }
     Ok(())
 }
@@ -90,13 +87,8 @@ fn may_name(token: &Token) -> bool
 }
 
 /// Notes the reads that the token makes with what it meets. A token at the third port makes none.
-fn note_reads_of(
-    alloc: Global,
-    history: &History,
-    reads: &mut Reads,
-    token: &Token,
-) -> Result<(), AllocError>
-    ensures kept { KeepsAll cell_eq reads.old reads.new }
+fn note_reads_of(history: &History, reads: &mut Reads, token: &Token) -> Result<(), AllocError>
+    ensures kept { Within (Contains reads.new) reads.old }
     ensures ok { OnOk result
         ((v w : Value) → IsMet (Contains history.now) token.now 1 v
         → IsMet (Contains history.now) token.now 2 w
@@ -109,7 +101,7 @@ fn note_reads_of(
     let second = port_of(token, 2)?;
     let structures = met_at(history, token, &first);
     let indices = met_at(history, token, &second);
-    note_reads(alloc, reads, token.activity(), structures, indices)?;
+    note_reads(reads, token.activity(), structures, indices)?;
     Ok(())
 }
 
@@ -117,18 +109,13 @@ fn note_reads_of(
 ///
 /// # Errors
 /// `AllocError` where there is no memory; what the table had it still has.
-pub(crate) fn note(
-    alloc: Global,
-    history: &History,
-    reads: &mut Reads,
-    entry: &Entry,
-) -> Result<(), AllocError>
-    ensures kept { KeepsAll cell_eq reads.old reads.new }
+pub(crate) fn note(history: &History, reads: &mut Reads, entry: &Entry) -> Result<(), AllocError>
+    ensures kept { Within (Contains reads.new) reads.old }
     ensures ok { OnOk result (IsCompleteWith reads.old history.now entry.now reads.new) }
 {
     match entry {
         Entry::Token(token) => {
-            note_reads_of(alloc, history, reads, token)?;
+            note_reads_of(history, reads, token)?;
             Ok(())
         }
         Entry::Write(_write) => Ok(()),

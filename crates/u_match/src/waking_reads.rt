@@ -14,6 +14,7 @@ ghost use Rattle.u_match.specs.Keys.{IsComplete};
 
 use crate::making_firings::of_read;
 use crate::meeting::{Read, Reads};
+use crate::ordering::put_in_order;
 use std::alloc::{AllocError, Global};
 use u_check::Job;
 use u_history::History;
@@ -129,7 +130,8 @@ impl Entering<'_> {
         Ok(())
     }
 
-    /// Those of the firings that the entry wakes, in order and each once.
+    /// Those of the firings that the entry wakes, in order and each once. Of firings that stand in order
+    /// each goes behind those that were found before.
     ///
     /// # Errors
     /// `AllocError` where there is no memory.
@@ -164,7 +166,8 @@ impl Entering<'_> {
         ensures rises { IfOk result (λ v. Rises firing_cmp v.items) }
     {
         let waiting = reads.under(&write.cell);
-        let met = wake_each(self.alloc, write, waiting)?;
+        let mut met = wake_each(self.alloc, write, waiting)?;
+        put_in_order(&mut met);
         let found = self.woken_of(&met)?;
         Ok(found)
     }

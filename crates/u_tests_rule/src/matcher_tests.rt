@@ -2,7 +2,7 @@
 use std::alloc::{AllocError, Global};
 use std::test::Fail;
 use u_check::Job;
-use u_match::Matcher;
+use u_match::{Entered, Matcher};
 use u_plain::examples::{DOUBLE, TWO_WRITERS, job};
 use u_plain::worked::{entry_of, put_firings};
 use u_rule::{Entry, Firing};
@@ -117,6 +117,74 @@ const SEQUENCES: &[(&[u8], &[Row])] = &[
     (PROGRAM, ENDS),
 ];
 
+/// Entries that differ in a number: the text before it, the first number, how many follow each other, and
+/// the text behind it.
+type Numbered = (&'static str, u32, u32, &'static str);
+
+/// The entries that are there, an entry that enters then, and whether it is put off.
+type Crowd = (&'static [Numbered], &'static str, bool);
+
+/// A token that wakes more than 16 firings is put off, and nothing else is.
+const CROWDS: &[Crowd] = &[
+    (&[], "t -.main.6.1 2 0", false),
+    (&[("t -.main.6.1 1 ", 0, 1, "")], "t -.main.6.1 2 0", false),
+    (&[("t -.main.6.1 1 ", 0, 16, "")], "t -.main.6.1 2 0", false),
+    (&[("t -.main.6.1 1 ", 0, 17, "")], "t -.main.6.1 2 0", true),
+    (&[("t -.main.6.1 1 ", 0, 300, "")], "t -.main.6.1 2 0", true),
+    (
+        &[("t -.main.3.1 1 ", 0, 4, ""), ("t -.main.3.1 3 ", 0, 4, "")],
+        "t -.main.3.1 2 0",
+        false,
+    ),
+    (
+        &[("t -.main.3.1 1 ", 0, 9, ""), ("t -.main.3.1 2 ", 0, 2, "")],
+        "t -.main.3.1 3 0",
+        true,
+    ),
+    (
+        &[("t -.main.4.1 2 ", 0, 40, "")],
+        "t -.main.4.1 1 &-.main.2.1#100",
+        false,
+    ),
+    (
+        &[
+            ("t -.main.4.1 2 ", 0, 40, ""),
+            ("w -.main.2.1[", 0, 16, "] -.main.3.1 20"),
+        ],
+        "t -.main.4.1 1 &-.main.2.1#100",
+        false,
+    ),
+    (
+        &[
+            ("t -.main.4.1 2 ", 0, 40, ""),
+            ("w -.main.2.1[", 0, 17, "] -.main.3.1 20"),
+        ],
+        "t -.main.4.1 1 &-.main.2.1#100",
+        true,
+    ),
+    (
+        &[
+            ("t -.main.4.1 2 ", 2, 1, ""),
+            ("w -.main.2.1[2] -.main.3.1 ", 0, 17, ""),
+        ],
+        "t -.main.4.1 1 &-.main.2.1#3",
+        true,
+    ),
+    (
+        &[
+            ("t -.main.4.1 2 ", 2, 1, ""),
+            ("t -.main.4.1 1 &-.main.2.1#", 3, 17, ""),
+        ],
+        "w -.main.2.1[2] -.main.3.1 20",
+        false,
+    ),
+];
+
+/// The crowds. A proof that calls this knows none of them, and so is short.
+fn crowds() -> &'static [Crowd] {
+    CROWDS
+}
+
 /// The sequences. A proof that calls this knows none of them, and so is short.
 fn sequences() -> &'static [(&'static [u8], &'static [Row])] {
     SEQUENCES
@@ -174,6 +242,80 @@ fn is_right(alloc: Global, program: &[u8], rows: &[Row]) -> Result<bool, AllocEr
 fn entries_answer_the_firings_that_they_enable(rt: HostRuntime) -> Result<(), Fail> {
     for (program, rows) in sequences() {
         assert!(rt; is_right(rt.alloc(), program, rows)?);
+    }
+    Ok(())
+}
+
+/// Lets the entries of those numbers enter.
+fn enter_numbered(
+    alloc: Global,
+    matcher: &mut Matcher,
+    numbered: &Numbered,
+) -> Result<(), AllocError> {
+    let (before, from, count, behind) = numbered;
+    for step in 0..*count {
+        let number = from.saturating_add(step);
+        let text = format!(in alloc; "{before}{number}{behind}")?;
+        matcher.enter_alone(&entry_of(alloc, &text)?)?;
+    }
+    Ok(())
+}
+
+/// A matcher with these entries.
+fn crowded(alloc: Global, crowd: &[Numbered]) -> Result<Matcher, AllocError> {
+    let mut matcher = Matcher::new(alloc);
+    for numbered in crowd {
+        enter_numbered(alloc, &mut matcher, numbered)?;
+    }
+    Ok(matcher)
+}
+
+/// Whether the entry, which was put off, enters alone, and then wakes those firings.
+fn wakes_later(
+    matcher: &mut Matcher,
+    job: &Job,
+    entry: &Entry,
+    wanted: &[Firing],
+) -> Result<bool, AllocError> {
+    if matcher.contains(entry) {
+        return Ok(false);
+    }
+    matcher.enter_alone(entry)?;
+    if !matcher.contains(entry) {
+        return Ok(false);
+    }
+    let found = matcher.woken_by(job, entry)?;
+    Ok(found.as_slice() == wanted && is_known(matcher, job, entry)?)
+}
+
+/// Whether the entry is known, and stays so.
+fn is_known(matcher: &mut Matcher, job: &Job, entry: &Entry) -> Result<bool, AllocError> {
+    let len = matcher.len();
+    let came = matcher.enter_few(job, entry)?;
+    Ok(matches!(came, Entered::Known) && matcher.len() == len)
+}
+
+/// Whether the entry is put off where it has to be, and wakes what it wakes in another matcher.
+fn comes_so(alloc: Global, job: &Job, crowd: &Crowd) -> Result<bool, AllocError> {
+    let entry = entry_of(alloc, crowd.1)?;
+    let mut other = crowded(alloc, crowd.0)?;
+    let wanted = other.enter(job, &entry)?;
+    let mut matcher = crowded(alloc, crowd.0)?;
+    match matcher.enter_few(job, &entry)? {
+        Entered::Known => Ok(false),
+        Entered::Woken(found) => {
+            let same = found.as_slice() == wanted.as_slice();
+            Ok(same && !crowd.2 && is_known(&mut matcher, job, &entry)?)
+        }
+        Entered::Many => Ok(crowd.2 && wakes_later(&mut matcher, job, &entry, &wanted)?),
+    }
+}
+
+#[test]
+fn tokens_that_wake_many_are_put_off(rt: HostRuntime) -> Result<(), Fail> {
+    let job = job(rt.alloc(), PROGRAM, 4)?;
+    for crowd in crowds() {
+        assert!(rt; comes_so(rt.alloc(), &job, crowd)?);
     }
     Ok(())
 }

@@ -5,7 +5,7 @@ use std::alloc::{AllocError, Global};
 use std::test::Fail;
 use u_check::Job;
 use u_history::History;
-use u_match::Matcher;
+use u_match::{Entered, Matcher};
 use u_plain::examples::{EXAMPLES, job};
 use u_plain::shuffling::shuffled;
 use u_rule::{Entry, Firing, RuleError, needs};
@@ -66,7 +66,29 @@ fn is_right(
     Ok(count == answer.len())
 }
 
-/// Whether each of the entries answers so, as they enter one after another.
+/// Whether the entry, which enters alone if it wakes many, wakes those firings.
+fn wakes(
+    job: &Job,
+    matcher: &mut Matcher,
+    entry: &Entry,
+    wanted: &[Firing],
+) -> Result<bool, AllocError> {
+    let woken = match matcher.enter_few(job, entry)? {
+        Entered::Known => return Ok(false),
+        Entered::Woken(found) => found,
+        Entered::Many => {
+            matcher.enter_alone(entry)?;
+            if !matcher.contains(entry) {
+                return Ok(false);
+            }
+            matcher.woken_by(job, entry)?
+        }
+    };
+    Ok(woken.as_slice() == wanted)
+}
+
+/// Whether each of the entries answers so, as they enter one after another, and wakes the same in a
+/// matcher that makes no more than a few firings at once.
 fn entries_agree(
     alloc: Global,
     job: &Job,
@@ -74,9 +96,13 @@ fn entries_agree(
     entries: &[Entry],
     all: &[Firing],
 ) -> Result<bool, RuleError> {
+    let mut other = Matcher::new(alloc);
     for entry in entries {
         let answer = matcher.enter(job, entry)?;
         if !is_right(alloc, job, matcher, entry, all, &answer)? {
+            return Ok(false);
+        }
+        if !wakes(job, &mut other, entry, &answer)? {
             return Ok(false);
         }
     }

@@ -1,5 +1,5 @@
 use Rattle.std.specs.Prelude.{Contains}
-use Rattle.std.proofs.Common.{sym, ◌∙◌}
+use Rattle.std.proofs.Common.{◌∙◌}
 use Rattle.u_match.proofs.MetValues.{met_elsewhere}
 use Rattle.u_match.proofs.meeting.met_at.Goals as goal
 

@@ -1,6 +1,6 @@
 use Rattle.std.proofs.Common.{sym, ◌∙◌, subst}
 use Rattle.u_rule.specs.declared.entry.Entry.{Entry}
-use Rattle.u_match.specs.Keys.{cell_eq, IsCompleteWith}
+use Rattle.u_match.specs.Keys.{IsCompleteWith}
 use Rattle.u_match.proofs.Noted.{keeps_itself}
 use Rattle.u_match.proofs.Completing.{with_other, with_token}
 use Rattle.u_match.proofs.noting_reads.note.Goals as goal
@@ -12,12 +12,12 @@ returns-in_ok-note_reads_of-in-Token-clause-ok c =
 
 pub returns-in-Write-clause-ok : goal.returns-in-Write-clause-ok
 returns-in-Write-clause-ok c =
-    with_other c.args.reads.now c.args.reads.now c.args.history.now (keeps_itself cell_eq c.args.reads.now) c.args.entry.now (λ t e. let h = sym c.in-Write.is ∙ e in absurd (cc))
+    with_other c.args.reads.now c.args.reads.now c.args.history.now (keeps_itself c.args.reads.now) c.args.entry.now (λ t e. let h = sym c.in-Write.is ∙ e in absurd (cc))
 
 pub returns-in-Fault-clause-ok : goal.returns-in-Fault-clause-ok
 returns-in-Fault-clause-ok c =
-    with_other c.args.reads.now c.args.reads.now c.args.history.now (keeps_itself cell_eq c.args.reads.now) c.args.entry.now (λ t e. let h = sym c.in-Fault.is ∙ e in absurd (cc))
+    with_other c.args.reads.now c.args.reads.now c.args.history.now (keeps_itself c.args.reads.now) c.args.entry.now (λ t e. let h = sym c.in-Fault.is ∙ e in absurd (cc))
 
 pub returns-in-Answer-clause-ok : goal.returns-in-Answer-clause-ok
 returns-in-Answer-clause-ok c =
-    with_other c.args.reads.now c.args.reads.now c.args.history.now (keeps_itself cell_eq c.args.reads.now) c.args.entry.now (λ t e. let h = sym c.in-Answer.is ∙ e in absurd (cc))
+    with_other c.args.reads.now c.args.reads.now c.args.history.now (keeps_itself c.args.reads.now) c.args.entry.now (λ t e. let h = sym c.in-Answer.is ∙ e in absurd (cc))

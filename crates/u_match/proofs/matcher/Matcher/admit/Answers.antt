@@ -1,27 +1,22 @@
-use Rattle.std.proofs.Common.{subst}
+use Rattle.std.proofs.Common.{sym, subst, List}
 use Rattle.u_rule.specs.declared.entry.Entry.{Entry}
 use Rattle.u_sets.specs.Members.{IsWith}
-use Rattle.u_match.proofs.Wakes.{over}
+use Rattle.u_match.specs.Keys.{IsComplete}
+use Rattle.u_match.proofs.Completing.{complete_still}
 use Rattle.u_match.proofs.matcher.Matcher.admit.Goals as goal
-use Rattle.u_match.proofs.matcher.Matcher.admit.Goals.{In_ok-added}
+use Rattle.u_match.proofs.matcher.Matcher.admit.Goals.{In_ok-insert}
 
-is_with : (c : In_ok-added) → IsWith c.self.inside.history c.args.entry.now c.insert.new.self
-is_with c = subst (λ (e : Entry). IsWith c.self.inside.history e c.insert.new.self) c.in_ok-copy.ensures c.in_ok-added.ensures.ok
+is_with : (c : In_ok-insert) → IsWith c.self.inside.history c.args.entry.now c.insert.new.self
+is_with c = subst (λ (e : Entry). IsWith c.self.inside.history e c.insert.new.self) c.in_ok-copy.ensures c.in_ok-insert.ensures.ok
+
+pub invariant_of-self : goal.invariant_of-self
+invariant_of-self c = complete_still c.self.inside.reads c.note.new.reads c.self.inside.history c.note.ensures.kept c.self.invariant
+
+pub invariant_of-self-in_err-insert : goal.invariant_of-self-in_err-insert
+invariant_of-self-in_err-insert c = complete_still c.self.inside.reads c.note.new.reads c.insert.new.self c.note.ensures.kept (subst (λ (es : List Entry). IsComplete c.self.inside.reads es) (sym c.in_err-insert.ensures.err) c.self.invariant)
 
 pub invariant_of-self-2 : goal.invariant_of-self-2
-invariant_of-self-2 c = c.in_ok-note.ensures.ok c.insert.new.self c.self.invariant (is_with (goal.at.invariant_of-self-2 c).In_ok-added)
-
-pub returns-clause-exact : goal.returns-clause-exact
-returns-clause-exact c f =
-    let one = c.in_ok-found.ensures.exact f in
-    let other = over c.args.job.now c.args.entry.now c.args.self.now c.insert.new.self (rw (← c.self.view_is) (is_with (goal.at.returns-clause-exact c).In_ok-added)) f in
-    ((λ m. other.0 (one.0 m)), λ w. one.1 (other.1 w))
+invariant_of-self-2 c = c.in_ok-note.ensures.ok c.insert.new.self c.self.invariant (is_with (goal.at.invariant_of-self-2 c).In_ok-insert)
 
 pub returns-clause-ok : goal.returns-clause-ok
-returns-clause-ok c = rw (← c.self.view_is) (is_with (goal.at.returns-clause-ok c).In_ok-added)
-
-pub returns-clause-new : goal.returns-clause-new
-returns-clause-new c = rw (← c.self.view_is) (rw c.in_ok-copy.ensures at c.in_ok-added.ensures.new)
-
-pub returns-clause-still : goal.returns-clause-still
-returns-clause-still c n = rw (← c.self.view_is) (c.in_ok-added.ensures.still n)
+returns-clause-ok c = rw (← c.self.view_is) (is_with (goal.at.returns-clause-ok c).In_ok-insert)

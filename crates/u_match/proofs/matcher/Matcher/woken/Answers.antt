@@ -1,8 +1,9 @@
-use Rattle.std.proofs.Common.{sym, ◌∙◌, subst}
-use Rattle.std.specs.Prelude.{IfOk}
+use Rattle.std.proofs.Common.{◌≡◌, sym, ◌∙◌, subst}
+use Rattle.std.specs.Prelude.{IfOk, IfErr}
 use Rattle.u_rule.specs.declared.entry.Entry.{Entry}
 use Rattle.u_sets.specs.Members.{AreThose, HasOr}
-use Rattle.u_match.specs.Waking.{IsWokenBy}
+use Rattle.u_match.specs.Waking.{IsWokenBy, WakesSome}
+use Rattle.u_match.specs.declared.halt.Halt.TheVariants.{TooMany}
 use Rattle.u_match.proofs.WriteWaking.{wakes_none}
 use Rattle.u_match.proofs.matcher.Matcher.woken.Goals as goal
 
@@ -10,8 +11,12 @@ pub returns-in-Token-clause-exact : goal.returns-in-Token-clause-exact
 returns-in-Token-clause-exact c =
     rw (← c.self.view_is) (subst (λ (e : Entry). IfOk c.woken_by_token.result (λ v. AreThose (IsWokenBy c.args.job.now e (HasOr c.self.inside.history e)) v.items)) (sym c.in-Token.is) c.woken_by_token.ensures.exact)
 
-pub returns-in-Write-clause-exact : goal.returns-in-Write-clause-exact
-returns-in-Write-clause-exact c = rw (← c.self.view_is) c.woken_by_write.ensures.exact
+pub returns-in_ok-found-in-Write-clause-exact : goal.returns-in_ok-found-in-Write-clause-exact
+returns-in_ok-found-in-Write-clause-exact c = rw (← c.self.view_is) c.in_ok-found-in-Write.ensures.exact
+
+pub returns-in-Token-clause-many : goal.returns-in-Token-clause-many
+returns-in-Token-clause-many c =
+    rw (← c.self.view_is) (subst (λ (e : Entry). IfErr c.woken_by_token.result (λ h. h ≡ TooMany → WakesSome c.args.job.now e (HasOr c.self.inside.history e))) (sym c.in-Token.is) c.woken_by_token.ensures.many)
 
 pub returns-in-Fault-clause-exact : goal.returns-in-Fault-clause-exact
 returns-in-Fault-clause-exact c =
