@@ -17,3 +17,7 @@ pub mod Replies
 pub mod Obeying
 pub mod NewOnes
 pub mod Masked
+pub mod LateNeeds
+pub mod LateTokens
+pub mod Making
+pub mod Picking

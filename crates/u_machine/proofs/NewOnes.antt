@@ -1,14 +1,16 @@
 -- The firings of a list that were not taken.
-use Rattle.std.proofs.Common.{◌≡◌, ◌≤◌, ◌+◌, ◌++◌, ◌∙◌, ◌⊎◌, inl, inr, sym, subst, arith, refl, Bool, true, false, length, List, [], ◌∷◌}
-use Rattle.std.specs.Prelude.{Contains}
+use Rattle.std.proofs.Common.{◌≡◌, ℕ, ◌<◌, ◌≤◌, ◌+◌, ◌++◌, ◌∙◌, ◌⊎◌, inl, inr, sym, subst, arith, refl, Bool, true, false, length, List, [], ◌∷◌}
+use Rattle.std.specs.Prelude.{Contains, IsTrue, ◌↔◌}
+use Rattle.std.proofs.lemmas.List.Elements.{Contains-append_left, Contains-push, Contains-push_cases}
 use Rattle.std.specs.Ordering.{is_eq}
 use Rattle.std.proofs.lemmas.Bool.{false≢true}
 use Rattle.u_rule.specs.EntryOrder.{firing_cmp}
 use Rattle.u_rule.specs.declared.firing.Firing.{Firing}
 use Rattle.u_system.proofs.Member.{Contains-nil, Contains-head, Contains-tail, Contains-cons_cases}
 use Rattle.u_machine.specs.State.{State, Taken, count_of}
-use Rattle.u_machine.specs.Taking.{AreNew, Fits}
+use Rattle.u_machine.specs.Taking.{AreNew, HasSoManyNew, Fits, IsTooLong}
 use Rattle.u_machine.proofs.Once.{same_firing}
+use Rattle.u_machine.proofs.Counting.{no_more}
 
 -- a firing is in a list or not
 member_more : (x f : Firing) (xs : List Firing) → Contains xs f ⊎ (Contains xs f → ⊥) → Contains (x ∷ xs) f ⊎ (Contains (x ∷ xs) f → ⊥)
@@ -82,3 +84,57 @@ all_fit m fs room =
     let r = new_ones m fs in
     let l = r.few in
     (r.news, r.are, omega (arith, room, l))
+
+pub none_new : (m : State) → HasSoManyNew m [] 0
+none_new m = ([], record { once = tt; found = record { new = λ g n. absurd (Contains-nil g n); all = λ g n. absurd (Contains-nil g n) } }, refl)
+
+-- a further one that was taken, or stands before, is not counted
+pub known_behind : (m : State) (f : Firing) (fs : List Firing) (count : ℕ) → Taken m f ⊎ Contains fs f → HasSoManyNew m fs count → HasSoManyNew m (fs ++ f ∷ []) count
+known_behind m f fs count k (news, are, n) = (news, record { once = are.once; found = record { new = new; all = all } }, n)
+  where
+    there : Taken m f ⊎ Contains news f
+    there = elim k [ inl t ↦ inl t | inr i ↦ are.found.all f i ]
+
+    new : (g : Firing) → Contains news g → Contains (fs ++ f ∷ []) g × (Taken m g → ⊥)
+    new g i = let p = are.found.new g i in (Contains-append_left fs (f ∷ []) g p.0, p.1)
+
+    all : (g : Firing) → Contains (fs ++ f ∷ []) g → Taken m g ⊎ Contains news g
+    all g i = elim (Contains-push_cases fs f g i) [ inl j ↦ are.found.all g j | inr e ↦ subst (λ (h : Firing). Taken m h ⊎ Contains news h) e there ]
+
+-- any other one is
+pub new_behind : (m : State) (f : Firing) (fs : List Firing) (count : ℕ) → (Taken m f → ⊥) → (Contains fs f → ⊥) → HasSoManyNew m fs count → HasSoManyNew m (fs ++ f ∷ []) (count + 1)
+new_behind m f fs count untaken other (news, are, n) =
+    (f ∷ news, record { once = ((λ i. other (are.found.new f i).0), are.once); found = record { new = new; all = all } }, omega (arith, n))
+  where
+    new : (g : Firing) → Contains (f ∷ news) g → Contains (fs ++ f ∷ []) g × (Taken m g → ⊥)
+    new g i = elim (Contains-cons_cases f g news i) [
+      | inl e ↦ subst (λ (h : Firing). Contains (fs ++ f ∷ []) h × (Taken m h → ⊥)) e (Contains-push fs f, untaken)
+      | inr j ↦ (let p = are.found.new g j in (Contains-append_left fs (f ∷ []) g p.0, p.1))
+    ]
+
+    all : (g : Firing) → Contains (fs ++ f ∷ []) g → Taken m g ⊎ Contains (f ∷ news) g
+    all g i = elim (Contains-push_cases fs f g i) [
+      | inl j ↦ elim (are.found.all g j) [ inl t ↦ inl t | inr k ↦ inr (Contains-tail f g news k) ]
+      | inr e ↦ inr (subst (λ (h : Firing). Contains (f ∷ news) h) e (Contains-head f news))
+    ]
+
+-- where so many new ones do not fit, the list is too long; else they fit
+pub counted_fit : (m : State) (fs : List Firing) (count : ℕ) → HasSoManyNew m fs count → count_of m + count ≤ m.limit → Fits m fs
+counted_fit m fs count (news, are, n) room = (news, are, omega (arith, n, room))
+
+pub counted_long : (m : State) (fs : List Firing) (count : ℕ) → HasSoManyNew m fs count → m.limit < count_of m + count → IsTooLong m fs
+counted_long m fs count (news, are, n) room = (news, are, omega (arith, n, room))
+
+-- there are no more new ones than the list has
+pub few_new : (m : State) (fs : List Firing) (count : ℕ) → HasSoManyNew m fs count → count ≤ length fs
+few_new m fs count (news, are, n) = let l = no_more news fs are.once (λ g k. (are.found.new g k).0) in omega (arith, l, n)
+
+-- one that is not new, by a test, is not counted
+pub old_behind : (m : State) (f : Firing) (fs : List Firing) (count : ℕ) (b : Bool) → IsTrue b ↔ ((Taken m f → ⊥) × (Contains fs f → ⊥)) → b ≡ false → HasSoManyNew m fs count → HasSoManyNew m (fs ++ f ∷ []) count
+old_behind m f fs count b test fails h = known_behind m f fs count known h
+  where
+    known : Taken m f ⊎ Contains fs f
+    known = elim (member (m.log ++ m.parked) f) [
+      | inl t ↦ inl t
+      | inr t ↦ elim (member fs f) [ inl k ↦ inr k | inr n ↦ absurd (false≢true (sym fails ∙ test.1 (t, n))) ]
+    ]

@@ -9,7 +9,7 @@ use Rattle.u_rule.specs.ExactOrders.{entry_cmp_total}
 use Rattle.u_rule.specs.Rule.{system_of}
 use Rattle.u_system.specs.Firing.{Same, Cl}
 use Rattle.u_sets.proofs.Places.{one_list}
-use Rattle.u_system.proofs.Closure.{Cl-mono}
+use Rattle.u_system.proofs.Closure.{Cl-mono, Cl-whole}
 use Rattle.u_machine.specs.declared.commands.Command.{Command}
 use Rattle.u_machine.specs.declared.commands.Command.TheVariants as calls
 use Rattle.u_machine.specs.declared.commands.Reply.{Reply}
@@ -87,8 +87,7 @@ module _ (old new : State) where
   take_all_extends fs (Err (unlisted.NotAFiring place)) a = applies_extends a.1.applies
   take_all_extends fs (Err unlisted.Full) a = applies_extends a.2.applies
   take_all_extends fs (Err unlisted.NoMemory) (inl u) = applies_extends u.applies
-  take_all_extends fs (Err unlisted.NoMemory) (inr (all, inl s)) = applies_extends s.applies
-  take_all_extends fs (Err unlisted.NoMemory) (inr (all, inr (fit, (k, l, t)))) = takes_all_extends (take k fs) t
+  take_all_extends fs (Err unlisted.NoMemory) (inr (all, fit, (k, l, t))) = takes_all_extends (take k fs) t
 
   settle_extends : (r : Result (Unit {0}) AllocError) → SettleAnswer old r new → Extends old new
   settle_extends (Ok u) a = applies_extends a.0
@@ -176,7 +175,7 @@ is_closure m is st = (settled_is_Cl m is st).0
 
 -- the promise of one machine
 pub keeps_its_promise : (m : State) → IsMachine m → KeepsItsPromise m
-keeps_its_promise m is = record { run = is.sound.derivation; closure = is_closure m is.sound; whole = quiet_whole m is.sound }
+keeps_its_promise m is = record { run = is.sound.derivation; reached = λ e k. Cl-whole (system_of m.job) (Taken m) e (is.sound.lies e k); closure = is_closure m is.sound; whole = quiet_whole m is.sound }
 
 -- two settled machines of one job that took the same have the same history
 pub agree : (a b : State) → IsMachine a → IsMachine b → Agree a b

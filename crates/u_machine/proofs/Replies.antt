@@ -1,15 +1,13 @@
 -- What the calls of a machine answer, from what they do to its parts.
-use Rattle.std.proofs.Common.{◌≡◌, ◌%◌, inl, inr, sym, ◌∙◌, arith, subst, length, Some, Ok, Err, ℕ, take, ◌++◌, ◌∷◌, [], false}
+use Rattle.std.proofs.Common.{◌≡◌, inl, inr, sym, ◌∙◌, arith, subst, length, Some, Ok, Err, ℕ, take, ◌++◌, ◌∷◌, [], false}
 use Rattle.std.specs.Prelude.{slice_get, IsTrue, Contains, Result, IfOk, IfErr}
 use Rattle.std.specs.Result.{IsErrAnd}
 use Rattle.std.proofs.lemmas.List.{take_all}
 use Rattle.std.proofs.lemmas.List.Elements.{Contains-append_right}
 use Rattle.u_rule.specs.declared.firing.Firing.{Firing}
 use Rattle.u_rule.specs.Rule.{system_of}
-use Rattle.u_rule.specs.EntryOrder.{FiringList, firing_cmp}
+use Rattle.u_rule.specs.EntryOrder.{FiringList}
 use Rattle.u_check.specs.Jobs.{JobParts}
-use Rattle.u_sets.specs.Rising.{Rises}
-use Rattle.u_machine.specs.declared.parts.Parts.{Parts}
 use Rattle.u_machine.specs.declared.answer.StepIn.{StepIn}
 use Rattle.u_machine.specs.declared.answer.Refusal.{Refusal}
 use Rattle.u_machine.specs.declared.answer.Refusal.TheVariants as refusals
@@ -18,19 +16,11 @@ use Rattle.u_machine.specs.declared.answer.TakeRefusal.{TakeRefusal}
 use Rattle.u_machine.specs.declared.answer.TakeRefusal.TheVariants.{NoMemory}
 use Rattle.u_machine.specs.declared.answer.TakeRefusal.TheVariants as untaken
 use Rattle.u_machine.specs.declared.answer.Took.TheVariants as took
-use Rattle.u_machine.specs.State.{State, IsReady, IsPick}
-use Rattle.u_machine.specs.Calls.{Applies, Settles, Takes, IsNew, FireInAnswer, TakeAnswer}
-use Rattle.u_machine.specs.Invariant.{state_of, Invariant, Lengthens}
-use Rattle.u_machine.proofs.States.{are_ready_before, room_before, applies_trans, takes_between, Applies-refl}
-use Rattle.u_machine.proofs.Settled.{kept_ready}
+use Rattle.u_machine.specs.State.{State}
+use Rattle.u_machine.specs.Calls.{Settles, Takes, IsNew, FireInAnswer, TakeAnswer}
+use Rattle.u_machine.specs.Invariant.{Lengthens}
+use Rattle.u_machine.proofs.States.{room_before, applies_trans, takes_between, Applies-refl}
 use Rattle.u_machine.proofs.Lists.{slice_get_mid, slice_get_Contains}
-
--- the firing at that place of the ready ones
-pub pick_of : (old p : Parts) (k : Invariant p) (st : p.applied_count ≡ length p.log.items) → Rises firing_cmp p.ready → Applies (state_of old) (state_of p) → (pick count : ℕ) (f : Firing) → count ≡ length p.ready → slice_get p.ready (pick % count) ≡ Some f → IsPick (state_of old) pick f × IsReady (state_of p) f
-pick_of old p k st r ap_old pick count f n at = (
-  (p.ready, are_ready_before (state_of old) (state_of p) ap_old p.ready (kept_ready p k st r), subst (λ (m : ℕ). slice_get p.ready (pick % m) ≡ Some f) n at),
-  (kept_ready p k st r).0 f (slice_get_Contains p.ready (pick % count) f at),
-)
 
 -- where it stands among the applied ones
 pub fired_at : (log : FiringList) (f : Firing) (mid : FiringList) (applied_count : ℕ) (new : FiringList) → mid ≡ log ++ f ∷ [] → Lengthens mid new → applied_count ≡ length new → slice_get (take applied_count new) (length log) ≡ Some f

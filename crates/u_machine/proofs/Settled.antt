@@ -4,7 +4,8 @@ use Rattle.std.specs.Prelude.{Contains, ◌↔◌}
 use Rattle.std.proofs.lemmas.List.{take_all, drop_more, length-drop, take-append-drop}
 use Rattle.std.proofs.lemmas.List.Elements.{Contains-get_or, Contains-append_left, Contains-append_right, Contains-append_cases}
 use Rattle.u_system.specs.Firing.{Distinct, Held, Enabled, Cl, Same}
-use Rattle.u_sets.specs.Rising.{Rises}
+use Rattle.u_sets.specs.Rising.{Rises, in_order}
+use Rattle.u_sets.proofs.Listed.{members, rises}
 use Rattle.u_system.proofs.Apart.{Distinct-apart}
 use Rattle.u_system.proofs.Held.{Enabled-mono}
 use Rattle.u_system.proofs.Member.{Contains-nil, Contains-head, Contains-cons_cases}
@@ -15,13 +16,15 @@ use Rattle.u_rule.specs.EntryOrder.{firing_cmp, FiringList, EntryList}
 use Rattle.u_machine.proofs.Lists.{Contains-taken, Contains-dropped, le_split, place_behind}
 use Rattle.u_machine.proofs.Counting.{no_more, Distinct-right}
 use Rattle.u_machine.specs.declared.parts.Parts.{Parts}
-use Rattle.u_machine.specs.State.{IsSettled, AreReady, Taken}
+use Rattle.u_machine.specs.State.{IsSettled, IsReady, AreReady, Taken}
 use Rattle.u_machine.specs.Calls.{Applies, Settles, StaysUnsettled}
-use Rattle.u_machine.specs.Invariant.{Invariant, IsPartitioned, EnteredBefore, state_of, woken_of}
+use Rattle.u_machine.specs.Invariant.{Invariant, IsPartitioned, EnteredBefore, NeedsNoLate, state_of, woken_of}
 use Rattle.u_check.specs.Jobs.{JobParts}
 use Rattle.u_machine.proofs.Blank.{blank_firing}
 use Rattle.u_machine.proofs.States.{settled_is_Cl, over_history, Applies-refl}
 use Rattle.u_machine.proofs.Steps.{log_taken}
+use Rattle.u_machine.proofs.LateTokens.{made_is_ready, ready_is_made}
+use Rattle.u_rule.specs.ExactOrders.{firing_cmp_total, firing_cmp_ties}
 
 module _ (p : Parts) (k : Invariant p) where
   module _ (st : p.applied_count ≡ length p.log.items) where
@@ -29,15 +32,15 @@ module _ (p : Parts) (k : Invariant p) where
     whole = take_all p.applied_count p.log.items (omega (arith, st))
 
     -- each firing that is enabled over the history is ready or applied
-    pub each_enabled : (f : Firing) → Enabled (system_of p.job.now) (Contains p.matcher) f → Contains p.ready f ⊎ Contains (take p.applied_count p.log.items) f
+    pub each_enabled : (f : Firing) → Enabled (system_of p.job.now) (Contains p.matcher) f → Contains k.all_ready f ⊎ Contains (take p.applied_count p.log.items) f
     each_enabled f en = over (k.partitioned.all f en)
       where
-        over : Contains p.ready f ⊎ Contains p.log.items f ⊎ Contains (woken_of p) f → Contains p.ready f ⊎ Contains (take p.applied_count p.log.items) f
+        over : Contains k.all_ready f ⊎ Contains p.log.items f ⊎ Contains (woken_of p) f → Contains k.all_ready f ⊎ Contains (take p.applied_count p.log.items) f
         over (inl a) = inl a
         over (inr (inl b)) = inr (rw whole b)
         over (inr (inr c)) = absurd (Contains-nil f (rw (k.idle st) at c))
 
-    not_taken : (f : Firing) → Contains p.ready f → Taken (state_of p) f → ⊥
+    not_taken : (f : Firing) → Contains k.all_ready f → Taken (state_of p) f → ⊥
     not_taken f m = (k.partitioned.fit f m).1
 
     pub settled_there : IsSettled (state_of p)
@@ -46,13 +49,28 @@ module _ (p : Parts) (k : Invariant p) where
       none = λ f m en. elim (each_enabled f en) [ inl a ↦ not_taken f a (Contains-append_right (take p.applied_count p.log.items) p.parked f m) | inr b ↦ Distinct-apart (take p.applied_count p.log.items) p.parked f k.logged.is.distinct b m ];
     }
 
-    -- the ready firings are kept
-    pub kept_ready : Rises firing_cmp p.ready → AreReady (state_of p) p.ready
-    kept_ready r = (
-      (λ f m. (Enabled-mono (system_of p.job.now) (Contains p.matcher) (Cl (system_of p.job.now) (Taken (state_of p))) (λ e. ((settled_is_Cl (state_of p) k.logged.is settled_there).0 e).0) f (k.partitioned.fit f m).0, not_taken f m)),
-      (λ f en. elim (each_enabled f (over_history (state_of p) k.logged.is settled_there f en)) [ inl a ↦ inl a | inr b ↦ inr (Contains-append_left (take p.applied_count p.log.items) p.parked f b) ]),
+    -- all that is ready, made or not, is ready
+    pub is_ready_there : (f : Firing) → Contains k.all_ready f → IsReady (state_of p) f
+    is_ready_there f m = (Enabled-mono (system_of p.job.now) (Contains p.matcher) (Cl (system_of p.job.now) (Taken (state_of p))) (λ e. ((settled_is_Cl (state_of p) k.logged.is settled_there).0 e).0) f (k.partitioned.fit f m).0, not_taken f m)
+
+    pub ready_is_there : (f : Firing) → Enabled (system_of p.job.now) (Cl (system_of p.job.now) (Taken (state_of p))) f → Contains k.all_ready f ⊎ Taken (state_of p) f
+    ready_is_there f en = elim (each_enabled f (over_history (state_of p) k.logged.is settled_there f en)) [ inl a ↦ inl a | inr b ↦ inr (Contains-append_left (take p.applied_count p.log.items) p.parked f b) ]
+
+    -- a list of them in order
+    kept_list : (rs : FiringList) → Same (Contains rs) (Contains k.all_ready) → Rises firing_cmp rs → AreReady (state_of p) rs
+    kept_list rs same r = (
+      (λ f m. is_ready_there f ((same f).0 m)),
+      (λ f en. elim (ready_is_there f en) [ inl a ↦ inl ((same f).1 a) | inr t ↦ inr t ]),
       r,
     )
+
+    -- all that is ready, in order
+    pub kept_in_order : AreReady (state_of p) (in_order firing_cmp k.all_ready)
+    kept_in_order = kept_list (in_order firing_cmp k.all_ready) (members firing_cmp firing_cmp_total firing_cmp_ties k.all_ready) (rises firing_cmp firing_cmp_total firing_cmp_ties k.all_ready)
+
+    -- where no token is late, the ready firings that were made
+    pub kept_ready : p.late ≡ [] → Rises firing_cmp p.ready → AreReady (state_of p) p.ready
+    kept_ready made r = kept_list p.ready (ready_is_made _ _ _ _ _ _ _ k.late (k.idle st) made) r
 
   -- a firing that is being applied keeps the machine from being settled
   pub settled_back : IsSettled (state_of p) → p.applied_count ≡ length p.log.items
@@ -96,11 +114,20 @@ module _ (p : Parts) (k : Invariant p) (f : Firing) (rest : FiringList) (next : 
   not_idle e = Contains-nil f (rw e at woken_first)
 
 -- what has all that it needs, and is not ready and not to be sorted out, is in the log, and the log has nothing else
-pub begun_if : (p : Parts) → Invariant p → (f : Firing) → Contains p.log.items f ↔ (Enabled (system_of p.job.now) (Contains p.matcher) f × (Contains p.ready f → ⊥) × (Contains (woken_of p) f → ⊥))
-begun_if p k f = (
-  (λ m. (k.partitioned.logged f m, (λ r. (k.partitioned.fit f r).1 (log_taken _ _ _ _ _ _ k.logged f m)), λ w. (k.partitioned.neither f w).2 m)),
-  λ t. elim (k.partitioned.all f t.0) [ inl r ↦ absurd (t.1 r) | inr s ↦ elim s [ inl m ↦ m | inr w ↦ absurd (t.2 w) ] ],
-)
+pub begun_if : (p : Parts) → Invariant p → (f : Firing) → Contains p.log.items f ↔ (Enabled (system_of p.job.now) (Contains p.matcher) f × (Contains p.ready f → ⊥) × (Contains (woken_of p) f → ⊥) × NeedsNoLate p f)
+begun_if p k f = (to, back)
+  where
+    to : Contains p.log.items f → Enabled (system_of p.job.now) (Contains p.matcher) f × (Contains p.ready f → ⊥) × (Contains (woken_of p) f → ⊥) × NeedsNoLate p f
+    to m =
+        let en = k.partitioned.logged f m in
+        let t = log_taken _ _ _ _ _ _ k.logged f m in
+        (en, (λ r. (k.partitioned.fit f (made_is_ready _ _ _ _ _ _ _ k.late f r)).1 t), (λ w. (k.partitioned.neither f w).2 m), λ e i n. k.late.untaken f (e, i, (n, en)) t)
+
+    back : Enabled (system_of p.job.now) (Contains p.matcher) f × (Contains p.ready f → ⊥) × (Contains (woken_of p) f → ⊥) × NeedsNoLate p f → Contains p.log.items f
+    back (en, unready, unwoken, free) = elim (k.partitioned.all f en) [
+      | inl r ↦ elim ((k.late.whole f).0 r).0 [ inl m ↦ absurd (unready m) | inr (e, i, w) ↦ absurd (free e i w.0) ]
+      | inr s ↦ elim s [ inl m ↦ m | inr w ↦ absurd (unwoken w) ]
+    ]
 
 -- the set of taken firings in another order of changes
 pub same_taken : (job : JobParts) (log taken more ready woken : FiringList) (history : EntryList) → Same (Contains more) (Contains taken) → IsPartitioned job log taken ready woken history → IsPartitioned job log more ready woken history

@@ -6,6 +6,7 @@
 use Rattle.std.specs.Prelude.{◌≡◌, Contains}
 use Rattle.u_system.specs.Firing.{Derivation, Closed, Cl, Whole, Same}
 use Rattle.u_rule.specs.Rule.{system_of}
+use Rattle.u_rule.specs.declared.entry.Entry.{Entry}
 use Rattle.u_machine.specs.State.{State, Taken, IsSettled, NothingReady}
 
 -- the history is the closure of what was taken: the entries of all runs that fire taken firings alone
@@ -16,10 +17,12 @@ IsClosure m = Same (Contains m.history) (Cl (system_of m.job) (Taken m))
 abbrev pub IsWhole : State → Type 0
 IsWhole m = Closed (system_of m.job) (Contains m.history) × Same (Contains m.history) (Whole (system_of m.job))
 
--- The headline of one machine: the firings that it applied are one run of its job; its history is fixed
--- by the set of firings that it took; and where nothing is ready it holds all that any run reaches.
+-- The headline of one machine: the firings that it applied are one run of its job, and each entry that it
+-- holds is one that a run reaches; once it is settled, its history is fixed by the set of firings that
+-- it took; and where nothing is ready it holds all that any run reaches.
 pub record KeepsItsPromise (m : State) : Type 0 where
   pub run : Derivation (system_of m.job) m.log
+  pub reached : (e : Entry) → Contains m.history e → Whole (system_of m.job) e
   pub closure : IsSettled m → IsClosure m
   pub whole : IsSettled m → NothingReady m → IsWhole m
 

@@ -1,13 +1,17 @@
 -- How a machine is kept: its log runs ahead of what was applied, and the firings that an entry enabled
 -- are sorted out one after another.
-use Rattle.std.specs.Prelude.{◌≡◌, ℕ, ◌≤◌, ◌<◌, [], ◌∷◌, ◌++◌, Some, ◌⊎◌, length, take, drop, Contains, slice_get}
+use Rattle.std.specs.Prelude.{◌≡◌, ◌↔◌, ℕ, ◌≤◌, ◌<◌, [], ◌∷◌, ◌++◌, Some, ◌⊎◌, length, take, drop, Contains, slice_get}
+use Rattle.std.specs.declared.cmp.Ordering.TheVariants.{Less}
 use Rattle.u_check.specs.Jobs.{JobParts}
 use Rattle.u_rule.specs.Rule.{system_of}
-use Rattle.u_rule.specs.EntryOrder.{FiringList, EntryList}
+use Rattle.u_rule.specs.EntryOrder.{FiringList, EntryList, firing_cmp}
+use Rattle.u_rule.specs.Parts.{TokenParts}
 use Rattle.u_rule.specs.declared.entry.Entry.{Entry}
+use Rattle.u_rule.specs.declared.entry.Entry.TheVariants.{Token as token_entry}
 use Rattle.u_rule.specs.declared.firing.Firing.{Firing}
 use Rattle.u_system.specs.Firing.{Held, Enabled, Derivation, Distinct}
-use Rattle.u_machine.specs.State.{State, state, IsSound}
+use Rattle.u_match.specs.Waking.{IsWokenBy}
+use Rattle.u_machine.specs.State.{State, state, IsSound, IsPick}
 use Rattle.u_machine.specs.Calls.{Takes}
 use Rattle.u_machine.specs.declared.parts.Parts.{Parts}
 
@@ -46,10 +50,26 @@ pub record IsPartitioned (job : JobParts) (log taken ready woken : FiringList) (
   pub once : Distinct woken
   pub all : (f : Firing) → Enabled (system_of job) (Contains history) f → Contains ready f ⊎ Contains log f ⊎ Contains woken f
 
+-- f needs one of the late tokens, and is enabled over the history
+abbrev pub Waits : JobParts → EntryList → EntryList → Firing → Type 0
+Waits job late history f = (e : Entry) × Contains late e × IsWokenBy job e (Contains history) f
+
+-- All that is ready are the ready firings that were made and those that late tokens wake, without those that
+-- are still to be sorted out. Each late token is in the history, and wakes some firing and none that was taken.
+pub record HasLate (job : JobParts) (taken all_ready ready woken : FiringList) (late history : EntryList) : Type 0 where
+  pub whole : (f : Firing) → Contains all_ready f ↔ ((Contains ready f ⊎ Waits job late history f) × (Contains woken f → ⊥))
+  pub apart : (f : Firing) → Contains ready f → Contains woken f → ⊥
+  pub untaken : (f : Firing) → Waits job late history f → Contains taken f → ⊥
+  pub token : (e : Entry) → Contains late e → (t : TokenParts) × (e ≡ token_entry t)
+  pub there : (e : Entry) → Contains late e → Contains history e
+  pub some : (e : Entry) → Contains late e → (f : Firing) × IsWokenBy job e (Contains history) f
+
 -- what is kept: where nothing is being applied, nothing is left to be sorted out
 pub record Invariant (p : Parts) : Type 0 where
+  pub all_ready : FiringList
   pub logged : IsLogged p.job.now p.limit p.log.items p.applied_count p.parked p.matcher
-  pub partitioned : IsPartitioned p.job.now p.log.items (taken_of p) p.ready (woken_of p) p.matcher
+  pub partitioned : IsPartitioned p.job.now p.log.items (taken_of p) all_ready (woken_of p) p.matcher
+  pub late : HasLate p.job.now (taken_of p) all_ready p.ready (woken_of p) p.late p.matcher
   pub idle : p.applied_count ≡ length p.log.items → woken_of p ≡ []
 
 -- a firing that is being applied gives the entry
@@ -85,5 +105,37 @@ pub record SameButApplied (old new : Parts) : Type 0 where
 pub record Begins (old : Parts) (place : ℕ) (new : Parts) : Type 0 where
   pub firing : Firing
   pub at : slice_get old.ready place ≡ Some firing
+  pub takes : Takes (state_of old) firing (state_of new)
+  pub log : new.log.items ≡ old.log.items ++ firing ∷ []
+
+-- f needs no late token
+abbrev pub NeedsNoLate : Parts → Firing → Type 0
+NeedsNoLate p f = (e : Entry) → Contains p.late e → Contains ((system_of p.job.now).needs f) e → ⊥
+
+-- the first of the ready firings that were made stands before all that need a late token
+abbrev pub KnowsLeast : Parts → Type 0
+KnowsLeast p =
+    (f g : Firing) (e : Entry) → slice_get p.ready 0 ≡ Some f → Contains p.late e → Contains ((system_of p.job.now).needs g) e
+    → firing_cmp f g ≡ Less
+
+-- nothing changes but what is made: tokens that were late may be late no more
+pub record MakesMore (old new : Parts) : Type 0 where
+  pub state : state_of new ≡ state_of old
+  pub log : new.log.items ≡ old.log.items
+  pub applied_count : new.applied_count ≡ old.applied_count
+  pub woken : woken_of new ≡ woken_of old
+
+-- none of the entries is in the set
+abbrev pub HasNoneOf : EntryList → EntryList → Type 0
+HasNoneOf set es = (e : Entry) → Contains set e → Contains es e → ⊥
+
+-- the set gains some of the firings, or all of them
+abbrev pub GainsSome : FiringList → FiringList → FiringList → Type 0
+GainsSome old fs new = (f : Firing) → (Contains old f → Contains new f) × (Contains new f → Contains old f ⊎ Contains fs f)
+
+-- the picked one of all that is ready, made or not, is taken, and goes to the end of the log
+pub record BeginsPicked (old : Parts) (pick : ℕ) (new : Parts) : Type 0 where
+  pub firing : Firing
+  pub picked : IsPick (state_of old) pick firing
   pub takes : Takes (state_of old) firing (state_of new)
   pub log : new.log.items ≡ old.log.items ++ firing ∷ []

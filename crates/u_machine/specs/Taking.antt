@@ -35,6 +35,10 @@ pub record AreNew (m : State) (fs news : List Firing) : Type 0 where
   pub once : Distinct news
   pub found : FoundNew m fs news
 
+-- so many of the list are not taken, each counted once
+abbrev pub HasSoManyNew : State → List Firing → ℕ → Type 0
+HasSoManyNew m fs count = (news : List Firing) × AreNew m fs news × (length news ≡ count)
+
 -- the firing is put to the list unless it is taken
 pub record GainsNew (m : State) (f : Firing) (old new : List Firing) : Type 0 where
   pub kept : (g : Firing) → Contains old g → Contains new g
@@ -54,9 +58,9 @@ abbrev pub TakesSome : State → List Firing → State → Type 0
 TakesSome old fs new = (k : ℕ) × (k ≤ length fs) × TakesAll old (take k fs) new
 
 -- all of the list are taken; or one of them is no firing of the job; or they are too many; or there is
--- no memory, for what an earlier call began, or to count the new ones, or to take them
+-- no memory, for what an earlier call began or to take them
 abbrev pub TakeAllAnswer : State → List Firing → Result (Unit {0}) ListRefusal → State → Type 0
 TakeAllAnswer old fs (Ok u) new = AreFirings old.job fs × Fits old fs × TakesAll old fs new × IsSettled new
 TakeAllAnswer old fs (Err (NotAFiring place)) new = IsFirstOther old.job fs place × Settles old new
 TakeAllAnswer old fs (Err Full) new = AreFirings old.job fs × IsTooLong old fs × Settles old new
-TakeAllAnswer old fs (Err NoMemory) new = StaysUnsettled old new ⊎ (AreFirings old.job fs × (Settles old new ⊎ (Fits old fs × TakesSome old fs new)))
+TakeAllAnswer old fs (Err NoMemory) new = StaysUnsettled old new ⊎ (AreFirings old.job fs × Fits old fs × TakesSome old fs new)

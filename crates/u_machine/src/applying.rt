@@ -3,11 +3,12 @@
 //!
 //! A firing that begins to be applied goes to the end of the log, and its entries enter one after
 //! another. Each entry that is new enters the matcher. Of the firings that it wakes, those that were
-//! taken go to the end of the log, and the others are ready from then on. So entries enter
+//! taken go to the end of the log, and the others are ready from then on; a token that wakes many is
+//! put off, and its firings are made later (`late_tokens`). So entries enter
 //! in the order in which they were given: this project's profile. The firings whose entries have all
 //! entered leave the parked ones together, once the log has no more or memory runs out. Then what is
 //! left to do is remembered, and the next call goes on from there.
-ghost use Rattle.std.specs.Prelude.{◌≡◌, ◌↔◌, ◌<◌, ◌≤◌, ◌+◌, [], ◌∷◌, OnOk, IfOk, IsOk, IsTrue, Contains, length};
+ghost use Rattle.std.specs.Prelude.{◌≡◌, ◌↔◌, ◌<◌, ◌≤◌, ◌+◌, [], ◌∷◌, OnOk, IfOk, IsOk, IsTrue, IsFalse, Contains, ◌-◌, length};
 ghost use Rattle.u_rule.specs.Rule.{system_of};
 ghost use Rattle.u_rule.specs.declared.entry.Entry.{Entry};
 ghost use Rattle.u_rule.specs.declared.firing.Firing.{Firing};
@@ -19,12 +20,42 @@ use crate::room::{push_into_room, put_before};
 use std::alloc::{AllocError, Global};
 use std::collections::VecDeque;
 use u_check::Job;
+use u_match::Entered;
 use u_rule::{Entry, Firing, given_by};
 use u_sets::OrderedSet;
 
 impl<'a> Parts<'a> {
-    /// Lets an entry enter that the firing gives which is being applied, unless it did. What it wakes is
+    /// Whether a firing is parked that is not being applied, since it waits for its needs.
+    fn has_waiting(&self) -> bool
+        requires { Invariant self.now }
+        ensures { IsFalse result → length self.now.parked
+            ≤ length self.now.log.items - self.now.applied_count }
+    {
+        self.log.len() - self.applied_count < self.parked.len()
+    }
+
+    /// Lets an entry enter, unless it did, with all firings made that late tokens wake. What it wakes is
     /// to be sorted out then.
+    fn put_made(&mut self, entry: &Entry) -> Result<(), AllocError>
+        requires kept { Invariant self.old }
+        requires idle { woken_of self.old ≡ [] }
+        requires gives { Gives self.old entry.now }
+        ensures kept { Invariant self.new }
+        ensures applies { Applies (state_of self.old) (state_of self.new) }
+        ensures goes { GoesOn self.old self.new }
+        ensures has { OnOk result (Contains self.new.matcher entry.now) }
+    {
+        self.make_all()?;
+        if self.matcher.contains(entry) {
+            return Ok(());
+        }
+        let found = self.matcher.enter(self.job, entry)?;
+        self.woken = VecDeque::from(found);
+        Ok(())
+    }
+
+    /// Lets an entry enter that the firing gives which is being applied, unless it did. What it wakes is
+    /// to be sorted out then, or the entry is a late token.
     fn put(&mut self, entry: &Entry) -> Result<(), AllocError>
         requires kept { Invariant self.old }
         requires idle { woken_of self.old ≡ [] }
@@ -34,12 +65,17 @@ impl<'a> Parts<'a> {
         ensures goes { GoesOn self.old self.new }
         ensures has { OnOk result (Contains self.new.matcher entry.now) }
     {
-        let entered = self.matcher.enter_new(self.job, entry)?;
-        let Some(woken) = entered else {
-            return Ok(());
-        };
-        self.woken = VecDeque::from(woken);
-        Ok(())
+        if self.has_waiting() {
+            return self.put_made(entry);
+        }
+        match self.matcher.enter_few(self.job, entry)? {
+            Entered::Known => Ok(()),
+            Entered::Woken(woken) => {
+                self.woken = VecDeque::from(woken);
+                Ok(())
+            }
+            Entered::Many => self.put_late(entry),
+        }
     }
 
     /// The next firing that was woken was taken: it begins to be applied.

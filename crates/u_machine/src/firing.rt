@@ -1,10 +1,10 @@
 //! How ready firings are fired: the third of three things that a machine does with its parts, each of
 //! which has a file of its own.
-ghost use Rattle.std.specs.Prelude.{◌≡◌, ◌<◌, IfOk, OnOk, OnErr, IsTrue, IsFalse, length, slice_get, Some};
+ghost use Rattle.std.specs.Prelude.{◌≡◌, ◌<◌, [], IfOk, OnOk, OnErr, IsOk, IsTrue, IsFalse, length, slice_get, Some};
 ghost use Rattle.u_rule.specs.declared.firing.Firing.{Firing};
-ghost use Rattle.u_machine.specs.State.{NothingReady, IsReady, count_of};
+ghost use Rattle.u_machine.specs.State.{IsSettled, NothingReady, IsReady, count_of};
 ghost use Rattle.u_machine.specs.Calls.{FireAnswer, RunAnswer};
-ghost use Rattle.u_machine.specs.Invariant.{state_of, Invariant, Begins};
+ghost use Rattle.u_machine.specs.Invariant.{state_of, Invariant, Begins, BeginsPicked};
 
 use crate::answer::{Ran, Refusal, Step};
 use crate::parts::Parts;
@@ -24,10 +24,12 @@ impl<'a> Parts<'a> {
         }
     }
 
-    /// The ready firing at that place begins to be applied. All that was begun before is applied.
+    /// The ready firing at that place begins to be applied. All that was begun before is applied, and
+    /// no token is late.
     fn begin_at(&mut self, place: usize) -> Result<(), AllocError>
         requires kept { Invariant self.old }
         requires settled { self.old.applied_count ≡ length self.old.log.items }
+        requires made { self.old.late ≡ [] }
         requires ready { place < length self.old.ready }
         requires room { count_of (state_of self.old) < self.old.limit }
         ensures kept { Invariant self.new }
@@ -42,6 +44,30 @@ impl<'a> Parts<'a> {
         Ok(())
     }
 
+    /// The picked one of all that is ready begins to be applied. Firings of late tokens are made before
+    /// as far as they have to be known. All that was begun before is applied.
+    fn begin_picked(&mut self, pick: usize) -> Result<(), AllocError>
+        requires kept { Invariant self.old }
+        requires settled { self.old.applied_count ≡ length self.old.log.items }
+        requires ready { (f : Firing) × IsReady (state_of self.old) f }
+        requires room { count_of (state_of self.old) < self.old.limit }
+        ensures kept { Invariant self.new }
+        ensures ok { OnOk result (BeginsPicked self.old pick self.new) }
+        ensures err { OnErr result (state_of self.new ≡ state_of self.old) }
+    {
+        if pick == 0 {
+            self.make_least()?;
+            // Brings in that the ready firings rise.
+            let _count = self.ready.len();
+            self.begin_least()?;
+            return Ok(());
+        }
+        self.make_all()?;
+        let place = pick % self.ready.len();
+        self.begin_at(place)?;
+        Ok(())
+    }
+
     /// Applies one ready firing, and what becomes enabled by it and was taken.
     pub(crate) fn fire(&mut self, pick: usize) -> Result<Step, Refusal>
         requires { Invariant self.old }
@@ -49,27 +75,30 @@ impl<'a> Parts<'a> {
         ensures answer { FireAnswer (state_of self.old) pick result (state_of self.new) }
     {
         self.settle()?;
-        let count = self.ready.len();
-        if count == 0 {
+        let quiet = self.is_quiet();
+        if quiet {
             return Ok(Step::Quiet);
         }
         if self.is_full() {
             return Err(Refusal::Full);
         }
         let place = self.log.len();
-        self.begin_at(pick % count)?;
+        self.begin_picked(pick)?;
         self.settle()?;
         Ok(Step::Fired(place))
     }
 
-    /// Whether nothing is ready. All that was begun is applied.
-    fn is_quiet(&self) -> bool
+    /// Whether nothing is ready, made or not. All that was begun is applied.
+    pub(crate) fn is_quiet(&self) -> bool
         requires kept { Invariant self.now }
         requires settled { self.now.applied_count ≡ length self.now.log.items }
         ensures quiet { IsTrue result → NothingReady (state_of self.now) }
         ensures ready { IsFalse result → (f : Firing) × IsReady (state_of self.now) f }
     {
         if self.ready.len() > 0 {
+            return false;
+        }
+        if self.late.len() > 0 {
             return false;
         }
         true
@@ -80,6 +109,8 @@ impl<'a> Parts<'a> {
         requires { Invariant self.old }
         ensures kept { Invariant self.new }
         ensures answer { RunAnswer (state_of self.old) budget result (state_of self.new) }
+        ensures quiet { IsSettled (state_of self.old) → NothingReady (state_of self.old)
+            → IsOk result }
     {
         for made in 0..budget {
             let fired = self.fire(0)?;

@@ -5,6 +5,7 @@ mod answer;
 mod applying;
 mod commands;
 mod firing;
+mod late_tokens;
 mod machine;
 mod masks;
 mod parts;

@@ -7,7 +7,7 @@
 //! the job.
 ghost use Rattle.std.specs.Prelude.{◌≡◌, ◌↔◌, [], ◌∷◌, IfOk, IsOk, IsTrue, OnOk};
 ghost use Rattle.u_rule.specs.Rule.{system_of};
-ghost use Rattle.u_machine.specs.State.{state, IsMachine, IsSettled, Taken};
+ghost use Rattle.u_machine.specs.State.{state, IsMachine, IsSettled, NothingReady, Taken};
 ghost use Rattle.u_machine.specs.Headline.{KeepsItsPromise, Agree};
 ghost use Rattle.u_machine.specs.Calls.{FireAnswer, FireInAnswer, RunAnswer, TakeAnswer, Applies, IsFresh, RunsPlainly};
 ghost use Rattle.u_machine.specs.Taking.{TakeAllAnswer};
@@ -76,8 +76,8 @@ impl<'a> Machine<'a> {
     /// # Errors
     /// `NotAFiring` with the place of the first that is no firing of the job. `Full` where the machine
     /// may not take as many besides as the list has firings that it did not take yet. In both cases
-    /// nothing is taken. `NoMemory` where there is no memory; then those before some place of the list
-    /// are taken, and the next call goes on with what is not yet applied.
+    /// nothing is taken. `NoMemory` where there is room and no memory; then those before some place of
+    /// the list are taken, and the next call goes on with what is not yet applied.
     pub fn take_all(&mut self, firings: &[Firing]) -> Result<(), ListRefusal>
         ensures { TakeAllAnswer self.old firings.now result self.new }
     {
@@ -146,10 +146,12 @@ impl<'a> Machine<'a> {
     /// # Errors
     /// `Full` where a firing is ready and the machine has taken as many as it may; a machine that had
     /// taken nothing before is never full within a budget of its limit. `NoMemory` where there is no
-    /// memory. What was applied before a refusal stays applied.
+    /// memory. What was applied before a refusal stays applied. A settled machine of which nothing is
+    /// ready answers `Quiet`, with no memory.
     pub fn run(&mut self, budget: usize) -> Result<Ran, Refusal>
         ensures answer { RunAnswer self.old budget result self.new }
         ensures plain { IsFresh self.old → RunsPlainly self.old budget result self.new }
+        ensures quiet { IsSettled self.old → NothingReady self.old → IsOk result }
     {
         let ran = self.parts.run(budget);
         // Brings in what always holds.

@@ -1,7 +1,8 @@
 //! The parts of a machine.
 //!
 //! What a machine does with them is written in three files: `taking` takes firings, `applying` lets
-//! entries enter and firings be applied, and `firing` fires what is ready. `masks` fires by buckets.
+//! entries enter and firings be applied, and `firing` fires what is ready. `masks` fires by buckets, and
+//! `late_tokens` makes the firings of tokens that were put off.
 ghost use Rattle.std.specs.Prelude.{◌≡◌, ◌↔◌, [], ◌∷◌, IfOk, IsTrue, Contains, length};
 ghost use Rattle.u_rule.specs.Rule.{system_of};
 ghost use Rattle.u_machine.specs.State.{IsSettled, state};
@@ -12,7 +13,7 @@ use std::alloc::{AllocError, Global};
 use std::collections::VecDeque;
 use u_check::Job;
 use u_match::Matcher;
-use u_rule::{Firing, start};
+use u_rule::{Entry, Firing, start};
 use u_sets::OrderedSet;
 
 /// The parts of a machine.
@@ -28,8 +29,10 @@ pub(crate) struct Parts<'a> {
     pub(crate) applied_count: usize,
     /// The firings that were taken and not applied.
     pub(crate) parked: OrderedSet<Firing>,
-    /// The firings that are enabled and not taken.
+    /// The firings that are enabled and not taken, as far as they were made.
     pub(crate) ready: OrderedSet<Firing>,
+    /// The tokens that were put off: the firings that they wake are enabled, and not made.
+    pub(crate) late: OrderedSet<Entry>,
     /// The firings that the last entry woke and that are still to be sorted out, in order.
     pub(crate) woken: VecDeque<Firing>,
     /// The history, with what each of its entries may meet.
@@ -67,6 +70,7 @@ impl<'a> Parts<'a> {
             applied_count: 0,
             parked: OrderedSet::new(alloc),
             ready,
+            late: OrderedSet::new(alloc),
             woken: VecDeque::new(alloc),
             matcher,
         })

@@ -5,8 +5,9 @@ ghost use Rattle.std.specs.Prelude.{◌≡◌, ◌↔◌, ◌<◌, ◌≤◌, �
 ghost use Rattle.u_rule.specs.Rule.{system_of};
 ghost use Rattle.u_machine.specs.State.{Taken, count_of};
 ghost use Rattle.u_machine.specs.Calls.{Takes, TakeAnswer};
-ghost use Rattle.u_machine.specs.Taking.{AreFirings, IsFirstOther, AreNew, GainsNew, Fits, IsTooLong, TakeAllAnswer};
-ghost use Rattle.u_machine.specs.Invariant.{state_of, Invariant, Begins};
+ghost use Rattle.u_machine.specs.Taking.{AreFirings, IsFirstOther, AreNew, HasSoManyNew, GainsNew, Fits, IsTooLong, TakeAllAnswer};
+ghost use Rattle.u_machine.specs.Invariant.{state_of, Invariant, Begins, NeedsNoLate};
+ghost use Rattle.u_rule.specs.declared.firing.Firing.{Firing};
 ghost use Rattle.u_machine.specs.declared.answer.Took.TheVariants as answers;
 
 use crate::answer::{ListRefusal, TakeRefusal, Took};
@@ -60,7 +61,7 @@ impl<'a> Parts<'a> {
     }
 
     /// Whether the firing was applied or is being applied. Each firing that has all that it needs is in
-    /// the log, or ready, or still to be sorted out, and the log has no others.
+    /// the log, or ready, or still to be sorted out, or needs a late token, and the log has no others.
     fn has_begun(&self, firing: &Firing) -> bool
         requires { Invariant self.now }
         ensures { IsTrue result ↔ Contains self.now.log.items firing.now }
@@ -76,6 +77,12 @@ impl<'a> Parts<'a> {
             return false;
         }
         if self.is_woken(firing) {
+            return false;
+        }
+        let Ok(late) = self.needs_late(firing) else {
+            return is_among(&self.log, firing);
+        };
+        if late {
             return false;
         }
         true
@@ -104,6 +111,7 @@ impl<'a> Parts<'a> {
         requires kept { Invariant self.old }
         requires settled { self.old.applied_count ≡ length self.old.log.items }
         requires ready { Contains self.old.ready firing }
+        requires made { NeedsNoLate self.old firing }
         requires room { count_of (state_of self.old) < self.old.limit }
         ensures kept { Invariant self.new }
         ensures takes { OnOk result (Takes (state_of self.old) firing (state_of self.new)) }
@@ -123,6 +131,7 @@ impl<'a> Parts<'a> {
         requires kept { Invariant self.old }
         requires settled { self.old.applied_count ≡ length self.old.log.items }
         requires ready { 0 < length self.old.ready }
+        requires made { (f : Firing) → slice_get self.old.ready 0 ≡ Some f → NeedsNoLate self.old f }
         requires room { count_of (state_of self.old) < self.old.limit }
         ensures kept { Invariant self.new }
         ensures ok { OnOk result (Begins self.old 0 self.new) }
@@ -156,6 +165,7 @@ impl<'a> Parts<'a> {
         requires kept { Invariant self.old }
         requires settled { self.old.applied_count ≡ length self.old.log.items }
         requires ready { Contains self.old.ready firing.now }
+        requires made { NeedsNoLate self.old firing.now }
         requires least { IsTrue is_least → slice_get self.old.ready 0 ≡ Some firing.now }
         requires room { count_of (state_of self.old) < self.old.limit }
         ensures kept { Invariant self.new }
@@ -172,6 +182,23 @@ impl<'a> Parts<'a> {
         Ok(())
     }
 
+    /// Takes a ready firing that needs no late token, and applies it, and what becomes enabled by it and
+    /// was taken. All that was begun before is applied.
+    fn take_made(&mut self, firing: &Firing, is_least: bool) -> Result<Took, TakeRefusal>
+        requires kept { Invariant self.old }
+        requires settled { self.old.applied_count ≡ length self.old.log.items }
+        requires ready { Contains self.old.ready firing.now }
+        requires made { NeedsNoLate self.old firing.now }
+        requires least { IsTrue is_least → slice_get self.old.ready 0 ≡ Some firing.now }
+        requires room { count_of (state_of self.old) < self.old.limit }
+        ensures kept { Invariant self.new }
+        ensures answer { TakeAnswer (state_of self.old) firing.now result (state_of self.new) }
+    {
+        self.begin_ready(firing, is_least)?;
+        self.settle()?;
+        Ok(Took::Taken)
+    }
+
     /// Takes a ready firing and applies it, and what becomes enabled by it and was taken. All that was
     /// begun before is applied.
     fn take_ready(&mut self, firing: &Firing, is_least: bool) -> Result<Took, TakeRefusal>
@@ -185,18 +212,21 @@ impl<'a> Parts<'a> {
         if self.is_full() {
             return Err(TakeRefusal::Full);
         }
-        self.begin_ready(firing, is_least)?;
-        self.settle()?;
-        Ok(Took::Taken)
+        if self.late.len() == 0 {
+            return self.take_made(firing, is_least);
+        }
+        self.make_for(firing)?;
+        self.take_made(firing, false)
     }
 
-    /// Parks a firing of the job that is neither applied nor ready, unless it is parked already. All
-    /// that was begun before is applied.
+    /// Parks a firing of the job that is neither applied nor ready and needs no late token, unless it is
+    /// parked already. All that was begun before is applied.
     fn park(&mut self, firing: &Firing) -> Result<Took, AllocError>
         requires kept { Invariant self.old }
         requires settled { self.old.applied_count ≡ length self.old.log.items }
         requires unapplied { Contains self.old.log.items firing.now → ⊥ }
         requires unready { Contains self.old.ready firing.now → ⊥ }
+        requires made { NeedsNoLate self.old firing.now }
         requires firing { IsTrue ((system_of self.old.job.now).is_firing firing.now) }
         requires room { count_of (state_of self.old) < self.old.limit }
         ensures kept { Invariant self.new }
@@ -226,9 +256,48 @@ impl<'a> Parts<'a> {
         }
     }
 
-    /// Takes a firing of the job that is neither applied nor ready, unless it is parked already. It is
-    /// looked for among the parked ones only where it can't be put there. All that was begun before is
-    /// applied.
+    /// Parks a firing of the job, as `park` does; it is looked for among the parked ones only where it
+    /// can't be put there.
+    fn park_or_known(&mut self, firing: &Firing) -> Result<Took, TakeRefusal>
+        requires kept { Invariant self.old }
+        requires settled { self.old.applied_count ≡ length self.old.log.items }
+        requires unapplied { Contains self.old.log.items firing.now → ⊥ }
+        requires unready { Contains self.old.ready firing.now → ⊥ }
+        requires made { NeedsNoLate self.old firing.now }
+        requires firing { IsTrue ((system_of self.old.job.now).is_firing firing.now) }
+        requires room { count_of (state_of self.old) < self.old.limit }
+        ensures kept { Invariant self.new }
+        ensures answer { TakeAnswer (state_of self.old) firing.now result (state_of self.new) }
+    {
+        match self.park(firing) {
+            Ok(took) => Ok(took),
+            Err(AllocError) => self.unless_parked(firing, TakeRefusal::NoMemory),
+        }
+    }
+
+    /// Takes a firing of the job that is not applied, while tokens are late: the firings of those that
+    /// it needs are made, and it is among them or is parked. All that was begun before is applied.
+    fn take_late(&mut self, firing: &Firing) -> Result<Took, TakeRefusal>
+        requires kept { Invariant self.old }
+        requires settled { self.old.applied_count ≡ length self.old.log.items }
+        requires unapplied { Contains self.old.log.items firing.now → ⊥ }
+        requires firing { IsTrue ((system_of self.old.job.now).is_firing firing.now) }
+        requires room { count_of (state_of self.old) < self.old.limit }
+        ensures kept { Invariant self.new }
+        ensures answer { TakeAnswer (state_of self.old) firing.now result (state_of self.new) }
+    {
+        let Ok(()) = self.make_for(firing) else {
+            return self.unless_parked(firing, TakeRefusal::NoMemory);
+        };
+        let was_late = self.ready.contains(firing);
+        if was_late {
+            return self.take_made(firing, false);
+        }
+        self.park_or_known(firing)
+    }
+
+    /// Takes a firing of the job that is neither applied nor ready as far as firings were made, unless it
+    /// is parked already. All that was begun before is applied.
     fn take_early(&mut self, firing: &Firing) -> Result<Took, TakeRefusal>
         requires kept { Invariant self.old }
         requires settled { self.old.applied_count ≡ length self.old.log.items }
@@ -241,10 +310,10 @@ impl<'a> Parts<'a> {
         if self.is_full() {
             return self.unless_parked(firing, TakeRefusal::Full);
         }
-        match self.park(firing) {
-            Ok(took) => Ok(took),
-            Err(AllocError) => self.unless_parked(firing, TakeRefusal::NoMemory),
+        if self.late.len() == 0 {
+            return self.park_or_known(firing);
         }
+        self.take_late(firing)
     }
 
     /// Takes the firing, unless it was taken. All that was begun before is applied. The least ready one
@@ -316,20 +385,63 @@ impl<'a> Parts<'a> {
         more <= self.limit - self.log.len() - self.parked.len()
     }
 
+    /// Whether the firing was not taken and is not among those before it.
+    fn is_new(&self, before: &[Firing], firing: &Firing) -> bool
+        requires { Invariant self.now }
+        ensures { IsTrue result ↔ ((Taken (state_of self.now) firing.now → ⊥)
+            × (Contains before.now firing.now → ⊥)) }
+    {
+        if self.knows(firing) {
+            return false;
+        }
+        if is_among(before, firing) {
+            return false;
+        }
+        true
+    }
+
+    /// How many of the list were not taken, each counted once. It takes no memory, and compares each
+    /// firing with those before it.
+    fn count_new(&self, firings: &[Firing]) -> usize
+        requires { Invariant self.now }
+        ensures { HasSoManyNew (state_of self.now) firings.now result }
+    {
+        let mut count = 0;
+        let mut place = 0;
+        while place < firings.len() {
+            if self.is_new(&firings[..place], &firings[place]) {
+                count += 1;
+            }
+            place += 1;
+        }
+        count
+    }
+
+    /// How many of the list were not taken, each counted once. Where there is memory for a set of them,
+    /// each is looked up in it.
+    fn new_count(&self, firings: &[Firing]) -> usize
+        requires { Invariant self.now }
+        ensures { HasSoManyNew (state_of self.now) firings.now result }
+    {
+        match self.new_of(firings) {
+            Ok(news) => news.len(),
+            Err(AllocError) => self.count_new(firings),
+        }
+    }
+
     /// Whether those of the list may be taken that were not. They are counted only where the whole list
     /// would be too long. All that was begun is applied.
-    fn may_take(&self, firings: &[Firing]) -> Result<bool, AllocError>
+    fn may_take(&self, firings: &[Firing]) -> bool
         requires kept { Invariant self.now }
         requires settled { self.now.applied_count ≡ length self.now.log.items }
-        ensures fits { IfOk result (λ b. IsTrue b → Fits (state_of self.now) firings.now) }
-        ensures long { IfOk result (λ b. IsFalse b → IsTooLong (state_of self.now) firings.now) }
+        ensures fits { IsTrue result → Fits (state_of self.now) firings.now }
+        ensures long { IsFalse result → IsTooLong (state_of self.now) firings.now }
     {
         if self.has_room(firings.len()) {
-            return Ok(true);
+            return true;
         }
-        let news = self.new_of(firings)?;
-        let fits = self.has_room(news.len());
-        Ok(fits)
+        let count = self.new_count(firings);
+        self.has_room(count)
     }
 
     /// Takes the firings of the list in their order.
@@ -342,8 +454,7 @@ impl<'a> Parts<'a> {
         if let Some(place) = first_other(self.job, firings) {
             return Err(ListRefusal::NotAFiring(place));
         }
-        let fits = self.may_take(firings)?;
-        if !fits {
+        if !self.may_take(firings) {
             return Err(ListRefusal::Full);
         }
         for firing in firings {

@@ -3,7 +3,7 @@ use Rattle.std.specs.Prelude.{Contains}
 use Rattle.u_rule.specs.EntryOrder.{FiringList}
 use Rattle.u_rule.specs.declared.firing.Firing.{Firing}
 use Rattle.u_sets.specs.Members.{IsWith}
-use Rattle.u_machine.proofs.Beginning.{unparked, begun_logged, begun_partitioned, begun_idle, begun_takes}
+use Rattle.u_machine.proofs.Beginning.{unparked, begun_logged, begun_partitioned, begun_idle, begun_takes, begun_late, others}
 use Rattle.u_machine.proofs.parts.Parts.begin.Goals as goal
 use Rattle.u_machine.proofs.parts.Parts.begin.Goals.{After-push_into_room}
 
@@ -27,8 +27,10 @@ returns-clause-kept c =
     let m = c.args.self.now in
     let f = c.args.firing in
     record {
+      all_ready = others m k f c.requires.ready;
       logged = begun_logged m k f c.requires.ready c.requires.settled c.requires.room c.insert.new.self c.remove.new.self c.push_into_room.new.list.items (with_it c) c.in_ok-insert.ensures.rises (one_more c) (logs c) c.remove.ensures.without;
       partitioned = begun_partitioned m k f c.requires.ready c.requires.settled c.requires.room c.insert.new.self c.remove.new.self c.push_into_room.new.list.items (with_it c) c.in_ok-insert.ensures.rises (one_more c) (logs c) c.remove.ensures.without;
+      late = begun_late m k f c.requires.ready c.requires.settled c.requires.room c.insert.new.self c.remove.new.self c.push_into_room.new.list.items (with_it c) c.in_ok-insert.ensures.rises (one_more c) (logs c) c.remove.ensures.without c.requires.made;
       idle = begun_idle m k f c.requires.ready c.requires.settled c.requires.room c.insert.new.self c.remove.new.self c.push_into_room.new.list.items (with_it c) c.in_ok-insert.ensures.rises (one_more c) (logs c) c.remove.ensures.without;
     }
 

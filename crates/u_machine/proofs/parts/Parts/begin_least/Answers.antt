@@ -4,7 +4,8 @@ use Rattle.u_rule.specs.EntryOrder.{FiringList}
 use Rattle.u_rule.specs.declared.firing.Firing.{Firing}
 use Rattle.u_sets.specs.Members.{IsWith}
 use Rattle.u_system.proofs.Member.{Contains-head}
-use Rattle.u_machine.proofs.Beginning.{unparked, begun_logged, begun_partitioned, begun_idle, begun_takes}
+use Rattle.u_machine.proofs.Beginning.{unparked, begun_logged, begun_partitioned, begun_idle, begun_takes, begun_late, others}
+use Rattle.u_machine.specs.Invariant.{NeedsNoLate}
 use Rattle.u_machine.proofs.Lists.{first_is}
 use Rattle.u_machine.proofs.parts.Parts.begin_least.Goals as goal
 use Rattle.u_machine.proofs.parts.Parts.begin_least.Goals.{After-push_into_room}
@@ -26,14 +27,20 @@ one_more c =
 logs : (c : After-push_into_room) → c.push_into_room.new.list.items ≡ c.args.self.now.log.items ++ c.in-Some-pop_first.firing ∷ []
 logs c = c.push_into_room.ensures.items ∙ ap (λ (l : FiringList). l ++ c.in-Some-pop_first.firing ∷ []) c.reserve.ensures.items
 
+-- it needs no late token
+free : (c : After-push_into_room) → NeedsNoLate c.args.self.now c.in-Some-pop_first.firing
+free c = c.requires.made c.in-Some-pop_first.firing (ap (λ (fs : FiringList). slice_get fs 0) c.in-Some-pop_first.ensures.some)
+
 pub returns-clause-kept : goal.returns-clause-kept
 returns-clause-kept c =
     let k = c.requires.kept in
     let m = c.args.self.now in
     let f = c.in-Some-pop_first.firing in
     record {
+      all_ready = others m k f (was c);
       logged = begun_logged m k f (was c) c.requires.settled c.requires.room c.insert.new.self c.pop_first.new.self c.push_into_room.new.list.items (with_it c) c.in_ok-insert.ensures.rises (one_more c) (logs c) c.in-Some-pop_first.ensures.without;
       partitioned = begun_partitioned m k f (was c) c.requires.settled c.requires.room c.insert.new.self c.pop_first.new.self c.push_into_room.new.list.items (with_it c) c.in_ok-insert.ensures.rises (one_more c) (logs c) c.in-Some-pop_first.ensures.without;
+      late = begun_late m k f (was c) c.requires.settled c.requires.room c.insert.new.self c.pop_first.new.self c.push_into_room.new.list.items (with_it c) c.in_ok-insert.ensures.rises (one_more c) (logs c) c.in-Some-pop_first.ensures.without (free c);
       idle = begun_idle m k f (was c) c.requires.settled c.requires.room c.insert.new.self c.pop_first.new.self c.push_into_room.new.list.items (with_it c) c.in_ok-insert.ensures.rises (one_more c) (logs c) c.in-Some-pop_first.ensures.without;
     }
 

@@ -1,10 +1,12 @@
 use Rattle.std.proofs.Common.{◌≡◌, ap, length, arith, length-append, [], ◌∷◌, ◌++◌, sym, subst, take, ◌∙◌}
 use Rattle.std.proofs.lemmas.List.{take-append-le}
 use Rattle.u_rule.specs.EntryOrder.{FiringList}
-use Rattle.u_machine.specs.Invariant.{IsLogged, IsPartitioned}
+use Rattle.std.proofs.lemmas.List.Elements.{Contains-append_right}
+use Rattle.u_machine.specs.Invariant.{IsLogged, IsPartitioned, HasLate}
 use Rattle.u_machine.proofs.Settled.{not_logged, enabled_first}
 use Rattle.u_machine.proofs.Steps.{begins}
 use Rattle.u_machine.proofs.Sorting.{sorts_logged}
+use Rattle.u_machine.proofs.LateTokens.{sorts_logged_late}
 use Rattle.u_machine.proofs.parts.Parts.begin_next.Goals as goal
 use Rattle.u_machine.proofs.parts.Parts.begin_next.Goals.{After-push_into_room}
 
@@ -21,9 +23,12 @@ returns-clause-kept c =
     let l = logs c in
     let s : take m.applied_count (m.log.items ++ f ∷ []) ≡ take m.applied_count m.log.items = take-append-le m.applied_count m.log.items (f ∷ []) k.logged.place in
     record {
+      all_ready = k.all_ready;
       logged = subst (λ (log : FiringList). IsLogged m.job.now m.limit log m.applied_count m.parked m.matcher) (sym l)
           (begins _ _ _ _ _ _ k.logged f (c.requires.taken f (rest, n)) (not_logged m k f rest n) (enabled_first m k f rest n));
-      partitioned = subst (λ (log : FiringList). IsPartitioned m.job.now log (take m.applied_count log ++ m.parked) m.ready rest m.matcher) (sym l)
+      partitioned = subst (λ (log : FiringList). IsPartitioned m.job.now log (take m.applied_count log ++ m.parked) k.all_ready rest m.matcher) (sym l)
           (rw s (sorts_logged _ _ _ _ _ _ k.partitioned f rest n));
+      late = subst (λ (log : FiringList). HasLate m.job.now (take m.applied_count log ++ m.parked) k.all_ready m.ready rest m.late m.matcher) (sym l)
+          (rw s (sorts_logged_late _ _ _ _ _ _ _ k.late f rest n (Contains-append_right (take m.applied_count m.log.items) m.parked f (c.requires.taken f (rest, n)))));
       idle = λ e. let a = length-append m.log.items (f ∷ []) in let b = k.logged.place in let d = ap length l in absurd (omega (arith, e));
     }

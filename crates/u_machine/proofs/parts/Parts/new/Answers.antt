@@ -9,6 +9,7 @@ use Rattle.u_sets.specs.Rising.{Rises}
 use Rattle.u_sets.specs.Members.{IsWith}
 use Rattle.u_machine.specs.State.{state}
 use Rattle.u_machine.proofs.Fresh.{only_one, fresh_log, fresh_partitioned}
+use Rattle.u_machine.proofs.LateTokens.{none_late}
 use Rattle.u_machine.proofs.parts.Parts.new.Goals as goal
 
 starts : (c : goal.After-drop-woken-2) → IsWith [] (start_of c.args.job.now) c.enter.new.self
@@ -22,12 +23,14 @@ held c =
 
 pub returns-clause-kept : goal.returns-clause-kept
 returns-clause-kept c = record {
+  all_ready = c.in_ok-ready.ready;
   logged = rw (c.new.ensures.items, c.new-2.ensures, held c) (fresh_log c.args.job.now c.args.limit);
-  partitioned = rw (c.new.ensures.items, c.new-2.ensures, c.new-3.ensures.items)
+  partitioned = rw (c.new.ensures.items, c.new-2.ensures, c.new-4.ensures.items)
       (fresh_partitioned c.args.job.now c.args.limit c.enter.new.self c.in_ok-woken.woken.items c.in_ok-ready.ready (starts c)
       (subst (λ (e : Entry). (f : Firing) → Contains c.in_ok-woken.woken.items f ↔ (Contains ((system_of c.args.job.now).needs f) e × Enabled (system_of c.args.job.now) (Contains c.enter.new.self) f)) c.start.ensures.start c.in_ok-woken.ensures.exact)
       (subst (λ (fs : FiringList). Same (Contains c.in_ok-ready.ready) (Contains fs)) c.deref.ensures.value c.in_ok-ready.ensures));
-  idle = λ e. rw c.new-3.ensures.items refl;
+  late = rw (c.new-2.ensures, c.new-3.ensures, c.new-4.ensures.items) (none_late c.args.job.now [] c.in_ok-ready.ready c.enter.new.self);
+  idle = λ e. rw c.new-4.ensures.items refl;
 }
 
 pub returns-clause-state : goal.returns-clause-state

@@ -1,10 +1,11 @@
-use Rattle.std.proofs.Common.{◌≡◌, ◌+◌, ◌++◌, length, take, subst, refl, inr}
+use Rattle.std.proofs.Common.{◌≡◌, ◌+◌, ◌++◌, length, take, subst, refl, inl, inr}
 use Rattle.std.specs.Prelude.{Contains}
 use Rattle.std.proofs.lemmas.List.Elements.{Contains-append_right}
 use Rattle.u_rule.specs.declared.firing.Firing.{Firing}
 use Rattle.u_sets.specs.Members.{IsWith}
 use Rattle.u_machine.proofs.Steps.{parks, parks_takes, taken_more}
 use Rattle.u_machine.proofs.Sorting.{takes_early}
+use Rattle.u_machine.proofs.LateTokens.{takes_early_late}
 use Rattle.u_machine.proofs.Early.{untaken, early_is_new}
 use Rattle.u_machine.proofs.Settled.{settled_there, settles_itself, not_both}
 use Rattle.u_machine.proofs.parts.Parts.park.Goals as goal
@@ -24,14 +25,19 @@ module _ (c : Then-is_new) where
   one_more : length c.insert.new.self ≡ length c.args.self.now.parked + 1
   one_more = c.in_ok-is_new.ensures.count c.if-is_new.true
 
+  unready_at_all : Contains c.requires.kept.all_ready c.args.firing.now → ⊥
+  unready_at_all m = elim ((c.requires.kept.late.whole c.args.firing.now).0 m).0 [ inl r ↦ c.requires.unready r | inr (e, i, n) ↦ c.requires.made e i n.0 ]
+
 pub returns-then-is_new-clause-kept : goal.returns-then-is_new-clause-kept
 returns-then-is_new-clause-kept c =
     let k = c.requires.kept in
     let m = c.args.self.now in
     let f = c.args.firing.now in
     record {
+      all_ready = k.all_ready;
       logged = parks _ _ _ _ _ _ k.logged f c.insert.new.self (untaken m f c.requires.unapplied (unparked c)) c.requires.firing c.requires.room (added c) c.in_ok-is_new.ensures.rises (one_more c);
-      partitioned = takes_early _ _ _ _ _ _ k.partitioned f (take m.applied_count m.log.items ++ c.insert.new.self) c.requires.unready (taken_more _ _ _ _ _ _ k.logged f c.insert.new.self (added c));
+      partitioned = takes_early _ _ _ _ _ _ k.partitioned f (take m.applied_count m.log.items ++ c.insert.new.self) (unready_at_all c) (taken_more _ _ _ _ _ _ k.logged f c.insert.new.self (added c));
+      late = takes_early_late _ _ _ _ _ _ _ k.late f (take m.applied_count m.log.items ++ c.insert.new.self) (λ (e, i, n). c.requires.made e i n.0) (taken_more _ _ _ _ _ _ k.logged f c.insert.new.self (added c));
       idle = k.idle;
     }
 

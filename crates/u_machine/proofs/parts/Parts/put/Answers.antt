@@ -1,30 +1,49 @@
-use Rattle.std.proofs.Common.{arith, inl, inr, refl, subst, sym}
+use Rattle.std.proofs.Common.{arith, inl, inr, refl, subst, sym, Ok}
 use Rattle.u_rule.specs.EntryOrder.{FiringList}
-use Rattle.u_machine.specs.Invariant.{IsPartitioned, taken_of}
+use Rattle.u_match.specs.Waking.{EnterAnswer}
+use Rattle.u_match.specs.declared.matcher.Entered.{Entered}
+use Rattle.u_match.specs.declared.matcher.Entered.TheVariants as woken_entries
+use Rattle.u_machine.specs.Invariant.{IsPartitioned, HasLate, taken_of}
 use Rattle.u_machine.proofs.Lists.{slice_get_Contains}
 use Rattle.u_machine.proofs.Going.{slice_get_below}
 use Rattle.u_machine.proofs.Steps.{entered}
 use Rattle.u_machine.proofs.Sorting.{woken_more}
+use Rattle.u_machine.proofs.LateTokens.{enters_late}
+use Rattle.u_machine.proofs.Making.{untaken_new}
 use Rattle.u_machine.proofs.States.{Applies-history}
 use Rattle.u_machine.proofs.parts.Parts.put.Goals as goal
+use Rattle.u_machine.proofs.parts.Parts.put.Goals.{In-Woken}
 
-pub returns-clause-kept : goal.returns-clause-kept
-returns-clause-kept c =
+-- what came of the entry
+entered_it : (c : In-Woken) → EnterAnswer c.args.self.now.job.now c.args.self.now.matcher c.args.entry.now (Ok (woken_entries.Woken c.in-Woken.woken)) c.enter_few.new.self
+entered_it c = subst (λ (x : Entered). EnterAnswer c.args.self.now.job.now c.args.self.now.matcher c.args.entry.now (Ok x) c.enter_few.new.self) c.in-Woken.is c.in_ok-enter_few.ensures
+
+pub returns-in-Woken-clause-kept : goal.returns-in-Woken-clause-kept
+returns-in-Woken-clause-kept c =
     let k = c.requires.kept in
     let m = c.args.self.now in
+    let e = c.args.entry.now in
+    let more = c.enter_few.new.self in
+    let found = c.in-Woken.woken.items in
+    let (fresh, w, exact, order) = entered_it (goal.at.returns-in-Woken-clause-kept c).In-Woken in
+    let few = c.has_waiting.ensures c.if-has_waiting.false in
     let (f, at, from, place, g) = c.requires.gives in
     record {
-      logged = entered _ _ _ _ _ _ k.logged f c.args.entry.now c.enter_new.new.self (slice_get_Contains _ _ f place) g c.in_ok-entered.ensures.ok;
-      partitioned = subst (λ (fs : FiringList). IsPartitioned m.job.now m.log.items (taken_of m) m.ready fs c.enter_new.new.self) (sym c.from.ensures.0)
-          (woken_more _ _ _ _ _ _ k.partitioned c.args.entry.now c.enter_new.new.self c.in-Some.woken.items c.requires.idle (rw c.in-Some.is at c.in_ok-entered.ensures.new) c.in_ok-entered.ensures.ok (rw c.in-Some.is at c.in_ok-entered.ensures.exact) (rw c.in-Some.is at c.in_ok-entered.ensures.order));
-      idle = λ e. let b = slice_get_below m.log.items at f place in absurd (omega (arith, b, e, from));
+      all_ready = k.all_ready;
+      logged = entered _ _ _ _ _ _ k.logged f e more (slice_get_Contains _ _ f place) g w;
+      partitioned = subst (λ (fs : FiringList). IsPartitioned m.job.now m.log.items (taken_of m) k.all_ready fs more) (sym c.from.ensures.0)
+          (woken_more _ _ _ _ _ _ k.partitioned e more found c.requires.idle fresh w exact order);
+      late = subst (λ (fs : FiringList). HasLate m.job.now (taken_of m) k.all_ready m.ready fs m.late more) (sym c.from.ensures.0)
+          (enters_late _ _ _ _ _ _ _ k.late e more c.requires.idle fresh w (λ h i. (k.partitioned.fit h i).0) found exact (λ h x i t _. untaken_new m k few e fresh h ((exact h).0 i).0 t));
+      idle = λ q. let b = slice_get_below m.log.items at f place in absurd (omega (arith, b, q, from));
     }
 
-pub returns-clause-applies : goal.returns-clause-applies
-returns-clause-applies c = Applies-history _ _ (λ x k. (c.in_ok-entered.ensures.ok x).1 (inl k))
+pub returns-in-Woken-clause-applies : goal.returns-in-Woken-clause-applies
+returns-in-Woken-clause-applies c =
+    let (fresh, w, exact, order) = entered_it (goal.at.returns-in-Woken-clause-applies c).In-Woken in
+    Applies-history _ _ (λ x k. (w x).1 (inl k))
 
-pub returns-clause-has : goal.returns-clause-has
-returns-clause-has c = (c.in_ok-entered.ensures.ok c.args.entry.now).1 (inr refl)
-
-pub returns-in_default-clause-has : goal.returns-in_default-clause-has
-returns-in_default-clause-has c = (c.in_ok-entered.ensures.ok c.args.entry.now).1 (inr refl)
+pub returns-in-Woken-clause-has : goal.returns-in-Woken-clause-has
+returns-in-Woken-clause-has c =
+    let (fresh, w, exact, order) = entered_it (goal.at.returns-in-Woken-clause-has c).In-Woken in
+    (w c.args.entry.now).1 (inr refl)

@@ -1,5 +1,7 @@
+use Rattle.std.proofs.Common.{◌∷◌}
 use Rattle.u_machine.proofs.Settled.{parked_first, not_idle}
 use Rattle.u_machine.proofs.Sorting.{sorts_ready}
+use Rattle.u_machine.proofs.LateTokens.{with_first, sorts_ready_late}
 use Rattle.u_machine.proofs.parts.Parts.ready_next.Goals as goal
 
 pub returns-in-Ok-clause-kept : goal.returns-in-Ok-clause-kept
@@ -10,7 +12,9 @@ returns-in-Ok-clause-kept c =
     let rest = c.pop_front.new.self.items in
     let n = c.in-Some.ensures.items in
     record {
+      all_ready = f ∷ k.all_ready;
       logged = k.logged;
-      partitioned = sorts_ready _ _ _ _ _ _ k.partitioned f rest c.insert.new.self n (λ t. c.requires.new f (rest, n) (parked_first m k f rest n t)) c.in-Ok.ensures.ok;
+      partitioned = sorts_ready _ _ _ _ _ _ k.partitioned f rest (f ∷ k.all_ready) n (λ t. c.requires.new f (rest, n) (parked_first m k f rest n t)) (with_first f k.all_ready);
+      late = sorts_ready_late _ _ _ _ _ _ _ k.late f rest c.insert.new.self n k.partitioned.once c.in-Ok.ensures.ok;
       idle = λ e. absurd (not_idle m k f rest n (k.idle e));
     }

@@ -39,20 +39,11 @@ returns-in-Some-clause-answer c = (
   settles c.args.self.now c.settle.new.self c.requires c.settle.ensures.applies c.settle.ensures.kept c.in_ok-settle.ensures.ok c.settle.ensures.still,
 )
 
--- the new ones could not be counted
-pub returns-in_err-fits-clause-answer : goal.returns-in_err-fits-clause-answer
-returns-in_err-fits-clause-answer c =
-    all_no_memory (state_of c.args.self.now) (state_of c.settle.new.self) c.args.firings.now _ c.from_residual-in_err-fits.ensures.1
-    (inr (
-      subst (λ (j : JobParts). AreFirings j c.args.firings.now) c.settle.ensures.applies.grows.job c.in_default.ensures.none,
-      inl (settles c.args.self.now c.settle.new.self c.requires c.settle.ensures.applies c.settle.ensures.kept c.in_ok-settle.ensures.ok c.settle.ensures.still),
-    ))
-
-pub returns-then-not-fits-clause-answer : goal.returns-then-not-fits-clause-answer
-returns-then-not-fits-clause-answer c =
-    let a = (goal.at.returns-then-not-fits-clause-answer c).After-may_take in
+pub returns-then-not-may_take-clause-answer : goal.returns-then-not-may_take-clause-answer
+returns-then-not-may_take-clause-answer c =
+    let a = (goal.at.returns-then-not-may_take-clause-answer c).After-may_take in
     let p = c.settle.ensures.applies in
-    let (news, are, room) = c.in_ok-fits.ensures.long c.if-not-fits.true in
+    let (news, are, room) = c.may_take.ensures.long c.if-not-may_take.true in
     let w = p.count in
     let v = p.grows.limit in (
       are_firings a,
@@ -76,19 +67,19 @@ returns-in-Err-NoMemory-clause-answer c =
     let a = (goal.at.returns-in-Err-NoMemory-clause-answer c).After-may_take in
     let b = (goal.at.returns-in-Err-NoMemory-clause-answer c).After-take in
     let (k, l, t) = part_taken (state_of c.settle.new.self) (state_of c.loop-firing.self) (state_of c.take.new.self) c.args.firings.now c.loop-firing.firing-index c.firing-item.result c.loop-firing-test.true c.firing-item.is c.loop-firing.invariant.takes (answer_is b (Err untaken.NoMemory) (c.in-Err-NoMemory.is ∙ ap Err c.in-Err-NoMemory.field-0-is)) in
-    inr (are_firings a, inr (fits_before a (c.in_ok-fits.ensures.fits c.if-not-fits.false), (k, l, takes_after (state_of c.args.self.now) (state_of c.settle.new.self) (state_of c.take.new.self) (take k c.args.firings.now) c.settle.ensures.applies t)))
+    inr (are_firings a, fits_before a (c.may_take.ensures.fits c.if-not-may_take.false), (k, l, takes_after (state_of c.args.self.now) (state_of c.settle.new.self) (state_of c.take.new.self) (take k c.args.firings.now) c.settle.ensures.applies t))
 
 pub unreachable-requires : goal.unreachable-requires
 unreachable-requires c =
     let b = (goal.at.unreachable-requires c).After-take in
-    let (news, are, room) = c.in_ok-fits.ensures.fits c.if-not-fits.false in
+    let (news, are, room) = c.may_take.ensures.fits c.if-not-may_take.false in
     never_other (state_of c.settle.new.self) (state_of c.loop-firing.self) (state_of c.take.new.self) c.args.firings.now news c.loop-firing.firing-index c.firing-item.result c.loop-firing-test.true c.firing-item.is c.loop-firing.invariant.kept.logged.is c.loop-firing.invariant.takes are c.in_default.ensures.none
     (answer_is b (Err untaken.NotAFiring) (c.in-Err-NotAFiring.is ∙ ap Err c.in-Err-NotAFiring.field-0-is))
 
 pub unreachable-requires-in-Err-Full : goal.unreachable-requires-in-Err-Full
 unreachable-requires-in-Err-Full c =
     let b = (goal.at.unreachable-requires-in-Err-Full c).After-take in
-    let (news, are, room) = c.in_ok-fits.ensures.fits c.if-not-fits.false in
+    let (news, are, room) = c.may_take.ensures.fits c.if-not-may_take.false in
     never_full (state_of c.settle.new.self) (state_of c.loop-firing.self) (state_of c.take.new.self) c.args.firings.now news c.loop-firing.firing-index c.firing-item.result c.loop-firing-test.true c.firing-item.is c.loop-firing.invariant.kept.logged.is c.loop-firing.invariant.takes are room
     (answer_is b (Err untaken.Full) (c.in-Err-Full.is ∙ ap Err c.in-Err-Full.field-0-is))
 
@@ -109,7 +100,7 @@ returns-clause-answer c =
     let i = c.loop-firing.invariant in
     let h : length c.args.firings.now ≤ c.loop-firing.firing-index = omega arith in (
       are_firings a,
-      fits_before a (c.in_ok-fits.ensures.fits c.if-not-fits.false),
+      fits_before a (c.may_take.ensures.fits c.if-not-may_take.false),
       takes_after (state_of c.args.self.now) (state_of c.settle.new.self) (state_of c.loop-firing.self) c.args.firings.now c.settle.ensures.applies
           (subst (λ (fs : List Firing). TakesAll (state_of c.settle.new.self) fs (state_of c.loop-firing.self)) (lists.take_all c.loop-firing.firing-index c.args.firings.now h) i.takes),
       i.settled,

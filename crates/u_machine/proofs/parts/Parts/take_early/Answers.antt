@@ -1,8 +1,6 @@
-use Rattle.std.proofs.Common.{inl, inr}
-use Rattle.u_machine.specs.declared.answer.TakeRefusal.TheVariants.{Full, NoMemory}
+use Rattle.u_machine.specs.declared.answer.TakeRefusal.TheVariants.{Full}
 use Rattle.u_machine.specs.Invariant.{state_of}
-use Rattle.u_machine.proofs.States.{Applies-refl}
-use Rattle.u_machine.proofs.Early.{untaken, early_is_new}
+use Rattle.u_machine.proofs.Early.{untaken}
 use Rattle.u_machine.proofs.Settled.{settles_itself}
 use Rattle.u_machine.proofs.Replies.{known_or}
 use Rattle.u_machine.proofs.parts.Parts.take_early.Goals as goal
@@ -13,14 +11,3 @@ returns-then-is_full-clause-answer c =
     let settled = settles_itself m c.requires.kept c.requires.settled in
     known_or (state_of m) c.args.firing.now Full c.unless_parked.result c.unless_parked.ensures.known c.unless_parked.ensures.refused settled
     (λ unparked. (c.requires.firing, untaken m c.args.firing.now c.requires.unapplied unparked, c.is_full.ensures.full c.if-is_full.true, settled))
-
-pub returns-in-Err-clause-answer : goal.returns-in-Err-clause-answer
-returns-in-Err-clause-answer c =
-    let m = c.args.self.now in
-    let same = c.in-Err.ensures.err in
-    let f = c.args.firing.now in
-    let answer = c.unless_parked-in-Err in
-    rw same (
-    known_or (state_of m) f NoMemory answer.result (rw same at answer.ensures.known) (rw same at answer.ensures.refused) (settles_itself m c.requires.kept c.requires.settled)
-    (λ unparked. inr (early_is_new m f c.requires.unapplied unparked c.requires.firing (c.is_full.ensures.room c.if-is_full.false), inl (Applies-refl (state_of m))))
-    )
