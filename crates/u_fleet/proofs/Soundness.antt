@@ -70,8 +70,7 @@ answer_gains old new fs (Ok u) all (firings, fits, takes, settled) = takes_gains
 answer_gains old new fs (Err (lists.NotAFiring place)) all (other, settles) = applies_gains old new settles.applies
 answer_gains old new fs (Err lists.Full) all (firings, long, settles) = applies_gains old new settles.applies
 answer_gains old new fs (Err lists.NoMemory) all (inl u) = applies_gains old new u.applies
-answer_gains old new fs (Err lists.NoMemory) all (inr (firings, inl s)) = applies_gains old new s.applies
-answer_gains old new fs (Err lists.NoMemory) all (inr (firings, inr (fits, some))) =
+answer_gains old new fs (Err lists.NoMemory) all (inr (firings, fits, some)) =
     takes_gains old new (take some.0 fs) some.2 (λ f m. from_all old.job fs all f (subst (λ xs. Contains xs f) (take-append-drop some.0 fs) (Contains-append_left (take some.0 fs) (drop some.0 fs) f m)))
 
 -- no list of sound firings has one that is none of the job

@@ -40,8 +40,7 @@ module _ (old new : State) where
   take_all_extends fs (Err (unlisted.NotAFiring place)) a = applies_extends a.1.applies
   take_all_extends fs (Err unlisted.Full) a = applies_extends a.2.applies
   take_all_extends fs (Err unlisted.NoMemory) (inl u) = applies_extends u.applies
-  take_all_extends fs (Err unlisted.NoMemory) (inr (all, inl s)) = applies_extends s.applies
-  take_all_extends fs (Err unlisted.NoMemory) (inr (all, inr (fit, (k, l, t)))) = takes_extends (take k fs) t
+  take_all_extends fs (Err unlisted.NoMemory) (inr (all, fit, (k, l, t))) = takes_extends (take k fs) t
 
   merge_extends : (other : State) (r : Result (Unit {0}) MergeRefusal) → MergeAnswer old other r new → machines.Extends old new
   merge_extends other (Ok u) a = takes_extends (all_of other) a.1

@@ -47,6 +47,9 @@ exchanged w is k j r p apart a b heard_p heard_r none_r none_p =
       history = λ settled_r settled_p. agree r.machine p.machine (is.members k r a).is.machine (is.members j p b).is.machine settled_r settled_p jobs same;
     }
 
+pub agree_on_sets : (v w : WorldState) → IsWorld v → IsWorld w → AgreeOnSets v w
+agree_on_sets v w is_v is_w k j r p a b = agree r.machine p.machine (is_v.members k r a).is.machine (is_w.members j p b).is.machine
+
 pub keeps_the_headline : (w : WorldState) → IsWorld w → KeepsTheHeadline w
 keeps_the_headline w is = record {
   fixed = λ k r a st. (keeps_its_promise r.machine (is.members k r a).is.machine).closure st;
@@ -54,10 +57,8 @@ keeps_the_headline w is = record {
   whole = λ k r a st none. (keeps_its_promise r.machine (is.members k r a).is.machine).whole st none;
   honest = is.honest;
   exchanged = exchanged w is;
+  equal_sets = agree_on_sets w w is is;
 }
-
-pub agree_on_sets : (v w : WorldState) → IsWorld v → IsWorld w → AgreeOnSets v w
-agree_on_sets v w is_v is_w k j r p a b = agree r.machine p.machine (is_v.members k r a).is.machine (is_w.members j p b).is.machine
 
 -- a merge that happened leaves the least upper bound
 

@@ -62,8 +62,7 @@ module _ (old new : State) where
   refused_extends fs (unlisted.NotAFiring place) a = applies_extends a.1.applies
   refused_extends fs unlisted.Full a = applies_extends a.2.applies
   refused_extends fs unlisted.NoMemory (inl u) = applies_extends u.applies
-  refused_extends fs unlisted.NoMemory (inr (all, inl s)) = applies_extends s.applies
-  refused_extends fs unlisted.NoMemory (inr (all, inr (fit, (k, l, t)))) = takes_extends (take k fs) t
+  refused_extends fs unlisted.NoMemory (inr (all, fit, (k, l, t))) = takes_extends (take k fs) t
 
   pub list_extends : (fs : List Firing) (r : Result (Unit {0}) ListRefusal) → TakeAllAnswer old fs r new → machines.Extends old new
   list_extends fs (Ok u) a = takes_extends fs a.2

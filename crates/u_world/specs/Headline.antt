@@ -73,6 +73,11 @@ ExchangeInFull w =
     (k j : ℕ) (r p : ReplicaState) → (k ≡ j → ⊥) → At w.replicas k r → At w.replicas j p → HasHeardAll r p → HasHeardAll p r
     → ParksNothing r → ParksNothing p → HoldTheSame r p
 
+-- Equal sets, equal histories: two replicas of one job that took the same firings have the same history,
+-- the very list, in one world or in two.
+abbrev pub AgreeOnSets : WorldState → WorldState → Type 0
+AgreeOnSets v w = (k j : ℕ) (r p : ReplicaState) → At v.replicas k r → At w.replicas j p → Agree r.machine p.machine
+
 -- what holds of the world's replicas after every list of events
 pub record KeepsTheHeadline (w : WorldState) : Type 0 where
   pub fixed : IsFixedByItsSet w
@@ -80,11 +85,7 @@ pub record KeepsTheHeadline (w : WorldState) : Type 0 where
   pub whole : QuietIsWhole w
   pub honest : AreHonest w
   pub exchanged : ExchangeInFull w
-
--- Equal sets, equal histories: two replicas of one job that took the same firings have the same history,
--- the very list, in one world or in two.
-abbrev pub AgreeOnSets : WorldState → WorldState → Type 0
-AgreeOnSets v w = (k j : ℕ) (r p : ReplicaState) → At v.replicas k r → At w.replicas j p → Agree r.machine p.machine
+  pub equal_sets : AgreeOnSets w w
 
 -- Least upper bound: a replica that merges another is then the least that is above both. It took the union
 -- of what the two took, and its history is the least that has both histories and all that its firings
