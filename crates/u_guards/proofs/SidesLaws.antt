@@ -1,12 +1,12 @@
 -- Which arcs have a guard, by the kind of statement that they come from.
-use Rattle.std.proofs.Common.{◌≡◌, ℕ, zero, suc, ◌+◌, ◌<◌, ◌≤◌, lit≤, arith, length, refl, ap, sym, ◌∙◌, Bool, true, false, eq-eqb, List, Some, None, inl, inr, ◌⊎◌}
-use Rattle.std.specs.Prelude.{◌↔◌}
+use Rattle.std.proofs.Common.{◌≡◌, ℕ, zero, suc, ◌+◌, ◌<◌, ◌≤◌, lit≤, arith, length, refl, ap, sym, ◌∙◌, subst, Bool, true, false, eq-eqb, List, Some, None, inl, inr, ◌⊎◌}
+use Rattle.std.specs.Prelude.{◌↔◌, IsTrue}
 use Rattle.std.proofs.lemmas.Bool.{false≢true, eqb-true}
 use Rattle.u_program.specs.declared.program.Kind.{Kind}
 use Rattle.u_program.specs.declared.program.Kind.TheVariants.{Begin, Const, Pass, Unary, Binary, Select, Switch, Enter, Next, Last, Leave, Apply, Back, Alloc, Store, Fetch, End}
 use Rattle.u_program.specs.Parts.{StatementParts}
 use Rattle.u_name.specs.Context.{IsBetween}
-use Rattle.u_check.specs.Kinds.{ports_of}
+use Rattle.u_check.specs.Kinds.{ports_of, comes_from_outside}
 use Rattle.u_check.specs.Rules.{statement_at, Arc}
 use Rattle.u_strict.specs.Arcs.{Leads}
 use Rattle.u_determinate.specs.Guards.{Stands, stays, IsPassed, ArcOf, StatementOf, FromLeave}
@@ -111,3 +111,19 @@ third ss Q n ports few x y (p, b, f) = at p b f
 pub guards_within : (ss : List StatementParts) (c : ℕ) (value : Bool) (P : ℕ → Type 0) (n : ℕ) → StatementOf ss c value P n → n < length ss + 1
 guards_within ss c value P n (inl h) = (let w = number_within ss n h.it h.stands in omega (arith, w.1))
 guards_within ss c value P n (inr h) = (let w = number_within ss n h.back.it h.back.stands in omega (arith, w.1))
+
+inside : (k : Kind) → (k ≡ Begin → ⊥) → (k ≡ Back → ⊥) → comes_from_outside k ≡ false
+inside Begin x y = absurd (x refl)
+inside Back x y = absurd (y refl)
+inside k x y = refl
+
+-- a statement that takes values has the guard by its ports
+pub by_ports : (ss : List StatementParts) (c : ℕ) (value : Bool) (P : ℕ → Type 0) (n : ℕ) (s : StatementParts) → statement_at ss n ≡ Some s → (s.kind ≡ Begin → ⊥) → (s.kind ≡ Back → ⊥) → (b : Bool) → (IsTrue b ↔ SomePort ss (ArcOf ss c value P) n (ports_of s.kind)) → IsTrue b ↔ StatementOf ss c value P n
+by_ports ss c value P n s e x y b h = (to, back)
+  where
+    to : IsTrue b → StatementOf ss c value P n
+    to t = (let p = h.0 t in inl (record { it = s; stands = e; takes = inside s.kind x y; port = p.0; exists = p.1; all = p.2 }))
+
+    back : StatementOf ss c value P n → IsTrue b
+    back (inl a) = h.1 (a.port, subst (λ (t : StatementParts). IsBetween 1 a.port (ports_of t.kind)) (sym (one_at ss n s a.it e a.stands)) a.exists, a.all)
+    back (inr a) = absurd (y (ap (λ (t : StatementParts). t.kind) (one_at ss n s a.back.it e a.back.stands) ∙ a.back.kind))

@@ -1,9 +1,10 @@
 -- Sweeps: each marks what follows from what is marked, until nothing is new.
-use Rattle.std.proofs.Common.{◌≡◌, ℕ, zero, suc, ◌+◌, ◌<◌, ◌≤◌, refl, sym, ◌∙◌, arith, subst, Bool, true, false, List, [], ◌∷◌, length, length-set, get_or, set, get_or-set_other, inl, inr, ◌⊎◌}
+use Rattle.std.proofs.Common.{◌≡◌, ℕ, zero, suc, ◌+◌, ◌<◌, ◌≤◌, refl, sym, ◌∙◌, arith, subst, Bool, true, false, List, [], ◌∷◌, length, length-set, get_or, set, get_or-set_other, replicate, ap, inl, inr, ◌⊎◌}
 use Rattle.std.specs.Prelude.{◌↔◌}
 use Rattle.std.proofs.lemmas.Bool.{false≢true, cases_Bool}
+use Rattle.std.proofs.lemmas.List.{length-replicate}
 use Rattle.u_determinate.specs.Guards.{Rounds, Reached}
-use Rattle.u_guards.specs.Flow.{IsMarked, IsSound, unmarked, Swept}
+use Rattle.u_guards.specs.Flow.{IsMarked, IsSound, unmarked, Marked, Swept}
 use Rattle.u_determinate.proofs.Rounds.{IsMonotone, rounds_next, rounds_within}
 
 marked_less : (marks : List Bool) (i : ℕ) → i < length marks → get_or marks i false ≡ false → unmarked (set marks i true) < unmarked marks
@@ -22,6 +23,26 @@ pub record SweptTo (F : (ℕ → Type 0) → ℕ → Type 0) (i : ℕ) (old new 
   pub closed : more ≡ false → (n : ℕ) → n < i → F (IsMarked new) n → IsMarked new n
 
 module _ (F : (ℕ → Type 0) → ℕ → Type 0) (monotone : IsMonotone F) (old : List Bool) where
+  order : (m n : ℕ) → (m ≡ n) ⊎ (m ≡ n → ⊥)
+  order zero zero = inl refl
+  order zero (suc n) = inr (λ q. omega (arith, q))
+  order (suc m) zero = inr (λ q. omega (arith, q))
+  order (suc m) (suc n) = elim (order m n) [ inl q ↦ inl (omega (arith, q)) | inr q ↦ inr (λ r. q (omega (arith, r))) ]
+
+  -- what follows may be marked
+  set_sound : (i : ℕ) (now : List Bool) → F (IsMarked now) i → IsSound F now → IsSound F (set now i true)
+  set_sound i now f (k, h) = (suc k, λ n m. by n m (order n i))
+    where
+      by : (n : ℕ) → IsMarked (set now i true) n → (n ≡ i) ⊎ (n ≡ i → ⊥) → Rounds F (suc k) n
+      by n m (inl q) = subst (λ (x : ℕ). Rounds F (suc k) x) (sym q) (monotone (IsMarked now) (Rounds F k) h i f)
+      by n m (inr q) = rounds_next F monotone k n (h n (sym (get_or-set_other now i n true false q) ∙ m))
+
+  pub marked_none : Marked F old old
+  marked_none = record { count = refl; sound = λ s. s }
+
+  pub marked_more : (i : ℕ) (now : List Bool) → Marked F old now → F (IsMarked now) i → Marked F old (set now i true)
+  marked_more i now s f = record { count = length-set now i true ∙ s.count; sound = λ h. set_sound i now f (s.sound h) }
+
   pub swept_none : SweptTo F 0 old old false
   swept_none = record {
     count = refl;
@@ -35,7 +56,7 @@ module _ (F : (ℕ → Type 0) → ℕ → Type 0) (monotone : IsMonotone F) (ol
   pub swept_one : (i : ℕ) (now : List Bool) (more : Bool) → SweptTo F i old now more → i < length now → get_or now i false ≡ false → F (IsMarked now) i → SweptTo F (i + 1) old (set now i true) true
   swept_one i now more s l e f = record {
     count = length-set now i true ∙ s.count;
-    sound = λ h. sounder (s.sound h);
+    sound = λ h. set_sound i now f (s.sound h);
     fewer = λ q. less (cases_Bool more);
     same = λ q. absurd (false≢true (sym q));
     closed = λ q n lt g. absurd (false≢true (sym q));
@@ -44,19 +65,6 @@ module _ (F : (ℕ → Type 0) → ℕ → Type 0) (monotone : IsMonotone F) (ol
       less : (more ≡ true) ⊎ (more ≡ false) → unmarked (set now i true) < unmarked old
       less (inl q) = omega (arith, marked_less now i l e, s.fewer q)
       less (inr q) = (let h = marked_less now i l e in subst (λ (x : List Bool). unmarked (set now i true) < unmarked x) (s.same q) h)
-
-      order : (m n : ℕ) → (m ≡ n) ⊎ (m ≡ n → ⊥)
-      order zero zero = inl refl
-      order zero (suc n) = inr (λ q. omega (arith, q))
-      order (suc m) zero = inr (λ q. omega (arith, q))
-      order (suc m) (suc n) = elim (order m n) [ inl q ↦ inl (omega (arith, q)) | inr q ↦ inr (λ r. q (omega (arith, r))) ]
-
-      sounder : IsSound F now → IsSound F (set now i true)
-      sounder (k, h) = (suc k, λ n m. by n m (order n i))
-        where
-          by : (n : ℕ) → IsMarked (set now i true) n → (n ≡ i) ⊎ (n ≡ i → ⊥) → Rounds F (suc k) n
-          by n m (inl q) = subst (λ (x : ℕ). Rounds F (suc k) x) (sym q) (monotone (IsMarked now) (Rounds F k) h i f)
-          by n m (inr q) = rounds_next F monotone k n (h n (sym (get_or-set_other now i n true false q) ∙ m))
 
   -- number i is marked already, or does not follow
   pub swept_other : (i : ℕ) (now : List Bool) (more : Bool) → SweptTo F i old now more → (F (IsMarked now) i → IsMarked now i) → SweptTo F (i + 1) old now more
@@ -92,6 +100,19 @@ pub record Settling (F : (ℕ → Type 0) → ℕ → Type 0) (count : ℕ) (mar
   pub long : length marks ≡ count
   pub sound : IsSound F marks
   pub closed : more ≡ false → (n : ℕ) → n < length marks → F (IsMarked marks) n → IsMarked marks n
+
+none_marked : (k n : ℕ) → IsMarked (replicate k false) n → ⊥
+none_marked zero n m = false≢true m
+none_marked (suc k) zero m = false≢true m
+none_marked (suc k) (suc n) m = none_marked k n m
+
+-- before the first sweep
+pub settling_first : (F : (ℕ → Type 0) → ℕ → Type 0) (count : ℕ) (old new : List Bool) → old ≡ replicate count false → Marked F old new → Settling F count new true
+settling_first F count old new e w = record {
+  long = w.count ∙ ap length e ∙ length-replicate count false;
+  sound = w.sound (0, λ n m. none_marked count n (subst (λ (x : List Bool). IsMarked x n) e m));
+  closed = λ q. absurd (false≢true (sym q));
+}
 
 pub settling_more : (F : (ℕ → Type 0) → ℕ → Type 0) (count : ℕ) (old new : List Bool) (before more : Bool) → Settling F count old before → Swept F old new more → Settling F count new more
 settling_more F count old new before more s w = record { long = w.count ∙ s.long; sound = w.sound s.sound; closed = w.closed }

@@ -94,6 +94,11 @@ unmarked [] = 0
 unmarked (true ∷ marks) = unmarked marks
 unmarked (false ∷ marks) = suc (unmarked marks)
 
+-- What is marked follows, and no mark goes away.
+pub record Marked (F : (ℕ → Type 0) → ℕ → Type 0) (old new : List Bool) : Type 0 where
+  pub count : length new ≡ length old
+  pub sound : IsSound F old → IsSound F new
+
 -- One sweep marks what follows, and says whether any of that was new.
 pub record Swept (F : (ℕ → Type 0) → ℕ → Type 0) (old new : List Bool) (more : Bool) : Type 0 where
   pub count : length new ≡ length old

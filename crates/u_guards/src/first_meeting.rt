@@ -6,10 +6,12 @@ ghost use Rattle.u_guards.specs.Flow.{AreSources, AreAllMarks};
 ghost use Rattle.u_guards.specs.Meetings.{Asks, IsAnswer, IsExact};
 ghost use Rattle.u_guards.specs.Findings.{found_of, AreFirst, AreFindings, IsFirstFound};
 
+use crate::hints::hints_of;
 use crate::incoming::sources_of;
 use crate::keeps::Guarded;
 use crate::marking::Flow;
 use crate::sides::all_marks;
+use crate::trail::ahead_of;
 use crate::verdict::{Determinacy, Meeting, Place};
 use std::alloc::{AllocError, Global};
 use u_check::Checked;
@@ -79,14 +81,18 @@ fn findings(alloc: Global, block: &Block) -> Result<Found, AllocError>
 {
     let statements = block.statements();
     let sources = sources_of(alloc, statements)?;
+    let ahead = ahead_of(alloc, statements, &sources)?;
     let flow = Flow {
         statements,
         sources: &sources,
+        ahead: &ahead,
     };
     let guards = all_marks(alloc, flow)?;
+    let hints = hints_of(alloc, flow, &guards)?;
     Ok(found_by(Guarded {
         flow,
         guards: &guards,
+        hints: &hints,
     }))
 }
 

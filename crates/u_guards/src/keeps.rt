@@ -10,17 +10,19 @@ ghost use Rattle.u_guards.specs.Meetings.{Asks, ArcsMeet, ArcsMayMeet, ArcsOppos
 ghost use Rattle.u_guards.specs.Meetings.{NoEndBefore, IsNoLaterEnd, ReturnsOneCall};
 ghost use Rattle.u_guards.specs.Meetings.{IsLastOf, LastsExclude, NextExcludes};
 
+use crate::hints::Hints;
 use crate::incoming::{Link, statement_of};
 use crate::marking::{Flow, is_marked};
 use crate::sides::{ControlMarks, Side};
 use crate::verdict::Meeting;
 use u_program::Kind;
 
-/// The statements of a block, what leads to each, and the guards of each control.
+/// The statements of a block, what leads to each, the guards of each control, and hints at controls.
 #[derive(Clone, Copy)]
 pub(crate) struct Guarded<'a> {
     pub flow: Flow<'a>,
     pub guards: &'a [ControlMarks],
+    pub hints: &'a Hints,
 }
 
 /// Whether the links are one arc.
@@ -96,6 +98,22 @@ impl Guarded<'_> {
         self.are_sides(guards, one, other) || self.are_sides(guards, other, one)
     }
 
+    /// Whether the control at which the hint is excludes one link by the other.
+    fn hint_excludes(&self, hint: Option<usize>, one: &Link, other: &Link) -> bool
+        requires sources { AreSources self.now.flow.statements.now self.now.flow.sources.now }
+        requires all { AreAllMarks self.now.flow.statements.now self.now.guards.now }
+        ensures { IsTrue result
+            → ArcsExclude self.now.flow.statements.now (arc_of one.now) (arc_of other.now) }
+    {
+        match hint {
+            Some(control) => match self.guards.get(control) {
+                Some(guards) => self.are_opposed(guards, one, other),
+                None => false,
+            },
+            None => false,
+        }
+    }
+
     /// Whether some control excludes one link by the other.
     fn exclude(&self, one: &Link, other: &Link) -> bool
         requires sources { AreSources self.now.flow.statements.now self.now.flow.sources.now }
@@ -103,6 +121,9 @@ impl Guarded<'_> {
         ensures { IsTrue result
             ↔ ArcsExclude self.now.flow.statements.now (arc_of one.now) (arc_of other.now) }
     {
+        if self.hint_excludes(self.hints.of_arcs(one, other), one, other) {
+            return true;
+        }
         for guards in self.guards {
             if self.are_opposed(guards, one, other) {
                 return true;
@@ -197,8 +218,8 @@ impl Guarded<'_> {
             → k.port ≡ j.port
             → MayMeet self.now.flow.statements.now (arc_of j) (arc_of k)) }
     {
-        for one in links {
-            if !self.meets_all(links, one) {
+        for (i, one) in links.iter().enumerate() {
+            if !self.meets_all(&links[..i], one) {
                 return false;
             }
         }
@@ -309,11 +330,28 @@ impl Guarded<'_> {
         self.have_sides(guards, one, other) || self.have_sides(guards, other, one)
     }
 
+    /// Whether the control at which the hint is excludes statement `one` by statement `other`.
+    fn hint_parts(&self, hint: Option<usize>, one: usize, other: usize) -> bool
+        requires all { AreAllMarks self.now.flow.statements.now self.now.guards.now }
+        ensures { IsTrue result → Exclude self.now.flow.statements.now one other }
+    {
+        match hint {
+            Some(control) => match self.guards.get(control) {
+                Some(guards) => self.have_opposed(guards, one, other),
+                None => false,
+            },
+            None => false,
+        }
+    }
+
     /// Whether some control excludes statement `one` by statement `other`.
     fn statements_exclude(&self, one: usize, other: usize) -> bool
         requires all { AreAllMarks self.now.flow.statements.now self.now.guards.now }
         ensures { IsTrue result ↔ Exclude self.now.flow.statements.now one other }
     {
+        if self.hint_parts(self.hints.of_statements(one, other), one, other) {
+            return true;
+        }
         for guards in self.guards {
             if self.have_opposed(guards, one, other) {
                 return true;

@@ -2,16 +2,18 @@
 //! from two writes of one cell (`u_determinate`).
 //!
 //! `determinacy` says whether a checked program is determinate, or the first place where it is not: by
-//! what meets there, then the block, then the statement. The guards of a block's statements are found in
-//! rounds until nothing is new: a guard is a control and a truth value without which a statement does
-//! not fire.
+//! what meets there, then the block, then the statement. The guards of a block's statements are found
+//! along its arcs, and then in rounds until nothing is new: a guard is a control and a truth value
+//! without which a statement does not fire.
 #![tactic(auto)]
 
 mod first_meeting;
+mod hints;
 mod incoming;
 mod keeps;
 mod marking;
 mod sides;
+mod trail;
 mod verdict;
 
 pub use first_meeting::determinacy;

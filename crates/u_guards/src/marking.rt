@@ -1,18 +1,20 @@
-//! Which guards the statements of a block have, found in rounds until nothing is new.
-ghost use Rattle.std.specs.Prelude.{◌≡◌, ◌+◌, ◌≤◌, ◌↔◌, ℕ, Bool, IsTrue, IfOk, IfSome, IfNone, length, Contains};
+//! Which guards the statements of a block have, found along the arcs, and in rounds until nothing is new.
+ghost use Rattle.std.specs.Prelude.{◌≡◌, ◌+◌, ◌<◌, ◌≤◌, ◌↔◌, ℕ, Bool, IsTrue, IfOk, IfSome, IfNone, length, Contains};
 ghost use Rattle.u_determinate.specs.Guards.{Passes, PassedOn, IsPassed};
-ghost use Rattle.u_guards.specs.Flow.{AreSources, marked, IsMarked, OnlyLink, TakesFrom, Swept};
+ghost use Rattle.u_guards.specs.Flow.{AreSources, marked, IsMarked, OnlyLink, TakesFrom, Marked, Swept};
 ghost use Rattle.u_guards.specs.declared.incoming.Link.{Link};
 
 use crate::incoming::{Link, Sources, statement_of};
+use crate::trail::{Ahead, Course};
 use std::alloc::{AllocError, Global};
 use u_program::{Kind, Statement};
 
-/// The statements of a block, and what leads to each.
+/// The statements of a block, and what leads to each and follows each.
 #[derive(Clone, Copy)]
 pub(crate) struct Flow<'a> {
     pub statements: &'a [Statement],
     pub sources: &'a [Sources],
+    pub ahead: &'a Ahead,
 }
 
 /// Whether the number is marked.
@@ -46,7 +48,7 @@ fn is_alone(links: &[Link], link: &Link) -> bool
 }
 
 /// The only one of the links that leads to that port.
-fn only_link(links: &[Link], port: u8) -> Option<Link>
+pub(crate) fn only_link(links: &[Link], port: u8) -> Option<Link>
     ensures some { IfSome result (λ l. OnlyLink links.now port l) }
     ensures none { IfNone result ((l : Link) → OnlyLink links.now port l → ⊥) }
 {
@@ -102,6 +104,30 @@ impl Flow<'_> {
         number == control || self.hands_on(passed, number)
     }
 
+    /// Whether the number has a mark to come, and follows.
+    fn is_next_passed(&self, control: usize, passed: &[bool], number: usize) -> bool
+        requires sources { AreSources self.now.statements.now self.now.sources.now }
+        ensures within { IsTrue result → number < length passed.now }
+        ensures follows { IsTrue result
+            → PassedOn self.now.statements.now control (IsMarked passed.now) number }
+    {
+        number < passed.len()
+            && !is_marked(passed, number)
+            && self.is_passed(control, passed, number)
+    }
+
+    /// Marks those of the numbers that follow.
+    fn mark_passed(&self, control: usize, numbers: &[usize], passed: &mut [bool])
+        requires sources { AreSources self.now.statements.now self.now.sources.now }
+        ensures { Marked (PassedOn self.now.statements.now control) passed.old passed.new }
+    {
+        for number in numbers {
+            if self.is_next_passed(control, passed, *number) {
+                passed[*number] = true;
+            }
+        }
+    }
+
     /// Marks what follows. Whether any was new.
     fn sweep_passed(&self, control: usize, passed: &mut [bool]) -> bool
         requires sources { AreSources self.now.statements.now self.now.sources.now }
@@ -125,6 +151,12 @@ impl Flow<'_> {
             → IsMarked v.items n ↔ IsPassed self.now.statements.now control n) }
     {
         let mut passed = vec![in alloc; false; self.statements.len() + 1]?;
+        let course = Course {
+            statements: self.statements,
+            ahead: self.ahead,
+        };
+        let numbers = course.passing(alloc, control)?;
+        self.mark_passed(control, &numbers, &mut passed);
         let mut new = true;
         while new {
             new = self.sweep_passed(control, &mut passed);

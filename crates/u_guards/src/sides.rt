@@ -1,15 +1,16 @@
-//! Which guards the statements of a block have, found in rounds until nothing is new.
-ghost use Rattle.std.specs.Prelude.{◌≡◌, ◌+◌, ◌≤◌, ◌↔◌, ◌⊎◌, ℕ, Bool, IsTrue, IfOk, length, Contains};
+//! Which guards the statements of a block have, found along the arcs, and in rounds until nothing is new.
+ghost use Rattle.std.specs.Prelude.{◌≡◌, ◌+◌, ◌<◌, ◌≤◌, ◌↔◌, ◌⊎◌, ℕ, Bool, IsTrue, IfOk, length, Contains};
 ghost use Rattle.u_check.specs.Kinds.{ports_of};
 ghost use Rattle.u_check.specs.Rules.{Arc};
 ghost use Rattle.u_strict.specs.Arcs.{Leads};
 ghost use Rattle.u_determinate.specs.Guards.{IsPassed, ArcOf, StatementOf, HasGuard};
 ghost use Rattle.u_guards.specs.declared.incoming.Link.{Link};
-ghost use Rattle.u_guards.specs.Flow.{AreSources, AllBehind, IsSide, IsMarked, arc_of, Swept, SomePort};
+ghost use Rattle.u_guards.specs.Flow.{AreSources, AllBehind, IsSide, IsMarked, arc_of, Marked, Swept, SomePort};
 ghost use Rattle.u_guards.specs.Flow.{AreMarks, AreAllMarks};
 
 use crate::incoming::{Link, statement_of};
 use crate::marking::{Flow, is_marked};
+use crate::trail::Course;
 use std::alloc::{AllocError, Global};
 use u_check::ports_of;
 use u_program::Kind;
@@ -169,6 +170,33 @@ impl Side<'_, '_> {
         }
     }
 
+    /// Whether the number has a mark to come, and follows.
+    fn is_next(&self, marks: &[bool], number: usize) -> bool
+        requires sources { AreSources self.now.flow.statements.now self.now.flow.sources.now }
+        requires passed { (n : ℕ) → IsMarked self.now.passed.now n
+            ↔ IsPassed self.now.flow.statements.now self.now.control n }
+        ensures within { IsTrue result → number < length marks.now }
+        ensures follows { IsTrue result → StatementOf self.now.flow.statements.now
+            self.now.control self.now.value (IsMarked marks.now) number }
+    {
+        number < marks.len() && !is_marked(marks, number) && self.statement_has(marks, number)
+    }
+
+    /// Marks those of the numbers that follow.
+    fn mark_all(&self, numbers: &[usize], marks: &mut [bool])
+        requires sources { AreSources self.now.flow.statements.now self.now.flow.sources.now }
+        requires passed { (n : ℕ) → IsMarked self.now.passed.now n
+            ↔ IsPassed self.now.flow.statements.now self.now.control n }
+        ensures { Marked (StatementOf self.now.flow.statements.now self.now.control
+            self.now.value) marks.old marks.new }
+    {
+        for number in numbers {
+            if self.is_next(marks, *number) {
+                marks[*number] = true;
+            }
+        }
+    }
+
     /// Marks what follows. Whether any was new.
     fn sweep(&self, marks: &mut [bool]) -> bool
         requires sources { AreSources self.now.flow.statements.now self.now.flow.sources.now }
@@ -196,6 +224,12 @@ impl Side<'_, '_> {
             ↔ HasGuard self.now.flow.statements.now self.now.control self.now.value n) }
     {
         let mut marks = vec![in alloc; false; self.flow.statements.len() + 1]?;
+        let course = Course {
+            statements: self.flow.statements,
+            ahead: self.flow.ahead,
+        };
+        let numbers = course.turning(alloc, self.passed, self.value)?;
+        self.mark_all(&numbers, &mut marks);
         let mut new = true;
         while new {
             new = self.sweep(&mut marks);

@@ -1,4 +1,6 @@
-use Rattle.std.proofs.Common.{◌≡◌, false}
+use Rattle.std.proofs.Common.{◌≡◌, false, sym, ◌∙◌}
+use Rattle.std.proofs.lemmas.Bool.{false≢true}
+use Rattle.std.proofs.lemmas.List.{get_or_default}
 use Rattle.u_guards.specs.declared.incoming.Link.{Link}
 use Rattle.u_determinate.specs.Determinate.{MayMeet}
 use Rattle.u_guards.specs.Flow.{arc_of}
@@ -14,3 +16,7 @@ loop-other-preserved c =
       | else-other-one-via-then-other-one+else-not-may_meet w ↦ w.may_meet.ensures.0 w.if-not-may_meet.false
       | else-other-one-via-else-other-one w ↦ absurd (w.if-other-one.false e)
     ])
+
+pub returns-then-not-may_meet : goal.returns-then-not-may_meet
+returns-then-not-may_meet c =
+    ((λ t. absurd (false≢true t)), λ f. absurd (false≢true (sym c.if-not-may_meet.true ∙ c.may_meet.ensures.1 (f _ (c.loop-other.other-index, c.loop-other-test.true, get_or_default c.args.links.now c.loop-other.other-index _ _ c.loop-other-test.true) c.if-other-one.true))))

@@ -1,5 +1,7 @@
-use Rattle.std.proofs.Common.{sym}
+use Rattle.std.proofs.Common.{◌∙◌, sym}
+use Rattle.u_guards.specs.Flow.{IsMarked}
 use Rattle.u_guards.proofs.Links.{number_within}
+use Rattle.u_guards.proofs.SidesLaws.{by_ports}
 use Rattle.u_guards.proofs.sides.Side.statement_has.Goals as goal
 
 pub all_behind-requires-clause-within : goal.all_behind-requires-clause-within
@@ -12,3 +14,8 @@ some_port_has-requires c = record {
   passed = c.requires.passed;
   within = (number_within c.args.self.now.flow.statements.now c.args.number c.in-Some.statement.now (sym c.in-Some.ensures)).1;
 }
+
+pub returns-in_default : goal.returns-in_default
+returns-in_default c =
+    by_ports c.args.self.now.flow.statements.now c.args.self.now.control c.args.self.now.value (IsMarked c.args.marks.now) c.args.number c.in-Some.statement.now (sym c.in-Some.ensures)
+    (λ e. c.in_default.not-Begin (c.kind.ensures ∙ e)) (λ e. c.in_default.not-Back (c.kind.ensures ∙ e)) c.some_port_has.result (rw (← c.kind.ensures) c.some_port_has.ensures)
