@@ -6,21 +6,22 @@ use Rattle.u_words.specs.declared.words.Request.{Request}
 use Rattle.u_words.specs.declared.words.Request.TheVariants.{Stored, Check, Explain, Run, Save, Restore, Trace, Blame, Waits, World, Fleet, Share}
 use Rattle.u_words.specs.Numbers.{IsFirings, IsOneToEight, IsPort, IsNumberText}
 
--- the numbers of a request are in their ranges: what runs may fire from one to a million times,
--- a port is the first, the second or the third, a world has one to eight replicas and at most a
--- hundred thousand events, a fleet one to eight workers with at most a thousand rounds, and a member of
--- a bus fires one to a million times between two reads
+-- the numbers of a request are in their ranges: what runs may fire from one to a million times, a port
+-- is the first, the second or the third, a world has one to eight replicas, which take one to a million
+-- firings each, and at most a hundred thousand events, a fleet one to eight workers with at most a
+-- thousand rounds, and a member of a bus fires one to a million times between two reads
 abbrev pub IsInRange : Request → Type 0
 IsInRange Stored = Unit {0}
 IsInRange (Check file strict determinate) = Unit {0}
 IsInRange (Explain file strict) = Unit {0}
 IsInRange (Run file argument firings) = IsFirings firings
 IsInRange (Save file argument firings) = IsFirings firings
-IsInRange (Restore file argument checkpoint) = Unit {0}
-IsInRange (Trace file argument entry) = Unit {0}
+IsInRange (Restore file argument checkpoint firings) = IsFirings firings
+IsInRange (Trace file argument entry firings) = IsFirings firings
 IsInRange (Blame file argument activity port) = IsPort port
 IsInRange (Waits file argument firings) = IsFirings firings
-IsInRange (World file argument replicas seed events) = IsOneToEight replicas × (events ≤ 100000)
+IsInRange (World file argument replicas seed events firings) =
+    IsOneToEight replicas × (events ≤ 100000) × IsFirings firings
 IsInRange (Fleet file argument workers rounds) = IsOneToEight workers × (rounds ≤ 1000)
 IsInRange (Share file argument follow burst report) = IsFirings burst
 
@@ -70,18 +71,15 @@ IsSaveRequest found request = ⊥
 
 -- a restoring, with the words that were found for it
 abbrev pub IsRestoreRequest : Found → Request → Type 0
-IsRestoreRequest found (Restore file argument checkpoint) =
-    (file.now ≡ word_of found (codes "FILE"))
-    × (argument.now ≡ word_of found (codes "ARG"))
+IsRestoreRequest found (Restore file argument checkpoint firings) =
+    AreRunWords found file.now argument.now firings
     × (checkpoint.now ≡ word_of found (codes "CHECKPOINT"))
 IsRestoreRequest found request = ⊥
 
 -- a tracing, with the words that were found for it
 abbrev pub IsTraceRequest : Found → Request → Type 0
-IsTraceRequest found (Trace file argument entry) =
-    (file.now ≡ word_of found (codes "FILE"))
-    × (argument.now ≡ word_of found (codes "ARG"))
-    × (entry.now ≡ word_of found (codes "ENTRY"))
+IsTraceRequest found (Trace file argument entry firings) =
+    AreRunWords found file.now argument.now firings × (entry.now ≡ word_of found (codes "ENTRY"))
 IsTraceRequest found request = ⊥
 
 -- a blaming, with the words that were found for it
@@ -101,9 +99,8 @@ IsWaitsRequest found request = ⊥
 
 -- a world, with the words that were found for it
 abbrev pub IsWorldRequest : Found → Request → Type 0
-IsWorldRequest found (World file argument replicas seed events) =
-    (file.now ≡ word_of found (codes "FILE"))
-    × (argument.now ≡ word_of found (codes "ARG"))
+IsWorldRequest found (World file argument replicas seed events firings) =
+    AreRunWords found file.now argument.now firings
     × IsOneToEight replicas
     × IsNumberText replicas (word_of found (codes "replicas"))
     × IsNumberText seed (word_of found (codes "seed"))

@@ -87,17 +87,20 @@ pub enum Request<'a> {
         argument: &'a str,
         firings: usize,
     },
-    /// `restore FILE ARG CHECKPOINT`.
+    /// `restore FILE ARG CHECKPOINT`: at most `firings` firings after those of the checkpoint, from 1 to
+    /// 1000000.
     Restore {
         file: &'a str,
         argument: &'a str,
         checkpoint: &'a str,
+        firings: usize,
     },
-    /// `trace FILE ARG ENTRY`.
+    /// `trace FILE ARG ENTRY`: after at most `firings` firings, from 1 to 1000000.
     Trace {
         file: &'a str,
         argument: &'a str,
         entry: &'a str,
+        firings: usize,
     },
     /// `blame FILE ARG NAME PORT`: the port of an activity, from 1 to 3.
     Blame {
@@ -112,13 +115,15 @@ pub enum Request<'a> {
         argument: &'a str,
         firings: usize,
     },
-    /// `world FILE ARG`: 1 to 8 replicas, and at most 100000 random events.
+    /// `world FILE ARG`: 1 to 8 replicas, each of which takes at most `firings` firings, from 1 to
+    /// 1000000; and at most 100000 random events.
     World {
         file: &'a str,
         argument: &'a str,
         replicas: u8,
         seed: u64,
         events: usize,
+        firings: usize,
     },
     /// `fleet FILE ARG`: 1 to 8 workers, and at most 1000 rounds for each.
     Fleet {
@@ -150,8 +155,8 @@ pub fn parse<'a>(alloc: Global, words: &'a [String]) -> Result<Request<'a>, Erro
         Some((name, check)) if name == CHECK => Ok(check_request(check)),
         Some((name, explain)) if name == EXPLAIN => Ok(explain_request(explain)),
         Some((name, save)) if name == SAVE => save_request(alloc, save),
-        Some((name, restore)) if name == RESTORE => Ok(restore_request(restore)),
-        Some((name, trace)) if name == TRACE => Ok(trace_request(trace)),
+        Some((name, restore)) if name == RESTORE => restore_request(alloc, restore),
+        Some((name, trace)) if name == TRACE => trace_request(alloc, trace),
         Some((name, blame)) if name == BLAME => blame_request(alloc, blame),
         Some((name, waits)) if name == WAITS => waits_request(alloc, waits),
         Some((name, world)) if name == WORLD => world_request(alloc, world),
@@ -227,24 +232,32 @@ fn save_request<'a>(alloc: Global, matches: &ArgMatches<'a>) -> Result<Request<'
 }
 
 /// The words of `restore`.
-fn restore_request<'a>(matches: &ArgMatches<'a>) -> Request<'a>
-    ensures { IsRestoreRequest (found_of matches.now) result }
+fn restore_request<'a>(alloc: Global, matches: &ArgMatches<'a>) -> Result<Request<'a>, Error>
+    ensures { IfOk result (λ o. IsRestoreRequest (found_of matches.now) o) }
 {
-    Request::Restore {
-        file: text(matches, "FILE"),
-        argument: text(matches, "ARG"),
-        checkpoint: text(matches, "CHECKPOINT"),
+    match firings(matches) {
+        Some(firings) => Ok(Request::Restore {
+            file: text(matches, "FILE"),
+            argument: text(matches, "ARG"),
+            checkpoint: text(matches, "CHECKPOINT"),
+            firings,
+        }),
+        None => Err(other_spelling(alloc, restore(alloc, "u restore"), matches, "firings", "N")?),
     }
 }
 
 /// The words of `trace`.
-fn trace_request<'a>(matches: &ArgMatches<'a>) -> Request<'a>
-    ensures { IsTraceRequest (found_of matches.now) result }
+fn trace_request<'a>(alloc: Global, matches: &ArgMatches<'a>) -> Result<Request<'a>, Error>
+    ensures { IfOk result (λ o. IsTraceRequest (found_of matches.now) o) }
 {
-    Request::Trace {
-        file: text(matches, "FILE"),
-        argument: text(matches, "ARG"),
-        entry: text(matches, "ENTRY"),
+    match firings(matches) {
+        Some(firings) => Ok(Request::Trace {
+            file: text(matches, "FILE"),
+            argument: text(matches, "ARG"),
+            entry: text(matches, "ENTRY"),
+            firings,
+        }),
+        None => Err(other_spelling(alloc, trace(alloc, "u trace"), matches, "firings", "N")?),
     }
 }
 
@@ -308,12 +321,16 @@ fn world_request<'a>(alloc: Global, matches: &ArgMatches<'a>) -> Result<Request<
     let Some(events) = number_of(text(matches, "events"), MOST_EVENTS) else {
         return Err(other_spelling(alloc, world(alloc, "u world"), matches, "events", "N")?);
     };
+    let Some(firings) = firings(matches) else {
+        return Err(other_spelling(alloc, world(alloc, "u world"), matches, "firings", "N")?);
+    };
     Ok(Request::World {
         file: text(matches, "FILE"),
         argument: text(matches, "ARG"),
         replicas,
         seed,
         events: events as usize,
+        firings,
     })
 }
 
@@ -418,8 +435,8 @@ fn commands<'a>(alloc: Global) -> Result<Command<'a>, AllocError> {
     let all = with(all, explain(alloc))?;
     let all = with(all, run(alloc, "run"))?;
     let all = with(all, save(alloc, SAVE))?;
-    let all = with(all, restore(alloc))?;
-    let all = with(all, trace(alloc))?;
+    let all = with(all, restore(alloc, RESTORE))?;
+    let all = with(all, trace(alloc, TRACE))?;
     let all = with(all, blame(alloc))?;
     let all = with(all, waits(alloc, WAITS))?;
     let all = with(all, world(alloc, WORLD))?;
@@ -510,24 +527,28 @@ fn save<'a>(alloc: Global, name: &'a str) -> Result<Command<'a>, AllocError> {
     .arg(most_firings(alloc))
 }
 
-fn restore<'a>(alloc: Global) -> Result<Command<'a>, AllocError> {
+fn restore<'a>(alloc: Global, name: &'a str) -> Result<Command<'a>, AllocError> {
     of_run(
         alloc,
-        RESTORE,
+        name,
         "Goes on from a checkpoint, whole or torn, and prints the report",
-        "Example: ./u restore programs/sum.u 3 checkpoint",
+        "Example: ./u restore programs/sum.u 3 checkpoint --firings 10",
     )?
-    .arg(word(alloc, "CHECKPOINT").help("The checkpoint's file"))
+    .arg(word(alloc, "CHECKPOINT").help("The checkpoint's file"))?
+    .arg(most_firings(alloc).help(
+        "The most firings after those of the checkpoint, from 1 to 1000000",
+    ))
 }
 
-fn trace<'a>(alloc: Global) -> Result<Command<'a>, AllocError> {
+fn trace<'a>(alloc: Global, name: &'a str) -> Result<Command<'a>, AllocError> {
     of_run(
         alloc,
-        TRACE,
+        name,
         "Runs the program and prints which firings give the entry, and how the run came to it",
-        "Example: ./u trace programs/double.u 4 'a 8'",
+        "Example: ./u trace programs/double.u 4 'a 8' --firings 1000",
     )?
-    .arg(word(alloc, "ENTRY").help("The entry's text, one word: 'a 8' is the answer 8"))
+    .arg(word(alloc, "ENTRY").help("The entry's text, one word: 'a 8' is the answer 8"))?
+    .arg(most_firings(alloc))
 }
 
 fn blame<'a>(alloc: Global) -> Result<Command<'a>, AllocError> {
@@ -564,7 +585,8 @@ fn world<'a>(alloc: Global, name: &'a str) -> Result<Command<'a>, AllocError> {
     )?
     .arg(number_of_replicas(alloc))?
     .arg(seed(alloc))?
-    .arg(number_of_events(alloc))
+    .arg(number_of_events(alloc))?
+    .arg(most_firings(alloc).help("The most firings that a replica takes, from 1 to 1000000"))
 }
 
 fn fleet<'a>(alloc: Global, name: &'a str) -> Result<Command<'a>, AllocError> {
