@@ -8,9 +8,9 @@ use std::sync::Wait;
 use std::thread::Threads;
 use std::{fs, io};
 use u_cli::{
-    Asked, Bus, CommandError, Plan, STORED_PROGRAM, blame_text, check_text, explain_text,
-    fleet_text, read_input, restore_text, run_text, save_text, share_text, trace_text, waits_text,
-    world_text,
+    Asked, Bus, CommandError, Plan, STORED_PROGRAM, WorldPlan, blame_text, check_text,
+    explain_text, fleet_text, read_input, restore_text, run_text, save_text, share_text,
+    trace_text, waits_text, world_text,
 };
 
 /// The argument of the stored run, and how often it may fire.
@@ -87,26 +87,37 @@ pub fn save(
     save_text(rt.alloc(), &program, argument.as_bytes(), firings, &mut out)
 }
 
-/// `restore FILE ARG CHECKPOINT`.
+/// `restore FILE ARG CHECKPOINT`, with so many firings at most after those of the checkpoint.
 pub fn restore(
     rt: &HostRuntime,
     file: &str,
     argument: &str,
     checkpoint: &str,
+    firings: usize,
 ) -> Result<u8, CommandError> {
     let program = read_file(rt, file)?;
     let saved = read_path(rt, checkpoint)?;
     let mut out = io::writer(rt);
-    restore_text(rt.alloc(), &program, argument.as_bytes(), &saved, &mut out)
+    restore_text(
+        rt.alloc(),
+        &program,
+        argument.as_bytes(),
+        &saved,
+        firings,
+        &mut out,
+    )
 }
 
-/// `trace FILE ARG ENTRY`.
+/// `trace FILE ARG ENTRY`, after so many firings at most.
 pub fn trace(
     rt: &HostRuntime,
     file: &str,
     argument: &str,
     entry: &str,
-) -> Result<u8, CommandError> {
+    firings: usize,
+) -> Result<u8, CommandError>
+    requires { firings ≤ 1000000 }
+{
     let program = read_file(rt, file)?;
     let mut out = io::writer(rt);
     trace_text(
@@ -114,6 +125,7 @@ pub fn trace(
         &program,
         argument.as_bytes(),
         entry.as_bytes(),
+        firings,
         &mut out,
     )
 }
@@ -154,29 +166,18 @@ pub fn waits(
     waits_text(rt.alloc(), &program, argument.as_bytes(), firings, &mut out)
 }
 
-/// `world FILE ARG`, with 1 to 8 replicas and so many random events of that seed.
+/// `world FILE ARG`, with what happens by the plan.
 pub fn world(
     rt: &HostRuntime,
     file: &str,
     argument: &str,
-    replicas: u8,
-    seed: u64,
-    events: usize,
+    plan: WorldPlan,
 ) -> Result<u8, CommandError>
-    requires { IsOneToEight replicas }
+    requires { IsOneToEight plan.replicas }
 {
     let program = read_file(rt, file)?;
     let mut out = io::writer(rt);
-    let argument = argument.as_bytes();
-    world_text(
-        rt.alloc(),
-        &program,
-        argument,
-        replicas,
-        seed,
-        events,
-        &mut out,
-    )
+    world_text(rt.alloc(), &program, argument.as_bytes(), plan, &mut out)
 }
 
 /// `fleet FILE ARG`, with 1 to 8 workers, each a thread from `threads`, and so many rounds for each.

@@ -11,7 +11,7 @@ use std::io;
 use std::process::ExitCode;
 use std::sync::Wait;
 use std::thread::Threads;
-use u_cli::{Asked, CommandError, member_plan};
+use u_cli::{Asked, CommandError, WorldPlan, member_plan};
 use u_words::{Request, below_zero, not_text, parse};
 
 /// The exit status of a command line that is not allowed.
@@ -113,12 +113,14 @@ fn follow<T: Threads + Wait + Sync>(
             file,
             argument,
             checkpoint,
-        } => commands::restore(rt, file, argument, checkpoint),
+            firings,
+        } => commands::restore(rt, file, argument, checkpoint, firings),
         Request::Trace {
             file,
             argument,
             entry,
-        } => commands::trace(rt, file, argument, entry),
+            firings,
+        } => commands::trace(rt, file, argument, entry, firings),
         Request::Blame {
             file,
             argument,
@@ -136,7 +138,16 @@ fn follow<T: Threads + Wait + Sync>(
             replicas,
             seed,
             events,
-        } => commands::world(rt, file, argument, replicas, seed, events),
+            firings,
+        } => {
+            let plan = WorldPlan {
+                replicas,
+                seed,
+                events,
+                firings,
+            };
+            commands::world(rt, file, argument, plan)
+        }
         Request::Fleet {
             file,
             argument,

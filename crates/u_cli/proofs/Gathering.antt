@@ -15,7 +15,8 @@ use Rattle.u_commands.specs.Runs.{RunsBehind, RunRefused}
 use Rattle.u_commands.specs.Restores.{HasJob}
 use Rattle.u_commands.specs.declared.command_error.CommandError.{CommandError}
 use Rattle.u_commands.specs.declared.command_error.CommandError.TheVariants as faults
-use Rattle.u_cli.specs.Worlds.{most_held, replica_line, replica_lines, merges, AreDoable, EventsRefused, Gathers, TellsEnd, EndsRefused, WorldRefused, WorldTextAnswer}
+use Rattle.u_cli.specs.declared.worlds.WorldPlan.{WorldPlan}
+use Rattle.u_cli.specs.Worlds.{replica_line, replica_lines, merges, AreDoable, EventsRefused, Gathers, TellsEnd, EndsRefused, WorldRefused, WorldTextAnswer}
 use Rattle.u_commands.proofs.Known.{kept}
 
 same_event : (a b : Event) → Some a ≡ Some b → a ≡ b
@@ -90,9 +91,8 @@ module _ (w v : WorldState) (es fs : List Event) (same : w ≡ v) (list : es ≡
   refused_so fault r = subst (λ (x : WorldState). EventsRefused x fs fault) same (subst (λ (xs : List Event). EventsRefused w xs fault) list r)
 
 -- the report of the first replica, once it fired what it could, behind the lines of all replicas
-pub tells_end : (w : WorldState) (first : ReplicaState) → Gathers w first → (written : List ℕ) (status : ℕ) → RunsBehind (replica_lines w.replicas) first.machine 100000 written status → TellsEnd w written status
-unfolding most_held
-tells_end w first g written status r = record {
+pub tells_end : (w : WorldState) (firings : ℕ) (first : ReplicaState) → Gathers w first → (written : List ℕ) (status : ℕ) → RunsBehind (replica_lines w.replicas) first.machine firings written status → TellsEnd w firings written status
+tells_end w firings first g written status r = record {
   first = first;
   gathers = g;
   report = r.report;
@@ -101,32 +101,31 @@ tells_end w first g written status r = record {
 }
 
 -- a first replica that fires until it is full
-pub ends_refused : (w : WorldState) (first : ReplicaState) → Gathers w first → (fault : CommandError) → RunRefused first.machine 100000 fault → EndsRefused w fault
-unfolding most_held
-ends_refused w first g (faults.LineNotAllowed n) r = r
-ends_refused w first g (faults.TooMany n) r = r
-ends_refused w first g faults.CutShort r = r
-ends_refused w first g (faults.Rule b) r = r
-ends_refused w first g faults.ArgumentNotAllowed r = r
-ends_refused w first g faults.InputTooLong r = r
-ends_refused w first g (faults.CheckpointLineNotAllowed n) r = r
-ends_refused w first g (faults.CheckpointLineTooLong n) r = r
-ends_refused w first g (faults.OtherFiring n) r = r
-ends_refused w first g (faults.EntryNotAllowed n) r = r
-ends_refused w first g faults.EntryNotHeld r = r
-ends_refused w first g (faults.NameNotAllowed n) r = r
-ends_refused w first g faults.NameTooDeep r = r
-ends_refused w first g faults.PortNotClashed r = r
-ends_refused w first g faults.Full r = inr (first, g, (r.0, r.2))
-ends_refused w first g faults.NoMemory r = tt
-ends_refused w first g faults.NoThread r = r
-ends_refused w first g faults.NoReader r = r
-ends_refused w first g faults.NotReadable r = r
-ends_refused w first g faults.NotWritten r = r
+pub ends_refused : (w : WorldState) (firings : ℕ) (first : ReplicaState) → Gathers w first → (fault : CommandError) → RunRefused first.machine firings fault → EndsRefused w firings fault
+ends_refused w firings first g (faults.LineNotAllowed n) r = r
+ends_refused w firings first g (faults.TooMany n) r = r
+ends_refused w firings first g faults.CutShort r = r
+ends_refused w firings first g (faults.Rule b) r = r
+ends_refused w firings first g faults.ArgumentNotAllowed r = r
+ends_refused w firings first g faults.InputTooLong r = r
+ends_refused w firings first g (faults.CheckpointLineNotAllowed n) r = r
+ends_refused w firings first g (faults.CheckpointLineTooLong n) r = r
+ends_refused w firings first g (faults.OtherFiring n) r = r
+ends_refused w firings first g (faults.EntryNotAllowed n) r = r
+ends_refused w firings first g faults.EntryNotHeld r = r
+ends_refused w firings first g (faults.NameNotAllowed n) r = r
+ends_refused w firings first g faults.NameTooDeep r = r
+ends_refused w firings first g faults.PortNotClashed r = r
+ends_refused w firings first g faults.Full r = inr (first, g, (r.0, r.2))
+ends_refused w firings first g faults.NoMemory r = tt
+ends_refused w firings first g faults.NoThread r = r
+ends_refused w firings first g faults.NoReader r = r
+ends_refused w firings first g faults.NotReadable r = r
+ends_refused w firings first g faults.NotWritten r = r
 
 -- nothing is written where nothing is told of the world of a job
-module _ (bytes word : List ℕ) (n seed count : ℕ) (old : Option (List ℕ)) where
-  pub not_told : (fault : CommandError) → HasJob bytes word (λ job. WorldRefused job n seed count fault) → WorldTextAnswer bytes word n seed count old (Err fault) old
+module _ (bytes word : List ℕ) (plan : WorldPlan) (old : Option (List ℕ)) where
+  pub not_told : (fault : CommandError) → HasJob bytes word (λ job. WorldRefused job plan fault) → WorldTextAnswer bytes word plan old (Err fault) old
   not_told (faults.LineNotAllowed n) h = (inr h, kept old)
   not_told (faults.TooMany n) h = (inr h, kept old)
   not_told faults.CutShort h = (inr h, kept old)

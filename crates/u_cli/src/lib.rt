@@ -10,9 +10,9 @@ mod worlds;
 pub use fleets::{FLEET_BUDGET, FLEET_FIRINGS, fleet_text};
 pub use sharing::{SHARED_FIRINGS, member_plan, share_text};
 pub use u_commands::{
-    Asked, CommandError, FIRING_LIMIT, INPUT_LIMIT, RESTORED_FIRINGS, STORED_PROGRAM, Unwritten,
-    argument_of, blame_text, check_text, explain_text, read_input, restore_text, run_text,
-    save_text, trace_text, waits_text, write_whole,
+    Asked, CommandError, FIRING_LIMIT, INPUT_LIMIT, STORED_PROGRAM, Unwritten, argument_of,
+    blame_text, check_text, explain_text, read_input, restore_text, run_text, save_text,
+    trace_text, waits_text, write_whole,
 };
 pub use u_share::{Bus, Plan};
-pub use worlds::{WORLD_FIRINGS, world_text};
+pub use worlds::{WorldPlan, world_text};

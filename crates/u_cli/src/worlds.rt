@@ -1,11 +1,9 @@
 //! The command `world`.
 ghost use Rattle.std.specs.Prelude.{◌≡◌, ◌≤◌, ◌-◌, ◌++◌, IfOk, MatchResult, length};
 ghost use Rattle.u_name.specs.Context.{IsBetween};
-ghost use Rattle.u_world.specs.WorldState.{fresh_world};
 ghost use Rattle.u_world.specs.Runs.{EventSteps};
-ghost use Rattle.u_world.specs.Random.{random_list};
-ghost use Rattle.u_cli.specs.Worlds.{most_held, replica_line, replica_lines, merges};
-ghost use Rattle.u_cli.specs.Worlds.{AreDoable, EventsRefused, HappensAtRandom, Gathers};
+ghost use Rattle.u_cli.specs.Worlds.{replica_line, replica_lines, merges};
+ghost use Rattle.u_cli.specs.Worlds.{begun, drawn, AreDoable, EventsRefused, HappensAtRandom, Gathers};
 ghost use Rattle.u_cli.specs.Worlds.{TellsEnd, EndsRefused};
 ghost use Rattle.u_cli.specs.Worlds.{TellsWorld, WorldRefused, WorldTextAnswer};
 
@@ -16,8 +14,18 @@ use u_commands::{CommandError, job_of, push_numbered, run_behind, write_whole};
 use u_replica::Replica;
 use u_world::{Event, World, WorldError, random_events};
 
-/// How many firings a replica of a world takes at most, and how many the first one fires in the end.
-pub const WORLD_FIRINGS: usize = 100_000;
+/// What happens in a world.
+#[derive(Clone, Copy, Debug, PartialEq, Eq)]
+pub struct WorldPlan {
+    /// How many replicas there are, from 1 to 8.
+    pub replicas: u8,
+    /// The seed of the random events.
+    pub seed: u64,
+    /// How many random events there are.
+    pub events: usize,
+    /// How many firings a replica takes at most, and how many the first one fires in the end.
+    pub firings: usize,
+}
 
 /// Lets the events happen. None of them is one that cannot be done.
 fn run_events(world: &mut World<'_>, events: &[Event]) -> Result<(), CommandError>
@@ -33,21 +41,14 @@ fn run_events(world: &mut World<'_>, events: &[Event]) -> Result<(), CommandErro
     }
 }
 
-/// A world of so many replicas of the job, after so many random events.
-fn happened<'a>(
-    alloc: Global,
-    job: &'a Job,
-    replicas: u8,
-    seed: u64,
-    events: usize,
-) -> Result<World<'a>, CommandError>
-    requires { IsBetween 1 replicas 8 }
-    ensures { MatchResult result (λ w. HappensAtRandom job.now replicas seed events w)
-        (λ fault. EventsRefused (fresh_world job.now most_held replicas)
-        (random_list seed replicas events) fault) }
+/// A world of the job, after the random events of the plan.
+fn happened<'a>(alloc: Global, job: &'a Job, plan: WorldPlan) -> Result<World<'a>, CommandError>
+    requires { IsBetween 1 plan.replicas 8 }
+    ensures { MatchResult result (λ w. HappensAtRandom job.now plan w)
+        (λ fault. EventsRefused (begun job.now plan) (drawn plan) fault) }
 {
-    let mut world = World::new(alloc, job, replicas, WORLD_FIRINGS)?;
-    let events = random_events(alloc, seed, replicas, events)?;
+    let mut world = World::new(alloc, job, plan.replicas, plan.firings)?;
+    let events = random_events(alloc, plan.seed, plan.replicas, plan.events)?;
     match run_events(&mut world, &events) {
         Ok(()) => Ok(world),
         Err(fault) => Err(fault),
@@ -112,45 +113,39 @@ fn first_of<'a>(alloc: Global, mut world: World<'a>) -> Result<Replica<'a>, Comm
     }
 }
 
-/// What is told of a world in the end, and the exit status.
-fn told_of(alloc: Global, world: World<'_>) -> Result<(Vec<u8>, u8), CommandError>
+/// What is told of a world in which the first replica fires so many times at most in the end, and the
+/// exit status.
+fn told_of(alloc: Global, world: World<'_>, firings: usize) -> Result<(Vec<u8>, u8), CommandError>
     ensures { MatchResult result
-        (λ p. TellsEnd world.entry p.0.items p.1)
-        (λ fault. EndsRefused world.entry fault) }
+        (λ p. TellsEnd world.entry firings p.0.items p.1)
+        (λ fault. EndsRefused world.entry firings fault) }
 {
     let lines = replica_lines(alloc, &world)?;
     let mut first = match first_of(alloc, world) {
         Ok(first) => first,
         Err(fault) => return Err(fault),
     };
-    run_behind(alloc, &lines, &mut first, WORLD_FIRINGS)
+    run_behind(alloc, &lines, &mut first, firings)
 }
 
 /// What is told of a world of the job, and the exit status.
-fn world_job(
-    alloc: Global,
-    job: &Job,
-    replicas: u8,
-    seed: u64,
-    events: usize,
-) -> Result<(Vec<u8>, u8), CommandError>
-    requires { IsBetween 1 replicas 8 }
-    ensures { MatchResult result
-        (λ p. TellsWorld job.now replicas seed events p.0.items p.1)
-        (λ fault. WorldRefused job.now replicas seed events fault) }
+fn world_job(alloc: Global, job: &Job, plan: WorldPlan) -> Result<(Vec<u8>, u8), CommandError>
+    requires { IsBetween 1 plan.replicas 8 }
+    ensures { MatchResult result (λ p. TellsWorld job.now plan p.0.items p.1)
+        (λ fault. WorldRefused job.now plan fault) }
 {
-    let world = match happened(alloc, job, replicas, seed, events) {
+    let world = match happened(alloc, job, plan) {
         Ok(world) => world,
         Err(fault) => return Err(fault),
     };
-    told_of(alloc, world)
+    told_of(alloc, world, plan.firings)
 }
 
-/// Lets so many random events happen in a world of so many replicas of the program with this text, on
-/// the argument that the word gives; each replica takes 100,000 firings at most. Writes a line for each
-/// replica, and then the report of replica 1, once it merged the others in the order of their numbers
-/// and fired 100,000 times at most. The same seed gives the same events. `replicas` is 1 to 8, `events`
-/// at most 100,000. Answers the exit status, that of `run_text`.
+/// Lets the random events of the plan happen in a world of replicas of the program with this text, on
+/// the argument that the word gives; each replica takes the plan's number of firings at most. Writes a
+/// line for each replica, and then the report of replica 1, once it merged the others in the order of
+/// their numbers and fired that many times at most. The same seed gives the same events. Answers the
+/// exit status, that of `run_text`.
 ///
 /// # Errors
 /// As `run_text`, and `Full` where a replica has no room for a firing that it takes or fires: nothing
@@ -159,17 +154,15 @@ pub fn world_text<W: Write>(
     alloc: Global,
     program: &[u8],
     argument: &[u8],
-    replicas: u8,
-    seed: u64,
-    events: usize,
+    plan: WorldPlan,
     writer: &mut W,
 ) -> Result<u8, CommandError>
-    requires { IsBetween 1 replicas 8 }
-    ensures { WorldTextAnswer program.now argument.now replicas seed events
-        (W.contents writer.old) result (W.contents writer.new) }
+    requires { IsBetween 1 plan.replicas 8 }
+    ensures { WorldTextAnswer program.now argument.now plan (W.contents writer.old) result
+        (W.contents writer.new) }
 {
     let job = job_of(alloc, program, argument)?;
-    let (written, status) = match world_job(alloc, &job, replicas, seed, events) {
+    let (written, status) = match world_job(alloc, &job, plan) {
         Ok(told) => told,
         Err(fault) => return Err(fault),
     };

@@ -10,7 +10,7 @@ use Rattle.u_trace.specs.declared.blame_error.BlameError.TheVariants.{NotClashed
 use Rattle.u_commands.specs.declared.command_error.CommandError.{CommandError}
 use Rattle.u_commands.specs.declared.command_error.CommandError.TheVariants as faults
 use Rattle.u_commands.specs.Traces.{RanPlainly}
-use Rattle.u_commands.specs.Blaming.{blamed_text, blame_fault, BlamesJob, BlameRefused, HasName, BlameTextAnswer}
+use Rattle.u_commands.specs.Blaming.{most_blamed, blamed_text, blame_fault, BlamesJob, BlameRefused, HasName, BlameTextAnswer}
 use Rattle.u_commands.specs.Blaming.{NameRefused}
 use Rattle.u_commands.specs.Restores.{HasJob}
 use Rattle.u_commands.proofs.Known.{kept}
@@ -18,7 +18,7 @@ use Rattle.u_commands.proofs.Known.{kept}
 pub join7 : (a b c d e f g n0 n1 n2 n3 n4 n5 n6 n7 : List ℕ) → n1 ≡ n0 ++ a → n2 ≡ n1 ++ b → n3 ≡ n2 ++ c → n4 ≡ n3 ++ d → n5 ≡ n4 ++ e → n6 ≡ n5 ++ f → n7 ≡ n6 ++ g → n7 ≡ n0 ++ (a ++ (b ++ (c ++ (d ++ (e ++ (f ++ g))))))
 join7 a b c d e f g n0 n1 n2 n3 n4 n5 n6 n7 p q r s t u v = rw (v, u, t, s, r, q, p) (simp append_assoc)
 
-module _ (m : State) (ran : RanPlainly m.job m) (n : Activity) (p : ℕ) where
+module _ (m : State) (ran : RanPlainly m.job most_blamed m) (n : Activity) (p : ℕ) where
   pub blames_job : (found : Option Blame) (written : List ℕ) → BlameAnswer m n p (Ok found) → BlamesByWrites m.job found → written ≡ blamed_text found → BlamesJob m.job n p written
   blames_job found written answer by_writes text =
       (m.log, record { plain = ran.plain; found = found; is_found = answer; by_writes = by_writes; is = text })

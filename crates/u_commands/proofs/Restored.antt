@@ -21,7 +21,7 @@ use Rattle.u_replica.specs.Restoring.{blank, WasRead, IsRestored}
 use Rattle.u_commands.specs.Runs.{ReportsMachine, RunsBehind, RunRefused, ending_of}
 use Rattle.u_commands.specs.declared.command_error.CommandError.{CommandError}
 use Rattle.u_commands.specs.declared.command_error.CommandError.TheVariants as faults
-use Rattle.u_commands.specs.Restores.{most_taken, most_fired, SavedOrFired, GoesOn, ReportsOn, FillsUp, ending_line, RestoresJob, HasNoRoom, CheckpointRefused}
+use Rattle.u_commands.specs.Restores.{most_taken, SavedOrFired, GoesOn, ReportsOn, FillsUp, ending_line, RestoresJob, HasNoRoom, CheckpointRefused}
 
 module _ {E F : Type 0} (s : System E F) (le : F → F → Type 0) (M N : F → Type 0) (same : Same M N) (done : List F) where
   there : (f : F) → M f ⊎ Contains done f → N f ⊎ Contains done f
@@ -70,8 +70,8 @@ module _ (job : JobParts) (fs gs : List Firing) (old new : State) (takes : Takes
     history = subst (λ (j : JobParts). Same (Contains new.history) (Cl (system_of j) (SavedOrFired fs gs))) same_job closure;
   }
 
-module _ (job : JobParts) (fs : List Firing) (old new : State) (takes : TakesAll (blank job most_taken) fs old) (is : IsMachine new) where
-  reports_on : (end : Ran) (report : List ℕ) (status : ℕ) → RunAnswer old most_fired (Ok end) new → ReportsMachine new (ending_of end) report status → ReportsOn job fs report status
+module _ (job : JobParts) (firings : ℕ) (fs : List Firing) (old new : State) (takes : TakesAll (blank job most_taken) fs old) (is : IsMachine new) where
+  reports_on : (end : Ran) (report : List ℕ) (status : ℕ) → RunAnswer old firings (Ok end) new → ReportsMachine new (ending_of end) report status → ReportsOn job firings fs report status
   reports_on ran.Quiet report status a r = record {
     state = states.Quiet;
     gs = a.0;
@@ -95,35 +95,33 @@ module _ (job : JobParts) (fs : List Firing) (old new : State) (takes : TakesAll
     many = λ e. a.2;
   }
 
-  fills_up : RunAnswer old most_fired (Err refusals.Full) new → FillsUp job fs
+  fills_up : RunAnswer old firings (Err refusals.Full) new → FillsUp job firings fs
   fills_up a =
       let goes = goes_on job fs a.0 old new takes a.1.fires is a.3 in
       record { gs = a.0; machine = new; goes = goes; few = a.2; ready = a.4; full = a.5 ∙ goes.limit }
 
 -- the firings of a checkpoint were taken, and the replica ran
-module _ (job : JobParts) (number life : ℕ) (checkpoint : List ℕ) (ending : Ending) (old : ReplicaState) (restored : IsRestored job most_taken number life checkpoint ending old) where
-  pub restored_run : (written : List ℕ) (status : ℕ) → RunsBehind (ending_line ending) old.machine 100000 written status → RestoresJob job checkpoint written status
-  unfolding most_fired
+module _ (job : JobParts) (number life firings : ℕ) (checkpoint : List ℕ) (ending : Ending) (old : ReplicaState) (restored : IsRestored job most_taken number life checkpoint ending old) where
+  pub restored_run : (written : List ℕ) (status : ℕ) → RunsBehind (ending_line ending) old.machine firings written status → RestoresJob job firings checkpoint written status
   restored_run written status r = record {
     ending = ending;
     fs = restored.firings;
     read = restored.read;
-    firings = restored.of_job;
+    of_job = restored.of_job;
     report = r.report;
-    on = reports_on job restored.firings old.machine r.machine restored.takes r.is_machine r.end r.report status r.ran r.reported;
+    on = reports_on job firings restored.firings old.machine r.machine restored.takes r.is_machine r.end r.report status r.ran r.reported;
     is = r.is;
   }
 
-  fills_checkpoint : RunRefused old.machine 100000 faults.Full → CheckpointRefused job checkpoint faults.Full
-  unfolding most_fired
+  fills_checkpoint : RunRefused old.machine firings faults.Full → CheckpointRefused job firings checkpoint faults.Full
   fills_checkpoint r = record {
     firings = restored.firings;
     ending = ending;
     read = restored.read;
-    so = (restored.of_job, inr (fills_up job restored.firings old.machine r.0 restored.takes r.1 r.2));
+    so = (restored.of_job, inr (fills_up job firings restored.firings old.machine r.0 restored.takes r.1 r.2));
   }
 
-  pub restored_refused : (fault : CommandError) → RunRefused old.machine 100000 fault → CheckpointRefused job checkpoint fault
+  pub restored_refused : (fault : CommandError) → RunRefused old.machine firings fault → CheckpointRefused job firings checkpoint fault
   restored_refused (faults.LineNotAllowed n) r = r
   restored_refused (faults.TooMany n) r = r
   restored_refused faults.CutShort r = r
@@ -146,5 +144,5 @@ module _ (job : JobParts) (number life : ℕ) (checkpoint : List ℕ) (ending : 
   restored_refused faults.NotWritten r = r
 
 -- firings of the job that are too many from the start
-pub too_many : (job : JobParts) (checkpoint : List ℕ) → WasRead checkpoint (λ fs. AreFirings job fs × IsTooLong (blank job most_taken) fs) → WasRead checkpoint (λ fs. HasNoRoom job fs)
-too_many job checkpoint r = record { firings = r.firings; ending = r.ending; read = r.read; so = (r.so.0, inl r.so.1) }
+pub too_many : (job : JobParts) (checkpoint : List ℕ) → WasRead checkpoint (λ fs. AreFirings job fs × IsTooLong (blank job most_taken) fs) → (firings : ℕ) → WasRead checkpoint (λ fs. HasNoRoom job firings fs)
+too_many job checkpoint r firings = record { firings = r.firings; ending = r.ending; read = r.read; so = (r.so.0, inl r.so.1) }

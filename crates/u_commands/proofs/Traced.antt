@@ -17,16 +17,20 @@ use Rattle.u_trace.specs.declared.trace_error.TraceError.{TraceError}
 use Rattle.u_trace.specs.declared.trace_error.TraceError.TheVariants.{NotHeld, NoMemory}
 use Rattle.u_commands.specs.declared.command_error.CommandError.{CommandError}
 use Rattle.u_commands.specs.declared.command_error.CommandError.TheVariants as faults
-use Rattle.u_commands.specs.Traces.{most_traced, traced_text, trace_fault, IsCauseIn, RanPlainly, TracesJob, TraceRefused}
+use Rattle.u_commands.specs.Traces.{traced_text, trace_fault, IsCauseIn, RanPlainly, TracesJob, TraceRefused}
 use Rattle.u_commands.specs.Traces.{HasEntry, TraceTextAnswer}
 use Rattle.u_commands.specs.Runs.{RanTo}
 use Rattle.u_commands.proofs.Known.{kept}
 
-pub ran_plainly : (job : JobParts) (m : State) (end : Ending) → RanTo job 100000 end m → RanPlainly job m
-unfolding most_traced
-ran_plainly job m end p = record { of = p.of; plain = p.run.plain; held = p.held }
+pub ran_plainly : (job : JobParts) (firings : ℕ) (m : State) (end : Ending) → RanTo job firings end m → RanPlainly job firings m
+ran_plainly job firings m end p = record { of = p.of; plain = p.run.plain; held = p.held }
 
-module _ (job : JobParts) (m : State) (ran : RanPlainly job m) (e : Entry) where
+-- what holds of a machine that ran plainly, with whatever number of firings, holds of a run of the job
+pub of_run : (job : JobParts) (firings : ℕ) (m : State) (end : Ending) → RanTo job firings end m → (P : JobParts → ℕ → Type 0) → ((n : ℕ) → RanPlainly m.job n m → P m.job n) → P job firings
+of_run job firings m end p P h =
+    subst (λ (j : JobParts). P j firings) p.of (h firings (subst (λ (j : JobParts). RanPlainly j firings m) (sym p.of) (ran_plainly job firings m end p)))
+
+module _ (job : JobParts) (firings : ℕ) (m : State) (ran : RanPlainly job firings m) (e : Entry) where
   cause_in : (f : Firing) → IsCause job m.history e f → IsCauseIn job m.log e f
   cause_in f (en, g) = (Enabled-mono (system_of job) (Contains m.history) (Held (system_of job) m.log) (λ x. (ran.held x).0) f en, g)
 
@@ -36,7 +40,7 @@ module _ (job : JobParts) (m : State) (ran : RanPlainly job m) (e : Entry) where
   causes_in : (fs : List Firing) → IsListOf firing_cmp (IsCause job m.history e) fs → IsListOf firing_cmp (IsCauseIn job m.log e) fs
   causes_in fs is = record { rises = is.rises; exact = λ f. ((λ c. cause_in f ((is.exact f).0 c)), (λ c. (is.exact f).1 (in_cause f c))) }
 
-  pub traces_run : (causes story : List Firing) (written : List ℕ) → Held (system_of job) m.log e → IsListOf firing_cmp (IsCause job m.history e) causes → IsStory (system_of job) m.log e story → Tells (system_of job) m.log e story → written ≡ traced_text causes story → TracesJob job e written
+  pub traces_run : (causes story : List Firing) (written : List ℕ) → Held (system_of job) m.log e → IsListOf firing_cmp (IsCause job m.history e) causes → IsStory (system_of job) m.log e story → Tells (system_of job) m.log e story → written ≡ traced_text causes story → TracesJob job firings e written
   traces_run causes story written held exact is tells text = (
     m.log,
     record {
@@ -52,13 +56,13 @@ module _ (job : JobParts) (m : State) (ran : RanPlainly job m) (e : Entry) where
   )
 
 -- what no firing of the log gives is not held
-pub missing : (m : State) → RanPlainly m.job m → (e : Entry) (error : TraceError) (fault : CommandError) → fault ≡ trace_fault error → (error ≡ NotHeld → Contains m.history e → ⊥) → TraceRefused m.job e fault
-missing m ran e NotHeld fault f none = subst (TraceRefused m.job e) (sym f) (m.log, ran.plain, λ h. none refl ((ran.held e).1 h))
-missing m ran e NoMemory fault f none = subst (TraceRefused m.job e) (sym f) tt
+pub missing : (m : State) (firings : ℕ) → RanPlainly m.job firings m → (e : Entry) (error : TraceError) (fault : CommandError) → fault ≡ trace_fault error → (error ≡ NotHeld → Contains m.history e → ⊥) → TraceRefused m.job firings e fault
+missing m firings ran e NotHeld fault f none = subst (TraceRefused m.job firings e) (sym f) (m.log, ran.plain, λ h. none refl ((ran.held e).1 h))
+missing m firings ran e NoMemory fault f none = subst (TraceRefused m.job firings e) (sym f) tt
 
 -- nothing is written where the entry of a job is not traced
-module _ (bytes word text : List ℕ) (old : Option (List ℕ)) where
-  pub not_traced : (fault : CommandError) → HasEntry bytes word text (λ job e. TraceRefused job e fault) → TraceTextAnswer bytes word text old (Err fault) old
+module _ (bytes word text : List ℕ) (firings : ℕ) (old : Option (List ℕ)) where
+  pub not_traced : (fault : CommandError) → HasEntry bytes word text (λ job e. TraceRefused job firings e fault) → TraceTextAnswer bytes word text firings old (Err fault) old
   not_traced (faults.LineNotAllowed n) h = (inr (inr h), kept old)
   not_traced (faults.TooMany n) h = (inr (inr h), kept old)
   not_traced faults.CutShort h = (inr (inr h), kept old)

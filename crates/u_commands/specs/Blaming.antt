@@ -21,9 +21,12 @@ use Rattle.u_trace.specs.declared.blame_error.BlameError.TheVariants as blame_er
 use Rattle.u_commands.specs.Outputs.{WritesAll, WritesPrefix}
 use Rattle.u_commands.specs.Runs.{JobRefused}
 use Rattle.u_commands.specs.Restores.{HasJob}
-use Rattle.u_commands.specs.Traces.{most_traced}
 use Rattle.u_commands.specs.declared.command_error.CommandError.{CommandError}
 use Rattle.u_commands.specs.declared.command_error.CommandError.TheVariants as faults
+
+-- how many firings a run that is looked at has at most
+unfoldable pub most_blamed : ℕ
+most_blamed = 100000
 
 -- the line of a report for a write in the cell, and behind it that of the firing that gives it
 unfoldable pub write_lines : CellOf → BlamedWrite → List ℕ
@@ -38,7 +41,7 @@ blamed_text (Some b) = write_lines b.cell b.first ++ write_lines b.cell b.second
 -- is written is what is to blame for two values at the port in it; if the program is strict or
 -- determinate, that is a cell.
 pub record BlamesRun (job : JobParts) (n : Activity) (p : ℕ) (fs : List Firing) (written : List ℕ) : Type 0 where
-  pub plain : Plain (system_of job) firing_le most_traced fs
+  pub plain : Plain (system_of job) firing_le most_blamed fs
   pub found : Option Blame
   pub is_found : IsFoundAt job fs n p found
   pub by_writes : BlamesByWrites job found
@@ -55,7 +58,7 @@ blame_fault blame_errors.NoMemory = faults.NoMemory
 -- the plain run of the job does not hold two values at the port
 abbrev pub LacksClash : JobParts → Activity → ℕ → Type 0
 LacksClash job n p =
-    (fs : List Firing) × Plain (system_of job) firing_le most_traced fs
+    (fs : List Firing) × Plain (system_of job) firing_le most_blamed fs
     × (HasTwo (ValueAt (Held (system_of job) fs) n p) → ⊥)
 
 -- why nothing is blamed in the run of a job

@@ -1,4 +1,5 @@
--- What `restore` answers to the bytes of a program, the word of an argument and the bytes of a checkpoint.
+-- What `restore` answers to the bytes of a program, the word of an argument, the bytes of a checkpoint and how
+-- many firings there may be after those of the checkpoint.
 use Rattle.std.specs.Prelude.{◌≡◌, ℕ, ◌≤◌, ◌<◌, ◌↔◌, ◌⊎◌, List, ◌++◌, Option, Result, Ok, Err, Contains, codes, length}
 use Rattle.std.specs.Io.KnownBytes.{Keeps}
 use Rattle.u_check.specs.Jobs.{JobParts}
@@ -22,12 +23,9 @@ use Rattle.u_commands.specs.Runs.{IsJobOf, JobRefused, ReportsMachine}
 use Rattle.u_commands.specs.declared.command_error.CommandError.{CommandError}
 use Rattle.u_commands.specs.declared.command_error.CommandError.TheVariants as faults
 
--- how many firings a restored replica takes at most, and how many it fires
+-- how many firings a restored replica takes at most
 unfoldable pub most_taken : ℕ
 most_taken = 1000000
-
-unfoldable pub most_fired : ℕ
-most_fired = 100000
 
 -- what a checkpoint has, and what was fired since
 abbrev pub SavedOrFired : List Firing → List Firing → Firing → Type 0
@@ -46,25 +44,25 @@ pub record GoesOn (job : JobParts) (fs gs : List Firing) (m : State) : Type 0 wh
   pub history : Same (Contains m.history) (Cl (system_of job) (SavedOrFired fs gs))
 
 -- The report and the status of a machine that took fs and then fired so many at most.
-pub record ReportsOn (job : JobParts) (fs : List Firing) (report : List ℕ) (status : ℕ) : Type 0 where
+pub record ReportsOn (job : JobParts) (firings : ℕ) (fs : List Firing) (report : List ℕ) (status : ℕ) : Type 0 where
   pub state : Ending
   pub gs : List Firing
   pub machine : State
   pub goes : GoesOn job fs gs machine
-  pub few : length gs ≤ most_fired
+  pub few : length gs ≤ firings
   pub reported : ReportsMachine machine state report status
   -- it says quiet exactly where nothing is ready, and then the history is the whole one
   pub quiet : (state ≡ states.Quiet) ↔ NothingReady machine
   pub whole : state ≡ states.Quiet → Same (Contains machine.history) (Whole (system_of job))
   -- it says paused only where it fired as often as it may
-  pub many : state ≡ states.Paused → length gs ≡ most_fired
+  pub many : state ≡ states.Paused → length gs ≡ firings
 
 -- a machine that took fs and then fired fewer than it may: something is ready, and there is no room for it
-pub record FillsUp (job : JobParts) (fs : List Firing) : Type 0 where
+pub record FillsUp (job : JobParts) (firings : ℕ) (fs : List Firing) : Type 0 where
   pub gs : List Firing
   pub machine : State
   pub goes : GoesOn job fs gs machine
-  pub few : length gs < most_fired
+  pub few : length gs < firings
   pub ready : (f : Firing) × IsReady machine f
   pub full : count_of machine ≡ most_taken
 
@@ -75,28 +73,28 @@ ending_line endings.Torn = codes "checkpoint torn\n"
 
 -- what is written for a checkpoint: how it ended, and the report of what goes on from the firings of its
 -- complete lines, all of which are the job's
-pub record RestoresJob (job : JobParts) (checkpoint written : List ℕ) (status : ℕ) : Type 0 where
+pub record RestoresJob (job : JobParts) (firings : ℕ) (checkpoint written : List ℕ) (status : ℕ) : Type 0 where
   pub ending : CheckpointEnding
   pub fs : List Firing
   pub read : IsCheckpointOf checkpoint ending fs
-  pub firings : AreFirings job fs
+  pub of_job : AreFirings job fs
   pub report : List ℕ
-  pub on : ReportsOn job fs report status
+  pub on : ReportsOn job firings fs report status
   pub is : written ≡ ending_line ending ++ report
 
 -- firings of the job that are more than a replica takes, or that it goes on from until it is full
-abbrev pub HasNoRoom : JobParts → List Firing → Type 0
-HasNoRoom job fs = AreFirings job fs × (IsTooLong (blank job most_taken) fs ⊎ FillsUp job fs)
+abbrev pub HasNoRoom : JobParts → ℕ → List Firing → Type 0
+HasNoRoom job firings fs = AreFirings job fs × (IsTooLong (blank job most_taken) fs ⊎ FillsUp job firings fs)
 
 -- why no report comes of a job's checkpoint: its first line that is not allowed, or is too long; or its
 -- first firing that is none of the job; or there is no room
-abbrev pub CheckpointRefused : JobParts → List ℕ → CommandError → Type 0
-CheckpointRefused job checkpoint (faults.CheckpointLineNotAllowed n) = IsCheckpointErrorOf checkpoint (errors.BadLine n)
-CheckpointRefused job checkpoint (faults.CheckpointLineTooLong n) = IsCheckpointErrorOf checkpoint (errors.TooLong n)
-CheckpointRefused job checkpoint (faults.OtherFiring place) = WasRead checkpoint (λ fs. IsFirstOther job fs place)
-CheckpointRefused job checkpoint faults.Full = WasRead checkpoint (λ fs. HasNoRoom job fs)
-CheckpointRefused job checkpoint faults.NoMemory = Unit {0}
-CheckpointRefused job checkpoint fault = ⊥
+abbrev pub CheckpointRefused : JobParts → ℕ → List ℕ → CommandError → Type 0
+CheckpointRefused job firings checkpoint (faults.CheckpointLineNotAllowed n) = IsCheckpointErrorOf checkpoint (errors.BadLine n)
+CheckpointRefused job firings checkpoint (faults.CheckpointLineTooLong n) = IsCheckpointErrorOf checkpoint (errors.TooLong n)
+CheckpointRefused job firings checkpoint (faults.OtherFiring place) = WasRead checkpoint (λ fs. IsFirstOther job fs place)
+CheckpointRefused job firings checkpoint faults.Full = WasRead checkpoint (λ fs. HasNoRoom job firings fs)
+CheckpointRefused job firings checkpoint faults.NoMemory = Unit {0}
+CheckpointRefused job firings checkpoint fault = ⊥
 
 -- the fault that is told of a run that was refused
 abbrev pub fault_of : Refusal → CommandError
@@ -109,16 +107,16 @@ pub record HasJob (bytes word : List ℕ) (P : JobParts → Type 0) : Type 0 whe
   pub is : IsJobOf bytes word job
   pub so : P job
 
-abbrev pub Restores : List ℕ → List ℕ → List ℕ → List ℕ → ℕ → Type 0
-Restores bytes word checkpoint written status = HasJob bytes word (λ job. RestoresJob job checkpoint written status)
+abbrev pub Restores : List ℕ → List ℕ → List ℕ → ℕ → List ℕ → ℕ → Type 0
+Restores bytes word checkpoint firings written status = HasJob bytes word (λ job. RestoresJob job firings checkpoint written status)
 
 -- why nothing is written: the program or the argument is refused, as by `run`; or else the checkpoint is
-abbrev pub RestoreRefused : List ℕ → List ℕ → List ℕ → CommandError → Type 0
-RestoreRefused bytes word checkpoint fault = JobRefused bytes word fault ⊎ HasJob bytes word (λ job. CheckpointRefused job checkpoint fault)
+abbrev pub RestoreRefused : List ℕ → List ℕ → List ℕ → ℕ → CommandError → Type 0
+RestoreRefused bytes word checkpoint firings fault = JobRefused bytes word fault ⊎ HasJob bytes word (λ job. CheckpointRefused job firings checkpoint fault)
 
 -- what stands before and after, for each answer
-abbrev pub RestoreTextAnswer : List ℕ → List ℕ → List ℕ → Option (List ℕ) → Result ℕ CommandError → Option (List ℕ) → Type 0
-RestoreTextAnswer bytes word checkpoint old (Ok status) new = (written : List ℕ) × Restores bytes word checkpoint written status × WritesAll old new written
-RestoreTextAnswer bytes word checkpoint old (Err faults.NotWritten) new =
-    (written : List ℕ) × (status : ℕ) × Restores bytes word checkpoint written status × WritesPrefix old new written
-RestoreTextAnswer bytes word checkpoint old (Err fault) new = RestoreRefused bytes word checkpoint fault × Keeps old new
+abbrev pub RestoreTextAnswer : List ℕ → List ℕ → List ℕ → ℕ → Option (List ℕ) → Result ℕ CommandError → Option (List ℕ) → Type 0
+RestoreTextAnswer bytes word checkpoint firings old (Ok status) new = (written : List ℕ) × Restores bytes word checkpoint firings written status × WritesAll old new written
+RestoreTextAnswer bytes word checkpoint firings old (Err faults.NotWritten) new =
+    (written : List ℕ) × (status : ℕ) × Restores bytes word checkpoint firings written status × WritesPrefix old new written
+RestoreTextAnswer bytes word checkpoint firings old (Err fault) new = RestoreRefused bytes word checkpoint firings fault × Keeps old new

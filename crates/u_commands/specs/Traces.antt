@@ -1,4 +1,5 @@
--- What `trace` answers to the bytes of a program, the word of an argument and the text of an entry.
+-- What `trace` answers to the bytes of a program, the word of an argument, the text of an entry and how many
+-- firings the run may have.
 use Rattle.std.specs.Prelude.{◌≡◌, ℕ, ◌⊎◌, List, ◌∷◌, ◌++◌, Option, Result, Ok, Err, Contains, codes, length, map}
 use Rattle.std.specs.Io.KnownBytes.{Keeps}
 use Rattle.u_check.specs.Jobs.{JobParts}
@@ -23,10 +24,6 @@ use Rattle.u_commands.specs.Restores.{HasJob}
 use Rattle.u_commands.specs.declared.command_error.CommandError.{CommandError}
 use Rattle.u_commands.specs.declared.command_error.CommandError.TheVariants as faults
 
--- how many firings a run that is traced has at most
-unfoldable pub most_traced : ℕ
-most_traced = 100000
-
 -- a line with the word and the number of firings, and a line for each firing
 abbrev pub counted : List ℕ → List Firing → List ℕ
 counted word fs = numbered word (length fs) ++ (10 ∷ ended (map firing_text fs))
@@ -42,8 +39,8 @@ IsCauseIn job fs e f = Enabled (system_of job) (Held (system_of job) fs) f × Co
 -- fs is the plain run of the job: each firing the least that is enabled and new, so many at most. It holds
 -- the entry. What is written are all firings that give the entry and whose needs the run holds, in order, each
 -- once; and the story of the entry in this run.
-pub record TracesRun (job : JobParts) (e : Entry) (fs : List Firing) (written : List ℕ) : Type 0 where
-  pub plain : Plain (system_of job) firing_le most_traced fs
+pub record TracesRun (job : JobParts) (firings : ℕ) (e : Entry) (fs : List Firing) (written : List ℕ) : Type 0 where
+  pub plain : Plain (system_of job) firing_le firings fs
   pub held : Held (system_of job) fs e
   pub causes : List Firing
   pub exact : IsListOf firing_cmp (IsCauseIn job fs e) causes
@@ -52,10 +49,11 @@ pub record TracesRun (job : JobParts) (e : Entry) (fs : List Firing) (written : 
   pub tells : Tells (system_of job) fs e story
   pub is : written ≡ traced_text causes story
 
--- a machine of the job that ran plainly: its log is the run, and its history is what the log holds
-pub record RanPlainly (job : JobParts) (m : State) : Type 0 where
+-- a machine of the job that ran plainly, with so many firings at most: its log is the run, and its history is
+-- what the log holds
+pub record RanPlainly (job : JobParts) (firings : ℕ) (m : State) : Type 0 where
   pub of : m.job ≡ job
-  pub plain : Plain (system_of job) firing_le most_traced m.log
+  pub plain : Plain (system_of job) firing_le firings m.log
   pub held : Same (Contains m.history) (Held (system_of job) m.log)
 
 -- the fault that is told where nothing is traced
@@ -63,18 +61,18 @@ abbrev pub trace_fault : TraceError → CommandError
 trace_fault trace_errors.NotHeld = faults.EntryNotHeld
 trace_fault trace_errors.NoMemory = faults.NoMemory
 
-abbrev pub TracesJob : JobParts → Entry → List ℕ → Type 0
-TracesJob job e written = (fs : List Firing) × TracesRun job e fs written
+abbrev pub TracesJob : JobParts → ℕ → Entry → List ℕ → Type 0
+TracesJob job firings e written = (fs : List Firing) × TracesRun job firings e fs written
 
 -- the plain run of the job does not hold the entry
-abbrev pub LacksEntry : JobParts → Entry → Type 0
-LacksEntry job e = (fs : List Firing) × Plain (system_of job) firing_le most_traced fs × (Held (system_of job) fs e → ⊥)
+abbrev pub LacksEntry : JobParts → ℕ → Entry → Type 0
+LacksEntry job firings e = (fs : List Firing) × Plain (system_of job) firing_le firings fs × (Held (system_of job) fs e → ⊥)
 
 -- why an entry of a job is not traced
-abbrev pub TraceRefused : JobParts → Entry → CommandError → Type 0
-TraceRefused job e faults.EntryNotHeld = LacksEntry job e
-TraceRefused job e faults.NoMemory = Unit {0}
-TraceRefused job e fault = ⊥
+abbrev pub TraceRefused : JobParts → ℕ → Entry → CommandError → Type 0
+TraceRefused job firings e faults.EntryNotHeld = LacksEntry job firings e
+TraceRefused job firings e faults.NoMemory = Unit {0}
+TraceRefused job firings e fault = ⊥
 
 -- why the word is no entry: the first byte with which no entry's text goes on
 abbrev pub EntryRefused : List ℕ → CommandError → Type 0
@@ -86,18 +84,20 @@ EntryRefused text fault = ⊥
 abbrev pub HasEntry : List ℕ → List ℕ → List ℕ → (JobParts → Entry → Type 0) → Type 0
 HasEntry bytes word text P = HasJob bytes word (λ job. (e : Entry) × IsEntryOf text e × P job e)
 
-abbrev pub Traces : List ℕ → List ℕ → List ℕ → List ℕ → Type 0
-Traces bytes word text written = HasEntry bytes word text (λ job e. TracesJob job e written)
+abbrev pub Traces : List ℕ → List ℕ → List ℕ → ℕ → List ℕ → Type 0
+Traces bytes word text firings written = HasEntry bytes word text (λ job e. TracesJob job firings e written)
 
 -- why nothing is written: the program or the argument is refused, as by `run`; or else the entry's text;
 -- or else the run does not hold it
-abbrev pub NotTraced : List ℕ → List ℕ → List ℕ → CommandError → Type 0
-NotTraced bytes word text fault =
+abbrev pub NotTraced : List ℕ → List ℕ → List ℕ → ℕ → CommandError → Type 0
+NotTraced bytes word text firings fault =
     JobRefused bytes word fault
-    ⊎ (HasJob bytes word (λ job. EntryRefused text fault) ⊎ HasEntry bytes word text (λ job e. TraceRefused job e fault))
+    ⊎ (HasJob bytes word (λ job. EntryRefused text fault) ⊎ HasEntry bytes word text (λ job e. TraceRefused job firings e fault))
 
 -- what stands before and after, for each answer
-abbrev pub TraceTextAnswer : List ℕ → List ℕ → List ℕ → Option (List ℕ) → Result ℕ CommandError → Option (List ℕ) → Type 0
-TraceTextAnswer bytes word text old (Ok status) new = (status ≡ 0) × ((written : List ℕ) × Traces bytes word text written × WritesAll old new written)
-TraceTextAnswer bytes word text old (Err faults.NotWritten) new = (written : List ℕ) × Traces bytes word text written × WritesPrefix old new written
-TraceTextAnswer bytes word text old (Err fault) new = NotTraced bytes word text fault × Keeps old new
+abbrev pub TraceTextAnswer : List ℕ → List ℕ → List ℕ → ℕ → Option (List ℕ) → Result ℕ CommandError → Option (List ℕ) → Type 0
+TraceTextAnswer bytes word text firings old (Ok status) new =
+    (status ≡ 0) × ((written : List ℕ) × Traces bytes word text firings written × WritesAll old new written)
+TraceTextAnswer bytes word text firings old (Err faults.NotWritten) new =
+    (written : List ℕ) × Traces bytes word text firings written × WritesPrefix old new written
+TraceTextAnswer bytes word text firings old (Err fault) new = NotTraced bytes word text firings fault × Keeps old new

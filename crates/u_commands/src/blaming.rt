@@ -4,14 +4,13 @@ ghost use Rattle.u_name.specs.Context.{IsBetween};
 ghost use Rattle.u_name.specs.NameReading.{IsNameOf};
 ghost use Rattle.u_history.specs.Report.{cell_line};
 ghost use Rattle.u_commands.specs.Traces.{RanPlainly};
-ghost use Rattle.u_commands.specs.Blaming.{write_lines, blamed_text, blame_fault, NameRefused};
+ghost use Rattle.u_commands.specs.Blaming.{most_blamed, write_lines, blamed_text, blame_fault, NameRefused};
 ghost use Rattle.u_commands.specs.Blaming.{BlamesJob, BlameRefused, BlameTextAnswer};
 ghost use Rattle.u_commands.specs.declared.command_error.CommandError.TheVariants as faults;
 
 use crate::command_error::CommandError;
 use crate::output::write_whole;
 use crate::run::{job_of, ran};
-use crate::tracing::TRACED_FIRINGS;
 use std::alloc::{AllocError, Global};
 use std::io::Write;
 use u_check::Job;
@@ -19,6 +18,9 @@ use u_machine::Machine;
 use u_name::{Cell, Name, NameTextError};
 use u_rule::Written;
 use u_trace::{Blame, BlameError, BlamedWrite, blame};
+
+/// How many firings a run that is looked at has at most.
+const BLAMED_FIRINGS: usize = 100_000;
 
 /// The name with this text.
 fn name_of(alloc: Global, word: &[u8]) -> Result<Name, CommandError>
@@ -99,7 +101,7 @@ fn blamed(
     activity: &Name,
     port: u8,
 ) -> Result<Vec<u8>, CommandError>
-    requires ran { RanPlainly machine.now.job machine.now }
+    requires ran { RanPlainly machine.now.job most_blamed machine.now }
     requires port { IsBetween 1 port 3 }
     ensures { MatchResult result (λ v. BlamesJob machine.now.job activity.now port v.items)
         (λ fault. BlameRefused machine.now.job activity.now port fault) }
@@ -120,7 +122,7 @@ fn blame_job(alloc: Global, job: &Job, activity: &Name, port: u8) -> Result<Vec<
     ensures { MatchResult result (λ v. BlamesJob job.now activity.now port v.items)
         (λ fault. BlameRefused job.now activity.now port fault) }
 {
-    let (machine, _) = ran(alloc, job, TRACED_FIRINGS)?;
+    let (machine, _) = ran(alloc, job, BLAMED_FIRINGS)?;
     blamed(alloc, &machine, activity, port)
 }
 

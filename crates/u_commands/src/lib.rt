@@ -22,7 +22,7 @@ pub use command_error::CommandError;
 pub use explaining::explain_text;
 pub use input::{INPUT_LIMIT, read_input};
 pub use output::{Unwritten, push_numbered, write_whole};
-pub use restoring::{RESTORED_FIRINGS, restore_text, run_behind};
+pub use restoring::{restore_text, run_behind};
 pub use run::{FIRING_LIMIT, job_of, report_of, run_text};
 pub use saving::save_text;
 pub use tracing::trace_text;

@@ -1,5 +1,5 @@
 //! The command `restore`.
-ghost use Rattle.std.specs.Prelude.{◌≡◌, MatchResult};
+ghost use Rattle.std.specs.Prelude.{◌≡◌, MatchResult, ℕ};
 ghost use Rattle.u_replica.specs.Restoring.{IsRestored};
 ghost use Rattle.u_commands.specs.Runs.{RunsBehind, RunRefused};
 ghost use Rattle.u_commands.specs.Restores.{most_taken, fault_of, ending_line, RestoresJob, CheckpointRefused, RestoreTextAnswer};
@@ -13,9 +13,6 @@ use u_check::Job;
 use u_machine::Refusal;
 use u_replica::{Ending, Replica, RestoreError};
 
-/// How many firings a restored replica fires at most.
-pub const RESTORED_FIRINGS: usize = 100_000;
-
 /// A replica of the job that took the firings of the checkpoint, and how the checkpoint ended.
 #[tactic(auto, unfolding(crate::specs::Restores::most_taken), using(crate::proofs::Restored::too_many))]
 fn restored<'a>(
@@ -25,7 +22,7 @@ fn restored<'a>(
 ) -> Result<(Replica<'a>, Ending), CommandError>
     ensures { MatchResult result
         (λ p. IsRestored job.now most_taken 1 1 checkpoint.now p.1 p.0)
-        (λ fault. CheckpointRefused job.now checkpoint.now fault) }
+        (λ fault. (n : ℕ) → CheckpointRefused job.now n checkpoint.now fault) }
 {
     match Replica::restore(alloc, job, FIRING_LIMIT, 1, 1, checkpoint) {
         Ok(restored) => Ok(restored),
@@ -81,20 +78,29 @@ pub fn run_behind(
     Ok((written, status))
 }
 
-/// How the checkpoint ended and the report of a replica that goes on from it, and the exit status.
-fn restore_job(alloc: Global, job: &Job, checkpoint: &[u8]) -> Result<(Vec<u8>, u8), CommandError>
+/// How the checkpoint ended and the report of a replica that goes on from it with so many firings at
+/// most, and the exit status.
+fn restore_job(
+    alloc: Global,
+    job: &Job,
+    checkpoint: &[u8],
+    firings: usize,
+) -> Result<(Vec<u8>, u8), CommandError>
     ensures { MatchResult result
-        (λ p. RestoresJob job.now checkpoint.now p.0.items p.1)
-        (λ fault. CheckpointRefused job.now checkpoint.now fault) }
+        (λ p. RestoresJob job.now firings checkpoint.now p.0.items p.1)
+        (λ fault. CheckpointRefused job.now firings checkpoint.now fault) }
 {
-    let (mut replica, ending) = restored(alloc, job, checkpoint)?;
-    run_behind(alloc, ending_line(ending), &mut replica, RESTORED_FIRINGS)
+    let (mut replica, ending) = match restored(alloc, job, checkpoint) {
+        Ok(restored) => restored,
+        Err(fault) => return Err(fault),
+    };
+    run_behind(alloc, ending_line(ending), &mut replica, firings)
 }
 
 /// Restores a replica of the program with this text, on the argument that the word gives, from the
-/// bytes of a checkpoint, whole or torn; fires 100,000 times at most; and writes the line
-/// `checkpoint whole` or `checkpoint torn` and the report. Answers the exit status, that of
-/// `run_text`.
+/// bytes of a checkpoint, whole or torn; fires so many times at most after those of the checkpoint; and
+/// writes the line `checkpoint whole` or `checkpoint torn` and the report. Answers the exit status, that
+/// of `run_text`.
 ///
 /// # Errors
 /// A fault of the program's text, of the checker, of the argument or of the checkpoint, in that
@@ -105,13 +111,14 @@ pub fn restore_text<W: Write>(
     program: &[u8],
     argument: &[u8],
     checkpoint: &[u8],
+    firings: usize,
     writer: &mut W,
 ) -> Result<u8, CommandError>
-    ensures { RestoreTextAnswer program.now argument.now checkpoint.now
+    ensures { RestoreTextAnswer program.now argument.now checkpoint.now firings
         (W.contents writer.old) result (W.contents writer.new) }
 {
     let job = job_of(alloc, program, argument)?;
-    let (written, status) = restore_job(alloc, &job, checkpoint)?;
+    let (written, status) = restore_job(alloc, &job, checkpoint, firings)?;
     match write_whole(writer, &written) {
         Ok(()) => Ok(status),
         Err(_) => Err(CommandError::NotWritten),

@@ -1,5 +1,5 @@
 //! The command `trace`.
-ghost use Rattle.std.specs.Prelude.{◌≡◌, ◌++◌, IfOk, IfErr, MatchResult};
+ghost use Rattle.std.specs.Prelude.{◌≡◌, ◌≤◌, ◌++◌, IfOk, IfErr, MatchResult, ℕ};
 ghost use Rattle.u_rule.specs.EntryReading.{IsEntryOf};
 ghost use Rattle.u_commands.specs.Traces.{counted, traced_text, trace_fault, RanPlainly, EntryRefused};
 ghost use Rattle.u_commands.specs.Traces.{TracesJob, TraceRefused, TraceTextAnswer};
@@ -15,9 +15,6 @@ use u_delta::write_firings;
 use u_machine::Machine;
 use u_rule::{Entry, Firing, TextError};
 use u_trace::{TraceError, causes, story};
-
-/// How many firings a run that is traced has at most.
-pub const TRACED_FIRINGS: usize = 100_000;
 
 /// The entry with this text.
 fn entry_of(alloc: Global, word: &[u8]) -> Result<Entry, CommandError>
@@ -62,9 +59,11 @@ fn traced_text(alloc: Global, causes: &[Firing], story: &[Firing]) -> Result<Vec
 
 /// The causes and the story of an entry of the machine.
 fn traced(alloc: Global, machine: &Machine<'_>, entry: &Entry) -> Result<Vec<u8>, CommandError>
-    requires { RanPlainly machine.now.job machine.now }
-    ensures { MatchResult result (λ v. TracesJob machine.now.job entry.now v.items)
-        (λ fault. TraceRefused machine.now.job entry.now fault) }
+    ensures { MatchResult result
+        (λ v. (n : ℕ) → RanPlainly machine.now.job n machine.now
+        → TracesJob machine.now.job n entry.now v.items)
+        (λ fault. (n : ℕ) → RanPlainly machine.now.job n machine.now
+        → TraceRefused machine.now.job n entry.now fault) }
 {
     let told = match story(alloc, machine, entry) {
         Ok(told) => told,
@@ -78,16 +77,22 @@ fn traced(alloc: Global, machine: &Machine<'_>, entry: &Entry) -> Result<Vec<u8>
     Ok(text)
 }
 
-/// The causes and the story of the entry, after a run of the job.
-fn trace_job(alloc: Global, job: &Job, entry: &Entry) -> Result<Vec<u8>, CommandError>
-    ensures { MatchResult result (λ v. TracesJob job.now entry.now v.items)
-        (λ fault. TraceRefused job.now entry.now fault) }
+/// The causes and the story of the entry, after a run of the job with so many firings at most.
+fn trace_job(
+    alloc: Global,
+    job: &Job,
+    entry: &Entry,
+    firings: usize,
+) -> Result<Vec<u8>, CommandError>
+    requires { firings ≤ 1000000 }
+    ensures { MatchResult result (λ v. TracesJob job.now firings entry.now v.items)
+        (λ fault. TraceRefused job.now firings entry.now fault) }
 {
-    let (machine, _) = ran(alloc, job, TRACED_FIRINGS)?;
+    let (machine, _) = ran(alloc, job, firings)?;
     traced(alloc, &machine, entry)
 }
 
-/// Runs the program with this text on the argument that the word gives, with 100,000 firings at most,
+/// Runs the program with this text on the argument that the word gives, with so many firings at most,
 /// and writes all firings that give the entry, and the story of how this run came to it. Answers the
 /// exit status, 0.
 ///
@@ -100,14 +105,16 @@ pub fn trace_text<W: Write>(
     program: &[u8],
     argument: &[u8],
     entry: &[u8],
+    firings: usize,
     writer: &mut W,
 ) -> Result<u8, CommandError>
-    ensures { TraceTextAnswer program.now argument.now entry.now (W.contents writer.old) result
-        (W.contents writer.new) }
+    requires { firings ≤ 1000000 }
+    ensures { TraceTextAnswer program.now argument.now entry.now firings (W.contents writer.old)
+        result (W.contents writer.new) }
 {
     let job = job_of(alloc, program, argument)?;
     let entry = entry_of(alloc, entry)?;
-    let written = match trace_job(alloc, &job, &entry) {
+    let written = match trace_job(alloc, &job, &entry, firings) {
         Ok(written) => written,
         Err(fault) => return Err(fault),
     };

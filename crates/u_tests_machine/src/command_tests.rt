@@ -5,8 +5,8 @@ use std::alloc::Global;
 use std::io;
 use std::io::Read;
 use u_cli::{
-    Asked, CommandError, FIRING_LIMIT, INPUT_LIMIT, STORED_PROGRAM, argument_of, check_text,
-    read_input, run_text, trace_text, world_text, write_whole,
+    Asked, CommandError, FIRING_LIMIT, INPUT_LIMIT, STORED_PROGRAM, WorldPlan, argument_of,
+    check_text, read_input, run_text, trace_text, world_text, write_whole,
 };
 use u_plain::examples::DOUBLE;
 use u_words::{firings_of, number_of};
@@ -131,14 +131,20 @@ fn tells_of_a_check(alloc: Global, count: usize) -> bool {
 /// The same of a trace.
 fn tells_of_a_trace(alloc: Global, count: usize) -> bool {
     let mut torn = Torn { left: count };
-    let told = trace_text(alloc, STORED_PROGRAM, b"4", b"a 8", &mut torn);
+    let told = trace_text(alloc, STORED_PROGRAM, b"4", b"a 8", 100, &mut torn);
     is_told(&told, &torn)
 }
 
 /// The same of a world.
 fn tells_of_a_world(alloc: Global, count: usize) -> bool {
     let mut torn = Torn { left: count };
-    let told = world_text(alloc, STORED_PROGRAM, b"4", 2, 1, 10, &mut torn);
+    let plan = WorldPlan {
+        replicas: 2,
+        seed: 1,
+        events: 10,
+        firings: 100,
+    };
+    let told = world_text(alloc, STORED_PROGRAM, b"4", plan, &mut torn);
     is_told(&told, &torn)
 }
 

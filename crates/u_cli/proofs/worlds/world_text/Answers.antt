@@ -3,5 +3,5 @@ use Rattle.u_cli.proofs.worlds.world_text.Goals as goal
 
 pub returns-in-Err : goal.returns-in-Err
 returns-in-Err g c =
-    not_told _ _ c.args.replicas c.args.seed c.args.events _ c.in-Err.fault
+    not_told _ _ c.args.plan _ c.in-Err.fault
     (record { job = c.in_ok-job.job; is = c.in_ok-job.ensures; so = c.in-Err.ensures })

@@ -2,13 +2,14 @@ use Rattle.std.proofs.Common.{subst, sym}
 use Rattle.std.specs.Prelude.{MatchResult}
 use Rattle.u_check.specs.Jobs.{JobParts}
 use Rattle.u_commands.specs.Traces.{RanPlainly}
-use Rattle.u_commands.specs.Blaming.{BlamesJob, BlameRefused}
+use Rattle.u_commands.specs.Blaming.{most_blamed, BlamesJob, BlameRefused}
 use Rattle.u_commands.proofs.Traced.{ran_plainly}
 use Rattle.u_commands.proofs.blaming.blame_job.Goals as goal
 
 pub blamed-requires-clause-ran : goal.blamed-requires-clause-ran
+unfolding most_blamed
 blamed-requires-clause-ran c =
-    subst (λ (j : JobParts). RanPlainly j c.in_ok-machine.machine) (sym c.in_ok-machine.ensures.ok.of) (ran_plainly c.args.job.now c.in_ok-machine.machine _ c.in_ok-machine.ensures.ok)
+    subst (λ (j : JobParts). RanPlainly j most_blamed c.in_ok-machine.machine) (sym c.in_ok-machine.ensures.ok.of) (ran_plainly c.args.job.now most_blamed c.in_ok-machine.machine _ c.in_ok-machine.ensures.ok)
 
 pub returns : goal.returns
 returns c =
