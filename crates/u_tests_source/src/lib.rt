@@ -1,0 +1,5 @@
+//! The tests of the notation's reader, on worked texts.
+#![tactic(auto)]
+
+#[cfg(test)]
+mod token_tests;
