@@ -1,0 +1,9 @@
+pub mod Dot
+pub mod Names
+pub mod Styles
+pub mod Sharing
+pub mod Clusters
+pub mod Arcs
+pub mod Picture
+pub mod Told
+pub mod Leads

@@ -1,0 +1,79 @@
+//! The picture of a program.
+ghost use Rattle.std.specs.Prelude.{◌≡◌, ◌++◌, ◌∷◌, OnOk, OnErr};
+ghost use Rattle.u_text.specs.Appending.{Extends};
+ghost use Rattle.u_draw.specs.Dot.{text, picture_text};
+ghost use Rattle.u_program.specs.Text.{header, program_lines};
+ghost use Rattle.u_draw.specs.Picture.{block_picture, picture};
+ghost use Rattle.u_draw.specs.Told.{told};
+ghost use Rattle.u_draw.specs.Leads.{DrawsBlock};
+ghost use Rattle.std.specs.List.{AllByRecursion};
+
+use crate::arcs::push_arcs;
+use crate::clusters::push_clusters;
+use crate::nodes::push_nodes;
+use std::alloc::AllocError;
+use u_program::{Block, Program};
+use u_text::cut_back;
+
+/// What begins the text: how a picture is laid out, and how nodes and arcs look that do not say so.
+const OPENING: &[u8] = b"digraph u {
+  graph [ rankdir=\"TB\" newrank=\"true\" nodesep=\"0.35\" ranksep=\"0.45\" fontname=\"Helvetica\" fontsize=\"11\" ];
+  node [ shape=\"Mrecord\" style=\"filled\" fontname=\"Helvetica\" fontsize=\"11\" margin=\"0.09,0.04\" height=\"0.3\" ];
+  edge [ arrowsize=\"0.6\" fontname=\"Helvetica\" fontsize=\"9\" ];
+";
+
+/// Appends the lines of the block. On an error a part of them may stand there.
+#[tactic(auto, unfolding(crate::specs::Picture::block_picture), using(u_text::proofs::AppendingLaws::extends_behind, crate::proofs::Shows::text_three))]
+fn push_block(out: &mut Vec<u8>, block: &Block) -> Result<(), AllocError>
+    ensures ok { OnOk result (out.new.items ≡ out.old.items ++ text (block_picture block.now)) }
+    ensures err { OnErr result (Extends out.old.items out.new.items) }
+{
+    push_clusters(out, block)?;
+    push_nodes(out, block)?;
+    push_arcs(out, block)?;
+    Ok(())
+}
+
+/// Appends the lines of the blocks. On an error a part of them may stand there.
+#[tactic(auto, using(u_text::proofs::AppendingLaws::extends_by, u_text::proofs::AppendingLaws::extends_behind))]
+fn push_blocks(out: &mut Vec<u8>, blocks: &[Block]) -> Result<(), AllocError>
+    ensures ok { OnOk result (out.new.items ≡ out.old.items ++ text (picture blocks.now)) }
+    ensures err { OnErr result (Extends out.old.items out.new.items) }
+{
+    for block in blocks {
+        push_block(out, block)?;
+    }
+    Ok(())
+}
+
+/// Appends the picture's text. On an error a part of it may stand there.
+#[tactic(auto, unfolding(crate::specs::Dot::picture_text), using(u_text::proofs::AppendingLaws::extends_same, u_text::proofs::AppendingLaws::extends_behind, crate::proofs::Texts::join3))]
+fn push_picture(out: &mut Vec<u8>, program: &Program) -> Result<(), AllocError>
+    ensures ok { OnOk result
+        (out.new.items ≡ out.old.items ++ picture_text (picture program.now.blocks)) }
+    ensures err { OnErr result (Extends out.old.items out.new.items) }
+{
+    out.extend_from_slice(OPENING)?;
+    push_blocks(out, program.blocks())?;
+    out.extend_from_slice(b"}\n")?;
+    Ok(())
+}
+
+/// Appends the picture of the program, as a text of DOT, the language of Graphviz: a line for each
+/// cluster, statement, arc and shared list. The tooltips of its clusters and nodes are the lines of the
+/// program, in their order.
+///
+/// # Errors
+/// `AllocError` where there is no memory. Then `out` is as it was.
+#[tactic(auto, using(u_text::proofs::AppendingLaws::extends_cut, crate::proofs::TextLaws::lines_told, crate::proofs::DrawnLaws::draws_blocks))]
+pub fn write_picture(out: &mut Vec<u8>, program: &Program) -> Result<(), AllocError>
+    ensures ok { OnOk result
+        (out.new.items ≡ out.old.items ++ picture_text (picture program.now.blocks)) }
+    ensures err { OnErr result (out.new.items ≡ out.old.items) }
+    ensures blocks { AllByRecursion DrawsBlock program.now.blocks }
+    ensures lines { header ∷ told (picture program.now.blocks) ≡ program_lines program.now.blocks }
+{
+    let len = out.len();
+    let written = push_picture(out, program);
+    cut_back(out, len, written)
+}
