@@ -12,6 +12,7 @@ use u_cli::{
     explain_text, fleet_text, read_input, restore_text, run_text, save_text, share_text,
     trace_text, waits_text, world_text,
 };
+use u_pictures::draw_text;
 
 /// The argument of the stored run, and how often it may fire.
 const STORED_ARGUMENT: &[u8] = b"4";
@@ -62,6 +63,12 @@ fn not_readable(rt: &HostRuntime, path: &str) -> Result<u8, CommandError> {
 fn first_byte(rt: &HostRuntime, path: &str) -> Result<usize, io::Error> {
     let mut opened = fs::open(rt, path)?;
     opened.read(&mut [0])
+}
+
+/// `draw FILE`.
+pub fn draw(rt: &HostRuntime, file: &str) -> Result<u8, CommandError> {
+    let program = read_file(rt, file)?;
+    draw_text(rt.alloc(), &program, &mut io::writer(rt))
 }
 
 /// `run FILE ARG`, with so many firings at most.

@@ -99,6 +99,7 @@ fn follow<T: Threads + Wait + Sync>(
             },
         ),
         Request::Explain { file, strict } => commands::explain(rt, file, strict),
+        Request::Draw { file } => commands::draw(rt, file),
         Request::Run {
             file,
             argument,

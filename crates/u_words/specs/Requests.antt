@@ -3,7 +3,7 @@ use Rattle.std.specs.Prelude.{◌≡◌, ◌↔◌, ℕ, ◌≤◌, Bool, true, 
 use Rattle.clap.specs.Words.{first_value}
 use Rattle.clap.specs.declared.parser.matches.Found.{Found}
 use Rattle.u_words.specs.declared.words.Request.{Request}
-use Rattle.u_words.specs.declared.words.Request.TheVariants.{Stored, Check, Explain, Run, Save, Restore, Trace, Blame, Waits, World, Fleet, Share}
+use Rattle.u_words.specs.declared.words.Request.TheVariants.{Stored, Check, Explain, Draw, Run, Save, Restore, Trace, Blame, Waits, World, Fleet, Share}
 use Rattle.u_words.specs.Numbers.{IsFirings, IsOneToEight, IsPort, IsNumberText}
 
 -- the numbers of a request are in their ranges: what runs may fire from one to a million times, a port
@@ -14,6 +14,7 @@ abbrev pub IsInRange : Request → Type 0
 IsInRange Stored = Unit {0}
 IsInRange (Check file strict determinate) = Unit {0}
 IsInRange (Explain file strict) = Unit {0}
+IsInRange (Draw file) = Unit {0}
 IsInRange (Run file argument firings) = IsFirings firings
 IsInRange (Save file argument firings) = IsFirings firings
 IsInRange (Restore file argument checkpoint firings) = IsFirings firings
@@ -50,6 +51,11 @@ abbrev pub IsExplainRequest : Found → Request → Type 0
 IsExplainRequest found (Explain file strict) =
     (file.now ≡ word_of found (codes "FILE")) × IsFlag strict (word_of found (codes "strict"))
 IsExplainRequest found request = ⊥
+
+-- a drawing, with the word that was found for it
+abbrev pub IsDrawRequest : Found → Request → Type 0
+IsDrawRequest found (Draw file) = file.now ≡ word_of found (codes "FILE")
+IsDrawRequest found request = ⊥
 
 -- these are the words that were found for FILE, ARG and the number of firings
 abbrev pub AreRunWords : Found → List ℕ → List ℕ → ℕ → Type 0

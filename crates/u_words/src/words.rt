@@ -2,7 +2,7 @@
 ghost use Rattle.std.specs.Prelude.{◌≡◌, IfOk, IfSome, codes};
 ghost use Rattle.clap.specs.Words.{found_of};
 ghost use Rattle.u_words.specs.Requests.{IsInRange, IsCheckRequest, IsRunRequest, IsSaveRequest, IsRestoreRequest, IsTraceRequest, IsWorldRequest, word_of};
-ghost use Rattle.u_words.specs.Requests.{IsExplainRequest, IsWaitsRequest, IsFleetRequest, IsFlag};
+ghost use Rattle.u_words.specs.Requests.{IsExplainRequest, IsDrawRequest, IsWaitsRequest, IsFleetRequest, IsFlag};
 ghost use Rattle.u_words.specs.Requests.{IsBlameRequest, IsShareRequest};
 ghost use Rattle.u_words.specs.Numbers.{IsFirings, IsOneToEight, IsPort, IsNumberText};
 
@@ -16,6 +16,9 @@ const CHECK: &str = "check";
 
 /// The word of the command that explains.
 const EXPLAIN: &str = "explain";
+
+/// The word of the command that draws.
+const DRAW: &str = "draw";
 
 /// The word of the command that says what waits.
 const WAITS: &str = "waits";
@@ -74,6 +77,10 @@ pub enum Request<'a> {
     Explain {
         file: &'a str,
         strict: bool,
+    },
+    /// `draw FILE`: the picture of the program.
+    Draw {
+        file: &'a str,
     },
     /// `run FILE ARG`: at most `firings` firings, from 1 to 1000000.
     Run {
@@ -154,6 +161,7 @@ pub fn parse<'a>(alloc: Global, words: &'a [String]) -> Result<Request<'a>, Erro
         None => Ok(Request::Stored),
         Some((name, check)) if name == CHECK => Ok(check_request(check)),
         Some((name, explain)) if name == EXPLAIN => Ok(explain_request(explain)),
+        Some((name, draw)) if name == DRAW => Ok(draw_request(draw)),
         Some((name, save)) if name == SAVE => save_request(alloc, save),
         Some((name, restore)) if name == RESTORE => restore_request(alloc, restore),
         Some((name, trace)) if name == TRACE => trace_request(alloc, trace),
@@ -200,6 +208,15 @@ fn explain_request<'a>(matches: &ArgMatches<'a>) -> Request<'a>
     Request::Explain {
         file: text(matches, "FILE"),
         strict: flag(matches, "strict"),
+    }
+}
+
+/// The words of `draw`.
+fn draw_request<'a>(matches: &ArgMatches<'a>) -> Request<'a>
+    ensures { IsDrawRequest (found_of matches.now) result }
+{
+    Request::Draw {
+        file: text(matches, "FILE"),
     }
 }
 
@@ -433,6 +450,7 @@ fn commands<'a>(alloc: Global) -> Result<Command<'a>, AllocError> {
         .disable_help_subcommand(true);
     let all = with(all, check(alloc))?;
     let all = with(all, explain(alloc))?;
+    let all = with(all, draw(alloc))?;
     let all = with(all, run(alloc, "run"))?;
     let all = with(all, save(alloc, SAVE))?;
     let all = with(all, restore(alloc, RESTORE))?;
@@ -505,6 +523,15 @@ fn explain<'a>(alloc: Global) -> Result<Command<'a>, AllocError> {
         "Example: ./u explain programs/double.u",
     )?
     .arg(choice(alloc, "strict").help("Say of an allowed program why it is not strict"))
+}
+
+fn draw<'a>(alloc: Global) -> Result<Command<'a>, AllocError> {
+    of_program(
+        alloc,
+        DRAW,
+        "Prints the picture of the program, as a text that Graphviz draws",
+        "Example: ./u draw programs/sum.u | dot -Tsvg -o sum.svg",
+    )
 }
 
 fn run<'a>(alloc: Global, name: &'a str) -> Result<Command<'a>, AllocError> {
