@@ -1,4 +1,4 @@
-//! Gates that say turns, and gates at which workers wait for each other.
+//! A gate that says what a script has, and at which workers may wait for each other.
 ghost use Rattle.std.specs.Bool.{⊤};
 
 use rand_core::utils::NextWord;
@@ -13,7 +13,7 @@ const LOOKS: usize = 10_000_000;
 
 /// What a worker writes down at the gate.
 #[derive(Drop)]
-pub struct Visit {
+struct Visit {
     /// 1 once the worker has come, and else 0.
     came: AtomicU64,
     /// 1 once the worker has seen there that the other one has come, and else 0.
@@ -59,63 +59,75 @@ impl Visit {
     }
 }
 
-/// The gate at which each of two workers waits for the other one after its first round.
-#[derive(Drop)]
-pub struct Meeting {
-    one: Visit,
-    two: Visit,
+/// What a gate says. Where nothing is said of a worker and a round, it is `Go`.
+#[derive(Clone, Copy)]
+pub enum Script {
+    /// `Go`.
+    Go,
+    /// That turn to worker 1, after that round.
+    Once(u32, Turn),
+    /// `Restart` to worker 1 after its second round, and `Stop` after its third.
+    RestartThenStop,
+    /// `Stop` to each worker after its first round.
+    Stop,
+    /// What is drawn by the seed. Worker 1 is not stopped.
+    Drawn(u64),
+    /// `Go`. Each of two workers waits for the other one after its first round.
+    Meeting,
+    /// `Stop` to worker 2 after its second round. Worker 1 waits after its first round until worker 2 has
+    /// had its first one, and worker 2 then waits until worker 1 has had six.
+    Ahead,
 }
 
-impl Meeting {
+/// What is drawn by the seed.
+fn drawn(seed: u64, worker: u8, round: u32) -> Turn {
+    let stream = u64::from(round) * 8 + u64::from(worker);
+    match Pcg32::new(seed, stream).next_word() % 4 {
+        0 => Turn::Restart,
+        1 if worker != 1 => Turn::Stop,
+        _ => Turn::Go,
+    }
+}
+
+/// The gate that says what its script has.
+#[derive(Drop)]
+pub struct Scripted {
+    script: Script,
+    first: Visit,
+    second: Visit,
+}
+
+impl Scripted {
     /// Nobody has come.
-    pub fn new() -> Meeting {
-        Meeting {
-            one: Visit::new(),
-            two: Visit::new(),
+    pub fn new(script: Script) -> Scripted {
+        Scripted {
+            script,
+            first: Visit::new(),
+            second: Visit::new(),
         }
     }
 
-    /// Whether each of the two has met the other one.
+    /// Whether both workers have met where the script has them meet.
     pub fn is_over(&self) -> bool {
-        self.one.met.load(SeqCst) == 1 && self.two.met.load(SeqCst) == 1
+        match self.script {
+            Script::Meeting => {
+                self.first.met.load(SeqCst) == 1 && self.second.met.load(SeqCst) == 1
+            }
+            _ => true,
+        }
     }
-}
 
-impl Gate for Meeting {
-    ghost may = { λ _ _ _. ⊤ };
-
-    fn pass(&self, worker: u8, round: u32) -> Turn {
+    /// The two workers meet.
+    fn meet(&self, worker: u8, round: u32) {
         match (worker, round) {
-            (1, 0) => self.one.meet(&self.two),
-            (2, 0) => self.two.meet(&self.one),
+            (1, 0) => self.first.meet(&self.second),
+            (2, 0) => self.second.meet(&self.first),
             _ => {}
         }
-        Turn::Go
     }
-}
 
-/// The gate at which worker 1 waits after its first round until worker 2 has had its first one, and worker
-/// 2 then waits until worker 1 has had six. It stops worker 2 after its second round.
-#[derive(Drop)]
-pub struct Ahead {
-    second: Visit,
-    first: Visit,
-}
-
-impl Ahead {
-    /// Nobody has come.
-    pub fn new() -> Ahead {
-        Ahead {
-            second: Visit::new(),
-            first: Visit::new(),
-        }
-    }
-}
-
-impl Gate for Ahead {
-    ghost may = { λ _ _ _. ⊤ };
-
-    fn pass(&self, worker: u8, round: u32) -> Turn {
+    /// Worker 1 goes ahead, and worker 2 is stopped.
+    fn ahead(&self, worker: u8, round: u32) -> Turn {
         match (worker, round) {
             (1, 0) => self.first.wait_for(&self.second),
             (1, 5) => self.first.come(),
@@ -127,51 +139,22 @@ impl Gate for Ahead {
     }
 }
 
-/// The gate that says one turn to worker 1, after one round. Else it says `Go`.
-#[derive(Clone, Copy)]
-pub struct Once {
-    pub round: u32,
-    pub turn: Turn,
-}
-
-impl Gate for Once {
+impl Gate for Scripted {
     ghost may = { λ _ _ _. ⊤ };
 
     fn pass(&self, worker: u8, round: u32) -> Turn {
-        if worker == 1 && round == self.round {
-            self.turn
-        } else {
-            Turn::Go
-        }
-    }
-}
-
-/// The gate that stops each worker after its first round.
-pub struct FirstOnly;
-
-impl Gate for FirstOnly {
-    ghost may = { λ _ _ _. ⊤ };
-
-    fn pass(&self, _worker: u8, _round: u32) -> Turn {
-        Turn::Stop
-    }
-}
-
-/// The gate whose turns are drawn by a seed. It doesn't stop worker 1.
-#[derive(Clone, Copy)]
-pub struct Drawn {
-    pub seed: u64,
-}
-
-impl Gate for Drawn {
-    ghost may = { λ _ _ _. ⊤ };
-
-    fn pass(&self, worker: u8, round: u32) -> Turn {
-        let stream = u64::from(round) * 8 + u64::from(worker);
-        match Pcg32::new(self.seed, stream).next_word() % 4 {
-            0 => Turn::Restart,
-            1 if worker != 1 => Turn::Stop,
-            _ => Turn::Go,
+        match self.script {
+            Script::Once(at, turn) if worker == 1 && round == at => turn,
+            Script::RestartThenStop if worker == 1 && round == 1 => Turn::Restart,
+            Script::RestartThenStop if worker == 1 && round == 2 => Turn::Stop,
+            Script::Stop => Turn::Stop,
+            Script::Drawn(seed) => drawn(seed, worker, round),
+            Script::Meeting => {
+                self.meet(worker, round);
+                Turn::Go
+            }
+            Script::Ahead => self.ahead(worker, round),
+            Script::Go | Script::Once(_, _) | Script::RestartThenStop => Turn::Go,
         }
     }
 }

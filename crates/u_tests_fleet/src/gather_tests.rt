@@ -2,13 +2,13 @@
 ghost use Rattle.std.specs.Prelude.{◌≡◌};
 
 use crate::calls::all_learn;
-use std::alloc::{AllocError, Global};
-use std::marker::Brand;
+use crate::cases::{Trial, passes_with};
+use crate::outlets::{Row, Tried};
+use std::alloc::Global;
 use std::sync::Wait;
-use std::test::Fail;
 use u_check::Job;
-use u_fleet::{Inlet, Named, Outlet, gather, outlet, send};
-use u_plain::examples::{DOUBLE, job};
+use u_fleet::{Inlet, Named, Outlet, gather, send};
+use u_plain::examples::DOUBLE;
 use u_replica::Replica;
 
 /// Whether the replica has applied the three firings of the double, and holds their five entries.
@@ -28,76 +28,51 @@ fn takes_all<J: Named>(replica: &mut Replica<'_>, inlet: &mut Inlet<J>) -> bool
         && has_all(replica)
 }
 
-/// The same of the first of the inlets, and whether there is one.
-fn takes_first<J: Named>(replica: &mut Replica<'_>, inlets: &mut [Inlet<J>]) -> bool
-    requires { replica.old.machine.job ≡ J.job }
+/// The same of a new replica and of the first of the inlets, and whether there is one.
+fn new_takes_all<J: Named>(alloc: Global, inlets: &mut [Inlet<J>], job: &Job) -> bool
+    requires { J.job ≡ job.now }
 {
-    match inlets.first_mut() {
-        Some(inlet) => takes_all(replica, inlet),
-        None => false,
+    let Some(inlet) = inlets.first_mut() else {
+        return false;
+    };
+    match Replica::new(alloc, job, 10, 2) {
+        Ok(mut two) => takes_all(&mut two, inlet),
+        Err(_) => false,
     }
 }
 
-/// Whether the log of the first replica goes out in one call, and comes in at the second.
-fn passes<J: Named, R: Wait>(
+/// Whether the log of a replica that has run goes out in one call.
+fn goes_out<J: Named, R: Wait>(rt: &R, alloc: Global, outlet: &mut Outlet<J>, job: &Job) -> bool
+    requires { J.job ≡ job.now }
+{
+    match Replica::new(alloc, job, 10, 1) {
+        Ok(mut one) => one.run(10).is_ok() && send(rt, &one, outlet, 0) == Ok(3),
+        Err(_) => false,
+    }
+}
+
+/// Whether the log of a replica that has run goes out in one call, and comes in at a new one.
+pub fn goes_over<J: Named, R: Wait>(
     rt: &R,
-    one: &Replica<'_>,
+    alloc: Global,
     outlet: &mut Outlet<J>,
     inlets: &mut [Inlet<J>],
-    two: &mut Replica<'_>,
+    job: &Job,
 ) -> bool
-    requires one { one.now.machine.job ≡ J.job }
-    requires two { two.old.machine.job ≡ J.job }
+    requires { J.job ≡ job.now }
 {
-    send(rt, one, outlet, 0) == Ok(3) && all_learn(outlet, inlets, 3) && takes_first(two, inlets)
-}
-
-/// Whether it does so by an outlet of the job with one inlet.
-fn goes_over<J: Named, R: Wait>(
-    rt: &R,
-    alloc: Global,
-    job: &Job,
-    one: &Replica<'_>,
-    two: &mut Replica<'_>,
-) -> Result<bool, AllocError>
-    requires job { J.job ≡ job.now }
-    requires one { one.now.machine.job ≡ J.job }
-    requires two { two.old.machine.job ≡ J.job }
-{
-    let (mut outlet, inlets) = outlet::<J>(alloc, job, 1)?;
-    let gone = match inlets {
-        Ok(mut inlets) => passes(rt, one, &mut outlet, inlets.as_mut_slice(), two),
-        Err(_) => false,
-    };
-    outlet.close(rt);
-    Ok(gone)
-}
-
-/// Whether the log of the replica, which is one of the job, goes over to a new replica.
-fn goes_to_new<R: Wait>(
-    rt: &R,
-    alloc: Global,
-    job: &Job,
-    one: &Replica<'_>,
-) -> Result<bool, AllocError>
-    requires { one.now.machine.job ≡ job.now }
-{
-    let mut two = Replica::new(alloc, job, 10, 2)?;
-    goes_over::<Brand, R>(rt, alloc, job, one, &mut two)
-}
-
-/// Whether the log of a replica that has run goes over to a new one.
-fn all_go_over<R: Wait>(rt: &R, alloc: Global, job: &Job) -> Result<bool, AllocError> {
-    let mut one = Replica::new(alloc, job, 10, 1)?;
-    if one.run(10).is_err() {
-        return Ok(false);
-    }
-    goes_to_new(rt, alloc, job, &one)
+    goes_out(rt, alloc, outlet, job)
+        && all_learn(outlet, inlets, 3)
+        && new_takes_all(alloc, inlets, job)
 }
 
 #[test]
-fn what_is_sent_is_gathered(rt: HostRuntime) -> Result<(), Fail> {
-    let job = job(rt.alloc(), DOUBLE, 4)?;
-    assert!(rt; all_go_over(&rt, rt.alloc(), &job)?);
-    Ok(())
+fn what_is_sent_is_gathered(rt: HostRuntime) {
+    let row = Row {
+        tried: Tried::Crosses,
+        readers: 1,
+        applied: 3,
+        lent: 0,
+    };
+    assert!(rt; passes_with(&rt, rt.alloc(), DOUBLE, 4, Trial::Outlet(row)));
 }

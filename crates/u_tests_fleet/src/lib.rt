@@ -7,6 +7,8 @@
 #[cfg(test)]
 mod calls;
 #[cfg(test)]
+mod cases;
+#[cfg(test)]
 mod fleet_tests;
 #[cfg(test)]
 mod fleets;
@@ -18,6 +20,8 @@ mod gates;
 mod gather_tests;
 #[cfg(test)]
 mod logs;
+#[cfg(test)]
+mod outlets;
 #[cfg(test)]
 mod place_tests;
 #[cfg(test)]

@@ -1,16 +1,15 @@
 //! What two inlets of one outlet show, call by call.
-ghost use Rattle.std.specs.Prelude.{◌≡◌, All};
+ghost use Rattle.std.specs.Prelude.{All};
 ghost use Rattle.u_outlet.specs.Sound.{IsSound};
 
 use crate::calls::all_learn;
-use crate::logs::{front, have_text};
-use std::alloc::{AllocError, Global};
-use std::marker::Brand;
+use crate::cases::{Trial, passes_with};
+use crate::logs::have_text;
+use crate::outlets::{Row, Tried};
+use std::alloc::Global;
 use std::sync::Wait;
-use std::test::Fail;
-use u_machine::Machine;
-use u_outlet::{Inlet, Named, Outlet, PullFault, outlet};
-use u_plain::examples::{DOUBLE, job};
+use u_outlet::{Inlet, Named, Outlet, PullFault};
+use u_plain::examples::DOUBLE;
 use u_rule::Firing;
 
 /// The first two firings of the double of 4.
@@ -67,7 +66,7 @@ fn all_are_closed<J: Named>(inlets: &mut [Inlet<J>]) -> bool {
 }
 
 /// Whether the inlets show what is put once it is published, and not before.
-fn show_in_time<J: Named, R: Wait>(
+pub fn show_in_time<J: Named, R: Wait>(
     rt: &R,
     alloc: Global,
     outlet: &mut Outlet<J>,
@@ -85,41 +84,18 @@ fn show_in_time<J: Named, R: Wait>(
         && all_show_both(alloc, inlets)
 }
 
-/// Whether an outlet for the first two firings that the machine applied, and its two inlets, do as
-/// they have to.
-fn do_well<J: Named, R: Wait>(
-    rt: &R,
-    alloc: Global,
-    machine: &Machine<'_>,
-) -> Result<bool, AllocError>
-    requires { J.job ≡ machine.now.job }
-{
-    let firings = front::<J>(machine, 2);
-    let (mut outlet, inlets) = outlet::<J>(alloc, machine.job(), 2)?;
-    let Ok(mut inlets) = inlets else {
-        outlet.close(rt);
-        return Ok(false);
-    };
-    let shown = show_in_time(rt, alloc, &mut outlet, inlets.as_mut_slice(), firings);
-    let all = outlet.close_into(rt);
-    Ok(
-        shown
-            && have_text(alloc, all.as_slice(), BOTH)
-            && inlets.len() == 2
-            && all_are_closed(inlets.as_mut_slice()),
-    )
-}
-
-/// The same, where no job is named.
-fn all_do_well<R: Wait>(rt: &R, alloc: Global, machine: &Machine<'_>) -> Result<bool, AllocError> {
-    do_well::<Brand, R>(rt, alloc, machine)
+/// Whether what was published until the outlet was closed is both firings, and no inlet shows anything.
+pub fn are_closed<J: Named>(alloc: Global, all: &[Firing], inlets: &mut [Inlet<J>]) -> bool {
+    have_text(alloc, all, BOTH) && all_are_closed(inlets)
 }
 
 #[test]
-fn inlets_show_what_is_published(rt: HostRuntime) -> Result<(), Fail> {
-    let job = job(rt.alloc(), DOUBLE, 4)?;
-    let mut machine = Machine::new(rt.alloc(), &job, 10)?;
-    assert!(rt; machine.run(10).is_ok());
-    assert!(rt; all_do_well(&rt, rt.alloc(), &machine)?);
-    Ok(())
+fn inlets_show_what_is_published(rt: HostRuntime) {
+    let row = Row {
+        tried: Tried::Shows,
+        readers: 2,
+        applied: 3,
+        lent: 2,
+    };
+    assert!(rt; passes_with(&rt, rt.alloc(), DOUBLE, 4, Trial::Outlet(row)));
 }

@@ -1,17 +1,16 @@
 //! An inlet that pulls while another thread publishes.
-ghost use Rattle.std.specs.Prelude.{◌≡◌, All};
+ghost use Rattle.std.specs.Prelude.{All};
 ghost use Rattle.u_outlet.specs.Sound.{IsSound};
 
 use crate::calls::publish_at;
-use crate::logs::{begins_with, front};
-use std::alloc::{AllocError, Global};
-use std::marker::Brand;
+use crate::cases::{Trial, passes_with};
+use crate::logs::begins_with;
+use crate::outlets::{Row, Tried};
+use std::alloc::Global;
 use std::sync::Wait;
-use std::test::Fail;
 use std::thread::{Threads, join};
-use u_machine::Machine;
-use u_outlet::{Inlet, Named, Outlet, outlet};
-use u_plain::examples::{SUM, job};
+use u_outlet::{Inlet, Named, Outlet};
+use u_plain::examples::SUM;
 use u_rule::Firing;
 
 /// How often the inlet is pulled at most.
@@ -66,44 +65,31 @@ fn meet<J: Named + Send + Sync, R: Threads + Wait + Sync>(
     published && pulled
 }
 
-/// Whether an inlet sees all that the machine applied, as another thread publishes it.
-fn pass<J: Named + Send + Sync, R: Threads + Wait + Sync>(
+/// The same of the first of the inlets, and whether there is one.
+pub fn meet_first<J: Named + Send + Sync, R: Threads + Wait + Sync>(
     rt: &R,
     alloc: Global,
-    machine: &Machine<'_>,
-) -> Result<bool, AllocError>
-    requires { J.job ≡ machine.now.job }
+    outlet: &mut Outlet<J>,
+    inlets: &mut [Inlet<J>],
+    firings: &[Firing],
+) -> bool
+    requires { All (IsSound J.job) firings.now }
 {
-    let firings = front::<J>(machine, usize::MAX);
-    let (mut outlet, inlets) = outlet::<J>(alloc, machine.job(), 1)?;
-    let passed = match inlets {
-        Ok(mut inlets) => match inlets.as_mut_slice().first_mut() {
-            Some(inlet) => meet(rt, alloc, &mut outlet, inlet, firings),
-            None => false,
-        },
-        Err(_) => false,
-    };
-    outlet.close(rt);
-    Ok(passed)
-}
-
-/// The same, where no job is named.
-fn all_pass<R: Threads + Wait + Sync>(
-    rt: &R,
-    alloc: Global,
-    machine: &Machine<'_>,
-) -> Result<bool, AllocError> {
-    pass::<Brand, R>(rt, alloc, machine)
+    match inlets.first_mut() {
+        Some(inlet) => meet(rt, alloc, outlet, inlet, firings),
+        None => false,
+    }
 }
 
 #[test]
-fn pulls_grow_beside_a_thread_that_publishes(rt: HostRuntime) -> Result<(), Fail> {
-    let job = job(rt.alloc(), SUM, 100)?;
-    let mut machine = Machine::new(rt.alloc(), &job, 2000)?;
-    assert!(rt; machine.run(2000).is_ok());
-    assert!(rt; machine.applied().len() == 1015);
+fn pulls_grow_beside_a_thread_that_publishes(rt: HostRuntime) {
+    let row = Row {
+        tried: Tried::Beside,
+        readers: 1,
+        applied: 1015,
+        lent: 1015,
+    };
     for _round in 0..10 {
-        assert!(rt; all_pass(&rt, rt.alloc(), &machine)?);
+        assert!(rt; passes_with(&rt, rt.alloc(), SUM, 100, Trial::Outlet(row)));
     }
-    Ok(())
 }

@@ -1,12 +1,12 @@
 //! What a seat works on while another seat holds a bucket, and once it doesn't.
 ghost use Rattle.u_claims.specs.Seats.{IsSeatOf};
 
+use crate::cases::{Trial, passes_with};
 use std::alloc::Global;
-use std::test::Fail;
 use u_check::Job;
 use u_claims::{Board, ClaimSeat, Claimed, Released};
 use u_fleet::{Work, work};
-use u_plain::examples::{SUM, job};
+use u_plain::examples::SUM;
 use u_replica::Replica;
 
 /// The mask of bucket 2, which the first firing of the sum is in, and the two behind it are not.
@@ -60,25 +60,20 @@ fn waits_with_new(
     }
 }
 
-/// The same where the job is the sum from 3 down to 1.
-fn waits_with_sum(alloc: Global, board: &Board, one: &mut ClaimSeat, two: &mut ClaimSeat) -> bool
-    requires one { IsSeatOf board.now one.old }
-    requires two { IsSeatOf board.now two.old }
-{
-    match job(alloc, SUM, 3) {
-        Ok(job) => waits_with_new(alloc, &job, board, one, two),
-        Err(_) => false,
+/// The same with the two seats of a new board.
+pub fn waits_on_board(alloc: Global, job: &Job) -> bool {
+    let Ok((board, mut seats)) = Board::new(alloc, 2) else {
+        return false;
+    };
+    let two = seats.pop();
+    let one = seats.pop();
+    match (one, two) {
+        (Some(mut one), Some(mut two)) => waits_with_new(alloc, job, &board, &mut one, &mut two),
+        _ => false,
     }
 }
 
 #[test]
-fn work_passes_over_what_another_seat_holds(rt: HostRuntime) -> Result<(), Fail> {
-    let (board, mut seats) = Board::new(rt.alloc(), 2)?;
-    let two = seats.pop();
-    let one = seats.pop();
-    let (Some(mut one), Some(mut two)) = (one, two) else {
-        return Err(Fail::from("there are not two seats"));
-    };
-    assert!(rt; waits_with_sum(rt.alloc(), &board, &mut one, &mut two));
-    Ok(())
+fn work_passes_over_what_another_seat_holds(rt: HostRuntime) {
+    assert!(rt; passes_with(&rt, rt.alloc(), SUM, 3, Trial::Work));
 }
