@@ -1,6 +1,6 @@
 #!/usr/bin/env python3
 """Checks that each wrong body can still be applied: each text that an edit of crates/NAME/must-fail,
-tests/edits/NAME or tests/gates replaces stands once in its file. It proves nothing. The last line is
+tests/edits/NAME, tests/gates or tests/planted replaces stands once in its file. It proves nothing. The last line is
 'N passed, M failed'.
 
     tests/edits_fit.py --apply EDIT FOLDER    applies an edit to the crate in that folder
@@ -45,16 +45,18 @@ def apply(edit, folder):
 
 
 def crate_of(edit):
-    """The name of the crate that the edit changes. Those of tests/gates change u_fleet."""
+    """The name of the crate that the edit changes. Those of tests/gates change u_fleet; one of tests/planted has it."""
     parts = edit.split("/")
     if parts[0] == "crates":
         return parts[1]
+    if parts[1] == "planted":
+        return parts[2].removesuffix(".edit")
     return parts[2] if parts[1] == "edits" else "u_fleet"
 
 
 def main():
     os.chdir(os.path.dirname(os.path.dirname(os.path.abspath(__file__))))
-    patterns = ("crates/*/must-fail", "tests/edits/*", "tests/gates/*")
+    patterns = ("crates/*/must-fail", "tests/edits/*", "tests/gates/*", "tests/planted")
     edits = sorted(edit for pattern in patterns for edit in glob.glob(pattern + "/*.edit"))
     failed = 0
     for edit in edits:

@@ -1,20 +1,28 @@
 #!/usr/bin/env python3
 """Runs the built program where its surroundings fail and its texts are damaged, and compares what it says.
 
-    tests/hostile.py [--seed S] [--damaged N] [PART..]
+    tests/hostile.py [--seed S] [--damaged N] [--planted] [PART..]
 
+calls    each allocation of the calls of machines, replicas, worlds, names and histories that the program
+         U_REFUSED makes, which tests/memory/run.sh builds, is refused in turn, and pairs of them: a refused
+         call is looked at and made again, and each run prints the same. The calls that take no memory make no
+         allocation
 memory   each allocation of a command is refused in turn, one a run: the run ends with `u: no memory` and
          status 5 and nothing on standard output, or just as one in which nothing is refused
 writes   standard output takes a byte at a time, and fails at each byte in turn: what was written is a front
          of the output, and the run ends with `u: not written` and status 5
 reads    input comes a byte at a time, and fails at each byte in turn: nothing is written, and the run ends
          with `u: not readable` and status 5
+large    programs of up to 999 statements that are dear to check: `check --strict --determinate` and `explain`
+         take at most a second of processor time
 damaged  N programs, checkpoints, entries, names and lines of a bus that were changed at random: a status of
          the table, one named refusal or whole output, the same answer of a checkpoint and of a bus, and at
          most a second of processor time
 
-Without a PART all four are run. The library that refuses, cuts and fails is tests/memory/refuse.c. The program
-is the built one, or U_BINARY. The last line is 'N passed, M failed'.
+Without a PART all but `calls` are run. The library that refuses, cuts and fails is tests/memory/refuse.c. The
+program is the built one, or U_BINARY. With --planted the program is not
+told that a write or a read failed, as one is not that passes over the error: each test of `writes` and `reads`
+has to fail. The last line is 'N passed, M failed'.
 """
 import argparse
 import os
@@ -28,8 +36,12 @@ from concurrent.futures import ThreadPoolExecutor
 
 TOP = os.path.dirname(os.path.dirname(os.path.abspath(__file__)))
 BINARY = os.environ.get("U_BINARY", f"{TOP}/crates/u/out/u")
+REFUSED_CALLS = os.environ.get("U_REFUSED", "")
 SAID = re.compile(rb"^(refused|call|allocations) .*\n", re.MULTILINE)
 COUNT = re.compile(rb"^allocations (\d+)$", re.MULTILINE)
+IN_CALL = re.compile(rb"^call \d+ had (\d+) to (\d+)$", re.MULTILINE)
+# How many pairs of allocations are refused, and how far the second one is behind the first.
+PAIRS, APART = 1000, 60
 # How long a run may take by the clock, in seconds, and of a processor.
 LIMIT, MOST_SECONDS = 60, 1.0
 DOUBLE, SUM, WRITERS = "programs/double.u", "programs/sum.u", "programs/two_writers.u"
@@ -47,13 +59,14 @@ NOTICE = re.compile(rb"u: line \d+ (too long|not allowed|not of this job|cut sho
 
 
 class Ended:
-    """How a run ended: its status, what it wrote, and how many allocations it had."""
+    """How a run ended: its status, what it wrote, and how many allocations it had, in all and in each call."""
 
     def __init__(self, ran):
         self.status, self.out = ran.returncode, ran.stdout
         self.error = SAID.sub(b"", ran.stderr)
         counted = COUNT.search(ran.stderr)
         self.allocations = int(counted[1]) if counted else 0
+        self.in_calls = [int(to) - int(first) + 1 for first, to in IN_CALL.findall(ran.stderr)]
 
     def is_same(self, other):
         return (self.status, self.out, self.error) == (other.status, other.out, other.error)
@@ -66,14 +79,14 @@ def bound():
     resource.setrlimit(resource.RLIMIT_CPU, (int(MOST_SECONDS) + 1, int(MOST_SECONDS) + 1))
 
 
-def run(words, given=b"", library=None, bounded=False, **settings):
+def run(words, given=b"", library=None, bounded=False, program=BINARY, **settings):
     """A run of the program, with the library's settings."""
     how = dict(os.environ, **{name: str(value) for name, value in settings.items()})
     if library:
         how["LD_PRELOAD"] = library
     return Ended(
         subprocess.run(
-            [BINARY, *words],
+            [program, *words],
             input=given,
             capture_output=True,
             env=how,
@@ -118,6 +131,7 @@ def commands(room):
         ["check", f"{room}/refused"],
         ["explain", DOUBLE, "--strict"],
         ["explain", f"{room}/refused"],
+        ["draw", DOUBLE],
         ["run", DOUBLE, "4"],
         ["run", SUM, "3"],
         ["run", WRITERS, "0"],
@@ -152,6 +166,27 @@ def ends_without_memory(words, ended):
     return ended.status == 5 and ended.error in faults and ended.out == b""
 
 
+def refuse_calls(tally, seed, library):
+    """Refuses each allocation of the calls, and pairs that lie near each other, which a call made again meets."""
+
+    def refused(numbers):
+        return run([], library=library, program=REFUSED_CALLS, FAIL_AT=numbers)
+
+    whole = refused("0")
+    with open(f"{TOP}/tests/memory/stdout", "rb") as file:
+        wrong = [] if whole.status == 0 and whole.out == file.read() else [("nothing refused", whole)]
+    tally.add("calls: nothing refused", 1, wrong)
+    wrong = [] if whole.in_calls == [0] else [(f"allocations in calls {whole.in_calls}", whole)]
+    tally.add("calls: those that take no memory", 1, wrong)
+    chance = random.Random(seed)
+    singles = [str(number) for number in range(1, whole.allocations + 1)]
+    firsts = [chance.randint(1, whole.allocations) for _ in range(PAIRS)]
+    pairs = [f"{first},{first + chance.randint(1, APART)}" for first in firsts]
+    for name, numbers in (("each allocation", singles), ("pairs of allocations", pairs)):
+        wrong = [(at, ended) for at, ended in side_by_side(numbers, refused) if not ended.is_same(whole)]
+        tally.add(f"calls: {name}", len(numbers), wrong)
+
+
 def refuse_memory(tally, room, library):
     """Refuses each allocation. A fleet's allocations differ from run to run, so it gets half as many again."""
     for words, given in commands(room):
@@ -167,7 +202,7 @@ def refuse_memory(tally, room, library):
         tally.add(f"memory: {shown(words, room)}", count, wrong)
 
 
-def fail_writes(tally, room, library):
+def fail_writes(tally, room, library, hidden):
     """Lets standard output take a byte at a time, and fail at each byte."""
     for words, given in commands(room):
         whole = run(words, given)
@@ -176,7 +211,8 @@ def fail_writes(tally, room, library):
         slow = run(words, given, library, SHORT=1)
         wrong = [] if slow.is_same(whole) else [("a byte at a time", slow)]
         for number, ended in side_by_side(
-            range(1, len(whole.out) + 1), lambda number: run(words, given, library, SHORT=1, FAIL_WRITE=number)
+            range(1, len(whole.out) + 1),
+            lambda number: run(words, given, library, SHORT=1, FAIL_WRITE=number, HIDDEN=hidden),
         ):
             front = ended.out == whole.out[: number - 1]
             if ended.status != 5 or not ended.error.endswith(b"u: not written\n") or not front:
@@ -184,7 +220,7 @@ def fail_writes(tally, room, library):
         tally.add(f"writes: {shown(words, room)}", len(whole.out) + 1, wrong)
 
 
-def fail_reads(tally, room, library):
+def fail_reads(tally, room, library, hidden):
     """Lets input come a byte at a time, and fail at each byte."""
     inputs = (
         (["run", SUM, "3"], b"", os.path.getsize(f"{TOP}/{SUM}")),
@@ -198,7 +234,8 @@ def fail_reads(tally, room, library):
         slow = run(words, given, library, SHORT=1)
         wrong = [] if slow.is_same(whole) else [("a byte at a time", slow)]
         for number, ended in side_by_side(
-            range(1, count + 1), lambda number: run(words, given, library, SHORT=1, FAIL_READ=number)
+            range(1, count + 1),
+            lambda number: run(words, given, library, SHORT=1, FAIL_READ=number, HIDDEN=hidden),
         ):
             front = whole.out.startswith(ended.out) if is_share(words) else ended.out == b""
             if ended.status != 5 or not ended.error.endswith(b"u: not readable\n") or not front:
@@ -312,6 +349,78 @@ def damage_texts(tally, room, seed, count):
     tally.add(f"damaged: seed {seed}", count, wrong)
 
 
+def program_text(statements, loops=()):
+    """A program of one block, whose statements are given in their order by region, kind and lists."""
+    lines = [f"{number} {statement}" for number, statement in enumerate(statements, 1)]
+    return "\n".join(["u-program 1", "block main", *loops, *lines, ""]).encode()
+
+
+def to(*ports):
+    """A list of destinations, which stand in order, each once."""
+    return "".join(f" {number}.{port}" for number, port in sorted(set(ports)))
+
+
+def chain_backwards():
+    """Each `pass` sends to the one before it."""
+    return program_text(["0 begin -> 999.1", "0 end ->", *(f"0 pass -> {number - 1}.1" for number in range(3, 1000))])
+
+
+def conditionals():
+    """Conditionals one behind another, whose sides meet."""
+    groups = []
+    for first in range(2, 998, 4):
+        groups += [
+            f"0 switch ->{to((first + 1, 1))} /{to((first + 2, 1))}",
+            f"0 pass ->{to((first + 3, 1))}",
+            f"0 pass ->{to((first + 3, 1))}",
+            f"0 pass ->{to((first + 4, 1), (first + 4, 2 if first + 4 < 998 else 1))}",
+        ]
+    return program_text(["0 begin -> 2.1 2.2", *groups, "0 end ->"])
+
+
+def switches_to_many():
+    """Each `switch` sends to both ports of the next 7 if true, and of the 7 behind these if false."""
+
+    def from_place(first):
+        return to((999, 1), *((number, port) for number in range(first, min(first + 7, 999)) for port in (1, 2)))
+
+    switches = [f"0 switch ->{from_place(number + 1)} /{from_place(number + 8)}" for number in range(2, 999)]
+    return program_text(["0 begin -> 2.1 2.2", *switches, "0 end ->"])
+
+
+def switches_to_one():
+    """Each `switch` controls the next one, and all send to one port."""
+    switches = [f"0 switch ->{to((number + 1, 2), (999, 1))} /{to((number + 1, 1))}" for number in range(2, 998)]
+    return program_text(["0 begin -> 2.1 2.2", *switches, "0 switch -> 999.1 /", "0 end ->"])
+
+
+def leaves_of_one_loop():
+    """Switches, and behind them 300 `enter` of one loop, and 300 `leave`, each of which sends to 15 statements."""
+    enters, lasts, leaves = 342, 642, 661
+    switches = [
+        f"0 switch ->{to((number + 3, 2), (enters + number % 300, 1))} /{to((number + 3, 1))}"
+        for number in range(339)
+    ]
+    enter = [f"0 enter 1 ->{to((lasts + number % 19, 1))}" for number in range(300)]
+    last = [f"1 last ->{to(*((number, 1) for number in range(leaves + first, leaves + 300, 19)))}" for first in range(19)]
+    leave = [
+        f"1 leave ->{to(*((2 + (number * 15 + place) % 340, 1) for place in range(15)))}" for number in range(300)
+    ]
+    statements = ["0 begin -> 2.1 2.2", *switches, "0 switch -> 961.1 /", *enter, *last, *leave, "0 end ->"]
+    return program_text(statements, ["loop 1 0"])
+
+
+def check_large(tally):
+    """Programs that are dear to check."""
+    for made in (chain_backwards, conditionals, switches_to_many, switches_to_one, leaves_of_one_loop):
+        text, wrong = made(), []
+        for words in (["check", "stdin", "--strict", "--determinate"], ["explain", "stdin", "--strict"]):
+            ended = run(words, text, bounded=True)
+            if ended.status != 0 or ended.error:
+                wrong.append((" ".join(words), ended))
+        tally.add(f"large: {made.__name__.replace('_', ' ')}", 2, wrong)
+
+
 def built_library(room):
     """The library that refuses, or None if it can't be built."""
     library = f"{room}/refuse.so"
@@ -334,9 +443,10 @@ def main():
     parser = argparse.ArgumentParser(description="Failing surroundings and damaged texts.")
     parser.add_argument("--seed", type=int, default=1)
     parser.add_argument("--damaged", type=int, default=2000, metavar="N")
-    parser.add_argument("parts", nargs="*", metavar="PART", help="memory, writes, reads, damaged")
+    parser.add_argument("--planted", action="store_true")
+    parser.add_argument("parts", nargs="*", metavar="PART", help="calls, memory, writes, reads, large, damaged")
     asked = parser.parse_args()
-    parts = asked.parts or ["memory", "writes", "reads", "damaged"]
+    parts = asked.parts or ["memory", "writes", "reads", "large", "damaged"]
     tally = Tally()
     with tempfile.TemporaryDirectory() as room:
         make_files(room)
@@ -345,9 +455,17 @@ def main():
             print(f"{BINARY} or the library is not built", file=sys.stderr)
             print("0 passed, 1 failed")
             return 1
-        for part, test in (("memory", refuse_memory), ("writes", fail_writes), ("reads", fail_reads)):
-            if part in parts:
-                test(tally, room, library)
+        hidden = int(asked.planted)
+        if "calls" in parts:
+            refuse_calls(tally, asked.seed, library)
+        if "memory" in parts:
+            refuse_memory(tally, room, library)
+        if "writes" in parts:
+            fail_writes(tally, room, library, hidden)
+        if "reads" in parts:
+            fail_reads(tally, room, library, hidden)
+        if "large" in parts:
+            check_large(tally)
         if "damaged" in parts:
             damage_texts(tally, room, asked.seed, asked.damaged)
     print(f"{tally.passed} passed, {tally.failed} failed")

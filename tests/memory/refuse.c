@@ -1,6 +1,7 @@
 /* A library for LD_PRELOAD under which a program's surroundings fail. With SHORT=1 each read and each write to
  * standard output gets one byte at most. FAIL_READ=K and FAIL_WRITE=K fail the read, or the write to standard
- * output, of that number, counted from 1, and all behind it. It refuses the allocations whose numbers, counted
+ * output, of that number, counted from 1, and all behind it. With HIDDEN=1 the program is not told: the bytes of
+ * the one write are lost, and input seems to end at the read, as if the program passed over the error. It refuses the allocations whose numbers, counted
  * from 1, stand in FAIL_AT between commas, as FAIL_AT=12,40. Where FAIL_AT is set it prints to standard error
  *   refused N in call K      or      refused N elsewhere
  *   call K had A to B        the allocations of the call (B is A - 1 where it had none)
@@ -37,6 +38,7 @@ static int in_call;
 static int is_ready;
 static int is_told; /* what is refused and counted is told */
 static int is_short;
+static int is_hidden;
 static unsigned long fail_read, fail_write;
 static unsigned long reads, writes;
 
@@ -123,6 +125,7 @@ __attribute__((constructor)) static void begin(void)
 {
     is_told = getenv("FAIL_AT") != NULL;
     is_short = number_in("SHORT") != 0;
+    is_hidden = number_in("HIDDEN") != 0;
     fail_read = number_in("FAIL_READ");
     fail_write = number_in("FAIL_WRITE");
     real_calloc = dlsym(RTLD_NEXT, "calloc");
@@ -222,6 +225,10 @@ ssize_t write(int file, const void *bytes, size_t count)
         say("call ", calls, " had ", call_began + 1, " to ", allocations);
     }
     if (file == 1 && fail_write != 0 && ++writes >= fail_write) {
+        if (is_hidden) {
+            fail_write = 0;
+            return 1;
+        }
         errno = EIO;
         return -1;
     }
@@ -241,6 +248,8 @@ ssize_t read(int file, void *bytes, size_t count)
     if (!real_read)
         real_read = dlsym(RTLD_NEXT, "read");
     if (fail_read != 0 && ++reads >= fail_read) {
+        if (is_hidden)
+            return 0;
         errno = EIO;
         return -1;
     }
