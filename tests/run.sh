@@ -58,6 +58,11 @@ make_files() {
         printf 'u-program 1\nblock main\n1 0 begin ->\n'
         for k in {2..1000}; do printf '%s 0 add ->\n' "$k"; done
     } >"$temp/statements_1000"
+    {
+        echo 'u-program 1'
+        printf 'block main\n1 0 begin -> 2.1\n2 0 end ->\n'
+        for k in {2..64}; do printf 'block b%s\n1 0 begin -> 2.1\n2 0 end ->\n' "$k"; done
+    } >"$temp/blocks_64"
     make_checkpoints
     make_bus
 }
@@ -300,6 +305,15 @@ done
 for file in programs/*.u; do
     expect_same "$file is determinate" determinate "$("$binary" check "$file" --determinate | tail -n 1)"
 done
+
+# The picture of each program: what tests/drawn.py, which shares nothing with the program `u`, writes of its
+# text.
+for file in programs/*.u tests/determinate/*.u tests/pictures/*.u "$temp/blocks_64"; do
+    expect_same "the picture of $file" "$(tests/drawn.py <"$file")" "$("$binary" draw "$file" 2>&1)"
+done
+
+# The pictures of the documents are drawn from what `draw` prints today.
+expect_same 'no picture of docs/pictures is old' '' "$(U_BINARY=$binary docs/pictures/draw.sh | sed '$d')"
 
 # What `explain` says of each program of a folder: the line for which `check` refuses it, without its `u: `,
 # and behind it what stands beside the program. The exit status is that of `check`.

@@ -1,0 +1,44 @@
+#!/usr/bin/env bash
+# Says which pictures of docs/pictures are old: each was drawn by Graphviz from what `u draw` printed of the
+# program of the same name, and ends with the checksum of that text. The last line is 'N passed, M failed'.
+#
+#   docs/pictures/draw.sh           says which are old
+#   docs/pictures/draw.sh --write   draws those anew, with Graphviz, which it installs by name if it is missing
+set -u
+export LC_ALL=C
+
+top=$(cd -P -- "$(dirname -- "${BASH_SOURCE[0]}")/../.." && pwd) || exit 2
+cd -- "$top" || exit 2
+binary=${U_BINARY:-$top/crates/u/out/u}
+
+# What stands at the end of the picture of a text.
+mark() {
+    printf '<!-- the text: sha256 %s -->\n' "$(sha256sum <"$1" | cut -d ' ' -f 1)"
+}
+
+# Draws the picture of the text in a file.
+write() {
+    command -v dot >/dev/null || apt-get install -y graphviz >/dev/null 2>&1 || return 1
+    dot -Tsvg "$1" >"$1.svg" && { cat -- "$1.svg"; mark "$1"; } >"$2"
+}
+
+room=$(mktemp -d) || exit 2
+trap 'rm -rf -- "$room"' EXIT
+passed=0
+failed=0
+for program in programs/*.u; do
+    name=$(basename -- "$program" .u)
+    picture=docs/pictures/$name.svg
+    "$binary" draw "$program" >"$room/$name" || exit 2
+    if [ "$(tail -n 1 -- "$picture" 2>/dev/null)" != "$(mark "$room/$name")" ] && [ "${1-}" = --write ]; then
+        write "$room/$name" "$picture"
+    fi
+    if [ "$(tail -n 1 -- "$picture" 2>/dev/null)" = "$(mark "$room/$name")" ]; then
+        passed=$((passed + 1))
+    else
+        failed=$((failed + 1))
+        echo "old: $picture"
+    fi
+done
+echo "$passed passed, $failed failed"
+[ "$failed" -eq 0 ]
