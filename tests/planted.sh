@@ -1,5 +1,5 @@
 #!/usr/bin/env bash
-# Sees that the tests of failing surroundings find faults that are planted for them.
+# Sees that three parts of tests/hostile.py (calls, writes, reads) find faults that are planted for them.
 #
 # A `take` that loses a parked firing if it is refused memory (tests/planted/u_machine.edit) is found by the
 # rows of tests/memory, of which one is run alone, with the 200th allocation refused, by `rt try`: some three

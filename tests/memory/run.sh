@@ -6,8 +6,8 @@
 #   tests/memory/run.sh --copy ROOM   puts the program's sources and its line of crates.txt into that copy
 #
 # The program is `u_refused`, which is no crate of the repository. Its files stand in src/ as *.rt.txt, since the
-# gate stops at a .rt file that is of no crate. A proof of it takes some fifteen minutes of processor time
-# where the libraries below are proved. With U_REFUSED=PROGRAM nothing is built, and that program is run. The
+# gate stops at a .rt file that is of no crate. A proof of it takes more than twenty minutes of processor
+# time where the libraries below are proved. With U_REFUSED=PROGRAM nothing is built, and that program is run. The
 # last line is 'N passed, M failed'.
 set -u
 export LC_ALL=C
