@@ -17,7 +17,7 @@ use std::alloc::{AllocError, Global};
 use std::io::Write;
 use u_check::Job;
 use u_determinate::only_writes_clash;
-use u_history::{Counts, Ending, Verdict, report_text};
+use u_history::{Counts, Ending, Verdict, report_of_outcome};
 use u_machine::{Machine, Ran, Refusal};
 
 /// How many firings a machine of the program takes at most.
@@ -83,7 +83,7 @@ pub fn report_of(
     ensures { IfOk result (λ p. ReportsMachine machine.now state p.0.items p.1) }
 {
     let outcome = machine.history().outcome()?;
-    let report = report_text(alloc, state, counts(machine), &outcome)?;
+    let report = report_of_outcome(alloc, state, counts(machine), &outcome)?;
     Ok((report, status(state, outcome.verdict())))
 }
 

@@ -17,5 +17,5 @@ pub use clash::{CellClash, Port, PortClash};
 pub use history::History;
 pub use listed::Listed;
 pub use outcome::Outcome;
-pub use report::{Counts, Ending, report_text};
+pub use report::{Counts, Ending, report_of_outcome, report_text};
 pub use verdict::Verdict;

@@ -9,6 +9,7 @@ ghost use Rattle.u_history.specs.Report.{texts, count_line, state_line, answer_l
 ghost use Rattle.u_history.specs.OutcomeParts.{IsOutcomeOf, outcome_text_of, report_text_of};
 
 use crate::clash::{CellClash, PortClash};
+use crate::history::History;
 use crate::outcome::Outcome;
 use crate::verdict::Verdict;
 use itoa::Buffer;
@@ -260,13 +261,12 @@ fn put_report(
     put_outcome(out, outcome)
 }
 
-/// The report of a history with that outcome and so many entries: the state; how many firings, parked
-/// firings and entries there are; all answers; all that clashes; all faults; the verdict. Each line
-/// ends with a newline, and each kind of line is in order.
+/// The report of a history with that outcome and so many entries, as `report_text` has it. It is for a
+/// caller that needs the outcome besides, and has made it.
 ///
 /// # Errors
 /// `AllocError` where there is no memory.
-pub fn report_text(
+pub fn report_of_outcome(
     alloc: Global,
     state: Ending,
     counts: Counts,
@@ -281,4 +281,29 @@ pub fn report_text(
     let mut out = Vec::new(alloc);
     put_report(&mut out, state, counts, outcome)?;
     Ok(out)
+}
+
+/// The report of a history, after so many firings were applied and so many are parked: the state; how
+/// many firings, parked firings and entries there are; all answers; all that clashes; all faults; the
+/// verdict. Each line ends with a newline, and each kind of line is in order.
+///
+/// # Errors
+/// `AllocError` where there is no memory.
+pub fn report_text(
+    alloc: Global,
+    state: Ending,
+    firings: usize,
+    parked: usize,
+    history: &History,
+) -> Result<Vec<u8>, AllocError>
+    ensures { IfOk result
+        (λ v. IsReportOf (Contains history.now) state firings parked v.items) }
+{
+    let outcome = history.outcome()?;
+    let counts = Counts {
+        firings,
+        parked,
+        entries: history.len(),
+    };
+    report_of_outcome(alloc, state, counts, &outcome)
 }

@@ -5,31 +5,17 @@ use crate::worked_histories::{has_text, put_lines};
 use std::alloc::{AllocError, Global};
 use std::test::Fail;
 use u_check::Job;
-use u_history::{Counts, History, Outcome, report_text};
+use u_history::{History, report_text};
 use u_name::Cell;
 use u_plain::examples::{DOUBLE, TWO_WRITERS, job};
 use u_plain::worked::name_of;
 use u_rule::Written;
 use u_value::Value;
 
-/// Whether the report of the outcome is as the row says. Want of memory is a no, as in all checks
-/// below.
-fn has_report(alloc: Global, counts: Counts, outcome: &Outcome, row: &Report) -> bool {
-    match report_text(alloc, row.0, counts, outcome) {
-        Ok(text) => text.as_slice() == row.4.as_bytes(),
-        Err(_) => false,
-    }
-}
-
-/// Whether it is so for the outcome of the history.
+/// Whether the report of the history is as the row says. Want of memory is a no, as in all checks below.
 fn is_reported(alloc: Global, history: &History, row: &Report) -> bool {
-    let counts = Counts {
-        firings: row.1,
-        parked: row.2,
-        entries: history.len(),
-    };
-    match history.outcome() {
-        Ok(outcome) => has_report(alloc, counts, &outcome, row),
+    match report_text(alloc, row.0, row.1, row.2, history) {
+        Ok(text) => text.as_slice() == row.4.as_bytes(),
         Err(_) => false,
     }
 }

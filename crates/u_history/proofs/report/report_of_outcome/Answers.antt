@@ -1,7 +1,7 @@
 use Rattle.std.proofs.Common.{◌∙◌, ◌++◌, ap, List, ℕ}
 use Rattle.u_history.specs.OutcomeParts.{report_text_of}
 use Rattle.u_history.proofs.Reports.{report_is}
-use Rattle.u_history.proofs.report.report_text.Goals as goal
+use Rattle.u_history.proofs.report.report_of_outcome.Goals as goal
 
 pub returns-clause-of : goal.returns-clause-of
 returns-clause-of c es rises count outcome =
