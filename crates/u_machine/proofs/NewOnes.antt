@@ -1,16 +1,20 @@
 -- The firings of a list that were not taken.
-use Rattle.std.proofs.Common.{◌≡◌, ℕ, ◌<◌, ◌≤◌, ◌+◌, ◌++◌, ◌∙◌, ◌⊎◌, inl, inr, sym, subst, arith, refl, Bool, true, false, length, List, [], ◌∷◌}
+use Rattle.std.proofs.Common.{◌≡◌, ℕ, ◌<◌, ◌≤◌, ◌+◌, ◌++◌, ◌∙◌, ◌⊎◌, inl, inr, sym, subst, arith, refl, Bool, true, false, length, take, drop, get_or, append_assoc, List, [], ◌∷◌}
 use Rattle.std.specs.Prelude.{Contains, IsTrue, ◌↔◌}
+use Rattle.std.proofs.lemmas.List.{take-append-drop}
 use Rattle.std.proofs.lemmas.List.Elements.{Contains-append_left, Contains-push, Contains-push_cases}
 use Rattle.std.specs.Ordering.{is_eq}
 use Rattle.std.proofs.lemmas.Bool.{false≢true}
 use Rattle.u_rule.specs.EntryOrder.{firing_cmp}
 use Rattle.u_rule.specs.declared.firing.Firing.{Firing}
+use Rattle.u_system.specs.Firing.{Distinct}
+use Rattle.u_system.proofs.Apart.{Distinct-left, Distinct-apart}
 use Rattle.u_system.proofs.Member.{Contains-nil, Contains-head, Contains-tail, Contains-cons_cases}
 use Rattle.u_machine.specs.State.{State, Taken, count_of}
 use Rattle.u_machine.specs.Taking.{AreNew, HasSoManyNew, Fits, IsTooLong}
 use Rattle.u_machine.proofs.Once.{same_firing}
 use Rattle.u_machine.proofs.Counting.{no_more}
+use Rattle.u_machine.proofs.TakenLists.{next_place}
 
 -- a firing is in a list or not
 member_more : (x f : Firing) (xs : List Firing) → Contains xs f ⊎ (Contains xs f → ⊥) → Contains (x ∷ xs) f ⊎ (Contains (x ∷ xs) f → ⊥)
@@ -138,3 +142,22 @@ old_behind m f fs count b test fails h = known_behind m f fs count known h
       | inl t ↦ inl t
       | inr t ↦ elim (member fs f) [ inl k ↦ inr k | inr n ↦ absurd (false≢true (sym fails ∙ test.1 (t, n))) ]
     ]
+
+-- one of a list that has none twice does not stand before itself
+pub not_before : (fs : List Firing) (i : ℕ) (f : Firing) → i < length fs → f ≡ get_or fs i f → Distinct fs → Contains (take i fs) f → ⊥
+not_before fs i f l e d m =
+    let all : Distinct (take (i + 1) fs ++ drop (i + 1) fs) = subst (λ (xs : List Firing). Distinct xs) (sym (take-append-drop (i + 1) fs)) d in
+    let front : Distinct (take i fs ++ f ∷ []) = subst (λ (xs : List Firing). Distinct xs) (next_place fs i f l e) (Distinct-left (take (i + 1) fs) (drop (i + 1) fs) all) in
+    Distinct-apart (take i fs) (f ∷ []) f front m (Contains-head f [])
+
+-- one behind another list, too
+pub not_before_behind : (fs gs rest : List Firing) (f : Firing) → Distinct (fs ++ (gs ++ f ∷ rest)) → Contains (fs ++ gs) f → ⊥
+not_before_behind fs gs rest f d m =
+    Distinct-apart (fs ++ gs) (f ∷ rest) f (subst (λ (xs : List Firing). Distinct xs) (sym (append_assoc fs gs (f ∷ rest))) d) m (Contains-head f rest)
+
+-- one that does not stand before is counted, unless a test says that it was taken
+pub counted_if_new : (m : State) (f : Firing) (fs : List Firing) (count : ℕ) (b : Bool) → IsTrue b ↔ (Taken m f → ⊥) → (Contains fs f → ⊥) → b ≡ true → HasSoManyNew m fs count → HasSoManyNew m (fs ++ f ∷ []) (count + 1)
+counted_if_new m f fs count b test other holds h = new_behind m f fs count (test.0 (cc)) other h
+
+pub uncounted_if_old : (m : State) (f : Firing) (fs : List Firing) (count : ℕ) (b : Bool) → IsTrue b ↔ (Taken m f → ⊥) → (Contains fs f → ⊥) → b ≡ false → HasSoManyNew m fs count → HasSoManyNew m (fs ++ f ∷ []) count
+uncounted_if_old m f fs count b test other fails h = old_behind m f fs count b ((λ t. (test.0 t, other)), λ p. test.1 p.0) fails h

@@ -16,9 +16,13 @@ use Rattle.u_machine.specs.declared.answer.TakeRefusal.{TakeRefusal}
 use Rattle.u_machine.specs.declared.answer.TakeRefusal.TheVariants.{NoMemory}
 use Rattle.u_machine.specs.declared.answer.TakeRefusal.TheVariants as untaken
 use Rattle.u_machine.specs.declared.answer.Took.TheVariants as took
+use Rattle.u_machine.specs.declared.answer.ListRefusal.{ListRefusal}
+use Rattle.u_machine.specs.declared.answer.ListRefusal.TheVariants as unlisted
 use Rattle.u_machine.specs.State.{State}
 use Rattle.u_machine.specs.Calls.{Settles, Takes, IsNew, FireInAnswer, TakeAnswer}
+use Rattle.u_machine.specs.Taking.{AreFirings, IsFirstOther, AreNew, Fits, IsTooLong, TakeAllAnswer}
 use Rattle.u_machine.specs.Invariant.{Lengthens}
+use Rattle.u_machine.proofs.TakenLists.{takes_none, takes_after, new_before as list_before}
 use Rattle.u_machine.proofs.States.{room_before, applies_trans, takes_between, Applies-refl}
 use Rattle.u_machine.proofs.Lists.{slice_get_mid, slice_get_Contains}
 
@@ -72,3 +76,36 @@ module _ (a b c : State) (f : Firing) (s : Settles a b) where
   take_after (Err untaken.NoMemory) (inl u) = absurd (u.unsettled s.settled)
   take_after (Err untaken.NoMemory) (inr (n, inl p)) = inr (new_before n, inl (applies_trans a b c s.applies p))
   take_after (Err untaken.NoMemory) (inr (n, inr t)) = inr (new_before n, inr (takes_before t))
+
+-- and what one answers that takes a list, and began with settling
+module _ (a b c : State) (fs : FiringList) (s : Settles a b) where
+  from_before : (P : JobParts → Type 0) → P b.job → P a.job
+  from_before P p = subst P s.applies.grows.job p
+
+  new_ones_before : (news : FiringList) → AreNew b fs news → AreNew a fs news
+  new_ones_before news are = list_before a b fs news s.applies are
+
+  fits_before : Fits b fs → Fits a fs
+  fits_before (news, are, room) =
+      let w = s.applies.count in
+      let v = s.applies.grows.limit in
+      (news, new_ones_before news are, omega (arith, room, w, v))
+
+  too_long_before : IsTooLong b fs → IsTooLong a fs
+  too_long_before (news, are, room) =
+      let w = s.applies.count in
+      let v = s.applies.grows.limit in
+      (news, new_ones_before news are, omega (arith, room, w, v))
+
+  pub take_all_after : (r : Result (Unit {0}) ListRefusal) → TakeAllAnswer b fs r c → TakeAllAnswer a fs r c
+  take_all_after (Ok u) (all, fit, t, is) = (from_before (λ j. AreFirings j fs) all, fits_before fit, takes_after a b c fs s.applies t, is)
+  take_all_after (Err (unlisted.NotAFiring place)) (other, q) = (from_before (λ j. IsFirstOther j fs place) other, settles_trans a b c s q)
+  take_all_after (Err unlisted.Full) (all, long, q) = (from_before (λ j. AreFirings j fs) all, too_long_before long, settles_trans a b c s q)
+  take_all_after (Err unlisted.NoMemory) (inl u) = absurd (u.unsettled s.settled)
+  take_all_after (Err unlisted.NoMemory) (inr (all, fit, (k, l, t))) =
+      inr (from_before (λ j. AreFirings j fs) all, fits_before fit, (k, l, takes_after a b c (take k fs) s.applies t))
+
+  -- where nothing of the list is taken
+  pub nothing_taken : AreFirings b.job fs → Fits b fs → TakeAllAnswer a fs (Err unlisted.NoMemory) b
+  nothing_taken all fit =
+      inr (from_before (λ j. AreFirings j fs) all, fits_before fit, (0, omega arith, takes_after a b b [] s.applies (takes_none b b (Applies-refl b))))

@@ -5,12 +5,13 @@
 //! token and what earlier firings of the log give. So the history is fixed by the set of taken
 //! firings, in whatever order they came, and once nothing is ready it is all that can be derived from
 //! the job.
-ghost use Rattle.std.specs.Prelude.{◌≡◌, ◌↔◌, [], ◌∷◌, IfOk, IsOk, IsTrue, OnOk};
+ghost use Rattle.std.specs.Prelude.{◌≡◌, ◌↔◌, ◌++◌, [], ◌∷◌, IfOk, IsFalse, IsOk, IsTrue, OnOk};
+ghost use Rattle.u_system.specs.Firing.{Distinct};
 ghost use Rattle.u_rule.specs.Rule.{system_of};
 ghost use Rattle.u_machine.specs.State.{state, IsMachine, IsSettled, NothingReady, Taken};
 ghost use Rattle.u_machine.specs.Headline.{KeepsItsPromise, Agree};
 ghost use Rattle.u_machine.specs.Calls.{FireAnswer, FireInAnswer, RunAnswer, TakeAnswer, Applies, IsFresh, RunsPlainly};
-ghost use Rattle.u_machine.specs.Taking.{TakeAllAnswer};
+ghost use Rattle.u_machine.specs.Taking.{Fits, HasSoManyNew, IsTooLong, TakeAllAnswer};
 
 use crate::answer::{ListRefusal, Ran, Refusal, Step, StepIn, TakeRefusal, Took};
 use crate::parts::Parts;
@@ -83,6 +84,54 @@ impl<'a> Machine<'a> {
     {
         self.parts.take_all(firings)?;
         Ok(())
+    }
+
+    /// Whether the firing was not taken.
+    fn is_new(&self, firing: &Firing) -> bool
+        ensures { IsTrue result ↔ (Taken self.now firing.now → ⊥) }
+    {
+        !self.knows(firing)
+    }
+
+    /// How many of the firings were not taken, of a list that has none twice.
+    fn new_among(&self, firings: &[Firing]) -> usize
+        requires { Distinct firings.now }
+        ensures { HasSoManyNew self.now firings.now result }
+    {
+        let mut count = 0;
+        for firing in firings {
+            if self.is_new(firing) {
+                count += 1;
+            }
+        }
+        count
+    }
+
+    /// How many of the firings that the other machine took were not taken here.
+    fn new_from(&self, other: &Machine<'_>) -> usize
+        ensures { HasSoManyNew self.now (other.now.log ++ other.now.parked) result }
+    {
+        // Brings in that the other machine took none twice, and no more than it may.
+        other.holds();
+        // Counted down from what it may take, so that no sum is made.
+        let mut rest = other.parts.limit - self.new_among(other.applied());
+        for firing in other.parked().iter() {
+            if self.is_new(firing) {
+                rest -= 1;
+            }
+        }
+        other.parts.limit - rest
+    }
+
+    /// Whether the machine may take besides all that the other one took. It takes no memory.
+    pub fn has_room_for(&self, other: &Machine<'_>) -> bool
+        ensures fits { IsTrue result → Fits self.now (other.now.log ++ other.now.parked) }
+        ensures long { IsFalse result → IsTooLong self.now (other.now.log ++ other.now.parked) }
+    {
+        // Brings in that no more are taken than may be.
+        self.holds();
+        let new = self.new_from(other);
+        new <= self.parts.limit - self.applied().len() - self.parked().len()
     }
 
     /// Goes on where an earlier call found no memory, until all that was begun is applied.
