@@ -9,7 +9,7 @@ use Rattle.u_system.proofs.Held.{Held-start, Enabled-mono}
 use Rattle.u_system.proofs.Closure.{Cl-mono, Cl-closed, Cl-least, Merge-union}
 use Rattle.u_machine.specs.State.{State, Taken, IsSound, IsMachine}
 use Rattle.u_machine.specs.Headline.{IsClosure, KeepsItsPromise}
-use Rattle.u_machine.specs.Taking.{TakesAll, TakeAllAnswer, IsFirstOther}
+use Rattle.u_machine.specs.Taking.{AreFirings, TakesAll, TakeAllAnswer, IsFirstOther}
 use Rattle.u_machine.specs.declared.answer.ListRefusal.TheVariants as lists
 use Rattle.u_machine.proofs.Lists.{slice_get_Contains}
 use Rattle.u_replica.specs.declared.answer.MergeRefusal.TheVariants as merges
@@ -99,9 +99,13 @@ module _ (a b new : State) (p : IsMachine a) (q : IsMachine b) (same : b.job ≡
       (same, taken.1, taken.2)
 
   pub merged_no_memory : (fs : List Firing) → fs ≡ all_of b → TakeAllAnswer a fs (Err lists.NoMemory) new → MergeAnswer a b (Err merges.NoMemory) new
-  merged_no_memory fs e t = (same, inr (subst (λ (fs : List Firing). TakeAllAnswer a fs (Err lists.NoMemory) new) e t))
+  merged_no_memory fs e t = (same, subst (λ (fs : List Firing). TakeAllAnswer a fs (Err lists.NoMemory) new) e t)
 
-  -- where the other's firings could not be copied, nothing changes
-  pub merge_unchanged : (r : Result (Unit {0}) MergeRefusal) → IsErrAnd r (λ e. e ≡ merges.NoMemory) → MergeAnswer a b r a
-  merge_unchanged (Ok u) h = absurd h
-  merge_unchanged (Err e) h = subst (λ e. MergeAnswer a b (Err e) a) (sym h) (same, inl refl)
+  -- so where what an earlier call began could not be applied, or the other's firings could not be copied
+  pub merge_refused : (r : Result (Unit {0}) MergeRefusal) → IsErrAnd r (λ e. e ≡ merges.NoMemory) → TakeAllAnswer a (all_of b) (Err lists.NoMemory) new → MergeAnswer a b r new
+  merge_refused (Ok u) h t = absurd h
+  merge_refused (Err e) h t = subst (λ e. MergeAnswer a b (Err e) new) (sym h) (same, t)
+
+  -- what the other took are firings of the job
+  pub are_firings : new.job ≡ a.job → AreFirings new.job (all_of b)
+  are_firings e f k = rw (e ∙ sym same) (q.sound.firings f k)

@@ -44,10 +44,10 @@ pub record IsLeastAbove (a b new : State) : Type 0 where
   pub history : (h : List Entry) → IsAbove a b (Taken new) h → LiesIn new.history h
   pub together : a.parked ≡ [] → b.parked ≡ [] → Same (Contains new.history) (λ e. Contains a.history e ⊎ Contains b.history e)
 
--- all that the other took is taken; or the jobs differ, and nothing is done; or there is no room, or no
--- memory, as `take_all` answers, or no memory for the list of what the other took
+-- all that the other took is taken; or the jobs differ, and nothing is done; or there is no room; or, as
+-- `take_all` answers, there is no memory, for what an earlier call began or where there is room
 abbrev pub MergeAnswer : State → State → Result (Unit {0}) MergeRefusal → State → Type 0
 MergeAnswer old other (Ok u) new = (other.job ≡ old.job) × TakesAll old (all_of other) new × IsSettled new × IsLeastAbove old other new
 MergeAnswer old other (Err OtherJob) new = (other.job ≡ old.job → ⊥) × (new ≡ old)
 MergeAnswer old other (Err Full) new = (other.job ≡ old.job) × IsTooLong old (all_of other) × Settles old new
-MergeAnswer old other (Err NoMemory) new = (other.job ≡ old.job) × ((new ≡ old) ⊎ TakeAllAnswer old (all_of other) (Err lists.NoMemory) new)
+MergeAnswer old other (Err NoMemory) new = (other.job ≡ old.job) × TakeAllAnswer old (all_of other) (Err lists.NoMemory) new

@@ -41,7 +41,8 @@ fn is_same(left: &Job, right: &Job) -> bool
     *right == *left
 }
 
-/// Takes all that the other machine took, which runs the same job.
+/// Takes all that the other machine took, which runs the same job. Whether there is room for it is asked
+/// before any memory is taken for it.
 fn take_other(
     alloc: Global,
     machine: &mut Machine<'_>,
@@ -53,6 +54,10 @@ fn take_other(
     // Brings in what always holds of both.
     machine.holds();
     other.holds();
+    machine.settle()?;
+    if !machine.has_room_for(other) {
+        return Err(MergeRefusal::Full);
+    }
     let all = all_taken(alloc, other)?;
     let taken = machine.take_all(&all);
     // Brings in what holds after the call.

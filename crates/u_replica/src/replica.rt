@@ -260,8 +260,8 @@ impl<'a> Replica<'a> {
     /// # Errors
     /// `OtherJob` exactly where the other replica runs another program or runs it on another argument;
     /// nothing changes then. `Full` where the replica may not take as many besides as the other has new
-    /// ones; nothing is taken then. `NoMemory` where there is no memory; some of the first ones may have
-    /// been taken then.
+    /// ones; nothing is taken then, and no memory is taken to find it out. `NoMemory` where there is room
+    /// and no memory; some of the first ones may have been taken then.
     pub fn merge(&mut self, other: &Replica<'_>) -> Result<(), MergeRefusal>
         ensures answer { MergeAnswer self.old.machine other.now.machine result self.new.machine }
         ensures alone { ChangesMachine self.old self.new }

@@ -72,8 +72,7 @@ module _ (old new : State) where
   merge_extends other (Ok u) a = takes_extends (all_of other) a.1
   merge_extends other (Err unmerged.OtherJob) a = subst (λ m. machines.Extends old m) (sym a.1) (extends_refl old)
   merge_extends other (Err unmerged.Full) a = applies_extends a.2.applies
-  merge_extends other (Err unmerged.NoMemory) (e, inl s) = subst (λ m. machines.Extends old m) (sym s) (extends_refl old)
-  merge_extends other (Err unmerged.NoMemory) (e, inr t) = refused_extends (all_of other) unlisted.NoMemory t
+  merge_extends other (Err unmerged.NoMemory) a = refused_extends (all_of other) unlisted.NoMemory a.1
 
 -- one replica changes
 
