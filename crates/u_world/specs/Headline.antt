@@ -6,7 +6,7 @@
 -- bound of two replicas; and where a replica finds nothing ready, it holds all that any run reaches, so
 -- its answer or its clashes are those of every other replica that finds nothing ready. The events
 -- are those of `specs/Happenings.antt`, the sets of one machine those of `u_machine/specs/Headline.antt`.
-use Rattle.std.specs.Prelude.{◌≡◌, ℕ, List, [], ◌∷◌, length, Contains}
+use Rattle.std.specs.Prelude.{◌≡◌, ℕ, List, [], ◌∷◌, length, Contains, Result, Ok, Err}
 use Rattle.u_system.specs.Firing.{Derivation, Held, Whole, Same}
 use Rattle.u_rule.specs.Rule.{system_of}
 use Rattle.u_rule.specs.declared.entry.Entry.{Entry}
@@ -17,14 +17,22 @@ use Rattle.u_replica.specs.ReplicaState.{ReplicaState}
 use Rattle.u_replica.specs.Merging.{IsLeastAbove}
 use Rattle.u_world.specs.declared.event.Event.{Event}
 use Rattle.u_world.specs.declared.event.Event.TheVariants as events
+use Rattle.u_world.specs.declared.refused.WorldError.{WorldError}
+use Rattle.u_world.specs.declared.refused.WorldError.TheVariants as errors
 use Rattle.u_world.specs.WorldState.{WorldState, At}
 use Rattle.u_world.specs.Happenings.{EventStep}
 use Rattle.u_world.specs.Worlds.{IsHonest}
 
--- each replica has applied all that it could: so it is in a new world, and after each list of events of
--- which none was refused
+-- each replica has applied all that it could: so it is in a new world
 abbrev pub AllSettled : WorldState → Type 0
 AllSettled w = (k : ℕ) (r : ReplicaState) → At w.replicas k r → IsSettled r.machine
+
+-- and so it stays after each list of events of which none is refused for want of memory
+abbrev pub StaySettled : WorldState → Result (Unit {0}) WorldError → WorldState → Type 0
+StaySettled old (Ok u) new = AllSettled old → AllSettled new
+StaySettled old (Err (errors.BadEvent place)) new = AllSettled old → AllSettled new
+StaySettled old (Err (errors.Full place)) new = AllSettled old → AllSettled new
+StaySettled old (Err (errors.NoMemory place)) new = Unit {0}
 
 -- P of each replica of the world that has applied all that it could
 abbrev pub OfEach : WorldState → (ReplicaState → Type 0) → Type 0

@@ -8,7 +8,7 @@ ghost use Rattle.u_name.specs.Context.{IsBetween};
 ghost use Rattle.u_world.specs.WorldState.{fresh_world, At, Has};
 ghost use Rattle.u_world.specs.Worlds.{IsWorld};
 ghost use Rattle.u_world.specs.Runs.{EventsAnswer};
-ghost use Rattle.u_world.specs.Headline.{KeepsTheHeadline, AgreeOnSets, AllSettled, MergesAreLeast};
+ghost use Rattle.u_world.specs.Headline.{KeepsTheHeadline, AgreeOnSets, AllSettled, StaySettled, MergesAreLeast};
 ghost use Rattle.u_world.specs.Rounds.{RoundsCatchUp, RoundsKeepUp};
 
 use crate::event::Event;
@@ -113,7 +113,7 @@ impl<'a> World<'a> {
     pub fn run(&mut self, events: &[Event]) -> Result<(), WorldError>
         ensures answer { EventsAnswer self.old events.now result self.new }
         ensures merges { IfOk result (λ u. MergesAreLeast self.old events.now self.new) }
-        ensures settled { IfOk result (λ u. AllSettled self.old → AllSettled self.new) }
+        ensures settled { StaySettled self.old result self.new }
         ensures rounds { RoundsCatchUp self.old events.now self.new }
         ensures rounds_among { RoundsKeepUp self.old events.now self.new }
         ensures is { IsWorld self.new }

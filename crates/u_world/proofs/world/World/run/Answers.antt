@@ -6,7 +6,7 @@ use Rattle.u_world.specs.Runs.{EventSteps, EventsAnswer}
 use Rattle.u_world.specs.declared.refused.WorldError.{WorldError}
 use Rattle.u_world.proofs.Kept.{event_keeps}
 use Rattle.u_world.proofs.Lists.{happened, steps_more, stops}
-use Rattle.u_world.proofs.Settled.{steps_settled}
+use Rattle.u_world.proofs.Settled.{steps_settled, stay_settled}
 use Rattle.u_world.proofs.Headlines.{keeps_the_headline, merges_are_least}
 use Rattle.u_world.proofs.Rounded.{rounds_catch_up}
 use Rattle.u_world.proofs.Among.{rounds_keep_up}
@@ -55,6 +55,16 @@ returns-clause-merges c =
     let new = world_of c.loop-place.self-inside.inside in
     let all : take c.loop-place.place es ≡ es = take_all c.loop-place.place es (omega (arith, c.loop-place-test.false)) in
     merges_are_least w es new (subst (λ (es : List Event). EventSteps w es new) all c.loop-place.invariant.steps)
+
+pub returns-in-Err-clause-settled : goal.returns-in-Err-clause-settled
+returns-in-Err-clause-settled c =
+    let w = c.args.self.now in
+    let es = c.args.events.now in
+    let mid = world_of c.loop-place.self-inside.inside in
+    let new = world_of c.happen.new.self in
+    stay_settled w es (Err c.at.result) new
+    (subst (λ (e : WorldError). EventsAnswer w es (Err e) new) (sym c.at.ensures)
+    (stops w es c.loop-place.place mid c.index-events-place.result c.in-Err.refused new c.loop-place-test.true c.index-events-place.is c.loop-place.invariant.steps c.in-Err.ensures))
 
 pub returns-clause-settled : goal.returns-clause-settled
 returns-clause-settled c = λ settled.
