@@ -4,9 +4,8 @@
     tests/hostile.py [--seed S] [--damaged N] [--planted] [PART..]
 
 calls    each allocation of the calls of machines, replicas, worlds, names and histories that the program
-         U_REFUSED makes, which tests/memory/run.sh builds, is refused in turn, and pairs of them: a refused
-         call is looked at and made again, and each run prints the same. The calls that take no memory make no
-         allocation
+         u_refused makes is refused in turn, and pairs of them: a refused call is looked at and made again,
+         and each run prints the same. The calls that take no memory make no allocation
 memory   each allocation of a command is refused in turn, one a run: the run ends with `u: no memory` and
          status 5 and nothing on standard output, or just as one in which nothing is refused
 writes   standard output takes a byte at a time, and fails at each byte in turn: what was written is a front
@@ -19,10 +18,10 @@ damaged  N programs, checkpoints, entries, names and lines of a bus that were ch
          the table, one named refusal or whole output, the same answer of a checkpoint and of a bus, and at
          most a second of processor time
 
-Without a PART all but `calls` are run. The library that refuses, cuts and fails is tests/memory/refuse.c. The
-program is the built one, or U_BINARY. With --planted the program is not
-told that a write or a read failed, as one is not that passes over the error: each test of `writes` and `reads`
-has to fail. The last line is 'N passed, M failed'.
+Without a PART all are run. The library that refuses, cuts and fails is tests/memory/refuse.c. The program is the
+built one, or U_BINARY, and that of `calls` crates/u_refused, or U_REFUSED. With --planted the program is not told
+that a write or a read failed, as one is not that passes over the error: each test of `writes` and `reads` has to
+fail. The last line is 'N passed, M failed'.
 """
 import argparse
 import os
@@ -36,7 +35,7 @@ from concurrent.futures import ThreadPoolExecutor
 
 TOP = os.path.dirname(os.path.dirname(os.path.abspath(__file__)))
 BINARY = os.environ.get("U_BINARY", f"{TOP}/crates/u/out/u")
-REFUSED_CALLS = os.environ.get("U_REFUSED", "")
+REFUSED_CALLS = os.environ.get("U_REFUSED", f"{TOP}/crates/u_refused/out/u_refused")
 SAID = re.compile(rb"^(refused|call|allocations) .*\n", re.MULTILINE)
 COUNT = re.compile(rb"^allocations (\d+)$", re.MULTILINE)
 IN_CALL = re.compile(rb"^call \d+ had (\d+) to (\d+)$", re.MULTILINE)
@@ -173,7 +172,7 @@ def refuse_calls(tally, seed, library):
         return run([], library=library, program=REFUSED_CALLS, FAIL_AT=numbers)
 
     whole = refused("0")
-    with open(f"{TOP}/tests/memory/stdout", "rb") as file:
+    with open(f"{TOP}/crates/u_refused/stdout", "rb") as file:
         wrong = [] if whole.status == 0 and whole.out == file.read() else [("nothing refused", whole)]
     tally.add("calls: nothing refused", 1, wrong)
     wrong = [] if whole.in_calls == [0] else [(f"allocations in calls {whole.in_calls}", whole)]
@@ -446,13 +445,14 @@ def main():
     parser.add_argument("--planted", action="store_true")
     parser.add_argument("parts", nargs="*", metavar="PART", help="calls, memory, writes, reads, large, damaged")
     asked = parser.parse_args()
-    parts = asked.parts or ["memory", "writes", "reads", "large", "damaged"]
+    parts = asked.parts or ["calls", "memory", "writes", "reads", "large", "damaged"]
     tally = Tally()
     with tempfile.TemporaryDirectory() as room:
         make_files(room)
         library = built_library(room)
-        if library is None or not os.access(BINARY, os.X_OK):
-            print(f"{BINARY} or the library is not built", file=sys.stderr)
+        programs = [BINARY, REFUSED_CALLS] if "calls" in parts else [BINARY]
+        if library is None or not all(os.access(it, os.X_OK) for it in programs):
+            print(f"{' or '.join(programs)} or the library is not built", file=sys.stderr)
             print("0 passed, 1 failed")
             return 1
         hidden = int(asked.planted)

@@ -2,7 +2,7 @@
 # Sees that three parts of tests/hostile.py (calls, writes, reads) find faults that are planted for them.
 #
 # A `take` that loses a parked firing if it is refused memory (tests/planted/u_machine.edit) is found by the
-# rows of tests/memory, of which one is run alone, with the 200th allocation refused, by `rt try`: some three
+# rows of u_refused, of which one is run alone, with the 116th allocation refused, by `rt try`: some three
 # minutes. A writer that goes on after an error, and a reader that passes
 # over one, are found by `tests/hostile.py --planted`, over the built program. It is run by hand, and is no
 # part of the gate. The last line is 'N passed, M failed'.
@@ -16,7 +16,7 @@ trap 'rm -rf -- "$room"' EXIT
 passed=0
 failed=0
 
-# Copies the crates and the program of tests/memory, with one row.
+# Copies the crates, and leaves one row of u_refused.
 copy_crates() {
     local crate part
     mkdir -p -- "$room/crates" && cp -- crates.txt HANDLES "$room/"
@@ -26,14 +26,13 @@ copy_crates() {
             [ ! -d "$crate/$part" ] || cp -R -- "$crate/$part" "$room/$crate/"
         done
     done
-    tests/memory/run.sh --copy "$room" || return 1
     sed -i 's/^    ROWS$/    \&ROWS[3..4]/' "$room/crates/u_refused/src/rows.rt"
     grep -q '^    &ROWS\[3\.\.4\]$' "$room/crates/u_refused/src/rows.rt"
 }
 
-# Runs the row with the 200th allocation refused.
+# Runs the row with the 116th allocation refused.
 run_row() {
-    (cd -- "$room/crates/u_refused" && rt try --steps 1 --fail-alloc 200) >"$room/said" 2>&1 </dev/null
+    (cd -- "$room/crates/u_refused" && rt try --steps 1 --fail-alloc 116) >"$room/said" 2>&1 </dev/null
 }
 
 # Counts one trial: whether it went as it has to, and what it is.

@@ -1,12 +1,12 @@
 //! Rows of tables of names and of histories, which stay as they were where memory is refused.
-use crate::machines::end_of;
-use crate::pictures::Picture;
-use crate::programs::job_of;
+use crate::calls::LIMIT;
+use crate::machines::run_out;
 use crate::rows::TRIES;
 use crate::trouble::{Trouble, must};
 use std::alloc::Global;
 use u_check::Job;
 use u_history::History;
+use u_machine::Machine;
 use u_name::Name;
 use u_names::Names;
 use u_rule::{Entry, Firing};
@@ -27,23 +27,27 @@ fn number(names: &mut Names, name: &Name) -> Result<(), Trouble> {
     must(false, "the name is refused though memory is there")
 }
 
-/// Gives the activity of each firing a number.
+/// Gives the activity of each firing a number, in the order in which they come.
 fn number_all(names: &mut Names, firings: &[Firing]) -> Result<(), Trouble> {
     for firing in firings {
         number(names, &firing.activity)?;
     }
-    Ok(())
+    must(
+        names.len() == firings.len(),
+        "there are more or fewer names",
+    )
+}
+
+/// Numbers the activities twice.
+fn number_again(names: &mut Names, firings: &[Firing]) -> Result<(), Trouble> {
+    number_all(names, firings)?;
+    number_all(names, firings)
 }
 
 /// Sees that the activities have their numbers in the order in which they came.
-fn tell_names(alloc: Global, end: &Picture) -> Result<(), Trouble> {
+fn tell_names(alloc: Global, firings: &[Firing]) -> Result<(), Trouble> {
     let mut names = Names::new(alloc);
-    number_all(&mut names, &end.applied)?;
-    number_all(&mut names, &end.applied)?;
-    must(
-        names.len() == end.applied.len(),
-        "there are more or fewer names",
-    )
+    number_again(&mut names, firings)
 }
 
 /// Puts a copy of the entry into the history, again while that is refused.
@@ -81,40 +85,51 @@ fn merge(one: &mut History, other: &History) -> Result<(), Trouble> {
     must(false, "the merge is refused though memory is there")
 }
 
-/// Makes the other half, merges it, and writes the text of the union.
-fn tell_union(
-    alloc: Global,
+/// Puts the other half into the other history, merges it, and writes the text of the union.
+fn join(
     one: &mut History,
-    end: &Picture,
+    other: &mut History,
+    entries: &[Entry],
     out: &mut Vec<u8>,
 ) -> Result<(), Trouble> {
-    let mut other = History::new(alloc);
-    put_half(&mut other, &end.entries, 1)?;
-    merge(one, &other)?;
+    put_half(one, entries, 0)?;
+    put_half(other, entries, 1)?;
+    merge(one, other)?;
     must(
-        one.len() == end.entries.len(),
+        one.len() == entries.len(),
         "the union has more or fewer entries",
     )?;
     one.write_text(out)?;
     Ok(())
 }
 
-/// Makes the one half of the history, and goes on.
-fn tell_halves(alloc: Global, end: &Picture, out: &mut Vec<u8>) -> Result<(), Trouble> {
-    let mut one = History::new(alloc);
-    put_half(&mut one, &end.entries, 0)?;
-    tell_union(alloc, &mut one, end, out)
+/// Makes the other history.
+fn tell_union(
+    alloc: Global,
+    one: &mut History,
+    entries: &[Entry],
+    out: &mut Vec<u8>,
+) -> Result<(), Trouble> {
+    let mut other = History::new(alloc);
+    join(one, &mut other, entries, out)
 }
 
-/// Runs the job to its end first.
-fn tell_job(alloc: Global, job: &Job, out: &mut Vec<u8>) -> Result<(), Trouble> {
-    let end = end_of(alloc, job)?;
-    tell_names(alloc, &end)?;
-    tell_halves(alloc, &end, out)
+/// Makes two halves of the history.
+fn tell_halves(alloc: Global, entries: &[Entry], out: &mut Vec<u8>) -> Result<(), Trouble> {
+    let mut one = History::new(alloc);
+    tell_union(alloc, &mut one, entries, out)
+}
+
+/// Numbers the names of the run, and makes two halves of its history.
+fn tell_end(alloc: Global, end: &mut Machine<'_>, out: &mut Vec<u8>) -> Result<(), Trouble> {
+    run_out(end)?;
+    tell_names(alloc, end.applied())?;
+    let entries = end.history().entries()?;
+    tell_halves(alloc, &entries, out)
 }
 
 /// Writes the union of two halves of the run's history.
-pub fn tell(alloc: Global, text: &[u8], argument: i64, out: &mut Vec<u8>) -> Result<(), Trouble> {
-    let job = job_of(alloc, text, argument)?;
-    tell_job(alloc, &job, out)
+pub fn tell(alloc: Global, job: &Job, out: &mut Vec<u8>) -> Result<(), Trouble> {
+    let mut end = Machine::new(alloc, job, LIMIT)?;
+    tell_end(alloc, &mut end, out)
 }

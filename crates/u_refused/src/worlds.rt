@@ -1,12 +1,13 @@
 //! Rows of a world whose events may be refused memory.
-use crate::machines::{LIMIT, end_of};
-use crate::pictures::Picture;
-use crate::programs::job_of;
+use crate::calls::LIMIT;
+use crate::machines::run_out;
 use crate::rows::TRIES;
-use crate::standing::are_within;
+use crate::standing::lies_in;
 use crate::trouble::{Trouble, must};
 use std::alloc::{AllocError, Global};
 use u_check::Job;
+use u_history::History;
+use u_machine::Machine;
 use u_world::{Event, World, WorldError, random_events};
 
 /// How many replicas there are.
@@ -17,9 +18,8 @@ const EVENTS: usize = 40;
 
 const SEED: u64 = 4;
 
-/// The random events, and then so many firings by each replica.
-fn events_of(alloc: Global, firings: usize) -> Result<Vec<Event>, AllocError> {
-    let mut events = random_events(alloc, SEED, REPLICAS, EVENTS)?;
+/// Adds so many firings by each replica.
+fn add_firings(events: &mut Vec<Event>, firings: usize) -> Result<(), AllocError> {
     for _ in 0..firings {
         events.push(Event::Fire {
             replica: 1,
@@ -30,24 +30,30 @@ fn events_of(alloc: Global, firings: usize) -> Result<Vec<Event>, AllocError> {
             pick: 0,
         })?;
     }
+    Ok(())
+}
+
+/// The random events, and then so many firings by each replica.
+fn events_of(alloc: Global, firings: usize) -> Result<Vec<Event>, AllocError> {
+    let mut events = random_events(alloc, SEED, REPLICAS, EVENTS)?;
+    add_firings(&mut events, firings)?;
     Ok(events)
 }
 
 /// Sees that the replica holds nothing that no run has.
-fn look_at(world: &World<'_>, number: u8, end: &Picture) -> Result<(), Trouble> {
+fn look_at(world: &World<'_>, number: u8, end: &History) -> Result<(), Trouble> {
     if number == 0 || usize::from(number) > world.count() {
         return must(false, "a replica is not there");
     }
-    let entries = world.replica(number).machine().history().entries()?;
     must(
-        are_within(&end.entries, &entries),
+        lies_in(world.replica(number).machine().history(), end)?,
         "an entry of no run is held",
     )
 }
 
 /// Lets the events happen, and where one of them is refused it and those behind it again. How many
 /// happened before that.
-fn run_some(world: &mut World<'_>, events: &[Event], end: &Picture) -> Result<usize, Trouble> {
+fn run_some(world: &mut World<'_>, events: &[Event], end: &History) -> Result<usize, Trouble> {
     match world.run(events) {
         Err(WorldError::NoMemory(place)) => {
             look_at(world, 1, end)?;
@@ -62,7 +68,7 @@ fn run_some(world: &mut World<'_>, events: &[Event], end: &Picture) -> Result<us
 }
 
 /// Lets all events happen, again from where one is refused.
-fn run_all(world: &mut World<'_>, events: &[Event], end: &Picture) -> Result<(), Trouble> {
+fn run_all(world: &mut World<'_>, events: &[Event], end: &History) -> Result<(), Trouble> {
     let mut rest = events;
     for _ in 0..TRIES {
         let place = run_some(world, rest, end)?;
@@ -78,17 +84,14 @@ fn run_all(world: &mut World<'_>, events: &[Event], end: &Picture) -> Result<(),
 fn tell_end(
     world: &World<'_>,
     number: u8,
-    end: &Picture,
+    end: &History,
     out: &mut Vec<u8>,
 ) -> Result<(), Trouble> {
     if number == 0 || usize::from(number) > world.count() {
         return must(false, "a replica is not there");
     }
     let history = world.replica(number).machine().history();
-    must(
-        history.len() == end.entries.len(),
-        "the end is not that of the run",
-    )?;
+    must(history.len() == end.len(), "the end is not that of the run")?;
     look_at(world, number, end)?;
     history.write_text(out)?;
     Ok(())
@@ -98,7 +101,7 @@ fn tell_end(
 fn tell_world(
     world: &mut World<'_>,
     events: &[Event],
-    end: &Picture,
+    end: &History,
     out: &mut Vec<u8>,
 ) -> Result<(), Trouble> {
     run_all(world, events, end)?;
@@ -111,27 +114,22 @@ fn tell_events(
     alloc: Global,
     job: &Job,
     events: &[Event],
-    end: &Picture,
+    end: &History,
     out: &mut Vec<u8>,
 ) -> Result<(), Trouble> {
     let mut world = World::new(alloc, job, REPLICAS, LIMIT)?;
     tell_world(&mut world, events, end, out)
 }
 
-/// Makes the events.
-fn tell_job(alloc: Global, job: &Job, end: &Picture, out: &mut Vec<u8>) -> Result<(), Trouble> {
-    let events = events_of(alloc, end.applied.len())?;
-    tell_events(alloc, job, &events, end, out)
-}
-
-/// Runs the job to its end first.
-fn tell_end_of(alloc: Global, job: &Job, out: &mut Vec<u8>) -> Result<(), Trouble> {
-    let end = end_of(alloc, job)?;
-    tell_job(alloc, job, &end, out)
+/// Runs the machine to the end, and makes the events.
+fn tell_from(alloc: Global, end: &mut Machine<'_>, out: &mut Vec<u8>) -> Result<(), Trouble> {
+    run_out(end)?;
+    let events = events_of(alloc, end.applied().len())?;
+    tell_events(alloc, end.job(), &events, end.history(), out)
 }
 
 /// Writes the histories of both replicas at the end, which is that of the run.
-pub fn tell(alloc: Global, text: &[u8], argument: i64, out: &mut Vec<u8>) -> Result<(), Trouble> {
-    let job = job_of(alloc, text, argument)?;
-    tell_end_of(alloc, &job, out)
+pub fn tell(alloc: Global, job: &Job, out: &mut Vec<u8>) -> Result<(), Trouble> {
+    let mut end = Machine::new(alloc, job, LIMIT)?;
+    tell_from(alloc, &mut end, out)
 }

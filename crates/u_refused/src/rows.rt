@@ -1,9 +1,10 @@
 //! The rows: what is run, and how.
-use crate::machines::Way;
-use crate::programs::{DOUBLE, FACTORIAL, SUM, TWO_WRITERS};
+use crate::calls::Way;
+use crate::programs::{DOUBLE, FACTORIAL, SUM, TWO_WRITERS, job_of};
 use crate::trouble::Trouble;
 use crate::{machines, replicas, sets, worlds};
 use std::alloc::Global;
+use u_check::Job;
 
 /// How often a call or a row is tried while it is refused.
 pub const TRIES: usize = 4;
@@ -90,16 +91,22 @@ pub fn rows() -> &'static [Row] {
     ROWS
 }
 
+/// Writes the bytes of a row of that kind.
+fn tell_job(alloc: Global, job: &Job, kind: Kind, out: &mut Vec<u8>) -> Result<(), Trouble> {
+    match kind {
+        Kind::Machine(way) => machines::tell(alloc, job, way, false, out),
+        Kind::Settled(way) => machines::tell(alloc, job, way, true, out),
+        Kind::Replicas => replicas::tell(alloc, job, out),
+        Kind::World => worlds::tell(alloc, job, out),
+        Kind::Sets => sets::tell(alloc, job, out),
+    }
+}
+
 /// Writes the row's bytes.
 fn tell(alloc: Global, row: &Row, out: &mut Vec<u8>) -> Result<(), Trouble> {
     let (_, kind, text, argument) = row;
-    match kind {
-        Kind::Machine(way) => machines::tell(alloc, text, *argument, *way, false, out),
-        Kind::Settled(way) => machines::tell(alloc, text, *argument, *way, true, out),
-        Kind::Replicas => replicas::tell(alloc, text, *argument, out),
-        Kind::World => worlds::tell(alloc, text, *argument, out),
-        Kind::Sets => sets::tell(alloc, text, *argument, out),
-    }
+    let job = job_of(alloc, text, *argument)?;
+    tell_job(alloc, &job, *kind, out)
 }
 
 /// Writes the row's bytes, beginning again if it finds no memory.

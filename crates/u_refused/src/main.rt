@@ -7,14 +7,13 @@
 
 mod calls;
 mod lent;
-mod lists;
 mod machines;
-mod pictures;
 mod programs;
 mod replicas;
 mod rows;
 mod sets;
 mod standing;
+mod taking;
 mod trouble;
 mod worlds;
 

@@ -1,37 +1,18 @@
 //! Rows of two replicas that exchange deltas, save, start again and merge.
-use crate::machines::{LIMIT, end_of};
-use crate::pictures::Picture;
-use crate::programs::job_of;
+use crate::calls::LIMIT;
+use crate::machines::run_out;
 use crate::rows::TRIES;
-use crate::standing::are_within;
+use crate::standing::lies_in;
+use crate::taking::{Held, held_by};
 use crate::trouble::{Trouble, must};
 use std::alloc::Global;
 use u_check::Job;
 use u_delta::{Ask, Delta, Mark, Message, read_message, write_message};
-use u_machine::{ListRefusal, Ran, Refusal, StepIn};
+use u_machine::{ListRefusal, Machine, Ran, Refusal, StepIn};
 use u_replica::{Ending, MergeRefusal, Replica, RestoreError};
 
 /// How often the replicas fire in their buckets and ask each other.
 const ROUNDS: usize = 12;
-
-/// How much a replica holds.
-#[derive(Clone, Copy)]
-struct Held {
-    entries: usize,
-    applied: usize,
-    taken: usize,
-}
-
-/// How much the replica holds.
-fn held_by(replica: &Replica<'_>) -> Held {
-    let machine = replica.machine();
-    let applied = machine.applied().len();
-    Held {
-        entries: machine.history().len(),
-        applied,
-        taken: applied.saturating_add(machine.parked().len()),
-    }
-}
 
 /// How much the replica has of the peer's log: none where that is no other replica.
 pub fn mark_of(replica: &Replica<'_>, peer: u8) -> Option<Mark> {
@@ -41,24 +22,20 @@ pub fn mark_of(replica: &Replica<'_>, peer: u8) -> Option<Mark> {
     Some(replica.mark(peer))
 }
 
-/// Where a row stands: its job, and the end of the run.
+/// Where a row stands: a machine at the end of its run.
 #[derive(Clone, Copy)]
 struct Row<'a> {
     alloc: Global,
-    job: &'a Job,
-    end: &'a Picture,
+    end: &'a Machine<'a>,
 }
 
 impl Row<'_> {
     /// Sees that the replica holds no less than before, and nothing that no run has.
     fn look(&self, replica: &Replica<'_>, before: Held) -> Result<(), Trouble> {
-        let now = held_by(replica);
-        must(before.entries <= now.entries, "an entry is lost")?;
-        must(before.applied <= now.applied, "an applied firing is lost")?;
-        must(before.taken <= now.taken, "a taken firing is lost")?;
-        let entries = replica.machine().history().entries()?;
+        let machine = replica.machine();
+        must(held_by(machine).has_kept(before), "something is lost")?;
         must(
-            are_within(&self.end.entries, &entries),
+            lies_in(machine.history(), self.end.history())?,
             "an entry of no run is held",
         )
     }
@@ -66,7 +43,7 @@ impl Row<'_> {
     /// Fires in those buckets until nothing is ready there.
     fn fire_out(&self, replica: &mut Replica<'_>, buckets: u64) -> Result<(), Trouble> {
         for _ in 0..LIMIT {
-            let before = held_by(replica);
+            let before = held_by(replica.machine());
             match replica.fire_in(buckets, 0) {
                 Ok(StepIn::Fired(_)) => {}
                 Err(Refusal::NoMemory) => self.look(replica, before)?,
@@ -90,7 +67,7 @@ impl Row<'_> {
     fn receive(&self, replica: &mut Replica<'_>, delta: &Delta) -> Result<(), Trouble> {
         let mark = mark_of(replica, delta.sender);
         for _ in 0..TRIES {
-            let before = held_by(replica);
+            let before = held_by(replica.machine());
             match replica.receive(delta) {
                 Err(ListRefusal::NoMemory) => {
                     self.look(replica, before)?;
@@ -102,14 +79,19 @@ impl Row<'_> {
         must(false, "it is not taken though memory is there")
     }
 
+    /// The message that the text is.
+    fn read(&self, text: &[u8]) -> Result<Message, Trouble> {
+        match read_message(self.alloc, text) {
+            Ok(message) => Ok(message),
+            Err(_) => Err(Trouble::Memory),
+        }
+    }
+
     /// The message as it comes from its text.
     fn sent(&self, message: &Message) -> Result<Message, Trouble> {
         let mut text = Vec::new(self.alloc);
         write_message(message, &mut text)?;
-        match read_message(self.alloc, &text) {
-            Ok(message) => Ok(message),
-            Err(_) => Err(Trouble::Memory),
-        }
+        self.read(&text)
     }
 
     /// What the replica answers to the ask.
@@ -130,6 +112,12 @@ impl Row<'_> {
         }
     }
 
+    /// Hands on the delta as it comes from its text.
+    fn hand_on(&self, one: &mut Replica<'_>, delta: &Message) -> Result<(), Trouble> {
+        let arrived = self.sent(delta)?;
+        self.arrive(one, &arrived)
+    }
+
     /// Lets the one replica have what it lacks of the other one's log.
     fn catch_up(&self, one: &mut Replica<'_>, other: &Replica<'_>) -> Result<(), Trouble> {
         let Some(mark) = mark_of(one, other.number()) else {
@@ -142,14 +130,13 @@ impl Row<'_> {
             count: mark.count,
         };
         let delta = Message::Delta(self.answered(other, &ask)?);
-        let arrived = self.sent(&delta)?;
-        self.arrive(one, &arrived)
+        self.hand_on(one, &delta)
     }
 
     /// Merges the other replica into the one, again while that is refused.
     fn merge(&self, one: &mut Replica<'_>, other: &Replica<'_>) -> Result<(), Trouble> {
         for _ in 0..TRIES {
-            let before = held_by(one);
+            let before = held_by(one.machine());
             match one.merge(other) {
                 Err(MergeRefusal::NoMemory) => self.look(one, before)?,
                 merged => return must(merged.is_ok(), "it is not merged"),
@@ -161,7 +148,7 @@ impl Row<'_> {
     /// Runs the replica to its end, again while that is refused.
     fn run_out(&self, replica: &mut Replica<'_>) -> Result<(), Trouble> {
         for _ in 0..TRIES {
-            let before = held_by(replica);
+            let before = held_by(replica.machine());
             match replica.run(LIMIT) {
                 Err(Refusal::NoMemory) => self.look(replica, before)?,
                 ran => return must(ran == Ok(Ran::Quiet), "it is not quiet"),
@@ -175,21 +162,33 @@ impl Row<'_> {
         self.run_out(replica)?;
         let history = replica.machine().history();
         must(
-            history.len() == self.end.entries.len() && replica.machine().parked().len() == 0,
+            history.len() == self.end.history().len() && replica.machine().parked().len() == 0,
             "the end is not that of the run",
         )?;
-        self.look(replica, held_by(replica))?;
+        self.look(replica, held_by(replica.machine()))?;
         history.write_text(out)?;
         Ok(())
     }
 
     /// The replica that starts again from what was saved.
     fn restored(&self, bytes: &[u8]) -> Result<Replica<'_>, Trouble> {
-        match Replica::restore(self.alloc, self.job, LIMIT, 1, 2, bytes) {
+        match Replica::restore(self.alloc, self.end.job(), LIMIT, 1, 2, bytes) {
             Ok((replica, Ending::Whole)) => Ok(replica),
             Err(RestoreError::NoMemory) => Err(Trouble::Memory),
             _ => Err(Trouble::Wrong("it is not restored whole")),
         }
+    }
+
+    /// Lets both come to the end.
+    fn tell_ends(
+        &self,
+        again: &mut Replica<'_>,
+        other: &mut Replica<'_>,
+        out: &mut Vec<u8>,
+    ) -> Result<(), Trouble> {
+        self.merge(again, other)?;
+        self.tell_end(again, out)?;
+        self.tell_end(other, out)
     }
 
     /// Lets a replica that starts again from what the one saved merge with the other.
@@ -200,9 +199,7 @@ impl Row<'_> {
         out: &mut Vec<u8>,
     ) -> Result<(), Trouble> {
         let mut again = self.restored(bytes)?;
-        self.merge(&mut again, other)?;
-        self.tell_end(&mut again, out)?;
-        self.tell_end(other, out)
+        self.tell_ends(&mut again, other, out)
     }
 
     /// Lets the replicas fire in the buckets of even and of odd numbers, and ask each other.
@@ -230,30 +227,26 @@ impl Row<'_> {
 
     /// Makes the second replica, and goes on with both.
     fn tell_with(&self, one: &mut Replica<'_>, out: &mut Vec<u8>) -> Result<(), Trouble> {
-        let mut other = Replica::new(self.alloc, self.job, LIMIT, 2)?;
+        let mut other = Replica::new(self.alloc, self.end.job(), LIMIT, 2)?;
         self.tell_both(one, &mut other, out)
     }
 
     /// Makes the first replica, and goes on.
     fn tell(&self, out: &mut Vec<u8>) -> Result<(), Trouble> {
-        let mut one = Replica::new(self.alloc, self.job, LIMIT, 1)?;
+        let mut one = Replica::new(self.alloc, self.end.job(), LIMIT, 1)?;
         self.tell_with(&mut one, out)
     }
 }
 
-/// Writes the histories of both at the end of the job's run.
-fn tell_job(alloc: Global, job: &Job, out: &mut Vec<u8>) -> Result<(), Trouble> {
-    let end = end_of(alloc, job)?;
-    let row = Row {
-        alloc,
-        job,
-        end: &end,
-    };
+/// Runs the machine to the end, and tells of the replicas.
+fn tell_from(alloc: Global, end: &mut Machine<'_>, out: &mut Vec<u8>) -> Result<(), Trouble> {
+    run_out(end)?;
+    let row = Row { alloc, end };
     row.tell(out)
 }
 
 /// Writes the histories of both replicas at the end, which is that of the run.
-pub fn tell(alloc: Global, text: &[u8], argument: i64, out: &mut Vec<u8>) -> Result<(), Trouble> {
-    let job = job_of(alloc, text, argument)?;
-    tell_job(alloc, &job, out)
+pub fn tell(alloc: Global, job: &Job, out: &mut Vec<u8>) -> Result<(), Trouble> {
+    let mut end = Machine::new(alloc, job, LIMIT)?;
+    tell_from(alloc, &mut end, out)
 }

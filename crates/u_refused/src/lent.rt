@@ -1,10 +1,10 @@
 //! The calls that take no memory. The line `call` stands before them and `answered` behind them, for the
 //! library that counts allocations.
-use crate::machines::LIMIT;
-use crate::pictures::{Picture, picture_of};
+use crate::calls::LIMIT;
 use crate::programs::{DOUBLE, job_of};
 use crate::replicas::mark_of;
 use crate::rows::TRIES;
+use crate::standing;
 use anyhow::{Result, anyhow};
 use std::alloc::Global;
 use u_check::Job;
@@ -21,14 +21,16 @@ fn new_are_empty(alloc: Global) -> bool {
     History::new(alloc).len() == 0 && Names::new(alloc).len() == 0 && Matcher::new(alloc).len() == 0
 }
 
-/// Whether the history has all entries of the run.
+/// What the calls are made with: the entries of a run, and its firings on another machine.
+#[derive(Clone, Copy)]
+struct End<'a> {
+    entries: &'a [Entry],
+    firings: &'a [Firing],
+}
+
+/// Whether the history has all entries of the run, and no other.
 fn has_all(history: &History, entries: &[Entry]) -> bool {
-    for entry in entries {
-        if !history.contains(entry) {
-            return false;
-        }
-    }
-    history.len() == entries.len()
+    standing::has_all(history, entries) && history.len() == entries.len()
 }
 
 /// Whether the machine knows the firings, which are of its job and equal to themselves, and each has a
@@ -54,11 +56,11 @@ fn take_again(machine: &mut Machine<'_>, firings: &[Firing]) -> bool {
 }
 
 /// Whether the calls of the quiet machine answer as they must.
-fn machine_answers(machine: &mut Machine<'_>, end: &Picture) -> bool {
+fn machine_answers(machine: &mut Machine<'_>, end: &End<'_>) -> bool {
     machine.is_settled()
-        && has_all(machine.history(), &end.entries)
-        && knows_all(machine, &end.applied)
-        && take_again(machine, &end.applied)
+        && has_all(machine.history(), end.entries)
+        && knows_all(machine, end.firings)
+        && take_again(machine, end.firings)
         && machine.settle().is_ok()
         && machine.fire(0) == Ok(Step::Quiet)
         && machine.run(LIMIT) == Ok(Ran::Quiet)
@@ -82,7 +84,7 @@ fn all_answer(
     alloc: Global,
     machine: &mut Machine<'_>,
     replica: &Replica<'_>,
-    end: &Picture,
+    end: &End<'_>,
 ) -> bool {
     new_are_empty(alloc) && machine_answers(machine, end) && replica_answers(replica)
 }
@@ -92,7 +94,7 @@ fn call_all(
     rt: &HostRuntime,
     machine: &mut Machine<'_>,
     replica: &Replica<'_>,
-    end: &Picture,
+    end: &End<'_>,
 ) -> Result<()> {
     println!(rt; "call")?;
     let right = all_answer(rt.alloc(), machine, replica, end);
@@ -101,25 +103,36 @@ fn call_all(
     Ok(())
 }
 
-/// Makes the calls on the machine and a new replica.
-fn try_with(rt: &HostRuntime, job: &Job, machine: &mut Machine<'_>, end: &Picture) -> Result<()> {
-    let replica = Replica::new(rt.alloc(), job, LIMIT, 1)?;
-    call_all(rt, machine, &replica, end)
+/// Makes the calls on the quiet machine and a new replica, with what another machine has.
+fn try_with(rt: &HostRuntime, machine: &mut Machine<'_>, other: &Machine<'_>) -> Result<()> {
+    let replica = Replica::new(rt.alloc(), other.job(), LIMIT, 1)?;
+    let entries = other.history().entries()?;
+    let end = End {
+        entries: &entries,
+        firings: other.applied(),
+    };
+    call_all(rt, machine, &replica, &end)
 }
 
-/// Makes the calls on the quiet machine.
-fn try_quiet(rt: &HostRuntime, job: &Job, machine: &mut Machine<'_>) -> Result<()> {
-    let end = picture_of(rt.alloc(), machine)?;
-    try_with(rt, job, machine, &end)
+/// Runs both machines to their end.
+fn try_both(rt: &HostRuntime, machine: &mut Machine<'_>, other: &mut Machine<'_>) -> Result<()> {
+    let is_quiet = machine.run(LIMIT) == Ok(Ran::Quiet) && other.run(LIMIT) == Ok(Ran::Quiet);
+    if is_quiet {
+        return try_with(rt, machine, other);
+    }
+    Err(anyhow!("it is not quiet"))
 }
 
-/// Makes the calls on a machine that ran to its end.
+/// Makes another machine.
+fn try_beside(rt: &HostRuntime, machine: &mut Machine<'_>) -> Result<()> {
+    let mut other = Machine::new(rt.alloc(), machine.job(), LIMIT)?;
+    try_both(rt, machine, &mut other)
+}
+
+/// Makes the calls on a machine of the job.
 fn try_job(rt: &HostRuntime, job: &Job) -> Result<()> {
     let mut machine = Machine::new(rt.alloc(), job, LIMIT)?;
-    match machine.run(LIMIT) {
-        Ok(Ran::Quiet) => try_quiet(rt, job, &mut machine),
-        _ => Err(anyhow!("it is not quiet")),
-    }
+    try_beside(rt, &mut machine)
 }
 
 /// Makes the calls that take no memory, of the program of the double.
