@@ -11,5 +11,5 @@ pub fn bucket_of(name: &Name) -> u64
     ensures bucket { result ≡ bucket name.now }
     ensures range { result < 64 }
 {
-    (u64::from(name.statement()) + u64::from(name.initiation()) + u64::from(name.depth())) % 64
+    (u64::from(name.statement()) + name.initiation() % 64 + u64::from(name.depth())) % 64
 }

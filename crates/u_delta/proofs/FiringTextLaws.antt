@@ -31,18 +31,18 @@ block_free (b ∷ bs) v = (λ e. not_both (subst (λ b. IsTrue (is_block_byte b)
     not_both : IsTrue (is_block_byte 10) → ⊥
     not_both h = cc
 
-small_free : (n : ℕ) → n ≤ 4294967295 → Free 10 (decimal n)
+small_free : (n : ℕ) → n ≤ 18446744073709551615 → Free 10 (decimal n)
 small_free n h = free_decimal 10 n (omega arith) (omega arith)
 
 dotted_free : (bs : List ℕ) → Free 10 bs → Free 10 (46 ∷ bs)
 dotted_free bs v = (λ e. omega arith, v)
 
-loop_part_free : (b : List ℕ) (n i : ℕ) → IsBlock b → n ≤ 99 → i ≤ 4294967295 → Free 10 (loop_part b n i)
+loop_part_free : (b : List ℕ) (n i : ℕ) → IsBlock b → n ≤ 99 → i ≤ 18446744073709551615 → Free 10 (loop_part b n i)
 loop_part_free b n i v l m =
     dotted_free (b ++ (46 ∷ (76 ∷ (decimal n ++ (46 ∷ decimal i))))) (free_append 10 b (46 ∷ (76 ∷ (decimal n ++ (46 ∷ decimal i)))) (block_free b v.each)
     (λ e. omega arith, (λ e. omega arith, free_append 10 (decimal n) (46 ∷ decimal i) (small_free n (omega arith)) (dotted_free (decimal i) (small_free i m)))))
 
-call_part_free : (b : List ℕ) (s i : ℕ) → IsBlock b → s ≤ 999 → i ≤ 4294967295 → Free 10 (call_part b s i)
+call_part_free : (b : List ℕ) (s i : ℕ) → IsBlock b → s ≤ 999 → i ≤ 18446744073709551615 → Free 10 (call_part b s i)
 call_part_free b s i v l m =
     dotted_free (b ++ (46 ∷ (decimal s ++ (46 ∷ decimal i)))) (free_append 10 b (46 ∷ (decimal s ++ (46 ∷ decimal i))) (block_free b v.each)
     (dotted_free (decimal s ++ (46 ∷ decimal i)) (free_append 10 (decimal s) (46 ∷ decimal i) (small_free s (omega arith)) (dotted_free (decimal i) (small_free i m)))))
@@ -88,29 +88,29 @@ firing_free f v =
 
 -- how long
 
-loop_part_short : (b : List ℕ) (n i : ℕ) → IsBlock b → n ≤ 99 → i ≤ 4294967295 → length (loop_part b n i) ≤ 32
+loop_part_short : (b : List ℕ) (n i : ℕ) → IsBlock b → n ≤ 99 → i ≤ 18446744073709551615 → length (loop_part b n i) ≤ 42
 loop_part_short b n i v l m =
-    omega (arith, v.short, length-append b (46 ∷ (76 ∷ (decimal n ++ (46 ∷ decimal i)))), length-append (decimal n) (46 ∷ decimal i), length-decimal-le 2 n (omega arith) (omega arith) (omega arith), length-decimal-le 10 i (omega arith) (omega arith) (omega arith))
+    omega (arith, v.short, length-append b (46 ∷ (76 ∷ (decimal n ++ (46 ∷ decimal i)))), length-append (decimal n) (46 ∷ decimal i), length-decimal-le 2 n (omega arith) (omega arith) (omega arith), length-decimal-le 20 i (omega arith) (omega arith) (omega arith))
 
-call_part_short : (b : List ℕ) (s i : ℕ) → IsBlock b → s ≤ 999 → i ≤ 4294967295 → length (call_part b s i) ≤ 32
+call_part_short : (b : List ℕ) (s i : ℕ) → IsBlock b → s ≤ 999 → i ≤ 18446744073709551615 → length (call_part b s i) ≤ 42
 call_part_short b s i v l m =
-    omega (arith, v.short, length-append b (46 ∷ (decimal s ++ (46 ∷ decimal i))), length-append (decimal s) (46 ∷ decimal i), length-decimal-le 3 s (omega arith) (omega arith) (omega arith), length-decimal-le 10 i (omega arith) (omega arith) (omega arith))
+    omega (arith, v.short, length-append b (46 ∷ (decimal s ++ (46 ∷ decimal i))), length-append (decimal s) (46 ∷ decimal i), length-decimal-le 3 s (omega arith) (omega arith) (omega arith), length-decimal-le 20 i (omega arith) (omega arith) (omega arith))
 
 closed_length : (outer part : List ℕ) → length ((40 ∷ outer) ++ (part ++ (41 ∷ []))) ≡ length outer + length part + 2
 closed_length outer part = omega (arith, length-append (40 ∷ outer) (part ++ (41 ∷ [])), length-append part (41 ∷ []))
 
-context_short : (t : Tree) → InRange t → length (context_text t) ≤ 34 * depth t + 1
+context_short : (t : Tree) → InRange t → length (context_text t) ≤ 44 * depth t + 1
 unfolding context_text
 context_short Top v = omega arith
 context_short (InLoop o b n i) v = omega (arith, closed_length (context_text o) (loop_part b n i), context_short o v.0, loop_part_short b n i v.1 v.2.1 v.3.1)
 context_short (InCall o b s i) v = omega (arith, closed_length (context_text o) (call_part b s i), context_short o v.0, call_part_short b s i v.1 v.2.1 v.3.1)
 
-name_short : (n : Activity) → IsName n → length (name_text n) ≤ 2209
+name_short : (n : Activity) → IsName n → length (name_text n) ≤ 2859
 unfolding name_text
 name_short n v =
     omega (arith, length-append (context_text n.context) (call_part n.block n.statement n.initiation), context_short n.context v.context.in_range, v.context.shallow, call_part_short n.block n.statement n.initiation v.block v.statement.1 v.initiation.1)
 
-pointer_short : (p : Pointer) → IsName p.name → IsPointer p → length (pointer_text p) ≤ 2218
+pointer_short : (p : Pointer) → IsName p.name → IsPointer p → length (pointer_text p) ≤ 2868
 unfolding pointer_text
 pointer_short p v w =
     let l : length (decimal p.length) ≤ 7 = length-decimal-le 7 p.length (omega arith) (omega (arith, w.short)) (omega (arith, w.short)) in
@@ -120,7 +120,7 @@ signed_short : (z : ℤ) → FitsSigned w64 z → length (signed_decimal z) ≤ 
 signed_short (pos n) v = let b : n < 2 ^ 63 = v.sfits in omega (arith, length-decimal-le 19 n (omega arith) (omega arith) (omega arith))
 signed_short (negsuc n) v = let b : n < 2 ^ 63 = v.sfits in omega (arith, length-decimal-le 19 (suc n) (omega arith) (omega arith) (omega arith))
 
-value_short : (x : Value) → IsValue x → length (value_text x) ≤ 2218
+value_short : (x : Value) → IsValue x → length (value_text x) ≤ 2868
 unfolding value_text
 value_short (Int z) v = omega (arith, signed_short z v)
 value_short (Bool true) v = omega arith
@@ -128,15 +128,15 @@ value_short (Bool false) v = omega arith
 value_short (Proc b) v = omega (arith, v.short)
 value_short (Ref p) v = pointer_short p v.0 v.1
 
-values_short : (xs : List Value) → AreValues xs → length (values_text xs) ≤ 2219 * length xs
+values_short : (xs : List Value) → AreValues xs → length (values_text xs) ≤ 2869 * length xs
 values_short [] v = omega arith
 values_short (x ∷ xs) v = omega (arith, length-append (value_text x) (values_text xs), value_short x v.0, values_short xs v.1)
 
-written_short : (w : Option Written) → IsWritten w → length (written_text w) ≤ 4432
+written_short : (w : Option Written) → IsWritten w → length (written_text w) ≤ 5732
 written_short None v = omega arith
 written_short (Some w) v = omega (arith, length-append (name_text w.writer) (32 ∷ value_text w.value), name_short w.writer v.0, value_short w.value v.1)
 
-pub firing_short : (f : Firing) → IsFiring f → length (firing_text f) ≤ 13300
+pub firing_short : (f : Firing) → IsFiring f → length (firing_text f) ≤ 17200
 unfolding firing_text
 firing_short f v =
     omega (arith, length-append (name_text f.activity) (values_text f.values ++ written_text f.write), length-append (values_text f.values) (written_text f.write), name_short f.activity v.0, values_short f.values v.2, v.1.count.1, written_short f.write v.3)

@@ -29,6 +29,7 @@ use Rattle.u_rule.specs.declared.firing.Firing.{Firing}
 use Rattle.u_rule.specs.declared.firing.Written.{Written}
 use Rattle.u_rule.proofs.Places.{looping}
 use Rattle.u_determinate.proofs.Named.{named}
+use Rattle.u_rule.proofs.Firings.{at_statement}
 
 pub record Keeps (b : BlockParts) (n : ℕ) (s : StatementParts) : Type 0 where
   pub begin_first : n ≡ 1 → s.kind ≡ Begin
@@ -79,8 +80,7 @@ module _ (job : JobParts) where
   main_alone (InCall outer from caller turn) block region i e z = cc
 
   pub fires_of : IsChecked job.program.blocks → (f : Firing) → is_firing_of job f ≡ true → Fires job f
-  unfolding is_firing_of
-  fires_of c f e = at (statement_of job.program.blocks f.activity.block f.activity.statement) refl e
+  fires_of c f e = at (statement_of job.program.blocks f.activity.block f.activity.statement) refl (at_statement job f e)
     where
       at : (o : Option StatementParts) → statement_of job.program.blocks f.activity.block f.activity.statement ≡ o → is_firing_at job.program.blocks o f ≡ true → Fires job f
       at None q e = absurd (false≢true e)

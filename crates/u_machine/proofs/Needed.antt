@@ -16,6 +16,7 @@ use Rattle.u_rule.specs.declared.entry.Entry.{Entry}
 use Rattle.u_rule.specs.declared.entry.Entry.TheVariants as entries
 use Rattle.u_rule.specs.declared.firing.Firing.{Firing}
 use Rattle.u_system.proofs.Member.{Contains-head}
+use Rattle.u_rule.proofs.Firings.{at_statement}
 
 some_port : (k : Kind) → 1 ≤ ports_of k
 some_port Begin = omega arith
@@ -34,5 +35,5 @@ first_token a [] more l = absurd (omega arith)
 first_token a (v ∷ vs) more l = (entries.Token (token a 1 v), Contains-head _ _)
 
 pub needs_some : (job : JobParts) (f : Firing) → IsTrue ((system_of job).is_firing f) → (e : Entry) × Contains ((system_of job).needs f) e
-unfolding is_firing_of needs_of
-needs_some job f h = first_token f.activity f.values (write_read f.values f.write) (some_value job.program.blocks (statement_of job.program.blocks f.activity.block f.activity.statement) f h)
+unfolding needs_of
+needs_some job f h = first_token f.activity f.values (write_read f.values f.write) (some_value job.program.blocks (statement_of job.program.blocks f.activity.block f.activity.statement) f (at_statement job f h))

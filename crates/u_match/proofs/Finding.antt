@@ -21,6 +21,7 @@ use Rattle.u_rule.specs.declared.entry.Entry.TheVariants as entries
 use Rattle.u_rule.specs.declared.firing.Firing.{Firing}
 use Rattle.u_match.specs.ReadCells.{HasReadCell}
 use Rattle.u_rule.proofs.FiringShapes.{read_or_none, reads}
+use Rattle.u_rule.proofs.Firings.{at_statement}
 
 -- each of a list, the first and the others
 pub within_cons : {X : Type 0} (P : X → Type 0) (x : X) (xs : List X) → Within P (x ∷ xs) ↔ (P x × Within P xs)
@@ -47,8 +48,7 @@ read_of p (Some s) f h w e =
 
 -- a firing that read a write has a cell
 pub reads_its_cell : (job : JobParts) (f : Firing) → is_firing_of job f ≡ true → HasReadCell f
-unfolding is_firing_of
-reads_its_cell job f h = read_of job.program.blocks (statement_of job.program.blocks f.activity.block f.activity.statement) f h
+reads_its_cell job f h = read_of job.program.blocks (statement_of job.program.blocks f.activity.block f.activity.statement) f (at_statement job f h)
 
 -- a firing of the job is enabled where its tokens and the write that it read are there
 pub enabled_if : (job : JobParts) (f : Firing) (H : Entry → Type 0) → is_firing_of job f ≡ true → Enabled (system_of job) H f ↔ (Within H (tokens_from f.activity 1 f.values) × Within H (write_read f.values f.write))

@@ -22,6 +22,7 @@ use Rattle.u_match.specs.Joins.{IsOne, IsThree, JoinsTwo}
 use Rattle.u_match.specs.Waking.{IsWokenBy}
 use Rattle.u_match.proofs.MetValues.{Held, own_token, met_held, held_met, same_token}
 use Rattle.u_rule.proofs.FiringShapes.{OneValue, TwoValues, ThreeValues, Reading, Shape, shape_of, few_ports, rebuilt, needs_one, needs_two, needs_three, needs_read}
+use Rattle.u_rule.proofs.Firings.{at_statement}
 
 -- a firing has as many values as its activity has ports
 counted_at : (p : List BlockParts) (s : Option StatementParts) (f : Firing) → is_firing_at p s f ≡ true → length f.values ≡ ports_in s
@@ -31,8 +32,7 @@ counted_at p (Some s) f h =
     eqb-true (length f.values) (ports_of s.kind) (and_parts (length f.values == ports_of s.kind) (has_its_write s.kind f.values f.write) r).0
 
 pub counted : (job : JobParts) (f : Firing) → IsTrue (is_firing_of job f) → length f.values ≡ ports_at job f.activity
-unfolding is_firing_of
-counted job f h = counted_at job.program.blocks (statement_of job.program.blocks f.activity.block f.activity.statement) f h
+counted job f h = counted_at job.program.blocks (statement_of job.program.blocks f.activity.block f.activity.statement) f (at_statement job f h)
 
 -- an activity has three ports at most
 few_in : (s : Option StatementParts) → ports_in s ≤ 3

@@ -52,8 +52,8 @@ no_dot_in_block c t u m e = let f : is_block_byte 46 ≡ true = subst IsBlockByt
 no_other_digit : (o c : ℕ) (t u : List ℕ) → o ≤ 47 → IsDigit c → o ∷ t ≡ c ∷ u → ⊥
 no_other_digit o c t u low m e = let f = heads o c t u e in omega (arith, m.0)
 
-abbrev initiation_Reads : Reads decimal (IsUpTo 4294967295) IsDigit (number 4294967295)
-initiation_Reads = number_Reads 4294967295 (omega arith) (omega arith)
+abbrev initiation_Reads : Reads decimal (IsUpTo 18446744073709551615) IsDigit (number 18446744073709551615)
+initiation_Reads = number_Reads 18446744073709551615 (omega arith) (omega arith)
 
 abbrev statement_Reads : Reads decimal (IsUpTo 999) IsDigit (number 999)
 statement_Reads = number_Reads 999 (omega arith) (omega arith)

@@ -21,8 +21,8 @@ IsBetween low n high = (low ≤ n) × (n ≤ high)
 -- each part is in its range
 abbrev pub InRange : Tree → Type 0
 InRange Top = Unit {0}
-InRange (InLoop outer block number initiation) = InRange outer × IsBlock block × IsBetween 1 number 99 × IsBetween 1 initiation 4294967295
-InRange (InCall outer block statement initiation) = InRange outer × IsBlock block × IsBetween 1 statement 999 × IsBetween 1 initiation 4294967295
+InRange (InLoop outer block number initiation) = InRange outer × IsBlock block × IsBetween 1 number 99 × IsBetween 1 initiation 18446744073709551615
+InRange (InCall outer block statement initiation) = InRange outer × IsBlock block × IsBetween 1 statement 999 × IsBetween 1 initiation 18446744073709551615
 
 pub record IsContext (tree : Tree) : Type 0 where
   pub shallow : depth tree ≤ 64

@@ -4,11 +4,13 @@ use Rattle.u_name.specs.declared.context.Linkage.{Linkage}
 use Rattle.u_name.specs.declared.context.Linkage.TheVariants.{Loop, Call}
 use Rattle.u_name.specs.Context.{Tree, Top, InLoop, InCall}
 
+-- the number in the highest 16 bits, and the initiation; what goes beyond 64 bits is lost
 abbrev pub loop_mark : ℕ → ℕ → ℕ
-loop_mark number initiation = initiation * 65536 + number
+loop_mark number initiation = (number * 2 ^ 48 + initiation) % 2 ^ 64
 
+-- a statement's number counts 32768 more, so that it is no loop's
 abbrev pub call_mark : ℕ → ℕ → ℕ
-call_mark statement initiation = initiation * 65536 + 32768 + statement
+call_mark statement initiation = ((32768 + statement) * 2 ^ 48 + initiation) % 2 ^ 64
 
 abbrev pub mark_by : Linkage → ℕ → ℕ
 mark_by (Loop number) initiation = loop_mark number initiation

@@ -20,3 +20,4 @@ pub mod CursorAnswers
 pub mod Refusal
 pub mod Cell
 pub mod ExactOrders
+pub mod Greatest

@@ -10,6 +10,7 @@ use Rattle.u_name.specs.declared.context.Node.TheVariants as nodes
 use Rattle.u_name.specs.Context.{Tree, Top, InLoop, InCall}
 use Rattle.u_name.specs.Path.{path}
 use Rattle.u_name.specs.Digest.{digest}
+use Rattle.u_name.specs.Greatest.{greatest_turn}
 
 -- what a loop or a call makes in an outer context
 abbrev pub tree_by : Linkage → Tree → List ℕ → ℕ → Tree
@@ -28,10 +29,11 @@ node_tree nodes.Root = Top
 node_tree (nodes.Loop outer block number initiation) = InLoop outer.now block.now number initiation
 node_tree (nodes.Call outer block statement initiation) = InCall outer.now block.now statement initiation
 
--- beside the parts of a context stand its own path and digest
+-- beside the parts of a context stand its own path, digest and greatest initiation
 pub record IsBeside (inner : Inner) : Type 0 where
   pub path : inner.path.items ≡ path (inner_tree inner)
   pub digest : inner.digest ≡ digest (inner_tree inner)
+  pub greatest : inner.greatest ≡ greatest_turn (inner_tree inner)
 
 abbrev pub IsFollowed : Link → Type 0
 IsFollowed links.Root = Unit {0}

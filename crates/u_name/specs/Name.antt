@@ -15,7 +15,7 @@ pub record IsName (n : Activity) : Type 0 where
   pub context : IsContext n.context
   pub block : IsBlock n.block
   pub statement : IsBetween 1 n.statement 999
-  pub initiation : IsBetween 1 n.initiation 4294967295
+  pub initiation : IsBetween 1 n.initiation 18446744073709551615
 
 -- the context of a loop that this activity enters, and of a call that it makes
 abbrev pub loop_context : Activity → ℕ → Tree

@@ -1,6 +1,6 @@
 -- The order of names, by context, block, statement and initiation, and what a name feeds to a hasher.
 -- The laws stand here because the impls of Eq, Ord and Hash for Name cite them.
-use Rattle.std.specs.Prelude.{◌≡◌, true, ◌+◌, ◌*◌, ◌++◌, IsTrue}
+use Rattle.std.specs.Prelude.{◌≡◌, true, ◌+◌, ◌*◌, ◌%◌, ◌^◌, ◌++◌, IsTrue}
 use Rattle.std.proofs.Common.{ap, ◌∙◌}
 use Rattle.std.specs.Hash.{HashWrites}
 use Rattle.std.specs.Ordering.{ordering_then, nat_cmp, eq_by_cmp}
@@ -44,8 +44,9 @@ name_cmp_ties a b h =
 pub same_name : (a b : Activity) → eq_by_cmp name_cmp a b ≡ true → a ≡ b
 same_name a b h = name_cmp_ties a b ((Equal-is (name_cmp a b)).0 h)
 
+-- the statement in the highest ten bits, and the initiation; what goes beyond 64 bits is lost
 abbrev pub name_hash : Activity → HashWrites
-name_hash n = context_hash n.context ++ fed.u64 (n.statement * 4294967296 + n.initiation)
+name_hash n = context_hash n.context ++ fed.u64 ((n.statement * 2 ^ 54 + n.initiation) % 2 ^ 64)
 
 pub names_hash_alike : (a b : Activity) → IsTrue (eq_by_cmp name_cmp a b) → name_hash a ≡ name_hash b
 names_hash_alike a b h = ap name_hash (same_name a b h)

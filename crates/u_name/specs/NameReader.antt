@@ -30,11 +30,11 @@ linkage_at = choice 76 (number 99) (number 999)
 
 -- `.c.Ll.i)` or `.c.s.i)`
 abbrev pub frame_at : Reader Frame
-frame_at = lead 46 (both block_at (λ _. lead 46 (both linkage_at (λ _. lead 46 (both (number 4294967295) (λ _. byte 41))))))
+frame_at = lead 46 (both block_at (λ _. lead 46 (both linkage_at (λ _. lead 46 (both (number 18446744073709551615) (λ _. byte 41))))))
 
 -- `.c.s.i`
 abbrev pub tail_at : Reader Tail
-tail_at = lead 46 (both block_at (λ _. lead 46 (both (number 999) (λ _. lead 46 (number 4294967295)))))
+tail_at = lead 46 (both block_at (λ _. lead 46 (both (number 999) (λ _. lead 46 (number 18446744073709551615)))))
 
 abbrev pub to_depth : ℕ ⊎ Unit {0} → ℕ
 to_depth = elim [ inl d ↦ suc d | inr _ ↦ 0 ]
@@ -53,10 +53,10 @@ abbrev pub IsLinkage : ℕ ⊎ ℕ → Type 0
 IsLinkage = IsOne (IsUpTo 99) (IsUpTo 999)
 
 abbrev pub IsFrame : Frame → Type 0
-IsFrame = AreBoth IsBlock (λ _. AreBoth IsLinkage (λ _. AreBoth (IsUpTo 4294967295) (λ _. IsUnit)))
+IsFrame = AreBoth IsBlock (λ _. AreBoth IsLinkage (λ _. AreBoth (IsUpTo 18446744073709551615) (λ _. IsUnit)))
 
 abbrev pub IsTail : Tail → Type 0
-IsTail = AreBoth IsBlock (λ _. AreBoth (IsUpTo 999) (λ _. IsUpTo 4294967295))
+IsTail = AreBoth IsBlock (λ _. AreBoth (IsUpTo 999) (λ _. IsUpTo 18446744073709551615))
 
 -- how many `(` stand at the front, up to a most
 abbrev pub paren_span : ℕ → List ℕ → ℕ

@@ -12,7 +12,7 @@ kinds Top = []
 kinds (InLoop outer block number initiation) = 1 ∷ kinds outer
 kinds (InCall outer block statement initiation) = 2 ∷ kinds outer
 
--- three words of each loop and call
+-- four words of each loop and call
 abbrev pub frames : Tree → List ℕ
 frames Top = []
 frames (InLoop outer block number initiation) = frames outer ++ words block number initiation

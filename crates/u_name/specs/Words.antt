@@ -1,5 +1,5 @@
--- The words of a loop or a call, which are numbers of 64 bits: two for the block, and one for the number and the initiation.
-use Rattle.std.specs.Prelude.{ℕ, ◌+◌, ◌*◌, ◌/◌, ◌%◌, ◌^◌, List, [], ◌∷◌}
+-- The words of a loop or a call, which are numbers of 64 bits: two for the block, one for the number and one for the initiation.
+use Rattle.std.specs.Prelude.{ℕ, ◌/◌, ◌%◌, ◌^◌, List, [], ◌∷◌}
 use Rattle.std.specs.Int.{from_be_bytes, w128}
 
 -- the number that sixteen bytes make, the first being the highest; bytes that a name does not have count as 0
@@ -13,8 +13,5 @@ high_word block = block_number block / 2 ^ 64
 abbrev pub low_word : List ℕ → ℕ
 low_word block = block_number block % 2 ^ 64
 
-abbrev pub last_word : ℕ → ℕ → ℕ
-last_word number initiation = number * 4294967296 + initiation
-
 abbrev pub words : List ℕ → ℕ → ℕ → List ℕ
-words block number initiation = high_word block ∷ low_word block ∷ last_word number initiation ∷ []
+words block number initiation = high_word block ∷ low_word block ∷ number ∷ initiation ∷ []

@@ -9,6 +9,7 @@ ghost use Rattle.std.proofs.lemmas.Cmp.{eq_by_cmp_equiv};
 ghost use Rattle.u_name.specs.LinkTree.{tree_by, inner_tree, node_tree, IsBeside};
 ghost use Rattle.u_name.specs.Path.{path, kind_by, number_by};
 ghost use Rattle.u_name.specs.Digest.{digest, next_digest, mark_by};
+ghost use Rattle.u_name.specs.Greatest.{greatest_turn};
 ghost use Rattle.u_name.specs.ContextOrder.{context_cmp};
 ghost use Rattle.u_name.specs.ContextLaws.{context_cmp_total};
 ghost use Rattle.u_name.specs.ContextHash.{context_hash, hashes_alike};
@@ -39,16 +40,17 @@ enum Link {
 }
 
 /// A loop's or a call's context: what it is made of, and beside that what it is compared by (the kinds
-/// of its loops and calls, the innermost first, a 0, and the words of these, the outermost first) and
-/// what it is hashed by.
+/// of its loops and calls, the innermost first, a 0, and the words of these, the outermost first), what
+/// it is hashed by, and the greatest initiation of its loops and calls.
 #[cycle(context)]
 #[derive(Drop)]
 struct Inner {
     outer: Context,
     linkage: Linkage,
     block: BlockName,
-    initiation: u32,
+    initiation: u64,
     digest: u64,
+    greatest: u64,
     path: Vec<u64>,
 }
 
@@ -73,8 +75,8 @@ pub enum Node<'a> {
         block: &'a BlockName,
         /// The loop's number, 1 to 99.
         number: u8,
-        /// The initiation of that activity, 1 to 4294967295.
-        initiation: u32,
+        /// The initiation of that activity, 1 to 18446744073709551615.
+        initiation: u64,
     },
     /// The context of a call.
     Call {
@@ -84,8 +86,8 @@ pub enum Node<'a> {
         block: &'a BlockName,
         /// The statement of that activity, 1 to 999.
         statement: u16,
-        /// The initiation of that activity, 1 to 4294967295.
-        initiation: u32,
+        /// The initiation of that activity, 1 to 18446744073709551615.
+        initiation: u64,
     },
 }
 
@@ -133,15 +135,14 @@ impl Linkage {
     }
 
     /// What a context adds to the digest of the outer one.
-    fn mark(self, initiation: u32) -> u64
+    fn mark(self, initiation: u64) -> u64
         ensures { result ≡ mark_by self initiation }
     {
-        match self {
-            Linkage::Loop(number) => u64::from(initiation) * 65536 + u64::from(number),
-            Linkage::Call(statement) => u64::from(initiation) * 65536
-                + 32768
-                + u64::from(statement),
-        }
+        let number = match self {
+            Linkage::Loop(number) => u64::from(number),
+            Linkage::Call(statement) => 32768 + u64::from(statement),
+        };
+        (number << 48).wrapping_add(initiation)
     }
 }
 
@@ -155,13 +156,13 @@ fn next_digest(outer: u64, mark: u64) -> u64
 
 impl Inner {
     /// What the context has that a loop or a call makes in the outer one.
-    #[tactic(auto, unfolding(crate::specs::Digest::digest), using(crate::proofs::PathOrder::path_by))]
+    #[tactic(auto, unfolding(crate::specs::Digest::digest), using(crate::proofs::PathOrder::path_by, crate::proofs::PathOrder::greatest_by))]
     fn new(
         alloc: Global,
         outer: Context,
         linkage: Linkage,
         block: BlockName,
-        initiation: u32,
+        initiation: u64,
     ) -> Result<Inner, AllocError>
         ensures { IfOk result
             (λ i. (inner_tree i ≡ tree_by linkage outer block initiation) × IsBeside i) }
@@ -176,12 +177,14 @@ impl Inner {
             initiation,
         )?;
         let digest = next_digest(outer.digest(), linkage.mark(initiation));
+        let greatest = outer.greatest_initiation().max(initiation);
         Ok(Inner {
             outer,
             linkage,
             block,
             initiation,
             digest,
+            greatest,
             path,
         })
     }
@@ -255,11 +258,11 @@ impl Context {
         outer: Context,
         block: BlockName,
         number: u8,
-        initiation: u32,
+        initiation: u64,
     ) -> Result<Context, AllocError>
         requires shallow { depth outer < 64 }
         requires number_in { IsBetween 1 number 99 }
-        requires initiation_in { IsBetween 1 initiation 4294967295 }
+        requires initiation_in { IsBetween 1 initiation 18446744073709551615 }
         ensures { IfOk result (λ c. c ≡ InLoop outer block number initiation) }
     {
         // Brings in that the outer context's parts are in their ranges.
@@ -282,11 +285,11 @@ impl Context {
         outer: Context,
         block: BlockName,
         statement: u16,
-        initiation: u32,
+        initiation: u64,
     ) -> Result<Context, AllocError>
         requires shallow { depth outer < 64 }
         requires statement_in { IsBetween 1 statement 999 }
-        requires initiation_in { IsBetween 1 initiation 4294967295 }
+        requires initiation_in { IsBetween 1 initiation 18446744073709551615 }
         ensures { IfOk result (λ c. c ≡ InCall outer block statement initiation) }
     {
         // Brings in that the outer context's parts are in their ranges.
@@ -321,6 +324,16 @@ impl Context {
         }
     }
 
+    /// The greatest initiation of its loops and calls, 1 to 18446744073709551615, and 0 for the root.
+    pub fn greatest_initiation(&self) -> u64
+        ensures { result ≡ greatest_turn self.now }
+    {
+        match &self.link {
+            Link::Root => 0,
+            Link::Inner(inner) => inner.greatest,
+        }
+    }
+
     /// How many loops and calls it is in, 0 to 64.
     #[tactic(auto, using(crate::proofs::PathOrder::path_deep))]
     pub fn depth(&self) -> u32
@@ -329,7 +342,7 @@ impl Context {
     {
         // Brings in that the context is at most 64 deep.
         let _ = self.node();
-        (self.path().len() / 4) as u32
+        (self.path().len() / 5) as u32
     }
 
     /// An equal context, which shares all with this one.

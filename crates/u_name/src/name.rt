@@ -4,6 +4,7 @@
 //! initiation `i`.
 ghost use Rattle.std.specs.Prelude.{◌≡◌, ◌≤◌, ◌<◌, ◌+◌, IfOk, MatchResult, OnOk, IsTrue, ◌↔◌, ◌++◌};
 ghost use Rattle.u_name.specs.Context.{depth, IsBetween, Tree};
+ghost use Rattle.u_name.specs.Greatest.{greatest_initiation};
 ghost use Rattle.u_name.specs.Name.{Activity, activity, IsName, loop_context, call_context, IsInLoop, IsInCall, left, returned};
 ghost use Rattle.std.proofs.Common.{rules};
 ghost use Rattle.std.specs.Cmp.{partial_order_from_own_ties};
@@ -28,7 +29,7 @@ pub enum NameError {
     /// The new context would be deeper than 64.
     #[error("the context would be deeper than 64")]
     Deep,
-    /// The initiation is 4294967295, the greatest one.
+    /// The initiation is 18446744073709551615, the greatest one.
     #[error("the initiation is the greatest one already")]
     Initiation,
     /// A growth was refused.
@@ -53,16 +54,17 @@ impl<T: Drop> From<AllocFailed<T>> for NameError {
 }
 
 /// The name of an activity: its context, the block and the number of its statement, 1 to 999, and
-/// the number of its initiation, 1 to 4294967295. Names are ordered by these parts in turn.
+/// the number of its initiation, 1 to 18446744073709551615. Names are ordered by these parts in turn.
 #[derive(Drop)]
 pub struct Name {
     context: Context,
     block: BlockName,
     statement: u16,
-    initiation: u32,
+    initiation: u64,
 }
 
 impl Model for Name {
+    ghost use Rattle.u_name.specs.Greatest.{greatest_initiation};
     ghost use Rattle.u_name.specs.Name.{Activity, activity, IsName, activity_code};
 
     ghost Value = { Activity };
@@ -76,9 +78,9 @@ impl Model for Name {
 
 impl Name {
     /// The name with these parts.
-    pub fn new(context: Context, block: BlockName, statement: u16, initiation: u32) -> Name
+    pub fn new(context: Context, block: BlockName, statement: u16, initiation: u64) -> Name
         requires statement_in { IsBetween 1 statement 999 }
-        requires initiation_in { IsBetween 1 initiation 4294967295 }
+        requires initiation_in { IsBetween 1 initiation 18446744073709551615 }
         ensures { result ≡ activity context block statement initiation }
     {
         // Brings in that the context is at most 64 deep, and its parts are in their ranges.
@@ -115,12 +117,20 @@ impl Name {
         self.statement
     }
 
-    /// The number of the initiation, 1 to 4294967295.
-    pub fn initiation(&self) -> u32
+    /// The number of the initiation, 1 to 18446744073709551615.
+    pub fn initiation(&self) -> u64
         ensures value { result ≡ self.now.initiation }
         ensures bounds { IsName self.now }
     {
         self.initiation
+    }
+
+    /// The greatest of the initiation and those of the context's loops and calls, 1 to
+    /// 18446744073709551615.
+    pub fn greatest_initiation(&self) -> u64
+        ensures { result ≡ greatest_initiation self.now }
+    {
+        self.context.greatest_initiation().max(self.initiation)
     }
 
     /// How deep the context is, 0 to 64.
@@ -148,9 +158,9 @@ impl Name {
     }
 
     /// Another activity of the same context and block.
-    fn beside(&self, statement: u16, initiation: u32) -> Result<Name, AllocError>
+    fn beside(&self, statement: u16, initiation: u64) -> Result<Name, AllocError>
         requires statement_in { IsBetween 1 statement 999 }
-        requires initiation_in { IsBetween 1 initiation 4294967295 }
+        requires initiation_in { IsBetween 1 initiation 18446744073709551615 }
         ensures { IfOk result
             (λ n. n ≡ activity self.now.context self.now.block statement initiation) }
     {
@@ -210,15 +220,15 @@ impl Name {
     }
 
     /// `u.c.t.(i + 1)` for `u.c.s.i`: a statement in the next turn of a loop. `Initiation` where the
-    /// initiation is 4294967295.
+    /// initiation is 18446744073709551615.
     pub fn next(&self, statement: u16) -> Result<Name, NameError>
         requires { IsBetween 1 statement 999 }
         ensures value { IfOk result (λ n. n
             ≡ activity self.now.context self.now.block statement (self.now.initiation + 1)) }
-        ensures refusal { MatchResult result (λ _. self.now.initiation < 4294967295)
-            (λ e. RefusesAt e Initiation (self.now.initiation ≡ 4294967295)) }
+        ensures refusal { MatchResult result (λ _. self.now.initiation < 18446744073709551615)
+            (λ e. RefusesAt e Initiation (self.now.initiation ≡ 18446744073709551615)) }
     {
-        if self.initiation == u32::MAX {
+        if self.initiation == u64::MAX {
             return Err(NameError::Initiation);
         }
         Ok(self.beside(statement, self.initiation + 1)?)
@@ -234,10 +244,11 @@ impl Name {
         Ok(self.beside(statement, 1)?)
     }
 
-    /// `(u.c.s.i).b.1.1` for `u.c.s.i`: the first statement of a block `b` that is called. `Deep`
-    /// where the context has the depth 64.
-    pub fn call(&self, alloc: Global, block: BlockName) -> Result<Name, NameError>
-        ensures value { IfOk result (λ n. n ≡ activity (call_context self.now) block 1 1) }
+    /// `(u.c.s.i).b.k.1` for `u.c.s.i`: the statement of a called block `b` that the argument `k` goes
+    /// to, which is 1 to 4. `Deep` where the context has the depth 64.
+    pub fn call(&self, alloc: Global, block: BlockName, argument: u16) -> Result<Name, NameError>
+        requires { IsBetween 1 argument 4 }
+        ensures value { IfOk result (λ n. n ≡ activity (call_context self.now) block argument 1) }
         ensures refusal { MatchResult result (λ _. depth self.now.context < 64)
             (λ e. RefusesAt e Deep (depth self.now.context ≡ 64)) }
     {
@@ -250,7 +261,7 @@ impl Name {
         Ok(Name {
             context: Context::in_call(alloc, outer, self.block, self.statement, self.initiation)?,
             block,
-            statement: 1,
+            statement: argument,
             initiation: 1,
         })
     }
@@ -310,10 +321,10 @@ fn outside(
     outer: &Context,
     block: &BlockName,
     statement: u16,
-    initiation: u32,
+    initiation: u64,
 ) -> Result<Name, AllocError>
     requires statement_in { IsBetween 1 statement 999 }
-    requires initiation_in { IsBetween 1 initiation 4294967295 }
+    requires initiation_in { IsBetween 1 initiation 18446744073709551615 }
     ensures { IfOk result (λ n. n ≡ activity outer.now block.now statement initiation) }
 {
     Ok(Name::new(outer.copy()?, *block, statement, initiation))
@@ -373,10 +384,11 @@ impl Hash for Name {
 
     ghost respects_eq = { names_hash_alike };
 
-    /// The context, and the statement and the initiation as one number. The block is left out, as in
-    /// contexts: in the names of one program the other parts tell almost all of them apart.
+    /// The context, and one number for the statement and the initiation, in which the statement has the
+    /// highest ten bits. The block is left out, as in contexts: in the names of one program the other
+    /// parts tell almost all of them apart.
     fn hash<H: Hasher>(&self, state: &mut H) {
         self.context.hash(state);
-        state.write_u64(u64::from(self.statement) * 4294967296 + u64::from(self.initiation));
+        state.write_u64((u64::from(self.statement) << 54).wrapping_add(self.initiation));
     }
 }

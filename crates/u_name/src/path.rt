@@ -2,10 +2,10 @@
 //! and then the words of these from the outermost inwards. All lie in one place, so that a comparison
 //! need not go from context to context.
 //!
-//! A loop or a call has three words, which go by block, number and initiation as plain numbers do: the
-//! first eight bytes of the block's name, its last eight, and the number with the initiation.
+//! A loop or a call has four words, which go by block, number and initiation as plain numbers do: the
+//! first eight bytes of the block's name, its last eight, the number and the initiation.
 ghost use Rattle.std.specs.Prelude.{◌≡◌, ◌++◌, ◌∷◌, IfOk};
-ghost use Rattle.u_name.specs.Words.{words, last_word};
+ghost use Rattle.u_name.specs.Words.{words};
 
 use crate::block_name::BlockName;
 use std::alloc::{AllocError, Global};
@@ -23,24 +23,18 @@ pub(crate) fn path_around(
     outer: &[u64],
     block: &BlockName,
     number: u16,
-    initiation: u32,
+    initiation: u64,
 ) -> Result<Vec<u64>, AllocError>
     ensures { IfOk result (λ v. v.items ≡ kind ∷ (outer.now ++ words block.now number initiation)) }
 {
     let (high, low) = block.words();
     let mut all = Vec::new(alloc);
-    all.reserve_exact(outer.len() + 4)?;
+    all.reserve_exact(outer.len() + 5)?;
     all.push(u64::from(kind))?;
     all.extend_from_slice(outer)?;
     all.push(high)?;
     all.push(low)?;
-    all.push(last_word(number, initiation))?;
+    all.push(u64::from(number))?;
+    all.push(initiation)?;
     Ok(all)
-}
-
-/// The number and the initiation as one number, in which the initiation has the lower 32 bits.
-fn last_word(number: u16, initiation: u32) -> u64
-    ensures { result ≡ last_word number initiation }
-{
-    u64::from(number) * 4294967296 + u64::from(initiation)
 }

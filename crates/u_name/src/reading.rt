@@ -19,14 +19,14 @@ use crate::context::{Context, Linkage};
 use crate::name::Name;
 use std::alloc::{AllocError, AllocFailed, Global};
 use thiserror::Error;
-use u_text::number_at;
+use u_text::long_number_at;
 
 /// The part of a context's text behind the outer context's.
 #[derive(Clone, Copy)]
 struct Frame {
     block: BlockName,
     linkage: Linkage,
-    initiation: u32,
+    initiation: u64,
 }
 
 /// The next byte is one that no text allows.
@@ -54,13 +54,13 @@ impl<'a> Cursor<'a> {
         }
     }
 
-    fn number(&mut self, max: u32) -> Result<u32, Stuck>
+    fn number(&mut self, max: u64) -> Result<u64, Stuck>
         requires { 9 ≤ max }
         ensures value { MatchResult result
             (λ n. number max self.old.rest.now ≡ Ok (n, self.new.rest.now))
             (λ _. number max self.old.rest.now ≡ Err self.new.rest.now) }
     {
-        match number_at(self.rest, max) {
+        match long_number_at(self.rest, max) {
             Ok((n, rest)) => {
                 self.rest = rest;
                 Ok(n)
@@ -122,7 +122,7 @@ impl<'a> Cursor<'a> {
         self.byte(b'.')?;
         let linkage = self.linkage()?;
         self.byte(b'.')?;
-        let initiation = self.number(u32::MAX)?;
+        let initiation = self.number(u64::MAX)?;
         self.byte(b')')?;
         Ok(Frame {
             block,
@@ -151,7 +151,7 @@ impl<'a> Cursor<'a> {
         self.byte(b'.')?;
         let statement = self.number(999)?;
         self.byte(b'.')?;
-        let initiation = self.number(u32::MAX)?;
+        let initiation = self.number(u64::MAX)?;
         Ok(Tail {
             block,
             statement,
@@ -243,8 +243,8 @@ fn extended(alloc: Global, outer: Context, frame: Frame) -> Result<Context, Allo
 #[derive(Clone, Copy)]
 struct Tail {
     block: BlockName,
-    statement: u32,
-    initiation: u32,
+    statement: u64,
+    initiation: u64,
 }
 
 /// Why a cursor gives no name. Where it is stuck, its rest begins with the byte that no name's text

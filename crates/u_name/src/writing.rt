@@ -11,7 +11,7 @@ use crate::cell::Cell;
 use crate::context::{Context, Node};
 use crate::name::Name;
 use std::alloc::AllocError;
-use u_text::{cut_back, push_behind};
+use u_text::{cut_back, push_behind, push_long_behind};
 
 /// Appends a dot and the block's name. On an error a part of it may stand there.
 #[tactic(auto, using(u_text::proofs::AppendingLaws::extends_same, u_text::proofs::AppendingLaws::extends_by, u_text::proofs::AppendingLaws::extends_behind))]
@@ -29,7 +29,7 @@ fn push_loop(
     out: &mut Vec<u8>,
     block: &BlockName,
     number: u8,
-    initiation: u32,
+    initiation: u64,
 ) -> Result<(), AllocError>
     ensures ok { OnOk result
         (out.new.items ≡ out.old.items ++ loop_part block.now number initiation) }
@@ -38,7 +38,7 @@ fn push_loop(
     push_block(out, block)?;
     out.push(b'.')?;
     push_behind(out, b'L', u32::from(number))?;
-    push_behind(out, b'.', initiation)
+    push_long_behind(out, b'.', initiation)
 }
 
 /// Appends a call's part of a context's text. On an error a part of it may stand there.
@@ -47,7 +47,7 @@ fn push_call(
     out: &mut Vec<u8>,
     block: &BlockName,
     statement: u16,
-    initiation: u32,
+    initiation: u64,
 ) -> Result<(), AllocError>
     ensures ok { OnOk result
         (out.new.items ≡ out.old.items ++ call_part block.now statement initiation) }
@@ -55,7 +55,7 @@ fn push_call(
 {
     push_block(out, block)?;
     push_behind(out, b'.', u32::from(statement))?;
-    push_behind(out, b'.', initiation)
+    push_long_behind(out, b'.', initiation)
 }
 
 /// Appends the text of the context. On an error a part of it may stand there.

@@ -22,6 +22,7 @@ use Rattle.u_rule.specs.declared.entry.Entry.TheVariants as entries
 use Rattle.u_rule.specs.declared.firing.Firing.{Firing}
 use Rattle.u_rule.specs.declared.firing.Written.{Written}
 use Rattle.u_system.proofs.Member.{Contains-nil, Contains-head, Contains-tail, Contains-cons_cases}
+use Rattle.u_rule.proofs.Firings.{at_statement}
 
 -- the members of a list of one, of two and of three
 cons_member : {X : Type 0} (P : Type 0) (x e : X) (xs : List X) → Contains xs e ↔ P → Contains (x ∷ xs) e ↔ ((x ≡ e) ⊎ P)
@@ -119,8 +120,7 @@ shape_at p (Some s) f h =
     ]
 
 pub shape_of : (job : JobParts) (f : Firing) → IsTrue (is_firing_of job f) → Shape f
-unfolding is_firing_of
-shape_of job f h = shape_at job.program.blocks (statement_of job.program.blocks f.activity.block f.activity.statement) f h
+shape_of job f h = shape_at job.program.blocks (statement_of job.program.blocks f.activity.block f.activity.statement) f (at_statement job f h)
 
 -- a firing is its activity with its values and its write
 pub rebuilt : (f : Firing) (vs : ValueList) (w : Option Written) → f.write ≡ w → f.values ≡ vs → f ≡ firing f.activity vs w

@@ -22,7 +22,7 @@ use Rattle.u_check.proofs.Facts.{Target, Returned, main_block, in_to, in_otherwi
 use Rattle.u_system.proofs.Member.{Contains-nil, Contains-cons_cases}
 use Rattle.u_rule.specs.Parts.{TokenParts, token, ValueList}
 use Rattle.u_rule.specs.Fits.{statement_in, statement_of, holder_in, holder_of, fits, fits_at, IsPlaced, IsFitting, AllFit}
-use Rattle.u_rule.specs.Rule.{is_firing_of, beside, reached, refusal_of, list_of, result_of, first_of, delivered, handed_on, begun, called, back_named, back_of, brought_back, finished, ended, given, fault_of}
+use Rattle.u_rule.specs.Rule.{is_firing_of, is_firing_at, beside, reached, refusal_of, list_of, result_of, first_of, delivered, handed_on, begun, called, back_named, back_of, brought_back, finished, ended, given, fault_of}
 use Rattle.u_name.specs.Cell.{CellOf}
 use Rattle.u_rule.specs.Structures.{cell_named, has_its_write, wrote, stored, stored_in}
 use Rattle.u_check.specs.Jobs.{JobParts}
@@ -33,6 +33,7 @@ use Rattle.u_rule.specs.declared.entry.Entry.{Entry}
 use Rattle.u_rule.specs.declared.entry.Entry.TheVariants as entries
 use Rattle.u_rule.proofs.Linkage.{mapped}
 use Rattle.u_rule.proofs.Places.{Standing, standing, Looping, looping, Calling, calling, not_looping, each_turn, entering, calling_fits}
+use Rattle.u_rule.proofs.Firings.{at_statement}
 
 -- every kind has a port
 ports_some : (k : Kind) → 1 ≤ ports_of k
@@ -274,8 +275,10 @@ module _ (p : List BlockParts) (c : IsChecked p) where
   unfolding IsFitting
   start_fits e v z lim = subst (λ (x : Entry). IsFitting p x) (sym z) (started lim v)
 
+-- the activity of a firing of a statement fits in its region
+pub at_region : (p : List BlockParts) (s : StatementParts) (f : Firing) → is_firing_at p (Some s) f ≡ true → fits_at p s.region f.activity ≡ true
+at_region p s f e = (and_parts (fits_at p s.region f.activity) (length f.values == ports_of s.kind && has_its_write s.kind f.values f.write) e).0
+
 -- the activity of a firing fits
 pub firing_fits : (job : JobParts) (f : Firing) (s : StatementParts) → is_firing_of job f ≡ true → statement_of job.program.blocks f.activity.block f.activity.statement ≡ Some s → fits_at job.program.blocks s.region f.activity ≡ true
-unfolding is_firing_of
-firing_fits job f s e q =
-    (and_parts (fits_at job.program.blocks s.region f.activity) (length f.values == ports_of s.kind && has_its_write s.kind f.values f.write) (rw q at e)).0
+firing_fits job f s e q = at_region job.program.blocks s f (rw q at (at_statement job f e))

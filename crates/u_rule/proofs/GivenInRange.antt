@@ -1,6 +1,7 @@
 -- What a statement gives, where it has values in their ranges, lies in them.
-use Rattle.std.proofs.Common.{◌≡◌, ◌∙◌, refl, sym, subst, arith, eq-eqb, Bool, true, false, ◌==◌, ℕ, ◌-◌, cond, List, [], ◌∷◌, Contains, Option, Some, None, Result, Ok, Err, inl, inr}
+use Rattle.std.proofs.Common.{◌≡◌, ◌∙◌, refl, sym, subst, arith, eq-eqb, Bool, true, false, ◌==◌, ℕ, ◌-◌, ◌<◌, nat_le, cond, List, [], ◌∷◌, Contains, Option, Some, None, Result, Ok, Err, inl, inr}
 use Rattle.std.proofs.lemmas.Bool.{false≢true}
+use Rattle.std.proofs.lemmas.Bool.Decides.{nat_tests}
 use Rattle.std.proofs.lemmas.List.Elements.{All-from_recursion, All-contains}
 use Rattle.u_name.specs.Block.{IsBlock}
 use Rattle.u_name.specs.Context.{Tree, Top, InLoop, InCall, depth, IsBetween, IsContext}
@@ -23,6 +24,7 @@ use Rattle.u_system.proofs.Member.{Contains-nil, Contains-cons_cases}
 use Rattle.u_rule.specs.Parts.{token, ValueList}
 use Rattle.u_rule.specs.Fits.{statement_of}
 use Rattle.u_rule.specs.Rule.{reached, refusal_of, list_of, result_of, first_of, delivered, handed_on, begun, called, back_named, back_of, brought_back, finished, ended, given, fault_of}
+use Rattle.u_rule.specs.Initiations.{last_turn}
 use Rattle.u_rule.specs.Structures.{cell_named, stored, stored_in, wrote}
 use Rattle.u_rule.specs.EntryReading.{IsEntry}
 use Rattle.u_rule.specs.FiringReading.{AreValues, IsWritten}
@@ -55,6 +57,14 @@ passes n m why = at (n == m) refl
     at : (x : Bool) → (n == m) ≡ x → cond x (Some why) None ≡ None → n ≡ m → ⊥
     at true q h e = cc
     at false q h e = absurd (false≢true (sym q ∙ eq-eqb n m e))
+
+-- an initiation that is not refused is below the greatest one
+goes_on : (i : ℕ) → cond (nat_le last_turn i) (Some faults.Initiation) None ≡ None → i < last_turn
+goes_on i = at (nat_le last_turn i) refl
+  where
+    at : (x : Bool) → nat_le last_turn i ≡ x → cond x (Some faults.Initiation) None ≡ None → i < last_turn
+    at true q h = cc
+    at false q h = grind (arith, nat_tests)
 
 -- activities that are reached
 
@@ -98,7 +108,7 @@ reached_name (Enter l) a t i n b r =
     let d = passes (depth a.context) 64 faults.Deep r in
     record { context = entered_context a l n i d; block = n.block; statement = b; initiation = (omega arith, omega arith) }
 reached_name Next a t i n b r =
-    let d = passes a.initiation 4294967295 faults.Initiation r in
+    let d = goes_on a.initiation r in
     let j = n.initiation in
     record { context = n.context; block = n.block; statement = b; initiation = (omega arith, omega (arith, j.1, d)) }
 reached_name Last a t i n b r = record { context = n.context; block = n.block; statement = b; initiation = (omega arith, omega arith) }

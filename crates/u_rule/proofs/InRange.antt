@@ -34,6 +34,7 @@ use Rattle.u_rule.specs.declared.entry.Entry.{Entry}
 use Rattle.u_rule.specs.declared.firing.Firing.{Firing}
 use Rattle.u_rule.specs.declared.firing.Written.{Written}
 use Rattle.u_rule.proofs.GivenInRange.{AreEntries, statement_in_range, given_in_range}
+use Rattle.u_rule.proofs.Firings.{at_statement}
 
 -- a statement has one port to three
 ports_between : (k : Kind) → IsBetween 1 (ports_of k) 3
@@ -76,8 +77,8 @@ needing s f h each =
     (name_in_range f.activity f.values (omega (arith, l, b.0)) t, record { count = (omega (arith, l, b.0), omega (arith, l, b.1)) }, values_in_range f.activity 1 f.values t, write_in_range s.kind f.values f.write q.1 w)
 
 pub firing_in_range : (job : JobParts) (f : Firing) → is_firing_of job f ≡ true → AreEntries (needs_of f) → IsFiring f
-unfolding is_firing_of needs_of
-firing_in_range job f h each = at (statement_of job.program.blocks f.activity.block f.activity.statement) h
+unfolding needs_of
+firing_in_range job f h each = at (statement_of job.program.blocks f.activity.block f.activity.statement) (at_statement job f h)
   where
     at : (o : Option StatementParts) → is_firing_at job.program.blocks o f ≡ true → IsFiring f
     at None h = absurd (false≢true h)

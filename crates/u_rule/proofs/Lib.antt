@@ -7,6 +7,7 @@ pub mod InOrder
 pub mod Texts
 pub mod FiringShapes
 pub mod Lists
+pub mod Firings
 pub mod FirstByteLaws
 pub mod StepLaws
 pub mod EntryPartLaws

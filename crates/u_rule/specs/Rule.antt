@@ -1,5 +1,5 @@
 -- The firing rule: which firings a job has, what each needs and what each gives.
-use Rattle.std.specs.Prelude.{ℕ, ◌+◌, Bool, false, ◌&&◌, ◌==◌, if◌then◌else◌, List, [], ◌∷◌, length, map, Option, Some, None, Result, Ok, Err, ◌++◌}
+use Rattle.std.specs.Prelude.{ℕ, ◌+◌, Bool, false, ◌&&◌, ◌==◌, nat_le, if◌then◌else◌, List, [], ◌∷◌, length, map, Option, Some, None, Result, Ok, Err, ◌++◌}
 use Rattle.u_name.specs.Context.{Tree, Top, InLoop, InCall, depth}
 use Rattle.u_name.specs.Name.{Activity, activity, loop_context, call_context, left, returned}
 use Rattle.u_value.specs.declared.value.Value.{Value}
@@ -21,6 +21,7 @@ use Rattle.u_check.specs.Jobs.{JobParts}
 use Rattle.u_system.specs.Firing.{System}
 use Rattle.u_rule.specs.Parts.{ValueList, token}
 use Rattle.u_rule.specs.Fits.{statement_of, fits_at}
+use Rattle.u_rule.specs.Initiations.{last_turn, fires_in_turns}
 use Rattle.u_rule.specs.Structures.{cell_named, has_its_write, write_read, allocated, fetched, stored}
 use Rattle.u_rule.specs.declared.entry.Entry.{Entry}
 use Rattle.u_rule.specs.declared.entry.Entry.TheVariants as entries
@@ -36,7 +37,9 @@ is_firing_at p None f = false
 is_firing_at p (Some s) f = fits_at p s.region f.activity && has_its_values s f
 
 unfoldable pub is_firing_of : JobParts → Firing → Bool
-is_firing_of job f = is_firing_at job.program.blocks (statement_of job.program.blocks f.activity.block f.activity.statement) f
+is_firing_of job f =
+    is_firing_at job.program.blocks (statement_of job.program.blocks f.activity.block f.activity.statement) f
+    && fires_in_turns f
 
 -- the tokens of an activity that have these values at its ports, from that port on
 abbrev pub tokens_from : Activity → ℕ → ValueList → List Entry
@@ -105,10 +108,10 @@ reached Last a t = activity a.context a.block t 1
 reached Leave a t = left a t
 reached k a t = beside a t
 
--- why it reaches none: contexts are at most 64 deep, and the greatest initiation is 4294967295
+-- why it reaches none: contexts are at most 64 deep, and initiations have a greatest
 abbrev pub refusal_of : Kind → Activity → Option FaultKind
 refusal_of (Enter l) a = if depth a.context == 64 then Some faults.Deep else None
-refusal_of Next a = if a.initiation == 4294967295 then Some faults.Initiation else None
+refusal_of Next a = if nat_le last_turn a.initiation then Some faults.Initiation else None
 refusal_of k a = None
 
 -- the token of that value at a destination

@@ -65,7 +65,7 @@ pub(crate) fn fits(
     context: &Context,
     block: &BlockName,
     region: u8,
-    initiation: u32,
+    initiation: u64,
 ) -> bool
     ensures { result ≡ fits program.now.blocks context.now block.now region initiation }
 {

@@ -17,6 +17,7 @@ ghost use Rattle.u_rule.specs.Rule.{first_of, result_of, value_of, list_of, sent
 use crate::entry::Entry;
 use crate::firing::Firing;
 use crate::fits::{names_block, statement_of};
+use crate::initiations::LAST_TURN;
 use crate::parts::{Fault, Token};
 use crate::structures::{cell_named, wrote};
 use std::alloc::{AllocError, Global};
@@ -182,6 +183,7 @@ fn reached(alloc: Global, kind: &Kind, activity: &Name) -> Result<Name, NameErro
     let statement = activity.statement();
     match kind {
         Kind::Enter(number) => activity.enter(alloc, *number, statement),
+        Kind::Next if activity.initiation() >= LAST_TURN => Err(NameError::Initiation),
         Kind::Next => activity.next(statement),
         Kind::Last => activity.last(statement),
         Kind::Leave => activity.leave(statement),
@@ -245,7 +247,7 @@ fn begun(
 ) -> Result<Vec<Entry>, AllocError>
     ensures { IfOk result (λ v. v.items ≡ begun activity.now block.now argument.now) }
 {
-    match activity.call(alloc, *block) {
+    match activity.call(alloc, *block, 1) {
         Ok(first) => alone(alloc, Entry::Token(Token::new(first, 1, argument.copy()?))),
         Err(NameError::NoMemory) => Err(AllocError),
         Err(_) => fault(alloc, activity, FaultKind::Deep),

@@ -15,6 +15,7 @@ mod firing;
 mod firing_reading;
 mod fits;
 mod giving;
+mod initiations;
 mod parts;
 mod ports;
 mod reading;

@@ -17,6 +17,7 @@ use crate::entry::Entry;
 use crate::firing::Firing;
 use crate::fits::{fits, statement_of};
 use crate::giving::given;
+use crate::initiations::fires_in_turns;
 use crate::parts::Token;
 use crate::structures::{add_write, has_its_write};
 use std::alloc::{AllocError, AllocFailed, Global};
@@ -69,7 +70,8 @@ fn is_firing_at(program: &Program, statement: &Statement, firing: &Firing) -> bo
 }
 
 /// Whether it is a firing of the job: an activity that fits, with one value for each port of its
-/// statement, and a write exactly where the statement is a `fetch` and its values name a cell.
+/// statement, and a write exactly where the statement is a `fetch` and its values name a cell. Each
+/// initiation in it is at most 4294967295, in its values and its write too.
 #[tactic(auto, unfolding(crate::specs::Rule::is_firing_of))]
 pub fn is_firing(job: &Job, firing: &Firing) -> bool
     ensures { result ≡ is_firing_of job.now firing.now }
@@ -77,7 +79,7 @@ pub fn is_firing(job: &Job, firing: &Firing) -> bool
     let program = job.program();
     match executed(program, &firing.activity) {
         None => false,
-        Some(statement) => is_firing_at(program, statement, firing),
+        Some(statement) => is_firing_at(program, statement, firing) && fires_in_turns(firing),
     }
 }
 
@@ -142,6 +144,9 @@ pub fn gives(alloc: Global, job: &Job, firing: &Firing) -> Result<Vec<Entry>, Ru
         return Err(RuleError::NotAFiring);
     };
     if !is_firing_at(program, statement, firing) {
+        return Err(RuleError::NotAFiring);
+    }
+    if !fires_in_turns(firing) {
         return Err(RuleError::NotAFiring);
     }
     // Brings in that the program lies within its limits.

@@ -20,7 +20,7 @@ fn mask_of(call: usize) -> u64 {
 /// Whether the bucket of the firing is in the mask.
 fn is_in(mask: u64, firing: &Firing) -> bool {
     let name = &firing.activity;
-    let sum = u64::from(name.statement()) + u64::from(name.initiation()) + u64::from(name.depth());
+    let sum = u64::from(name.statement()) + name.initiation() % 64 + u64::from(name.depth());
     mask & (1 << (sum % 64)) != 0
 }
 

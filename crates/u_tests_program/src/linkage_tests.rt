@@ -37,13 +37,21 @@ const CALLS: &[(Call, u16, &str, &str)] = &[
     ),
     (Call::Leave, 17, "(-.main.L1.1).main.16.1", "-.main.17.1"),
     (Call::Call, 1, "-.main.3.1", "(-.main.3.1).fact.1.1"),
+    (Call::Call, 4, "-.main.3.2", "(-.main.3.2).fact.4.1"),
     (Call::Back, 4, "(-.main.3.1).fact.9.1", "-.main.4.1"),
     (Call::Enter, 5, DEEP, "the context would be deeper than 64"),
     (Call::Call, 1, DEEP, "the context would be deeper than 64"),
+    (Call::Next, 2, "-.main.1.4294967295", "-.main.2.4294967296"),
     (
         Call::Next,
         2,
-        "-.main.1.4294967295",
+        "-.main.1.18446744073709551614",
+        "-.main.2.18446744073709551615",
+    ),
+    (
+        Call::Next,
+        2,
+        "-.main.1.18446744073709551615",
         "the initiation is the greatest one already",
     ),
 ];
@@ -69,9 +77,13 @@ fn linked(
         Call::Next => Some(name.next(statement)),
         Call::Last => Some(name.last(statement)),
         Call::Leave if name.in_loop() => Some(name.leave(statement)),
-        Call::Call => Some(name.call(alloc, BlockName::read(b"fact")?)),
+        Call::Call if statement <= 4 => Some(name.call(
+            alloc,
+            BlockName::read(b"fact")?,
+            statement,
+        )),
         Call::Back if name.in_call() => Some(name.back(statement)),
-        Call::Leave | Call::Back => None,
+        Call::Leave | Call::Call | Call::Back => None,
     }
 }
 

@@ -48,7 +48,7 @@ fn is_part(part: &str, is_frame: bool) -> bool {
     ) else {
         return false;
     };
-    is_block(block) && is_step(step, is_frame) && is_number(initiation, 4294967295)
+    is_block(block) && is_step(step, is_frame) && is_number(initiation, u64::MAX)
 }
 
 fn is_name(text: &str) -> bool {

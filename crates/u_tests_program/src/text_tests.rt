@@ -16,7 +16,7 @@ const TEXTS: &[(Subject, &str, &str)] = &[
     (Subject::Name, "-.main.3.1", SAME),
     (
         Subject::Name,
-        "((-.main.L12.3).main.20.4).fact_2.999.4294967295",
+        "((-.main.L12.3).main.20.4).fact_2.999.18446744073709551615",
         SAME,
     ),
     (Subject::Name, DEEP, SAME),
@@ -32,7 +32,7 @@ const TEXTS: &[(Subject, &str, &str)] = &[
     (Subject::Value, "&-.main.6.1#0", SAME),
     (
         Subject::Value,
-        "&((-.main.L12.3).main.20.4).fact_2.999.4294967295#1000000",
+        "&((-.main.L12.3).main.20.4).fact_2.999.18446744073709551615#1000000",
         SAME,
     ),
     (
@@ -64,8 +64,8 @@ const TEXTS: &[(Subject, &str, &str)] = &[
     ),
     (
         Subject::Name,
-        "-.main.1.4294967296",
-        "byte 18: no name is written so",
+        "-.main.1.18446744073709551616",
+        "byte 28: no name is written so",
     ),
     (Subject::Name, "", "byte 0: no name is written so"),
     (Subject::Name, TOO_DEEP, "the context is deeper than 64"),
@@ -136,7 +136,11 @@ const PARTS: &[(Subject, &str, usize, usize)] = &[
 /// Texts whose changes are read, and at which multiples of places they are changed.
 const CHANGED: &[(Subject, &str, usize)] = &[
     (Subject::Name, "-.main.3.1", 1),
-    (Subject::Name, "(-.main.L12.3).fact_2.20.4294967295", 1),
+    (
+        Subject::Name,
+        "(-.main.L12.3).fact_2.20.18446744073709551615",
+        1,
+    ),
     (
         Subject::Name,
         "((-.a.999.1).sixteen_letters_.L99.10).b.1.1",

@@ -1,5 +1,5 @@
 //! Worked firings: what each needs and gives, and what is no firing.
-use crate::linkage_rows::{CALL_FIRINGS, DOUBLE_FIRINGS, LOOP_FIRINGS};
+use crate::linkage_rows::{CALL_FIRINGS, DOUBLE_FIRINGS, LOOP_FIRINGS, NESTED, NESTED_FIRINGS};
 use crate::operator_rows::{OPERATOR_FIRINGS, OPERATORS};
 use crate::structure_rows::{STRUCTURE_FIRINGS, STRUCTURES};
 use crate::worked_firings::{how_many_fire, with_name};
@@ -11,8 +11,9 @@ fn firings_need_and_give(rt: HostRuntime) -> Result<(), Fail> {
     let rows = [
         (DOUBLE, DOUBLE_FIRINGS, 5),
         (OPERATORS, OPERATOR_FIRINGS, 20),
-        (STRUCTURES, STRUCTURE_FIRINGS, 28),
-        (SUM, LOOP_FIRINGS, 17),
+        (STRUCTURES, STRUCTURE_FIRINGS, 32),
+        (SUM, LOOP_FIRINGS, 18),
+        (NESTED, NESTED_FIRINGS, 2),
         (FACTORIAL, CALL_FIRINGS, 13),
     ];
     for (program, text, count) in rows {

@@ -93,6 +93,9 @@ t (-.main.L1.1).main.7.8 1 4
 t (-.main.L1.1).main.8.8 1 4
 t (-.main.L1.1).main.9.8 2 4
 
+f (-.main.L1.1).main.13.4294967296 4
+no firing
+
 f -.main.13.7 4
 no firing
 
@@ -109,6 +112,28 @@ f (-.main.L1.2).main.13.7 4
 no firing
 
 f -.main.3.2 4
+no firing";
+
+/// A loop in a loop.
+pub const NESTED: &[u8] = b"\
+u-program 1\n\
+block main\n\
+loop 1 0\n\
+loop 2 1\n\
+1 0 begin -> 2.1 5.1\n\
+2 0 enter 1 -> 3.1\n\
+3 1 enter 2 -> 4.1\n\
+4 2 pass ->\n\
+5 0 end ->\n\
+";
+
+/// The turns of the outer loop have a greatest initiation too.
+pub const NESTED_FIRINGS: &str = "\
+f ((-.main.L1.1).main.L2.4294967295).main.4.1 7
+t ((-.main.L1.1).main.L2.4294967295).main.4.1 1 7
+gives
+
+f ((-.main.L1.1).main.L2.4294967296).main.4.1 7
 no firing";
 
 /// In the factorial a call begins, and comes back. A procedure stands only where an `apply` calls

@@ -122,6 +122,22 @@ no firing
 f -.main.4.1 &-.main.2.1#3 2
 no firing
 
+f -.main.4.1 &-.main.2.4294967295#3 2 by -.main.3.4294967295 20
+t -.main.4.1 1 &-.main.2.4294967295#3
+t -.main.4.1 2 2
+w -.main.2.4294967295[2] -.main.3.4294967295 20
+gives
+t -.main.5.1 1 20
+
+f -.main.4.1 &-.main.2.4294967296#3 2 by -.main.3.1 20
+no firing
+
+f -.main.4.1 &-.main.2.1#3 2 by -.main.3.4294967296 20
+no firing
+
+f -.main.4.1 &-.main.2.1#3 2 by -.main.3.1 &-.main.2.4294967296#3
+no firing
+
 f -.main.4.1 &-.main.2.1#3 3 by -.main.3.1 20
 no firing
 

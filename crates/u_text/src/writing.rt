@@ -59,20 +59,31 @@ pub fn push_signed(out: &mut Vec<u8>, n: i64) -> Result<(), AllocError>
 
 /// Appends a byte and a number. On an error the byte may stand there.
 #[tactic(auto, using(crate::proofs::AppendingLaws::extends_same, crate::proofs::AppendingLaws::extends_by))]
-fn byte_and_number(out: &mut Vec<u8>, byte: u8, n: u32) -> Result<(), AllocError>
+fn byte_and_number(out: &mut Vec<u8>, byte: u8, n: u64) -> Result<(), AllocError>
     ensures ok { OnOk result (out.new.items ≡ out.old.items ++ (byte ∷ decimal n)) }
     ensures err { OnErr result (Extends out.old.items out.new.items) }
 {
     out.push(byte)?;
-    push_number(out, n)
+    push_long(out, n)
 }
 
 /// Appends a byte and a number.
 ///
 /// # Errors
 /// `AllocError` where there is no memory. Then `out` is as it was.
-#[tactic(auto, using(crate::proofs::AppendingLaws::extends_cut))]
 pub fn push_behind(out: &mut Vec<u8>, byte: u8, n: u32) -> Result<(), AllocError>
+    ensures ok { OnOk result (out.new.items ≡ out.old.items ++ (byte ∷ decimal n)) }
+    ensures err { OnErr result (out.new.items ≡ out.old.items) }
+{
+    push_long_behind(out, byte, u64::from(n))
+}
+
+/// Appends a byte and a number of 64 bits.
+///
+/// # Errors
+/// `AllocError` where there is no memory. Then `out` is as it was.
+#[tactic(auto, using(crate::proofs::AppendingLaws::extends_cut))]
+pub fn push_long_behind(out: &mut Vec<u8>, byte: u8, n: u64) -> Result<(), AllocError>
     ensures ok { OnOk result (out.new.items ≡ out.old.items ++ (byte ∷ decimal n)) }
     ensures err { OnErr result (out.new.items ≡ out.old.items) }
 {

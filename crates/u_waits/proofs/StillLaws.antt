@@ -29,12 +29,12 @@ use Rattle.u_waits.specs.Still.{AreStill}
 use Rattle.u_waits.specs.declared.activities.WaitingActivity.{WaitingActivity}
 use Rattle.u_waits.specs.declared.reads.DeferredRead.{DeferredRead}
 use Rattle.u_waits.proofs.ReadLaws.{fetches}
+use Rattle.u_rule.proofs.Firings.{at_statement}
 
 -- a firing has a value for each port of its statement, and a write where it reads a cell
 values_fit : (job : JobParts) (f : Firing) (s : StatementParts) → is_firing_of job f ≡ true → statement_of job.program.blocks f.activity.block f.activity.statement ≡ Some s → ((length f.values == ports_of s.kind) ≡ true) × (has_its_write s.kind f.values f.write ≡ true)
-unfolding is_firing_of
 values_fit job f s e q =
-    let both = and_parts (fits_at job.program.blocks s.region f.activity) (length f.values == ports_of s.kind && has_its_write s.kind f.values f.write) (rw q at e) in
+    let both = and_parts (fits_at job.program.blocks s.region f.activity) (length f.values == ports_of s.kind && has_its_write s.kind f.values f.write) (rw q at (at_statement job f e)) in
     and_parts (length f.values == ports_of s.kind) (has_its_write s.kind f.values f.write) both.1
 
 -- it needs the token of each of its values

@@ -1,8 +1,20 @@
 use Rattle.std.proofs.Common.{rules}
 use Rattle.u_rule.specs.Rule.{is_firing_of}
-use Rattle.u_rule.proofs.Follow.{leaves_loop, all_given_fit, firing_fits}
+use Rattle.u_rule.proofs.Follow.{leaves_loop, ends_call, all_given_fit, firing_fits, at_region}
 use Rattle.u_rule.proofs.InOrder.{all_given_rise}
 use Rattle.u_rule.proofs.rule.gives.Goals as goal
+
+pub given-requires-clause-reaches : goal.given-requires-clause-reaches
+given-requires-clause-reaches c =
+    let f = at_region c.args.job.now.program.blocks c.in-Some.statement.now c.args.firing.now (search rules) in
+    let w = leaves_loop c.args.job.now.program.blocks c.program-program.ensures.checked c.in-Some.statement.now c.args.firing.now.activity (search rules) f in
+    search rules
+
+pub given-requires-clause-ends : goal.given-requires-clause-ends
+given-requires-clause-ends c =
+    let f = at_region c.args.job.now.program.blocks c.in-Some.statement.now c.args.firing.now (search rules) in
+    let w = ends_call c.args.job.now.program.blocks c.program-program.ensures.checked c.in-Some.statement.now c.args.firing.now.activity (search rules) f in
+    search rules
 
 pub returns-clause-order : goal.returns-clause-order
 unfolding is_firing_of
