@@ -131,6 +131,8 @@ def commands(room):
         ["explain", DOUBLE, "--strict"],
         ["explain", f"{room}/refused"],
         ["draw", DOUBLE],
+        ["draw", DOUBLE, "4"],
+        ["draw", WRITERS, "0", "a 20"],
         ["run", DOUBLE, "4"],
         ["run", SUM, "3"],
         ["run", WRITERS, "0"],

@@ -312,6 +312,12 @@ for file in programs/*.u tests/determinate/*.u tests/pictures/*.u "$temp/blocks_
     expect_same "the picture of $file" "$(tests/drawn.py <"$file")" "$("$binary" draw "$file" 2>&1)"
 done
 
+# The pictures of runs and stories: what tests/drawn_runs.py finds wrong with them.
+for file in programs/*.u; do
+    expect_same "the pictures of runs of $file" '' "$(tests/drawn_runs.py "$binary" "$file" 3 60 2>&1)"
+    expect_same "the pictures of whole runs of $file" '' "$(tests/drawn_runs.py "$binary" "$file" 2 2000 2>&1)"
+done
+
 # The pictures of the documents are drawn from what `draw` prints today.
 expect_same 'no picture of docs/pictures is old' '' "$(U_BINARY=$binary docs/pictures/draw.sh | sed '$d')"
 

@@ -1,6 +1,6 @@
 #!/usr/bin/env bash
 # Says which pictures of docs/pictures are old: each was drawn by Graphviz from what `u draw` printed of the
-# program of the same name, and ends with the checksum of that text. The last line is 'N passed, M failed'.
+# program of the same name, or of a run of one, and ends with the checksum of that text. The last line is 'N passed, M failed'.
 #
 #   docs/pictures/draw.sh           says which are old
 #   docs/pictures/draw.sh --write   draws those anew, with Graphviz, which it installs by name if it is missing
@@ -10,6 +10,8 @@ export LC_ALL=C
 top=$(cd -P -- "$(dirname -- "${BASH_SOURCE[0]}")/../.." && pwd) || exit 2
 cd -- "$top" || exit 2
 binary=${U_BINARY:-$top/crates/u/out/u}
+writes=
+[ "${1-}" = --write ] && writes=yes
 
 # What stands at the end of the picture of a text.
 mark() {
@@ -18,7 +20,7 @@ mark() {
 
 # Draws the picture of the text in a file.
 write() {
-    command -v dot >/dev/null || apt-get install -y graphviz >/dev/null 2>&1 || return 1
+    command -v dot >/dev/null || { apt-get update && apt-get install -y graphviz; } >/dev/null 2>&1 || return 1
     dot -Tsvg "$1" >"$1.svg" && { cat -- "$1.svg"; mark "$1"; } >"$2"
 }
 
@@ -26,11 +28,13 @@ room=$(mktemp -d) || exit 2
 trap 'rm -rf -- "$room"' EXIT
 passed=0
 failed=0
-for program in programs/*.u; do
-    name=$(basename -- "$program" .u)
-    picture=docs/pictures/$name.svg
-    "$binary" draw "$program" >"$room/$name" || exit 2
-    if [ "$(tail -n 1 -- "$picture" 2>/dev/null)" != "$(mark "$room/$name")" ] && [ "${1-}" = --write ]; then
+# Counts whether the picture of that name is of what `u draw` prints with the other words.
+look() {
+    local name=$1 picture=docs/pictures/$1.svg
+    shift
+    "$binary" draw "$@" >"$room/$name"
+    [ -s "$room/$name" ] || exit 2
+    if [ "$(tail -n 1 -- "$picture" 2>/dev/null)" != "$(mark "$room/$name")" ] && [ -n "$writes" ]; then
         write "$room/$name" "$picture"
     fi
     if [ "$(tail -n 1 -- "$picture" 2>/dev/null)" = "$(mark "$room/$name")" ]; then
@@ -39,6 +43,12 @@ for program in programs/*.u; do
         failed=$((failed + 1))
         echo "old: $picture"
     fi
+}
+
+for program in programs/*.u; do
+    look "$(basename -- "$program" .u)" "$program"
 done
+look sum_run programs/sum.u 3
+look two_writers_run programs/two_writers.u 0
 echo "$passed passed, $failed failed"
 [ "$failed" -eq 0 ]

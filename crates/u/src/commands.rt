@@ -12,7 +12,7 @@ use u_cli::{
     explain_text, fleet_text, read_input, restore_text, run_text, save_text, share_text,
     trace_text, waits_text, world_text,
 };
-use u_pictures::draw_text;
+use u_pictures::{draw_run_text, draw_story_text, draw_text};
 
 /// The argument of the stored run, and how often it may fire.
 const STORED_ARGUMENT: &[u8] = b"4";
@@ -69,6 +69,48 @@ fn first_byte(rt: &HostRuntime, path: &str) -> Result<usize, io::Error> {
 pub fn draw(rt: &HostRuntime, file: &str) -> Result<u8, CommandError> {
     let program = read_file(rt, file)?;
     draw_text(rt.alloc(), &program, &mut io::writer(rt))
+}
+
+/// `draw FILE ARG`, with so many firings at most. Where the run goes on, standard error has how many
+/// firings the picture leaves out, of 1000000 at most.
+pub fn draw_run(
+    rt: &HostRuntime,
+    file: &str,
+    argument: &str,
+    firings: usize,
+) -> Result<u8, CommandError>
+    requires { firings ≤ 1000000 }
+{
+    let program = read_file(rt, file)?;
+    let argument = argument.as_bytes();
+    let mut out = io::writer(rt);
+    let (status, left) = draw_run_text(rt.alloc(), &program, argument, firings, &mut out)?;
+    if left > 0 {
+        let _ = eprintln!(rt; "u: the picture leaves out {left} firings");
+    }
+    Ok(status)
+}
+
+/// `draw FILE ARG ENTRY`, after so many firings at most.
+pub fn draw_story(
+    rt: &HostRuntime,
+    file: &str,
+    argument: &str,
+    entry: &str,
+    firings: usize,
+) -> Result<u8, CommandError>
+    requires { firings ≤ 1000000 }
+{
+    let program = read_file(rt, file)?;
+    let mut out = io::writer(rt);
+    draw_story_text(
+        rt.alloc(),
+        &program,
+        argument.as_bytes(),
+        entry.as_bytes(),
+        firings,
+        &mut out,
+    )
 }
 
 /// `run FILE ARG`, with so many firings at most.

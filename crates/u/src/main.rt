@@ -100,6 +100,17 @@ fn follow<T: Threads + Wait + Sync>(
         ),
         Request::Explain { file, strict } => commands::explain(rt, file, strict),
         Request::Draw { file } => commands::draw(rt, file),
+        Request::DrawRun {
+            file,
+            argument,
+            firings,
+        } => commands::draw_run(rt, file, argument, firings),
+        Request::DrawStory {
+            file,
+            argument,
+            entry,
+            firings,
+        } => commands::draw_story(rt, file, argument, entry, firings),
         Request::Run {
             file,
             argument,

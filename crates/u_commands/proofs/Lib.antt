@@ -1,6 +1,6 @@
 pub mod Counts
 pub mod Known
-pub mod Ran
+pub mod RanLaws
 pub mod ArgumentLaws
 pub mod Saved
 pub mod Restored

@@ -23,9 +23,9 @@ pub use explaining::explain_text;
 pub use input::{INPUT_LIMIT, read_input};
 pub use output::{Unwritten, push_numbered, write_whole};
 pub use restoring::{restore_text, run_behind};
-pub use run::{FIRING_LIMIT, job_of, report_of, run_text};
+pub use run::{FIRING_LIMIT, job_of, ran, report_of, run_text};
 pub use saving::save_text;
-pub use tracing::trace_text;
+pub use tracing::{entry_of, trace_text};
 pub use waiting::waits_text;
 
 /// The program that runs where no word is given: it doubles its argument.

@@ -105,11 +105,7 @@ fn run_new(machine: &mut Machine<'_>, firings: usize) -> Result<Ending, CommandE
 }
 
 /// A new machine of the job after so many firings at most, and the state that a report names then.
-pub(crate) fn ran(
-    alloc: Global,
-    job: &Job,
-    firings: usize,
-) -> Result<(Machine<'_>, Ending), CommandError>
+pub fn ran(alloc: Global, job: &Job, firings: usize) -> Result<(Machine<'_>, Ending), CommandError>
     requires { firings ≤ 1000000 }
     ensures ok { IfOk result (λ p. RanTo job.now firings p.1 p.0) }
     ensures memory { IfErr result (λ e. e ≡ faults.NoMemory) }

@@ -17,7 +17,7 @@ use u_rule::{Entry, Firing, TextError};
 use u_trace::{TraceError, causes, story};
 
 /// The entry with this text.
-fn entry_of(alloc: Global, word: &[u8]) -> Result<Entry, CommandError>
+pub fn entry_of(alloc: Global, word: &[u8]) -> Result<Entry, CommandError>
     ensures { MatchResult result (λ e. IsEntryOf word.now e) (λ fault. EntryRefused word.now fault) }
 {
     match Entry::read(alloc, word) {

@@ -5,11 +5,11 @@ use Rattle.std.specs.Prelude.{codes}
 use Rattle.u_draw.specs.Dot.{opened, all_opened, all_closed, within}
 use Rattle.u_draw.specs.Clusters.{holder, nest}
 
-all_opened-append : (a b : List (List ℕ)) → all_opened (a ++ b) ≡ all_opened a ++ all_opened b
+pub all_opened-append : (a b : List (List ℕ)) → all_opened (a ++ b) ≡ all_opened a ++ all_opened b
 all_opened-append [] b = refl
 all_opened-append (x ∷ a) b = ap (λ t. opened x ++ t) (all_opened-append a b) ∙ sym (append_assoc (opened x) (all_opened a) (all_opened b))
 
-all_closed-append : (a b : List (List ℕ)) → all_closed (a ++ b) ≡ all_closed a ++ all_closed b
+pub all_closed-append : (a b : List (List ℕ)) → all_closed (a ++ b) ≡ all_closed a ++ all_closed b
 all_closed-append [] b = refl
 all_closed-append (x ∷ a) b = ap (λ t. codes " }" ++ t) (all_closed-append a b) ∙ sym (append_assoc (codes " }") (all_closed a) (all_closed b))
 

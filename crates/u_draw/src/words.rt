@@ -34,7 +34,7 @@ fn push_constant(out: &mut Vec<u8>, constant: &Constant) -> Result<(), AllocErro
 
 /// Appends the kind's words, each behind a space. On an error a part of them may stand there.
 #[tactic(auto, using(u_text::proofs::AppendingLaws::extends_same, u_text::proofs::AppendingLaws::extends_behind, std::proofs::Common::append_assoc))]
-fn push_kind(out: &mut Vec<u8>, kind: &Kind) -> Result<(), AllocError>
+pub fn push_kind(out: &mut Vec<u8>, kind: &Kind) -> Result<(), AllocError>
     ensures ok { OnOk result
         (out.new.items ≡ out.old.items ++ spaced (kind_word kind.now ∷ argument_words kind.now)) }
     ensures err { OnErr result (Extends out.old.items out.new.items) }

@@ -1,7 +1,12 @@
-//! What the command `draw` does, over bytes: the program's text that comes in, and the picture and the
-//! status that go out.
+//! What the command `draw` does, over bytes: the texts that come in, and the picture and the status that
+//! go out.
 #![tactic(auto)]
 
 mod drawing;
+mod holding;
+mod runs;
+mod stories;
 
 pub use drawing::draw_text;
+pub use runs::draw_run_text;
+pub use stories::draw_story_text;

@@ -6,6 +6,10 @@ use Rattle.std.specs.Fmt.{decimal}
 abbrev pub IsFirings : ℕ → Type 0
 IsFirings n = (1 ≤ n) × (n ≤ 1000000)
 
+-- how many firings the picture of a run has at most: from one to two thousand
+abbrev pub IsDrawn : ℕ → Type 0
+IsDrawn n = (1 ≤ n) × (n ≤ 2000)
+
 -- the word is the decimal text of the number
 abbrev pub IsNumberText : ℕ → List ℕ → Type 0
 IsNumberText n word = word ≡ decimal n

@@ -3,10 +3,11 @@ use Rattle.std.specs.Prelude.{◌≡◌, ◌↔◌, ℕ, ◌≤◌, Bool, true, 
 use Rattle.clap.specs.Words.{first_value}
 use Rattle.clap.specs.declared.parser.matches.Found.{Found}
 use Rattle.u_words.specs.declared.words.Request.{Request}
-use Rattle.u_words.specs.declared.words.Request.TheVariants.{Stored, Check, Explain, Draw, Run, Save, Restore, Trace, Blame, Waits, World, Fleet, Share}
-use Rattle.u_words.specs.Numbers.{IsFirings, IsOneToEight, IsPort, IsNumberText}
+use Rattle.u_words.specs.declared.words.Request.TheVariants.{Stored, Check, Explain, Draw, DrawRun, DrawStory, Run, Save, Restore, Trace, Blame, Waits, World, Fleet, Share}
+use Rattle.u_words.specs.Numbers.{IsFirings, IsDrawn, IsOneToEight, IsPort, IsNumberText}
 
--- the numbers of a request are in their ranges: what runs may fire from one to a million times, a port
+-- the numbers of a request are in their ranges: what runs may fire from one to a million times, the
+-- picture of a run has one to two thousand firings, a port
 -- is the first, the second or the third, a world has one to eight replicas, which take one to a million
 -- firings each, and at most a hundred thousand events, a fleet one to eight workers with at most a
 -- thousand rounds, and a member of a bus fires one to a million times between two reads
@@ -15,6 +16,8 @@ IsInRange Stored = Unit {0}
 IsInRange (Check file strict determinate) = Unit {0}
 IsInRange (Explain file strict) = Unit {0}
 IsInRange (Draw file) = Unit {0}
+IsInRange (DrawRun file argument firings) = IsDrawn firings
+IsInRange (DrawStory file argument entry firings) = IsFirings firings
 IsInRange (Run file argument firings) = IsFirings firings
 IsInRange (Save file argument firings) = IsFirings firings
 IsInRange (Restore file argument checkpoint firings) = IsFirings firings
@@ -52,9 +55,28 @@ IsExplainRequest found (Explain file strict) =
     (file.now ≡ word_of found (codes "FILE")) × IsFlag strict (word_of found (codes "strict"))
 IsExplainRequest found request = ⊥
 
--- a drawing, with the word that was found for it
+-- the number is that one where no word was found for it, and else what the word spells
+abbrev pub IsNumberOr : ℕ → ℕ → Option (List ℕ) → Type 0
+IsNumberOr usual n None = n ≡ usual
+IsNumberOr usual n (Some word) = IsNumberText n word
+
+-- a drawing, with the words that were found for it: of the program where there is no argument, of a run
+-- where there is one, and of a story where there is an entry too
 abbrev pub IsDrawRequest : Found → Request → Type 0
-IsDrawRequest found (Draw file) = file.now ≡ word_of found (codes "FILE")
+IsDrawRequest found (Draw file) =
+    (file.now ≡ word_of found (codes "FILE")) × (first_value found (codes "ARG") ≡ None)
+IsDrawRequest found (DrawRun file argument firings) =
+    (file.now ≡ word_of found (codes "FILE"))
+    × (first_value found (codes "ARG") ≡ Some argument.now)
+    × (first_value found (codes "ENTRY") ≡ None)
+    × IsDrawn firings
+    × IsNumberOr 200 firings (first_value found (codes "firings"))
+IsDrawRequest found (DrawStory file argument entry firings) =
+    (file.now ≡ word_of found (codes "FILE"))
+    × (first_value found (codes "ARG") ≡ Some argument.now)
+    × (first_value found (codes "ENTRY") ≡ Some entry.now)
+    × IsFirings firings
+    × IsNumberOr 100000 firings (first_value found (codes "firings"))
 IsDrawRequest found request = ⊥
 
 -- these are the words that were found for FILE, ARG and the number of firings

@@ -1,10 +1,10 @@
 //! The words of the command line.
 ghost use Rattle.std.specs.Prelude.{◌≡◌, IfOk, IfSome, codes};
-ghost use Rattle.clap.specs.Words.{found_of};
+ghost use Rattle.clap.specs.Words.{found_of, first_value};
 ghost use Rattle.u_words.specs.Requests.{IsInRange, IsCheckRequest, IsRunRequest, IsSaveRequest, IsRestoreRequest, IsTraceRequest, IsWorldRequest, word_of};
-ghost use Rattle.u_words.specs.Requests.{IsExplainRequest, IsDrawRequest, IsWaitsRequest, IsFleetRequest, IsFlag};
+ghost use Rattle.u_words.specs.Requests.{IsExplainRequest, IsDrawRequest, IsNumberOr, IsWaitsRequest, IsFleetRequest, IsFlag};
 ghost use Rattle.u_words.specs.Requests.{IsBlameRequest, IsShareRequest};
-ghost use Rattle.u_words.specs.Numbers.{IsFirings, IsOneToEight, IsPort, IsNumberText};
+ghost use Rattle.u_words.specs.Numbers.{IsFirings, IsDrawn, IsOneToEight, IsPort, IsNumberText};
 
 use crate::number::{firings_of, number_of};
 use clap::error::ErrorKind;
@@ -47,6 +47,9 @@ const BLAME: &str = "blame";
 /// The word of the command that takes part in a run over a bus.
 const SHARE: &str = "share";
 
+/// The most firings in the picture of a run.
+const MOST_DRAWN: usize = 2_000;
+
 /// The most rounds of a worker.
 const MOST_ROUNDS: u64 = 1_000;
 
@@ -81,6 +84,20 @@ pub enum Request<'a> {
     /// `draw FILE`: the picture of the program.
     Draw {
         file: &'a str,
+    },
+    /// `draw FILE ARG`: the picture of a run of at most `firings` firings, from 1 to 2000.
+    DrawRun {
+        file: &'a str,
+        argument: &'a str,
+        firings: usize,
+    },
+    /// `draw FILE ARG ENTRY`: the picture of the entry's story, after at most `firings` firings, from 1
+    /// to 1000000.
+    DrawStory {
+        file: &'a str,
+        argument: &'a str,
+        entry: &'a str,
+        firings: usize,
     },
     /// `run FILE ARG`: at most `firings` firings, from 1 to 1000000.
     Run {
@@ -161,7 +178,7 @@ pub fn parse<'a>(alloc: Global, words: &'a [String]) -> Result<Request<'a>, Erro
         None => Ok(Request::Stored),
         Some((name, check)) if name == CHECK => Ok(check_request(check)),
         Some((name, explain)) if name == EXPLAIN => Ok(explain_request(explain)),
-        Some((name, draw)) if name == DRAW => Ok(draw_request(draw)),
+        Some((name, draw)) if name == DRAW => draw_request(alloc, draw),
         Some((name, save)) if name == SAVE => save_request(alloc, save),
         Some((name, restore)) if name == RESTORE => restore_request(alloc, restore),
         Some((name, trace)) if name == TRACE => trace_request(alloc, trace),
@@ -212,12 +229,64 @@ fn explain_request<'a>(matches: &ArgMatches<'a>) -> Request<'a>
 }
 
 /// The words of `draw`.
-fn draw_request<'a>(matches: &ArgMatches<'a>) -> Request<'a>
-    ensures { IsDrawRequest (found_of matches.now) result }
+fn draw_request<'a>(alloc: Global, matches: &ArgMatches<'a>) -> Result<Request<'a>, Error>
+    ensures { IfOk result (λ o. IsDrawRequest (found_of matches.now) o) }
 {
-    Request::Draw {
-        file: text(matches, "FILE"),
+    let file = text(matches, "FILE");
+    match (matches.get_str("ARG"), matches.get_str("ENTRY")) {
+        (None, _) => Ok(Request::Draw { file }),
+        (Some(argument), None) => match drawn_firings(matches) {
+            Some(firings) => Ok(Request::DrawRun {
+                file,
+                argument,
+                firings,
+            }),
+            None => Err(not_drawn(alloc, matches, "2000")?),
+        },
+        (Some(argument), Some(entry)) => match told_firings(matches) {
+            Some(firings) => Ok(Request::DrawStory {
+                file,
+                argument,
+                entry,
+                firings,
+            }),
+            None => Err(not_drawn(alloc, matches, "1000000")?),
+        },
     }
+}
+
+/// The number of firings in the picture of a run: 200 where no number stands.
+fn drawn_firings(matches: &ArgMatches<'_>) -> Option<usize>
+    ensures { IfSome result (λ n. IsDrawn n
+        × IsNumberOr 200 n (first_value (found_of matches.now) (codes "firings"))) }
+{
+    match matches.get_str("firings") {
+        None => Some(200),
+        Some(word) => match firings_of(word) {
+            Some(firings) if firings <= MOST_DRAWN => Some(firings),
+            _ => None,
+        },
+    }
+}
+
+/// The number of firings of the run that a story is told of: 100000 where no number stands.
+fn told_firings(matches: &ArgMatches<'_>) -> Option<usize>
+    ensures { IfSome result (λ n. IsFirings n
+        × IsNumberOr 100000 n (first_value (found_of matches.now) (codes "firings"))) }
+{
+    match matches.get_str("firings") {
+        None => Some(100_000),
+        Some(word) => firings_of(word),
+    }
+}
+
+/// The mistake that the number of firings is not from 1 to `most`, or has a sign or a leading zero.
+fn not_drawn(alloc: Global, matches: &ArgMatches<'_>, most: &str) -> Result<Error, AllocError> {
+    let word = text(matches, "firings");
+    let message = format!(in alloc;
+        "invalid value '{word}' for '--firings <N>': here it is a number from 1 to {most}, without a sign or a leading zero"
+    )?;
+    told(draw(alloc), message.as_str())
 }
 
 /// The words of `run`.
@@ -529,9 +598,35 @@ fn draw<'a>(alloc: Global) -> Result<Command<'a>, AllocError> {
     of_program(
         alloc,
         DRAW,
-        "Prints the picture of the program, as a text that Graphviz draws",
-        "Example: ./u draw programs/sum.u | dot -Tsvg -o sum.svg",
-    )
+        "Prints the picture of the program, of a run or of an entry's story, for Graphviz",
+        "Examples:
+  ./u draw programs/sum.u | dot -Tsvg -o sum.svg
+  ./u draw programs/sum.u 3 | dot -Tsvg -o run.svg
+  ./u draw programs/sum.u 3 'a 6' | dot -Tsvg -o story.svg",
+    )?
+    .arg(perhaps(alloc, "ARG").help(
+        "The argument of a run, which is drawn in place of the program: n1 is -1",
+    ))?
+    .arg(perhaps(alloc, "ENTRY").help(
+        "An entry's text, one word: the firings that it rests on are drawn",
+    ))?
+    .arg(drawn(alloc)?)
+}
+
+/// A word that may be left out.
+fn perhaps<'a>(alloc: Global, name: &'a str) -> Arg<'a> {
+    Arg::new(alloc, name).action(ArgAction::Set)
+}
+
+/// How many firings are drawn, where a run is.
+fn drawn<'a>(alloc: Global) -> Result<Arg<'a>, AllocError> {
+    Arg::new(alloc, "firings")
+        .long("firings")
+        .value_name("N")
+        .help("The most firings of a run's picture, from 1 to 2000 [default: 200]")
+        .action(ArgAction::Set)
+        .value_parser(value_parser!(u32).range(1..=1000000))
+        .requires_arg("ARG")
 }
 
 fn run<'a>(alloc: Global, name: &'a str) -> Result<Command<'a>, AllocError> {

@@ -1,4 +1,4 @@
-use Rattle.u_commands.proofs.Ran.{run_refused}
+use Rattle.u_commands.proofs.RanLaws.{run_refused}
 use Rattle.u_commands.proofs.restoring.run_behind.Goals as goal
 
 pub returns-in-Err : goal.returns-in-Err

@@ -1,7 +1,7 @@
 use Rattle.std.proofs.Common.{◌≡◌}
 use Rattle.u_commands.specs.declared.command_error.CommandError.{CommandError}
 use Rattle.u_commands.specs.declared.command_error.CommandError.TheVariants.{NoMemory}
-use Rattle.u_commands.proofs.Ran.{reports_run, error_is}
+use Rattle.u_commands.proofs.RanLaws.{reports_run, error_is}
 use Rattle.u_commands.proofs.run.run_job.Goals as goal
 
 pub returns-clause-ok : goal.returns-clause-ok

@@ -1,4 +1,4 @@
-use Rattle.u_commands.proofs.Ran.{ran_new}
+use Rattle.u_commands.proofs.RanLaws.{ran_new}
 use Rattle.u_commands.proofs.run.run_new.Goals as goal
 
 pub returns-in-Ok-clause-ok : goal.returns-in-Ok-clause-ok

@@ -1,7 +1,7 @@
 use Rattle.std.proofs.Common.{◌≡◌}
 use Rattle.u_commands.specs.declared.command_error.CommandError.{CommandError}
 use Rattle.u_commands.specs.declared.command_error.CommandError.TheVariants.{NoMemory}
-use Rattle.u_commands.proofs.Ran.{error_is}
+use Rattle.u_commands.proofs.RanLaws.{error_is}
 use Rattle.u_commands.proofs.Waited.{waits_after}
 use Rattle.u_commands.proofs.waiting.waits_job.Goals as goal
 
