@@ -1,3 +1,12 @@
 pub mod WordLaws
 pub mod ReadsLaws
 pub mod OnceLaws
+pub mod Measure
+pub mod Leading
+pub mod OnlyOne
+pub mod SourceLaws
+pub mod RuleLaws
+pub mod OneTree
+pub mod Soonest
+pub mod Completing
+pub mod Spelling

@@ -3,3 +3,11 @@ pub mod Places
 pub mod Marks
 pub mod Words
 pub mod Lexing
+pub mod Rules
+pub mod Parts
+pub mod Choosing
+pub mod Derivations
+pub mod Progress
+pub mod Sources
+pub mod Trees
+pub mod Phrases

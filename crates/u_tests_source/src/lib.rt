@@ -2,4 +2,6 @@
 #![tactic(auto)]
 
 #[cfg(test)]
+mod source_tests;
+#[cfg(test)]
 mod token_tests;
