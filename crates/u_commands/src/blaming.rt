@@ -2,6 +2,7 @@
 ghost use Rattle.std.specs.Prelude.{◌≡◌, ◌++◌, IfOk, MatchResult};
 ghost use Rattle.u_name.specs.Context.{IsBetween};
 ghost use Rattle.u_name.specs.NameReading.{IsNameOf};
+ghost use Rattle.u_rule.specs.Parts.{most_ports};
 ghost use Rattle.u_history.specs.Report.{cell_line};
 ghost use Rattle.u_commands.specs.Traces.{RanPlainly};
 ghost use Rattle.u_commands.specs.Blaming.{most_blamed, write_lines, blamed_text, blame_fault, NameRefused};
@@ -102,7 +103,7 @@ fn blamed(
     port: u8,
 ) -> Result<Vec<u8>, CommandError>
     requires ran { RanPlainly machine.now.job most_blamed machine.now }
-    requires port { IsBetween 1 port 3 }
+    requires port { IsBetween 1 port most_ports }
     ensures { MatchResult result (λ v. BlamesJob machine.now.job activity.now port v.items)
         (λ fault. BlameRefused machine.now.job activity.now port fault) }
 {
@@ -118,7 +119,7 @@ fn blamed(
 
 /// What is to blame for two values at the port, after a run of the job.
 fn blame_job(alloc: Global, job: &Job, activity: &Name, port: u8) -> Result<Vec<u8>, CommandError>
-    requires { IsBetween 1 port 3 }
+    requires { IsBetween 1 port most_ports }
     ensures { MatchResult result (λ v. BlamesJob job.now activity.now port v.items)
         (λ fault. BlameRefused job.now activity.now port fault) }
 {
@@ -144,7 +145,7 @@ pub fn blame_text<W: Write>(
     port: u8,
     writer: &mut W,
 ) -> Result<u8, CommandError>
-    requires { IsBetween 1 port 3 }
+    requires { IsBetween 1 port most_ports }
     ensures { BlameTextAnswer program.now argument.now name.now port (W.contents writer.old) result
         (W.contents writer.new) }
 {

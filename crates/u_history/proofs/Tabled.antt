@@ -1,8 +1,8 @@
 -- The entries of a history's tables: which they are, and what a put makes of them.
-use Rattle.std.proofs.Common.{◌≡◌, ◌↔◌, ◌⊎◌, inl, inr, ℕ, zero, suc, ◌+◌, ◌≤◌, ◌<◌, List, [], ◌∷◌, ◌++◌, map, Contains, length, take, get_or, subst, sym, ◌∙◌, ap, refl, arith, append_assoc}
-use Rattle.std.specs.Prelude.{Result, Ok, Err, IfErr, IfOk}
+use Rattle.std.proofs.Common.{◌≡◌, ◌↔◌, ◌⊎◌, inl, inr, ℕ, zero, suc, ◌+◌, ◌≤◌, ◌<◌, List, [], ◌∷◌, ◌++◌, map, Contains, length, take, get_or, subst, sym, ◌∙◌, ap, refl, arith, append_assoc, append-nil}
+use Rattle.std.specs.Prelude.{Bool, IsTrue, Result, Ok, Err, IfErr, IfOk, OnOk, set}
 use Rattle.std.proofs.lemmas.List.Elements.{Contains-append_left, Contains-append_right, Contains-append_cases, Contains-push_cases}
-use Rattle.std.proofs.lemmas.List.{take_more, take_all, map-append}
+use Rattle.std.proofs.lemmas.List.{take_more, take_all, length-take, map-append, length-set, get_or-set_same}
 use Rattle.u_system.specs.Firing.{Same, Distinct}
 use Rattle.u_sets.proofs.Keyed.{joined}
 use Rattle.u_sets.proofs.Places.{one_list, irreflexive}
@@ -21,7 +21,7 @@ use Rattle.u_rule.specs.declared.parts.Write.{Write}
 use Rattle.u_rule.specs.declared.entry.Entry.{Entry}
 use Rattle.u_rule.specs.declared.entry.Entry.TheVariants as entries
 use Rattle.u_history.specs.declared.tables.Tables.{Tables}
-use Rattle.u_history.specs.Tables.{table_at, InTables, token_entry, write_entry, listed_entries, all_entries, IsOther, OthersAreOther}
+use Rattle.u_history.specs.Tables.{PortTables, place_at, table_at, InTables, token_entry, write_entry, listed_tokens, listed_entries, all_entries, IsOther, OthersAreOther, IsSharing, AreSharing, AreDistinct}
 
 -- what follows of an error, if there is one
 pub err_then : {T E : Type 0} (r : Result T E) (P Q : E → Type 0) → IfErr r P → ((e : E) → P e → Q e) → IfErr r Q
@@ -69,9 +69,40 @@ module _ {X Y : Type 0} (f : X → Y) where
         | inr n ↦ (let r = unmapped xs y n in (r.0, Contains-tail x r.0 xs r.1, r.2))
       ]
 
+-- at no port stands nothing
+pub none_at_zero : (ts : PortTables) → place_at ts zero ≡ []
+none_at_zero [] = refl
+none_at_zero (t ∷ ts) = refl
+
+-- where the table is at a place, its pairs are listed as tokens at its port
+token_in : (n j m : ℕ) (ts : PortTables) (p : Activity × Value) → m ≡ n + j → Contains (place_at ts (suc j)) p → Contains (listed_tokens n ts) (token_entry m p)
+token_in n j m [] p e h = absurd (Contains-nil p h)
+token_in n zero m (t ∷ ts) p e h =
+    let q : n ≡ m = omega (arith, e) in
+    subst (λ (k : ℕ). Contains (listed_tokens n (t ∷ ts)) (token_entry k p)) q
+    (Contains-append_left (map (token_entry n) t) (listed_tokens (suc n) ts) (token_entry n p) (mapped (token_entry n) t p h))
+token_in n (suc j) m (t ∷ ts) p e h = Contains-append_right (map (token_entry n) t) (listed_tokens (suc n) ts) (token_entry m p) (token_in (suc n) j m ts p (omega (arith, e)) h)
+
+-- and what is listed is a token of a table
+record ListedAt (n : ℕ) (ts : PortTables) (e : Entry) : Type 0 where
+  place : ℕ
+  pair : Activity × Value
+  there : Contains (place_at ts (suc place)) pair
+  is : token_entry (n + place) pair ≡ e
+
+token_of : (n : ℕ) (ts : PortTables) (e : Entry) → Contains (listed_tokens n ts) e → ListedAt n ts e
+token_of n [] e h = absurd (Contains-nil e h)
+token_of n (t ∷ ts) e h = elim (Contains-append_cases (map (token_entry n) t) (listed_tokens (suc n) ts) e h) [
+  | inl a ↦ (let r = unmapped (token_entry n) t e a in record { place = 0; pair = r.0; there = r.1; is = ap (λ (k : ℕ). token_entry k r.0) (let q : n + 0 ≡ n = omega arith in q) ∙ r.2 })
+  | inr b ↦ (let r = token_of (suc n) ts e b in record { place = suc (r.place); pair = r.pair; there = r.there; is = ap (λ (k : ℕ). token_entry k r.pair) (let q : n + suc (r.place) ≡ suc n + r.place = omega arith in q) ∙ r.is })
+]
+
 module _ (t : Tables) where
+  abbrev behind : List Entry
+  behind = map write_entry t.writes ++ t.rest
+
   abbrev all : List Entry
-  all = listed_entries t.first t.second t.third t.writes t.rest
+  all = listed_entries t.tokens t.writes t.rest
 
   held_other : (e : Entry) → Contains t.rest e → IsOther e → InTables t e
   held_other (entries.Token k) m o = absurd o
@@ -79,48 +110,36 @@ module _ (t : Tables) where
   held_other (entries.Fault x) m o = m
   held_other (entries.Answer v) m o = m
 
+  held_token : (e : Entry) → ListedAt 1 t.tokens e → InTables t e
+  held_token e r =
+      let q : suc (r.place) ≡ 1 + r.place = omega arith in
+      subst (InTables t) r.is (subst (λ (k : ℕ). Contains (place_at t.tokens k) r.pair) q r.there)
+
   held_listed : OthersAreOther t → (e : Entry) → Contains all e → InTables t e
   held_listed others e m =
-      elim (Contains-append_cases (map (token_entry 1) t.first) (map (token_entry 2) t.second ++ (map (token_entry 3) t.third ++ (map write_entry t.writes ++ t.rest))) e m) [
-        | inl a ↦ (let r = unmapped (token_entry 1) t.first e a in subst (InTables t) r.2 r.1)
-        | inr b ↦ elim (Contains-append_cases (map (token_entry 2) t.second) (map (token_entry 3) t.third ++ (map write_entry t.writes ++ t.rest)) e b) [
-          | inl a ↦ (let r = unmapped (token_entry 2) t.second e a in subst (InTables t) r.2 r.1)
-          | inr c ↦ elim (Contains-append_cases (map (token_entry 3) t.third) (map write_entry t.writes ++ t.rest) e c) [
-            | inl a ↦ (let r = unmapped (token_entry 3) t.third e a in subst (InTables t) r.2 r.1)
-            | inr d ↦ elim (Contains-append_cases (map write_entry t.writes) t.rest e d) [
-              | inl a ↦ (let r = unmapped write_entry t.writes e a in subst (InTables t) r.2 r.1)
-              | inr k ↦ held_other e k (others e k)
-            ]
-          ]
+      elim (Contains-append_cases (listed_tokens 1 t.tokens) behind e m) [
+        | inl a ↦ held_token e (token_of 1 t.tokens e a)
+        | inr d ↦ elim (Contains-append_cases (map write_entry t.writes) t.rest e d) [
+          | inl a ↦ (let r = unmapped write_entry t.writes e a in subst (InTables t) r.2 r.1)
+          | inr k ↦ held_other e k (others e k)
         ]
       ]
 
-  behind_first : (e : Entry) → Contains (map (token_entry 2) t.second ++ (map (token_entry 3) t.third ++ (map write_entry t.writes ++ t.rest))) e → Contains all e
-  behind_first e m = Contains-append_right (map (token_entry 1) t.first) (map (token_entry 2) t.second ++ (map (token_entry 3) t.third ++ (map write_entry t.writes ++ t.rest))) e m
-
-  behind_second : (e : Entry) → Contains (map (token_entry 3) t.third ++ (map write_entry t.writes ++ t.rest)) e → Contains all e
-  behind_second e m = behind_first e (Contains-append_right (map (token_entry 2) t.second) (map (token_entry 3) t.third ++ (map write_entry t.writes ++ t.rest)) e m)
-
-  behind_third : (e : Entry) → Contains (map write_entry t.writes ++ t.rest) e → Contains all e
-  behind_third e m = behind_second e (Contains-append_right (map (token_entry 3) t.third) (map write_entry t.writes ++ t.rest) e m)
+  behind_tokens : (e : Entry) → Contains behind e → Contains all e
+  behind_tokens e m = Contains-append_right (listed_tokens 1 t.tokens) behind e m
 
   behind_writes : (e : Entry) → Contains t.rest e → Contains all e
-  behind_writes e m = behind_third e (Contains-append_right (map write_entry t.writes) t.rest e m)
+  behind_writes e m = behind_tokens e (Contains-append_right (map write_entry t.writes) t.rest e m)
 
   token_listed : (n : ℕ) (a : Activity) (v : Value) → Contains (table_at t n) (a, v) → Contains all (entries.Token (token a n v))
-  token_listed zero a v m = absurd (Contains-nil (a, v) m)
-  token_listed (suc zero) a v m =
-      Contains-append_left (map (token_entry 1) t.first) (map (token_entry 2) t.second ++ (map (token_entry 3) t.third ++ (map write_entry t.writes ++ t.rest))) (token_entry 1 (a, v)) (mapped (token_entry 1) t.first (a, v) m)
-  token_listed (suc (suc zero)) a v m =
-      behind_first (token_entry 2 (a, v)) (Contains-append_left (map (token_entry 2) t.second) (map (token_entry 3) t.third ++ (map write_entry t.writes ++ t.rest)) (token_entry 2 (a, v)) (mapped (token_entry 2) t.second (a, v) m))
-  token_listed (suc (suc (suc zero))) a v m =
-      behind_second (token_entry 3 (a, v)) (Contains-append_left (map (token_entry 3) t.third) (map write_entry t.writes ++ t.rest) (token_entry 3 (a, v)) (mapped (token_entry 3) t.third (a, v) m))
-  token_listed (suc (suc (suc (suc n)))) a v m = absurd (Contains-nil (a, v) m)
+  token_listed zero a v m = absurd (Contains-nil (a, v) (subst (λ (ps : List (Activity × Value)). Contains ps (a, v)) (none_at_zero t.tokens) m))
+  token_listed (suc n) a v m =
+      Contains-append_left (listed_tokens 1 t.tokens) behind (token_entry (suc n) (a, v)) (token_in 1 n (suc n) t.tokens (a, v) (omega arith) m)
 
   listed_held : (e : Entry) → InTables t e → Contains all e
   listed_held (entries.Token k) m = token_listed k.port k.activity k.value m
   listed_held (entries.Write w) m =
-      behind_third (entries.Write w) (Contains-append_left (map write_entry t.writes) t.rest (entries.Write w) (mapped write_entry t.writes (w.cell, written w.writer w.value) m))
+      behind_tokens (entries.Write w) (Contains-append_left (map write_entry t.writes) t.rest (entries.Write w) (mapped write_entry t.writes (w.cell, written w.writer w.value) m))
   listed_held (entries.Fault x) m = behind_writes (entries.Fault x) m
   listed_held (entries.Answer v) m = behind_writes (entries.Answer v) m
 
@@ -191,10 +210,10 @@ module _ (t u : Tables) where
 
 module _ (t : Tables) where
   abbrev pub with_writes : List (CellOf × Written) → Tables
-  with_writes ws = record { first = t.first; second = t.second; third = t.third; writes = ws; rest = t.rest }
+  with_writes ws = record { tokens = t.tokens; writes = ws; rest = t.rest }
 
   abbrev pub with_rest : List Entry → Tables
-  with_rest es = record { first = t.first; second = t.second; third = t.third; writes = t.writes; rest = es }
+  with_rest es = record { tokens = t.tokens; writes = t.writes; rest = es }
 
   pub write_more : (w : Write) (ws : List (CellOf × Written)) → IsWith t.writes (w.cell, written w.writer w.value) ws → HasMore t (entries.Write w) (with_writes ws)
   write_more w ws put = more
@@ -224,36 +243,59 @@ module _ (t : Tables) where
 pub others_more : (xs ys : List Entry) (e : Entry) → IsOther e → IsWith xs e ys → ((x : Entry) → Contains xs x → IsOther x) → (x : Entry) → Contains ys x → IsOther x
 others_more xs ys e o put old x m = elim ((put x).0 m) [ inl a ↦ old x a | inr q ↦ subst IsOther q o ]
 
-pub first_apart : (t : Tables) (ps : List (Activity × Value)) (m : ℕ)
-    → (m ≡ 1) ⊎ (table_at (record { first = ps; second = t.second; third = t.third; writes = t.writes; rest = t.rest }) m ≡ table_at t m)
-first_apart t ps zero = inr refl
-first_apart t ps (suc zero) = inl refl
-first_apart t ps (suc (suc zero)) = inr refl
-first_apart t ps (suc (suc (suc zero))) = inr refl
-first_apart t ps (suc (suc (suc (suc m)))) = inr refl
+-- the table at a place, counted from 0, is that of the port behind it
 
-pub second_apart : (t : Tables) (ps : List (Activity × Value)) (m : ℕ)
-    → (m ≡ 2) ⊎ (table_at (record { first = t.first; second = ps; third = t.third; writes = t.writes; rest = t.rest }) m ≡ table_at t m)
-second_apart t ps zero = inr refl
-second_apart t ps (suc zero) = inr refl
-second_apart t ps (suc (suc zero)) = inl refl
-second_apart t ps (suc (suc (suc zero))) = inr refl
-second_apart t ps (suc (suc (suc (suc m)))) = inr refl
+pub place_is : (ts : PortTables) (k : ℕ) (d : List (Activity × Value)) → k < length ts → place_at ts (suc k) ≡ get_or ts k d
+place_is [] k d l = absurd (omega (arith, l))
+place_is (t ∷ ts) zero d l = refl
+place_is (t ∷ ts) (suc k) d l = place_is ts k d (omega (arith, l))
 
-pub third_apart : (t : Tables) (ps : List (Activity × Value)) (m : ℕ)
-    → (m ≡ 3) ⊎ (table_at (record { first = t.first; second = t.second; third = ps; writes = t.writes; rest = t.rest }) m ≡ table_at t m)
-third_apart t ps zero = inr refl
-third_apart t ps (suc zero) = inr refl
-third_apart t ps (suc (suc zero)) = inr refl
-third_apart t ps (suc (suc (suc zero))) = inl refl
-third_apart t ps (suc (suc (suc (suc m)))) = inr refl
+pub none_past : (ts : PortTables) (n : ℕ) → length ts < n → place_at ts n ≡ []
+none_past [] n l = refl
+none_past (t ∷ ts) zero l = refl
+none_past (t ∷ ts) (suc zero) l = absurd (omega (arith, l))
+none_past (t ∷ ts) (suc (suc n)) l = none_past ts (suc n) (omega (arith, l))
 
-pub past_three : (t : Tables) (n : ℕ) (p : Activity × Value) → 4 ≤ n → Contains (table_at t n) p → ⊥
-past_three t zero p l m = Contains-nil p m
-past_three t (suc zero) p l m = absurd (omega arith)
-past_three t (suc (suc zero)) p l m = absurd (omega arith)
-past_three t (suc (suc (suc zero))) p l m = absurd (omega arith)
-past_three t (suc (suc (suc (suc n)))) p l m = Contains-nil p m
+-- the table of the port behind a place is the one there
+pub table_is : (ts : PortTables) (n i : ℕ) (d : List (Activity × Value)) → n ≡ suc i → i < length ts → place_at ts n ≡ get_or ts i d
+table_is ts n i d e l = ap (place_at ts) e ∙ place_is ts i d l
+
+-- another table at a place
+
+set_here : (ts : PortTables) (i : ℕ) (new : List (Activity × Value)) → i < length ts → place_at (set ts i new) (suc i) ≡ new
+set_here ts i new l = place_is (set ts i new) i new (omega (arith, l, length-set ts i new)) ∙ get_or-set_same ts i new new l
+
+set_apart : (ts : PortTables) (i : ℕ) (new : List (Activity × Value)) (m : ℕ) → (m ≡ suc i) ⊎ (place_at (set ts i new) m ≡ place_at ts m)
+set_apart [] i new m = inr refl
+set_apart (t ∷ ts) zero new zero = inr refl
+set_apart (t ∷ ts) zero new (suc zero) = inl refl
+set_apart (t ∷ ts) zero new (suc (suc m)) = inr refl
+set_apart (t ∷ ts) (suc i) new zero = inr refl
+set_apart (t ∷ ts) (suc i) new (suc zero) = inr refl
+set_apart (t ∷ ts) (suc i) new (suc (suc m)) = elim (set_apart ts i new (suc m)) [ inl e ↦ inl (ap suc e) | inr e ↦ inr e ]
+
+abbrev with_table : Tables → ℕ → List (Activity × Value) → Tables
+with_table t i new = record { tokens = set t.tokens i new; writes = t.writes; rest = t.rest }
+
+pub token_put : (t : Tables) (k : TokenParts) (i : ℕ) (d new : List (Activity × Value)) → k.port ≡ suc i → i < length t.tokens → IsWith (get_or t.tokens i d) (k.activity, k.value) new → HasMore t (entries.Token k) (record { tokens = set t.tokens i new; writes = t.writes; rest = t.rest })
+token_put t k i d new e l put =
+    token_more t (with_table t i new) k (suc i) e (rw (table_is t.tokens (suc i) i d refl l, set_here t.tokens i new l) put) (set_apart t.tokens i new) refl refl
+
+pub on_ok : {T E : Type 0} (r : Result T E) {P Q : Type 0} → OnOk r P → (P → Q) → OnOk r Q
+on_ok (Ok x) p f = f p
+on_ok (Err e) p f = tt
+
+pub is_new : {E : Type 0} (r : Result Bool E) (ps qs : List (Activity × Value)) (p : Activity × Value) → qs ≡ ps → IfOk r (λ b. IsTrue b ↔ (Contains ps p → ⊥)) → IfOk r (λ b. IsTrue b ↔ (Contains qs p → ⊥))
+is_new r ps qs p e h = subst (λ (xs : List (Activity × Value)). IfOk r (λ b. IsTrue b ↔ (Contains xs p → ⊥))) (sym e) h
+
+pub is_under : (t : Tables) (n i : ℕ) (d : List (Activity × Value)) (p : Activity × Value) (b : Bool) → n ≡ suc i → i < length t.tokens → IsTrue b ↔ Contains (get_or t.tokens i d) p → IsTrue b ↔ Contains (table_at t n) p
+is_under t n i d p b e l h = subst (λ (xs : List (Activity × Value)). IsTrue b ↔ Contains xs p) (sym (table_is t.tokens n i d e l)) h
+
+pub values_under : (t : Tables) (n i : ℕ) (d : List (Activity × Value)) (a : Activity) (vs : List Value) → n ≡ suc i → i < length t.tokens → ((v : Value) → Contains vs v ↔ Contains (get_or t.tokens i d) (a, v)) → (v : Value) → Contains vs v ↔ Contains (table_at t n) (a, v)
+values_under t n i d a vs e l h v = subst (λ (xs : List (Activity × Value)). Contains vs v ↔ Contains xs (a, v)) (sym (table_is t.tokens n i d e l)) (h v)
+
+pub none_under : (t : Tables) (n : ℕ) (a : Activity) → place_at t.tokens n ≡ [] → (v : Value) → Contains {X = Value} [] v ↔ Contains (table_at t n) (a, v)
+none_under t n a e v = ((λ m. absurd (Contains-nil v m)), λ m. absurd (Contains-nil (a, v) (subst (λ (xs : List (Activity × Value)). Contains xs (a, v)) e m)))
 
 -- one item more
 module _ {P Q : Type 0} (f : Q → Entry) (g : P → Q) (ps : List P) (i : ℕ) (p : P) (e : Entry) (old new start : List Entry) (l : i < length ps) (at : p ≡ get_or ps i p) (n : new ≡ old ++ e ∷ []) (is : e ≡ f (g p)) where
@@ -280,8 +322,8 @@ single_more f ps i p e old new start l at n is all =
 pub single_all : {P : Type 0} (f : P → Entry) (ps : List P) (i : ℕ) (out start : List Entry) → length ps ≤ i → out ≡ start ++ map f (take i ps) → out ≡ start ++ map f ps
 single_all f ps i out start l h = h ∙ ap (λ (qs : List _). start ++ map f qs) (take_all i ps l)
 
-pub five : (a b c d e n0 n1 n2 n3 n4 n5 : List Entry) → n0 ≡ [] → n1 ≡ n0 ++ a → n2 ≡ n1 ++ b → n3 ≡ n2 ++ c → n4 ≡ n3 ++ d → n5 ≡ n4 ++ e → n5 ≡ a ++ (b ++ (c ++ (d ++ e)))
-five a b c d e n0 n1 n2 n3 n4 n5 z p q r s t = rw (t, s, r, q, p, z) (simp append_assoc)
+pub three : (a b c n0 n1 n2 : List Entry) → n0 ≡ a → n1 ≡ n0 ++ b → n2 ≡ n1 ++ c → n2 ≡ a ++ (b ++ c)
+three a b c n0 n1 n2 p q r = rw (r, q, p) (append_assoc a b c)
 
 pub in_order_is : (xs ys : List Entry) → Rises entry_cmp ys → Same (Contains ys) (Contains xs) → ys ≡ in_order entry_cmp xs
 in_order_is xs ys r s =
@@ -293,10 +335,14 @@ unordered_is xs z = let m = members entry_cmp entry_cmp_total entry_cmp_ties xs 
 
 -- where an entry stands among the tables
 abbrev mark : Entry → ℕ
-mark (entries.Token k) = k.port
-mark (entries.Write w) = 4
-mark (entries.Fault x) = 5
-mark (entries.Answer v) = 5
+mark (entries.Token k) = 0
+mark (entries.Write w) = 1
+mark (entries.Fault x) = 2
+mark (entries.Answer v) = 2
+
+abbrev port_mark : Entry → ℕ
+port_mark (entries.Token k) = k.port
+port_mark e = 0
 
 abbrev Above : ℕ → List Entry → Type 0
 Above n xs = (x : Entry) → Contains xs x → n < mark x
@@ -320,7 +366,7 @@ above_of n k xs l h e m = let q = h e m in omega arith
 before_all : (n : ℕ) (xs ys : List Entry) → ((e : Entry) → Contains xs e → mark e ≡ n) → Above n ys → Distinct xs → Distinct ys → Distinct (xs ++ ys)
 before_all n xs ys is above d e = joined xs ys d e (λ x a b. let p = is x a in let q = above x b in omega arith)
 
-other_mark : (e : Entry) → IsOther e → mark e ≡ 5
+other_mark : (e : Entry) → IsOther e → mark e ≡ 2
 other_mark (entries.Token k) o = absurd o
 other_mark (entries.Write w) o = absurd o
 other_mark (entries.Fault x) o = refl
@@ -350,19 +396,98 @@ rising_distinct : (xs : List Entry) → Rises entry_cmp xs → Distinct xs
 rising_distinct [] r = tt
 rising_distinct (x ∷ xs) r = ((λ m. irreflexive entry_cmp entry_cmp_total x (r.0 x m)), rising_distinct xs r.1)
 
-pub listed_distinct : (t : Tables) → OthersAreOther t → Distinct t.first → Distinct t.second → Distinct t.third → Distinct t.writes → Rises entry_cmp t.rest → Distinct (listed_entries t.first t.second t.third t.writes t.rest)
-listed_distinct t o a b c w r =
-    let ma = marked (token_entry 1) 1 (λ p. refl) t.first in
-    let mb = marked (token_entry 2) 2 (λ p. refl) t.second in
-    let mc = marked (token_entry 3) 3 (λ p. refl) t.third in
-    let mw = marked write_entry 4 (λ p. refl) t.writes in
-    let mr : (e : Entry) → Contains t.rest e → mark e ≡ 5 = (λ e m. other_mark e (o e m)) in
+-- tokens of the tables from port n on lie at ports from n on
+listed_from : (n : ℕ) (ts : PortTables) (e : Entry) → Contains (listed_tokens n ts) e → n ≤ port_mark e
+listed_from n ts e m =
+    let r = token_of n ts e m in
+    let q : port_mark e ≡ n + r.place = ap port_mark (sym r.is) in
+    omega (arith, q)
+
+-- and are tokens
+listed_marked : (n : ℕ) (ts : PortTables) (e : Entry) → Contains (listed_tokens n ts) e → mark e ≡ 0
+listed_marked n ts e m = let r = token_of n ts e m in ap mark (sym r.is)
+
+port_of_mapped : (n : ℕ) (ps : List (Activity × Value)) (e : Entry) → Contains (map (token_entry n) ps) e → port_mark e ≡ n
+port_of_mapped n ps e m = let r = unmapped (token_entry n) ps e m in ap port_mark (sym r.2)
+
+tokens_distinct : (n : ℕ) (ts : PortTables) → AreDistinct ts → Distinct (listed_tokens n ts)
+tokens_distinct n [] d = tt
+tokens_distinct n (t ∷ ts) d =
+    joined (map (token_entry n) t) (listed_tokens (suc n) ts) (map_distinct (token_entry n) (one_token n) t d.0) (tokens_distinct (suc n) ts d.1)
+    (λ x a b. let p = port_of_mapped n t x a in let q = listed_from (suc n) ts x b in omega (arith, p, q))
+
+pub listed_distinct : (t : Tables) → OthersAreOther t → AreDistinct t.tokens → Distinct t.writes → Rises entry_cmp t.rest → Distinct (listed_entries t.tokens t.writes t.rest)
+listed_distinct t o d w r =
     let ws = map write_entry t.writes in
-    let cs = map (token_entry 3) t.third in
-    let bs = map (token_entry 2) t.second in
-    let above : (n : ℕ) → n < 4 → Above n (ws ++ t.rest) = (λ n l. above_both n ws t.rest (above_of n 4 ws l mw) (above_of n 5 t.rest (omega arith) mr)) in
-    let dw = before_all 4 ws t.rest mw (above_of 4 5 t.rest (omega arith) mr) (map_distinct write_entry one_write t.writes w) (rising_distinct t.rest r) in
-    let dc = before_all 3 cs (ws ++ t.rest) mc (above 3 (omega arith)) (map_distinct (token_entry 3) (one_token 3) t.third c) dw in
-    let above3 : (n : ℕ) → n < 3 → Above n (cs ++ (ws ++ t.rest)) = (λ n l. above_both n cs (ws ++ t.rest) (above_of n 3 cs l mc) (above n (omega arith))) in
-    let db = before_all 2 bs (cs ++ (ws ++ t.rest)) mb (above3 2 (omega arith)) (map_distinct (token_entry 2) (one_token 2) t.second b) dc in
-    before_all 1 (map (token_entry 1) t.first) (bs ++ (cs ++ (ws ++ t.rest))) ma (above_both 1 bs (cs ++ (ws ++ t.rest)) (above_of 1 2 bs (omega arith) mb) (above3 1 (omega arith))) (map_distinct (token_entry 1) (one_token 1) t.first a) db
+    let mw = marked write_entry 1 (λ p. refl) t.writes in
+    let mr : (e : Entry) → Contains t.rest e → mark e ≡ 2 = (λ e m. other_mark e (o e m)) in
+    let dw = before_all 1 ws t.rest mw (above_of 1 2 t.rest (omega arith) mr) (map_distinct write_entry one_write t.writes w) (rising_distinct t.rest r) in
+    before_all 0 (listed_tokens 1 t.tokens) (ws ++ t.rest) (listed_marked 1 t.tokens)
+    (above_both 0 ws t.rest (above_of 0 1 ws (omega arith) mw) (above_of 0 2 t.rest (omega arith) mr))
+    (tokens_distinct 1 t.tokens d) dw
+
+-- one table more
+
+pub listed_more : (n m : ℕ) (ts : PortTables) (t : List (Activity × Value)) → m ≡ n + length ts → listed_tokens n (ts ++ (t ∷ [])) ≡ listed_tokens n ts ++ map (token_entry m) t
+listed_more n m [] t e = append-nil (map (token_entry n) t) ∙ ap (λ (k : ℕ). map (token_entry k) t) (let q : n ≡ m = omega (arith, e) in q)
+listed_more n m (u ∷ ts) t e =
+    ap (λ (es : List Entry). map (token_entry n) u ++ es) (listed_more (suc n) m ts t (omega (arith, e)))
+    ∙ sym (append_assoc (map (token_entry n) u) (listed_tokens (suc n) ts) (map (token_entry m) t))
+
+pub distinct_more : (ts : PortTables) (t : List (Activity × Value)) → AreDistinct ts → Distinct t → AreDistinct (ts ++ (t ∷ []))
+distinct_more [] t d e = (e, tt)
+distinct_more (u ∷ ts) t d e = (d.0, distinct_more ts t d.1 e)
+
+pub sharing_more : (ts us : PortTables) (t u : List (Activity × Value)) → AreSharing ts us → IsSharing t u → AreSharing (ts ++ (t ∷ [])) (us ++ (u ∷ []))
+sharing_more [] [] t u a s = (s, tt)
+sharing_more (x ∷ ts) (y ∷ us) t u a s = (a.0, sharing_more ts us t u a.1 s)
+sharing_more [] (y ∷ us) t u a s = absurd a
+sharing_more (x ∷ ts) [] t u a s = absurd a
+
+pub sharing_length : (ts us : PortTables) → AreSharing ts us → length us ≡ length ts
+sharing_length [] [] a = refl
+sharing_length (x ∷ ts) (y ∷ us) a = ap suc (sharing_length ts us a.1)
+sharing_length [] (y ∷ us) a = absurd a
+sharing_length (x ∷ ts) [] a = absurd a
+
+pub sharing_distinct : (ts us : PortTables) → AreSharing ts us → AreDistinct us
+sharing_distinct [] [] a = tt
+sharing_distinct (x ∷ ts) (y ∷ us) a = (a.0.distinct, sharing_distinct ts us a.1)
+sharing_distinct [] (y ∷ us) a = absurd a
+sharing_distinct (x ∷ ts) [] a = absurd a
+
+-- the first tables, and one more of them
+
+one_further : (ts : PortTables) (i : ℕ) (d : List (Activity × Value)) → i < length ts → take (i + 1) ts ≡ take i ts ++ (get_or ts i d ∷ [])
+one_further ts i d l = take_more ts i d l
+
+pub listed_step : (ts : PortTables) (i : ℕ) (d : List (Activity × Value)) → i < length ts → (old new : List Entry) → old ≡ listed_tokens 1 (take i ts) → new ≡ old ++ map (token_entry (i + 1)) (get_or ts i d) → new ≡ listed_tokens 1 (take (i + 1) ts)
+listed_step ts i d l old new o n =
+    let t : List (Activity × Value) = get_or ts i d in
+    let m : i + 1 ≡ 1 + length (take i ts) = omega (arith, l, length-take i ts) in
+    n ∙ ap (λ (es : List Entry). es ++ map (token_entry (i + 1)) t) o ∙ sym (listed_more 1 (i + 1) (take i ts) t m) ∙ ap (listed_tokens 1) (sym (one_further ts i d l))
+
+pub distinct_step : (ts : PortTables) (i : ℕ) (d : List (Activity × Value)) → i < length ts → AreDistinct (take i ts) → Distinct (get_or ts i d) → AreDistinct (take (i + 1) ts)
+distinct_step ts i d l a e = subst AreDistinct (sym (one_further ts i d l)) (distinct_more (take i ts) (get_or ts i d) a e)
+
+pub sharing_step : (ts us : PortTables) (i : ℕ) (d u : List (Activity × Value)) → i < length ts → AreSharing (take i ts) us → IsSharing (get_or ts i d) u → AreSharing (take (i + 1) ts) (us ++ (u ∷ []))
+sharing_step ts us i d u l a s = subst (λ (xs : PortTables). AreSharing xs (us ++ (u ∷ []))) (sym (one_further ts i d l)) (sharing_more (take i ts) us (get_or ts i d) u a s)
+
+pub shared_step : (ts us : PortTables) (i : ℕ) (u : List (Activity × Value)) → i < length ts → AreSharing (take i ts) us → (old new : List Entry) → old ≡ listed_tokens 1 us → new ≡ old ++ map (token_entry (i + 1)) u → new ≡ listed_tokens 1 (us ++ (u ∷ []))
+shared_step ts us i u l a old new o n =
+    let m : i + 1 ≡ 1 + length us = omega (arith, l, length-take i ts, sharing_length (take i ts) us a) in
+    n ∙ ap (λ (es : List Entry). es ++ map (token_entry (i + 1)) u) o ∙ sym (listed_more 1 (i + 1) us u m)
+
+-- no tables hold nothing
+
+pub none_held : (ts : PortTables) (ws : List (CellOf × Written)) (es : List Entry) → ((i : ℕ) (d : List (Activity × Value)) → i < length ts → get_or ts i d ≡ []) → ws ≡ [] → es ≡ [] → (e : Entry) → InTables (record { tokens = ts; writes = ws; rest = es }) e → ⊥
+none_held ts ws es h w r (entries.Token k) m = Contains-nil (k.activity, k.value) (subst (λ (ps : List (Activity × Value)). Contains ps (k.activity, k.value)) (none_at ts h k.port) m)
+  where
+    none_at : (ts : PortTables) → ((i : ℕ) (d : List (Activity × Value)) → i < length ts → get_or ts i d ≡ []) → (n : ℕ) → place_at ts n ≡ []
+    none_at [] h n = refl
+    none_at (t ∷ ts) h zero = refl
+    none_at (t ∷ ts) h (suc zero) = h 0 [] (omega arith)
+    none_at (t ∷ ts) h (suc (suc n)) = none_at ts (λ i d l. h (suc i) d (omega (arith, l))) (suc n)
+none_held ts ws es h w r (entries.Write x) m = Contains-nil (x.cell, written x.writer x.value) (subst (λ (ps : List (CellOf × Written)). Contains ps (x.cell, written x.writer x.value)) w m)
+none_held ts ws es h w r (entries.Fault x) m = Contains-nil (entries.Fault x) (subst (λ (xs : List Entry). Contains xs (entries.Fault x)) r m)
+none_held ts ws es h w r (entries.Answer v) m = Contains-nil (entries.Answer v) (subst (λ (xs : List Entry). Contains xs (entries.Answer v)) r m)

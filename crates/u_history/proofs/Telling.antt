@@ -1,5 +1,5 @@
 -- The entries that tell in an outcome, and that their outcome is that of all entries.
-use Rattle.std.proofs.Common.{◌≡◌, ◌↔◌, ℕ, zero, suc, List, Contains, subst, sym, ◌∙◌, refl, Ordering}
+use Rattle.std.proofs.Common.{◌≡◌, ◌↔◌, ℕ, zero, suc, List, [], ◌∷◌, Contains, subst, sym, ◌∙◌, refl, Ordering}
 use Rattle.std.specs.Cmp.{IsTotalOrder, tied_itself}
 use Rattle.std.specs.declared.cmp.Ordering.TheVariants.{Less, Equal, Greater}
 use Rattle.u_system.specs.Firing.{Same}
@@ -21,7 +21,7 @@ use Rattle.u_rule.specs.declared.entry.Entry.TheVariants as entries
 use Rattle.u_rule.specs.contracts.firing.WrittenOrd.TheImpl.Laws as written_laws
 use Rattle.u_rule.specs.contracts.parts.FaultOrd.TheImpl.Laws as fault_laws
 use Rattle.u_history.specs.declared.tables.Tables.{Tables}
-use Rattle.u_history.specs.Tables.{table_at, InTables, Matters}
+use Rattle.u_history.specs.Tables.{PortTables, place_at, InTables, Matters, AreSharing}
 use Rattle.u_history.specs.Orders.{value_order, written_order, fault_order}
 use Rattle.u_history.specs.Outcomes.{CellPairs, PortValues, PairIn, ValueAt, HasTwo, IsCellClash, IsPortClash, cell_clash_order, port_clash_order, IsOutcome}
 use Rattle.u_history.proofs.Reports.{cells_total, ports_total}
@@ -30,16 +30,18 @@ use Rattle.u_history.proofs.Reports.{cells_total, ports_total}
 abbrev pub AreShared : {K V : Type 0} → List (K × V) → List (K × V) → Type 0
 AreShared {K} {V} ps qs = (k : K) (v : V) → Contains qs (k, v) ↔ (Contains ps (k, v) × HasAnother (λ y. Contains ps (k, y)) v)
 
-module _ (t u : Tables) (first : AreShared t.first u.first) (second : AreShared t.second u.second) (third : AreShared t.third u.third) (writes : AreShared t.writes u.writes) (rest : u.rest ≡ t.rest) where
-  token_tells : (n : ℕ) (a : Activity) (v : Value) → Contains (table_at u n) (a, v) ↔ (Contains (table_at t n) (a, v) × HasAnother (λ y. Contains (table_at t n) (a, y)) v)
-  token_tells zero a v = ((λ m. absurd (Contains-nil (a, v) m)), λ h. absurd (Contains-nil (a, v) h.0))
-  token_tells (suc zero) a v = first a v
-  token_tells (suc (suc zero)) a v = second a v
-  token_tells (suc (suc (suc zero))) a v = third a v
-  token_tells (suc (suc (suc (suc n)))) a v = ((λ m. absurd (Contains-nil (a, v) m)), λ h. absurd (Contains-nil (a, v) h.0))
+-- and those at the same port
+shared_at : (ts us : PortTables) → AreSharing ts us → (n : ℕ) (a : Activity) (v : Value) → Contains (place_at us n) (a, v) ↔ (Contains (place_at ts n) (a, v) × HasAnother (λ y. Contains (place_at ts n) (a, y)) v)
+shared_at [] [] h n a v = ((λ m. absurd (Contains-nil (a, v) m)), λ h. absurd (Contains-nil (a, v) h.0))
+shared_at (t ∷ ts) (u ∷ us) h zero a v = ((λ m. absurd (Contains-nil (a, v) m)), λ h. absurd (Contains-nil (a, v) h.0))
+shared_at (t ∷ ts) (u ∷ us) h (suc zero) a v = h.0.shared a v
+shared_at (t ∷ ts) (u ∷ us) h (suc (suc n)) a v = shared_at ts us h.1 (suc n) a v
+shared_at [] (u ∷ us) h n a v = absurd h
+shared_at (t ∷ ts) [] h n a v = absurd h
 
+module _ (t u : Tables) (tokens : AreSharing t.tokens u.tokens) (writes : AreShared t.writes u.writes) (rest : u.rest ≡ t.rest) where
   pub tells : (e : Entry) → InTables u e ↔ Matters (InTables t) e
-  tells (entries.Token k) = token_tells k.port k.activity k.value
+  tells (entries.Token k) = shared_at t.tokens u.tokens tokens k.port k.activity k.value
   tells (entries.Write w) = writes w.cell (written w.writer w.value)
   tells (entries.Fault x) =
       ((λ m. subst (λ (es : List Entry). Contains es (entries.Fault x)) rest m), λ m. subst (λ (es : List Entry). Contains es (entries.Fault x)) (sym rest) m)

@@ -1,24 +1,31 @@
 -- The tables of a history: what they hold, and the entries that they list.
-use Rattle.std.specs.Prelude.{◌≡◌, ℕ, zero, suc, List, [], ◌++◌, map, length, Contains}
+use Rattle.std.specs.Prelude.{◌≡◌, ◌↔◌, ℕ, zero, suc, List, [], ◌∷◌, ◌++◌, map, length, Contains}
+use Rattle.u_system.specs.Firing.{Distinct}
 use Rattle.u_name.specs.Name.{Activity}
 use Rattle.u_name.specs.Cell.{CellOf}
 use Rattle.u_value.specs.declared.value.Value.{Value}
 use Rattle.u_sets.specs.Rising.{in_order}
 use Rattle.u_sets.specs.Pairs.{HasAnother}
-use Rattle.u_rule.specs.Parts.{token}
+use Rattle.u_rule.specs.Parts.{token, most_ports}
 use Rattle.u_rule.specs.EntryOrder.{entry_cmp, write_of, written}
 use Rattle.u_rule.specs.declared.firing.Written.{Written}
 use Rattle.u_rule.specs.declared.entry.Entry.{Entry}
 use Rattle.u_rule.specs.declared.entry.Entry.TheVariants as entries
 use Rattle.u_history.specs.declared.tables.Tables.{Tables}
 
+-- the tables of the ports, the first being that of port 1
+abbrev pub PortTables : Type 0
+PortTables = List (List (Activity × Value))
+
+abbrev pub place_at : PortTables → ℕ → List (Activity × Value)
+place_at [] n = []
+place_at (t ∷ ts) zero = []
+place_at (t ∷ ts) (suc zero) = t
+place_at (t ∷ ts) (suc (suc n)) = place_at ts (suc n)
+
 -- the activities with their values at that port
 abbrev pub table_at : Tables → ℕ → List (Activity × Value)
-table_at t zero = []
-table_at t (suc zero) = t.first
-table_at t (suc (suc zero)) = t.second
-table_at t (suc (suc (suc zero))) = t.third
-table_at t (suc (suc (suc (suc n)))) = []
+table_at t n = place_at t.tokens n
 
 -- the tables hold the entry
 abbrev pub InTables : Tables → Entry → Type 0
@@ -33,13 +40,18 @@ token_entry n p = entries.Token (token p.0 n p.1)
 abbrev pub write_entry : CellOf × Written → Entry
 write_entry p = entries.Write (write_of p.0 p.1.writer p.1.value)
 
+-- the tokens of such tables, where the first is that of port n
+abbrev pub listed_tokens : ℕ → PortTables → List Entry
+listed_tokens n [] = []
+listed_tokens n (t ∷ ts) = map (token_entry n) t ++ listed_tokens (suc n) ts
+
 -- the entries of such tables, table by table
-abbrev pub listed_entries : List (Activity × Value) → List (Activity × Value) → List (Activity × Value) → List (CellOf × Written) → List Entry → List Entry
-listed_entries a b c ws rest = map (token_entry 1) a ++ (map (token_entry 2) b ++ (map (token_entry 3) c ++ (map write_entry ws ++ rest)))
+abbrev pub listed_entries : PortTables → List (CellOf × Written) → List Entry → List Entry
+listed_entries ts ws rest = listed_tokens 1 ts ++ (map write_entry ws ++ rest)
 
 -- all entries, in order
 abbrev pub all_entries : Tables → List Entry
-all_entries t = in_order entry_cmp (listed_entries t.first t.second t.third t.writes t.rest)
+all_entries t = in_order entry_cmp (listed_entries t.tokens t.writes t.rest)
 
 -- the entry is a fault or an answer
 abbrev pub IsOther : Entry → Type 0
@@ -52,8 +64,13 @@ IsOther (entries.Answer v) = Unit {0}
 abbrev pub OthersAreOther : Tables → Type 0
 OthersAreOther t = (e : Entry) → Contains t.rest e → IsOther e
 
+-- there is a table for each port
+abbrev pub HasPorts : Tables → Type 0
+HasPorts t = length t.tokens ≡ most_ports
+
 -- and n is how many entries there are
 pub record AreCounted (t : Tables) (n : ℕ) : Type 0 where
+  pub ports : HasPorts t
   pub others : OthersAreOther t
   pub count : n ≡ length (all_entries t)
 
@@ -64,3 +81,19 @@ Matters H (entries.Write w) =
     H (entries.Write w) × HasAnother (λ (x : Written). H (entries.Write (write_of w.cell x.writer x.value))) (written w.writer w.value)
 Matters H (entries.Fault x) = H (entries.Fault x)
 Matters H (entries.Answer v) = H (entries.Answer v)
+
+-- u has the pairs of t that are not alone under their activity, each once
+pub record IsSharing (t u : List (Activity × Value)) : Type 0 where
+  pub shared : (a : Activity) (v : Value) → Contains u (a, v) ↔ (Contains t (a, v) × HasAnother (λ y. Contains t (a, y)) v)
+  pub distinct : Distinct u
+
+-- each of the one tables has the pairs of the other at its place that are not alone
+abbrev pub AreSharing : PortTables → PortTables → Type 0
+AreSharing [] [] = Unit {0}
+AreSharing (t ∷ ts) (u ∷ us) = IsSharing t u × AreSharing ts us
+AreSharing ts us = ⊥
+
+-- each table has each pair once
+abbrev pub AreDistinct : PortTables → Type 0
+AreDistinct [] = Unit {0}
+AreDistinct (t ∷ ts) = Distinct t × AreDistinct ts

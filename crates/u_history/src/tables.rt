@@ -1,33 +1,32 @@
 //! Where the entries of a history stand: tokens under their activities, writes under their cells.
-ghost use Rattle.std.specs.Prelude.{◌≡◌, ◌↔◌, ◌⊎◌, OnOk, OnErr, IfOk, IfErr, Contains, IsTrue, ◌++◌, map};
+ghost use Rattle.std.specs.Prelude.{◌≡◌, ◌↔◌, ◌⊎◌, [], length, OnOk, OnErr, IfOk, IfErr, Contains, IsTrue, ◌++◌, map};
 ghost use Rattle.std.specs.Map.Iter.{deref, deref_pair};
 ghost use Rattle.u_system.specs.Firing.{Distinct};
 ghost use Rattle.u_name.specs.Context.{IsBetween};
 ghost use Rattle.u_name.specs.Name.{Activity};
 ghost use Rattle.u_value.specs.declared.value.Value.{Value};
-ghost use Rattle.u_rule.specs.Parts.{token};
+ghost use Rattle.u_rule.specs.Parts.{token, most_ports};
 ghost use Rattle.u_rule.specs.EntryOrder.{entry_cmp, write_of, written};
 ghost use Rattle.u_rule.specs.declared.entry.Entry.{Entry};
 ghost use Rattle.u_rule.specs.declared.entry.Entry.TheVariants as kinds;
 ghost use Rattle.u_sets.specs.Members.{IsWith};
 ghost use Rattle.u_sets.specs.Rising.{Rises};
-ghost use Rattle.u_history.specs.Tables.{table_at, InTables, OthersAreOther, token_entry, write_entry, listed_entries, all_entries, Matters};
+ghost use Rattle.u_history.specs.Tables.{PortTables, InTables, OthersAreOther, token_entry, write_entry};
+ghost use Rattle.u_history.specs.Tables.{listed_tokens, listed_entries, all_entries, Matters};
+ghost use Rattle.u_history.specs.Tables.{HasPorts, AreSharing, AreDistinct};
 
 use std::alloc::{AllocError, AllocFailed, Global};
+use std::array;
 use u_name::{Cell, Name};
-use u_rule::{Entry, Token, Write, Written};
+use u_rule::{Entry, MOST_PORTS, Token, Write, Written};
 use u_sets::{KeyedSet, ListedSet, put_in_order};
 use u_value::Value;
 
 /// The entries of a history.
 #[derive(Drop)]
 pub struct Tables {
-    /// The values at port 1, by activity.
-    pub first: KeyedSet<Name, Value>,
-    /// The values at port 2, by activity.
-    pub second: KeyedSet<Name, Value>,
-    /// The values at port 3, by activity.
-    pub third: KeyedSet<Name, Value>,
+    /// For each port, the first being port 1, the values there, by activity.
+    pub tokens: [KeyedSet<Name, Value>; MOST_PORTS],
     /// The writes, by cell.
     pub writes: KeyedSet<Cell, Written>,
     /// The faults and the answers.
@@ -89,7 +88,7 @@ fn put_write(table: &mut KeyedSet<Cell, Written>, write: Write) -> Result<bool, 
 
 /// The token, of copies of its parts.
 fn token_copy(activity: &Name, port: u8, value: &Value) -> Result<Entry, AllocError>
-    requires { IsBetween 1 port 3 }
+    requires { IsBetween 1 port most_ports }
     ensures { IfOk result (λ e. e ≡ kinds.Token (token activity.now port value.now)) }
 {
     let activity = activity.copy()?;
@@ -111,7 +110,7 @@ fn write_copy(cell: &Cell, pair: &Written) -> Result<Entry, AllocError>
 
 /// Adds copies of the tokens at the port.
 fn push_tokens(list: &mut Vec<Entry>, pairs: &[(&Name, &Value)], port: u8) -> Result<(), AllocError>
-    requires { IsBetween 1 port 3 }
+    requires { IsBetween 1 port most_ports }
     ensures { OnOk result
         (list.new.items ≡ list.old.items ++ map (token_entry port) (map deref_pair pairs.now)) }
 {
@@ -179,11 +178,14 @@ impl Tables {
     pub fn new(alloc: Global) -> Tables
         ensures held { (e : Entry) → InTables result e → ⊥ }
         ensures others { OthersAreOther result }
+        ensures ports { HasPorts result }
     {
         Tables {
-            first: KeyedSet::new(alloc),
-            second: KeyedSet::new(alloc),
-            third: KeyedSet::new(alloc),
+            tokens: array::from_fn(
+                |_|
+                    ensures { result ≡ [] }
+                { KeyedSet::new(alloc) },
+            ),
             writes: KeyedSet::new(alloc),
             rest: ListedSet::new(alloc),
         }
@@ -195,11 +197,12 @@ impl Tables {
             ↔ InTables self.now (kinds.Token (token activity.now port v)) }
         ensures distinct { Distinct result.now }
     {
-        match port {
-            1 => self.first.under(activity),
-            2 => self.second.under(activity),
-            3 => self.third.under(activity),
-            _ => &[],
+        if port == 0 {
+            return &[];
+        }
+        match self.tokens.get(usize::from(port) - 1) {
+            Some(table) => table.under(activity),
+            None => &[],
         }
     }
 
@@ -207,11 +210,8 @@ impl Tables {
     fn has_token(&self, item: &Token) -> bool
         ensures { IsTrue result ↔ InTables self.now (kinds.Token item.now) }
     {
-        match item.port() {
-            1 => self.first.contains(item.activity(), item.value()),
-            2 => self.second.contains(item.activity(), item.value()),
-            _ => self.third.contains(item.activity(), item.value()),
-        }
+        let place = usize::from(item.port()) - 1;
+        self.tokens[place].contains(item.activity(), item.value())
     }
 
     /// Whether the write is there.
@@ -244,12 +244,10 @@ impl Tables {
         ensures err { OnErr result (self.new ≡ self.old) }
         ensures back { IfErr result (λ e. e.value ≡ kinds.Token item) }
         ensures rest { self.new.rest ≡ self.old.rest }
+        ensures ports { length self.new.tokens ≡ length self.old.tokens }
     {
-        match item.port() {
-            1 => put_token(&mut self.first, item),
-            2 => put_token(&mut self.second, item),
-            _ => put_token(&mut self.third, item),
-        }
+        let place = usize::from(item.port()) - 1;
+        put_token(&mut self.tokens[place], item)
     }
 
     /// Puts the entry in. Returns whether it was new.
@@ -262,6 +260,7 @@ impl Tables {
         ensures err { OnErr result (self.new ≡ self.old) }
         ensures back { IfErr result (λ e. e.value ≡ entry) }
         ensures others { OthersAreOther self.new }
+        ensures ports { length self.new.tokens ≡ length self.old.tokens }
     {
         match entry {
             Entry::Token(token) => self.insert_token(token),
@@ -271,23 +270,46 @@ impl Tables {
         }
     }
 
+    /// Copies of the tokens, port by port.
+    fn tokens_listed(&self, alloc: Global) -> Result<Vec<Entry>, AllocError>
+        requires { HasPorts self.now }
+        ensures all { IfOk result (λ v. v.items ≡ listed_tokens 1 self.now.tokens) }
+        ensures distinct { IfOk result (λ _. AreDistinct self.now.tokens) }
+    {
+        let mut list = Vec::new(alloc);
+        for place in 0..MOST_PORTS {
+            let pairs = self.tokens[place].pairs(alloc)?;
+            push_tokens(&mut list, &pairs, place as u8 + 1)?;
+        }
+        Ok(list)
+    }
+
+    /// Copies of the tokens that are not alone at their port, port by port.
+    fn tokens_sharing(&self, alloc: Global) -> Result<Vec<Entry>, AllocError>
+        requires { HasPorts self.now }
+        ensures { IfOk result (λ v. (shared : PortTables) × AreSharing self.now.tokens shared
+            × (v.items ≡ listed_tokens 1 shared)) }
+    {
+        let mut list = Vec::new(alloc);
+        for place in 0..MOST_PORTS {
+            let pairs = self.tokens[place].shared_pairs(alloc)?;
+            push_tokens(&mut list, &pairs, place as u8 + 1)?;
+        }
+        Ok(list)
+    }
+
     /// Copies of the entries, table by table.
     pub fn listed(&self, alloc: Global) -> Result<Vec<Entry>, AllocError>
-        requires { OthersAreOther self.now }
+        requires ports { HasPorts self.now }
+        requires others { OthersAreOther self.now }
         ensures all { IfOk result
             (λ v. v.items
-            ≡ listed_entries self.now.first self.now.second self.now.third self.now.writes self.now.rest) }
+            ≡ listed_entries self.now.tokens self.now.writes self.now.rest) }
         ensures distinct { IfOk result (λ v. Distinct v.items) }
     {
-        let first = self.first.pairs(alloc)?;
-        let second = self.second.pairs(alloc)?;
-        let third = self.third.pairs(alloc)?;
         let writes = self.writes.pairs(alloc)?;
         let others = self.rest.in_order(alloc)?;
-        let mut list = Vec::new(alloc);
-        push_tokens(&mut list, &first, 1)?;
-        push_tokens(&mut list, &second, 2)?;
-        push_tokens(&mut list, &third, 3)?;
+        let mut list = self.tokens_listed(alloc)?;
         push_writes(&mut list, &writes)?;
         push_others(&mut list, &others)?;
         Ok(list)
@@ -295,7 +317,8 @@ impl Tables {
 
     /// Copies of the entries, in order.
     pub fn entries(&self, alloc: Global) -> Result<Vec<Entry>, AllocError>
-        requires { OthersAreOther self.now }
+        requires ports { HasPorts self.now }
+        requires others { OthersAreOther self.now }
         ensures { IfOk result (λ v. v.items ≡ all_entries self.now) }
     {
         let mut list = self.listed(alloc)?;
@@ -306,20 +329,15 @@ impl Tables {
     /// Copies of the entries that tell in an outcome, in order: of the tokens and the writes only those
     /// that are not alone at their place. It goes over the others and leaves them where they are.
     pub fn telling(&self, alloc: Global) -> Result<Vec<Entry>, AllocError>
-        requires { OthersAreOther self.now }
+        requires ports { HasPorts self.now }
+        requires others { OthersAreOther self.now }
         ensures rises { IfOk result (λ v. Rises entry_cmp v.items) }
         ensures all { IfOk result
             (λ v. (e : Entry) → Contains v.items e ↔ Matters (InTables self.now) e) }
     {
-        let first = self.first.shared_pairs(alloc)?;
-        let second = self.second.shared_pairs(alloc)?;
-        let third = self.third.shared_pairs(alloc)?;
         let writes = self.writes.shared_pairs(alloc)?;
         let others = self.rest.in_order(alloc)?;
-        let mut list = Vec::new(alloc);
-        push_tokens(&mut list, &first, 1)?;
-        push_tokens(&mut list, &second, 2)?;
-        push_tokens(&mut list, &third, 3)?;
+        let mut list = self.tokens_sharing(alloc)?;
         push_writes(&mut list, &writes)?;
         push_others(&mut list, &others)?;
         put_in_order(&mut list);

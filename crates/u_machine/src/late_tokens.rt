@@ -8,7 +8,7 @@
 //! firing is parked that waits for its needs, so that none of these is overlooked.
 ghost use Rattle.std.specs.Prelude.{◌≡◌, ◌<◌, ◌≤◌, ◌+◌, ◌-◌, [], OnOk, OnErr, IfOk, IfSome, IfNone, IsTrue, IsFalse, Contains, length};
 ghost use Rattle.u_name.specs.Context.{IsBetween};
-ghost use Rattle.u_rule.specs.Parts.{token};
+ghost use Rattle.u_rule.specs.Parts.{token, most_ports};
 ghost use Rattle.u_rule.specs.Rule.{system_of, tokens_from};
 ghost use Rattle.u_rule.specs.declared.entry.Entry.{Entry};
 ghost use Rattle.u_rule.specs.declared.entry.Entry.TheVariants.{Token as token_entry};
@@ -41,7 +41,7 @@ fn add_all(
 
 /// That token of the activity.
 fn token_at(activity: &Name, port: u8, value: &Value) -> Result<Entry, AllocError>
-    requires { IsBetween 1 port 3 }
+    requires { IsBetween 1 port most_ports }
     ensures { IfOk result (λ e. e ≡ token_entry (token activity.now port value.now)) }
 {
     let activity = activity.copy()?;
@@ -57,7 +57,7 @@ fn first_in(
     values: &[Value],
 ) -> Result<Option<Entry>, AllocError>
     requires from { 1 ≤ port }
-    requires to { port + length values.now ≤ 4 }
+    requires to { port + length values.now ≤ most_ports + 1 }
     ensures some { IfOk result (λ o. IfSome o (λ e. Contains set.now e
         × Contains (tokens_from activity.now port values.now) e)) }
     ensures none { IfOk result

@@ -1,5 +1,5 @@
 -- A table of reads stays complete, and is complete with an entry that was noted.
-use Rattle.std.proofs.Common.{◌≡◌, ◌⊎◌, inl, inr, sym, subst, ap, ◌∙◌, refl, arith, ℕ, List, Contains}
+use Rattle.std.proofs.Common.{◌≡◌, ◌⊎◌, inl, inr, sym, subst, ap, refl, arith, ℕ, ◌≤◌, ◌<◌, List, Contains}
 use Rattle.u_value.specs.declared.value.Value.{Value}
 use Rattle.u_rule.specs.Parts.{TokenParts, token}
 use Rattle.u_rule.specs.declared.entry.Entry.{Entry}
@@ -22,11 +22,11 @@ module _ (old new : ReadTable) (es : List Entry) (kept : Within (Contains new) o
       there t k = elim ((w (entries.Token t)).0 k) [ inl q ↦ q | inr e ↦ absurd (no_token t e) ]
 
   -- a token
-  pub with_token : (t : TokenParts) → ((v w : Value) → IsMet (Contains es) t 1 v → IsMet (Contains es) t 2 w → (t.port ≡ 3) ⊎ Notes t.activity v w new) → IsCompleteWith old es (entries.Token t) new
+  pub with_token : (t : TokenParts) → ((v w : Value) → IsMet (Contains es) t 1 v → IsMet (Contains es) t 2 w → (2 < t.port) ⊎ Notes t.activity v w new) → IsCompleteWith old es (entries.Token t) new
   with_token t noted more c w a v u m n = pair ((w (entries.Token (token a 1 v))).0 m) ((w (entries.Token (token a 2 u))).0 n)
     where
-      done : (q : ℕ) (x : Value) → t ≡ token a q x → (q ≡ 3 → ⊥) → (t.port ≡ 3) ⊎ Notes t.activity v u new → Notes a v u new
-      done q x e k (inl h) = absurd (k (sym (ap (λ (y : TokenParts). y.port) e) ∙ h))
+      done : (q : ℕ) (x : Value) → t ≡ token a q x → q ≤ 2 → (2 < t.port) ⊎ Notes t.activity v u new → Notes a v u new
+      done q x e k (inl h) = let p : t.port ≡ q = ap (λ (y : TokenParts). y.port) e in absurd (omega (arith, h, k, p))
       done q x e k (inr h) = subst (λ (y : TokenParts). Notes y.activity v u new) e h
 
       -- a token of the activity, there or the one that enters, is met
@@ -39,7 +39,7 @@ module _ (old new : ReadTable) (es : List Entry) (kept : Within (Contains new) o
       pair (inl k) (inl l) = notes_still a v u old new kept (c a v u k l)
       pair (inr e) l =
           let h : t ≡ token a 1 v = same_token t (token a 1 v) e in
-          done 1 v h (λ z. omega (arith, z)) (noted v u (met 1 v 1 v h (λ z. refl) (inr e)) (met 1 v 2 u h (λ z. absurd (omega (arith, z))) l))
+          done 1 v h (omega arith) (noted v u (met 1 v 1 v h (λ z. refl) (inr e)) (met 1 v 2 u h (λ z. absurd (omega (arith, z))) l))
       pair (inl k) (inr e) =
           let h : t ≡ token a 2 u = same_token t (token a 2 u) e in
-          done 2 u h (λ z. omega (arith, z)) (noted v u (met 2 u 1 v h (λ z. absurd (omega (arith, z))) (inl k)) (met 2 u 2 u h (λ z. refl) (inr e)))
+          done 2 u h (omega arith) (noted v u (met 2 u 1 v h (λ z. absurd (omega (arith, z))) (inl k)) (met 2 u 2 u h (λ z. refl) (inr e)))

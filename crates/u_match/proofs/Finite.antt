@@ -9,7 +9,7 @@ use Rattle.u_name.specs.Cell.{CellOf}
 use Rattle.u_value.specs.declared.value.Value.{Value}
 use Rattle.u_value.specs.declared.fault_kind.FaultKind.{FaultKind}
 use Rattle.u_check.specs.Jobs.{JobParts}
-use Rattle.u_rule.specs.Parts.{TokenParts}
+use Rattle.u_rule.specs.Parts.{TokenParts, ValueList}
 use Rattle.u_rule.specs.Rule.{is_firing_of}
 use Rattle.u_rule.specs.EntryOrder.{entry_cmp, firing, write_of, written}
 use Rattle.u_rule.specs.Structures.{cell_named}
@@ -26,8 +26,9 @@ use Rattle.u_history.specs.Outcomes.{PairIn}
 use Rattle.u_match.specs.declared.halt.Halt.{Halt}
 use Rattle.u_match.specs.declared.halt.Halt.TheVariants.{TooMany}
 use Rattle.u_match.specs.Finite.{HasSome}
-use Rattle.u_match.specs.Joins.{IsKept, IsOne, IsTwo, IsThree, IsReading, ReadsCell, JoinsTwo, JoinsSome, JoinsThird, JoinsPair}
+use Rattle.u_match.specs.Joins.{IsKept, IsOne, IsTwo, IsReading, ReadsCell, JoinsTwo, JoinsSome, JoinsAll}
 use Rattle.u_match.specs.Waking.{WakesSome}
+use Rattle.u_match.proofs.Choices.{joins_none, joins_more}
 use Rattle.u_match.proofs.MetValues.{Held}
 use Rattle.u_match.proofs.Made.{Woken}
 use Rattle.u_match.proofs.Wakes.{same_entry}
@@ -153,9 +154,11 @@ module _ (job : JobParts) (a : Activity) (es : List Entry) where
   pub twos : (firsts seconds : List Value) → Finite (SomeOf firsts (JoinsSome job (Contains es) a seconds))
   twos firsts seconds = some (JoinsSome job (Contains es) a seconds) (λ v. some (JoinsTwo job (Contains es) a v) (two v) seconds) firsts
 
-  pub threes : (firsts seconds thirds : List Value) → Finite (SomeOf firsts (JoinsPair job a seconds thirds))
-  threes firsts seconds thirds =
-      some (JoinsPair job a seconds thirds) (λ v. some (JoinsThird job a thirds v) (λ w. some (IsThree job a v w) (λ u. kept job (firing a (v ∷ w ∷ u ∷ []) None)) thirds) seconds) firsts
+  pub alls : (chosen : ValueList) (lists : List ValueList) → Finite (JoinsAll job a chosen lists)
+  alls chosen [] = alike (IsKept job (firing a chosen None)) (JoinsAll job a chosen []) (joins_none job a chosen) (kept job (firing a chosen None))
+  alls chosen (l ∷ lists) =
+      alike (SomeOf l (λ v. JoinsAll job a (chosen ++ v ∷ []) lists)) (JoinsAll job a chosen (l ∷ lists)) (λ f. joins_more job a chosen f l lists)
+      (some (λ v. JoinsAll job a (chosen ++ v ∷ []) lists) (λ v. alls (chosen ++ v ∷ []) lists) l)
 
 -- a token that wakes what has P wakes those of a list that has some, where something has P
 pub wakes_some : (H : Entry → Type 0) (t : TokenParts) (job : JobParts) (P : Firing → Type 0) → ((found : List Firing) → Gains [] P found → AreThose (Woken H t job) found) → Finite P → HasSome P → WakesSome job (entries.Token t) (Held H t)

@@ -2,6 +2,7 @@ pub mod Steps
 pub mod Wakes
 pub mod Noted
 pub mod MetValues
+pub mod Choices
 pub mod Made
 pub mod Answering
 pub mod WriteWaking

@@ -18,7 +18,8 @@ use Rattle.u_match.specs.declared.meeting.Read.{Read}
 use Rattle.u_match.specs.Keys.{ReadTable, read, IsComplete}
 use Rattle.u_match.specs.Joins.{IsWoken}
 use Rattle.u_match.specs.Waking.{IsWokenBy}
-use Rattle.u_rule.proofs.FiringShapes.{OneValue, TwoValues, ThreeValues, Reading, Shape, shape_of, rebuilt, needs_one, needs_two, needs_three, needs_read}
+use Rattle.u_rule.proofs.FiringShapes.{TwoValues, Reading, Shape, shape_of, rebuilt, needs_read}
+use Rattle.u_match.proofs.Choices.{is_token, needs_tokens}
 
 -- a need of a firing is a token or the write that it reads
 pub record IsNeed (f : Firing) (e : Entry) : Type 0 where
@@ -33,14 +34,8 @@ need_of job H f e w = by_shape (shape_of job f w.1.0)
     moved : (g : Firing) → f ≡ g → Contains (needs_of g) e
     moved g h = subst (λ (x : Firing). Contains (needs_of x) e) h w.0
 
-    plain : f.write ≡ None → OneValue f.values ⊎ (TwoValues f.values ⊎ ThreeValues f.values) → IsNeed f e
-    plain n (inl (v, h)) = a_token f e (token f.activity 1 v) ((needs_one f.activity v e).0 (moved (firing f.activity (v ∷ []) None) (rebuilt f (v ∷ []) None n h)))
-    plain n (inr (inl (v, u, h))) =
-        elim ((needs_two f.activity v u e).0 (moved (firing f.activity (v ∷ u ∷ []) None) (rebuilt f (v ∷ u ∷ []) None n h)))
-        [ inl q ↦ a_token f e (token f.activity 1 v) q | inr q ↦ a_token f e (token f.activity 2 u) q ]
-    plain n (inr (inr (v, u, y, h))) =
-        elim ((needs_three f.activity v u y e).0 (moved (firing f.activity (v ∷ u ∷ y ∷ []) None) (rebuilt f (v ∷ u ∷ y ∷ []) None n h)))
-        [ inl q ↦ a_token f e (token f.activity 1 v) q | inr (inl q) ↦ a_token f e (token f.activity 2 u) q | inr (inr q) ↦ a_token f e (token f.activity 3 y) q ]
+    plain : f.write ≡ None → IsNeed f e
+    plain n = let (t, h) = is_token f.activity 1 f.values e ((needs_tokens f.activity f.values e).0 (moved (firing f.activity f.values None) (rebuilt f f.values None n refl))) in record { kind = inl (t, h) }
 
     reading : (r : Reading f) → TwoValues f.values → IsNeed f e
     reading r (v, u, h) =
@@ -50,7 +45,7 @@ need_of job H f e w = by_shape (shape_of job f w.1.0)
         [ inl q ↦ a_token f e (token f.activity 1 v) q | inr (inl q) ↦ a_token f e (token f.activity 2 u) q | inr (inr q) ↦ record { kind = inr (v, u, r.by, r.cell, k, n, q) } ]
 
     by_shape : Shape f → IsNeed f e
-    by_shape (inl p) = plain p.write p.values
+    by_shape (inl p) = plain p.write
     by_shape (inr r) = reading r r.values
 
 -- what is neither a token nor a write wakes nothing

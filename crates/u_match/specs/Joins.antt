@@ -1,9 +1,10 @@
 -- The firings that a token makes with what it meets, and those that a write makes with the reads that wait.
-use Rattle.std.specs.Prelude.{◌≡◌, List, [], ◌∷◌, ◌⊎◌, IsTrue, Some, None, Ok}
+use Rattle.std.specs.Prelude.{◌≡◌, List, [], ◌∷◌, ◌++◌, ◌⊎◌, Contains, IsTrue, Some, None, Ok, ⊤}
 use Rattle.u_name.specs.Name.{Activity}
 use Rattle.u_name.specs.Cell.{CellOf}
 use Rattle.u_value.specs.declared.value.Value.{Value}
 use Rattle.u_check.specs.Jobs.{JobParts}
+use Rattle.u_rule.specs.Parts.{ValueList}
 use Rattle.u_rule.specs.Rule.{is_firing_of}
 use Rattle.u_rule.specs.EntryOrder.{firing, written}
 use Rattle.u_rule.specs.Structures.{cell_named}
@@ -19,15 +20,12 @@ use Rattle.u_match.specs.declared.meeting.Read.{Read}
 abbrev pub IsKept : JobParts → Firing → Firing → Type 0
 IsKept job g f = (g ≡ f) × IsTrue (is_firing_of job f)
 
--- f is of one value, of two, of three, and of two with a write
+-- f is of one value, of two, and of two with a write
 abbrev pub IsOne : JobParts → Activity → Value → Firing → Type 0
 IsOne job a v f = IsKept job (firing a (v ∷ []) None) f
 
 abbrev pub IsTwo : JobParts → Activity → Value → Value → Firing → Type 0
 IsTwo job a v w f = IsKept job (firing a (v ∷ w ∷ []) None) f
-
-abbrev pub IsThree : JobParts → Activity → Value → Value → Value → Firing → Type 0
-IsThree job a v w u f = IsKept job (firing a (v ∷ w ∷ u ∷ []) None) f
 
 abbrev pub IsReading : JobParts → Activity → Value → Value → Written → Firing → Type 0
 IsReading job a v w x f = IsKept job (firing a (v ∷ w ∷ []) (Some x)) f
@@ -40,15 +38,19 @@ ReadsCell job H a v w f = (cell : CellOf) × (cell_named (v ∷ w ∷ []) ≡ Ok
 abbrev pub JoinsTwo : JobParts → (Entry → Type 0) → Activity → Value → Value → Firing → Type 0
 JoinsTwo job H a v w f = IsTwo job a v w f ⊎ ReadsCell job H a v w f
 
--- f has two values, or three, the last of which is one of the list
+-- f has two values, the last of which is one of the list
 abbrev pub JoinsSome : JobParts → (Entry → Type 0) → Activity → List Value → Value → Firing → Type 0
 JoinsSome job H a seconds v f = SomeOf seconds (JoinsTwo job H a v) f
 
-abbrev pub JoinsThird : JobParts → Activity → List Value → Value → Value → Firing → Type 0
-JoinsThird job a thirds v w f = SomeOf thirds (IsThree job a v w) f
+-- one value of each of the lists
+abbrev pub IsChoice : List ValueList → ValueList → Type 0
+IsChoice [] [] = ⊤
+IsChoice (l ∷ lists) (v ∷ vs) = Contains l v × IsChoice lists vs
+IsChoice lists vs = ⊥
 
-abbrev pub JoinsPair : JobParts → Activity → List Value → List Value → Value → Firing → Type 0
-JoinsPair job a seconds thirds v f = SomeOf seconds (JoinsThird job a thirds v) f
+-- f has the chosen values, behind them one of each of the lists, and no write
+abbrev pub JoinsAll : JobParts → Activity → ValueList → List ValueList → Firing → Type 0
+JoinsAll job a chosen lists f = (vs : ValueList) × IsChoice lists vs × IsKept job (firing a (chosen ++ vs) None) f
 
 -- f is a waiting read with the write
 abbrev pub IsWoken : Write → Read → Firing → Type 0

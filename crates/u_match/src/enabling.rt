@@ -5,7 +5,7 @@ ghost use Rattle.u_name.specs.Context.{IsBetween};
 ghost use Rattle.u_name.specs.Cell.{CellOf};
 ghost use Rattle.u_rule.specs.declared.entry.Entry.{Entry};
 ghost use Rattle.u_rule.specs.declared.entry.Entry.TheVariants as entries;
-ghost use Rattle.u_rule.specs.Parts.{token};
+ghost use Rattle.u_rule.specs.Parts.{token, most_ports};
 ghost use Rattle.u_rule.specs.Rule.{system_of, tokens_from};
 ghost use Rattle.u_rule.specs.Structures.{cell_named, wrote, write_read};
 ghost use Rattle.u_system.specs.Firing.{Enabled, Within};
@@ -20,7 +20,7 @@ use u_value::Value;
 
 /// That token.
 fn token_of(activity: &Name, port: u8, value: &Value) -> Result<Entry, AllocError>
-    requires { IsBetween 1 port 3 }
+    requires { IsBetween 1 port most_ports }
     ensures { IfOk result (λ e. e ≡ entries.Token (token activity.now port value.now)) }
 {
     let activity = activity.copy()?;
@@ -35,7 +35,7 @@ fn has_token(
     port: u8,
     value: &Value,
 ) -> Result<bool, AllocError>
-    requires { IsBetween 1 port 3 }
+    requires { IsBetween 1 port most_ports }
     ensures { IfOk result (λ b. IsTrue b
         ↔ Contains history.now (entries.Token (token activity.now port value.now))) }
 {
@@ -51,7 +51,7 @@ fn has_tokens(
     values: &[Value],
 ) -> Result<bool, AllocError>
     requires from { 1 ≤ port }
-    requires to { port + length values.now ≤ 4 }
+    requires to { port + length values.now ≤ most_ports + 1 }
     ensures { IfOk result (λ b. IsTrue b
         ↔ Within (Contains history.now) (tokens_from activity.now port values.now)) }
 {

@@ -1,18 +1,21 @@
 //! The firings of a job that a token makes with what it meets. What it meets is in the history, so each
 //! of them has all that it needs; which of them are firings of the job is tested as they are made. They
 //! are gathered in no order, and put in order once all are there.
-ghost use Rattle.std.specs.Prelude.{◌≡◌, ◌↔◌, ◌⊎◌, [], ◌∷◌, OnOk, IfOk, IfErr, Contains};
+ghost use Rattle.std.specs.Prelude.{◌≡◌, ◌↔◌, ◌⊎◌, ◌+◌, [], ◌∷◌, length, OnOk, IfOk, IfErr, Contains};
+ghost use Rattle.u_name.specs.Context.{IsBetween};
 ghost use Rattle.u_rule.specs.declared.entry.Entry.TheVariants.{Token as token_entry};
 ghost use Rattle.u_rule.specs.EntryOrder.{firing_cmp};
 ghost use Rattle.u_sets.specs.Rising.{Rises};
 ghost use Rattle.u_sets.specs.Members.{SomeOf, AreThose, Gains, HasOr};
 ghost use Rattle.u_match.specs.Finite.{HasSome};
-ghost use Rattle.u_match.specs.Joins.{IsKept, IsOne, IsThree, IsReading, ReadsCell, JoinsTwo, JoinsSome, JoinsThird, JoinsPair};
+ghost use Rattle.u_match.specs.Joins.{IsKept, IsOne, IsReading, ReadsCell, JoinsTwo, JoinsSome, JoinsAll};
+ghost use Rattle.u_match.specs.Keys.{lent_lists};
+ghost use Rattle.u_rule.specs.Parts.{most_ports};
 ghost use Rattle.u_match.specs.Waking.{IsWokenBy, WakesSome};
 
 use crate::halt::Halt;
-use crate::making_firings::{of_one, of_read, of_three, of_two};
-use crate::meeting::{met_at, port_of};
+use crate::making_firings::{of_one, of_read, of_two, of_values};
+use crate::meeting::{met_at, met_at_each, port_of};
 use crate::ordering::put_in_order;
 use std::alloc::{AllocError, Global};
 use u_check::Job;
@@ -180,71 +183,62 @@ impl Joining<'_> {
         Ok(())
     }
 
-    /// Adds the firings that have these two values and a third one of the list.
-    fn add_thirds(
+    /// Adds the firings that have the chosen values and behind them one of each of the lists. What is
+    /// chosen stays.
+    #[cycle(choosing)]
+    fn add_all(
         &self,
-        first: &Value,
-        second: &Value,
-        thirds: &[Value],
+        lists: &[&[Value]],
+        chosen: &mut Vec<Value>,
         found: &mut Vec<Firing>,
     ) -> Result<(), Halt>
+        requires { IsBetween 1 (length chosen.old.items + length lists.now) most_ports }
         ensures ok { OnOk result
             (Gains found.old.items
-            (JoinsThird self.now.job.now self.now.activity.now thirds.now first.now second.now)
+            (JoinsAll self.now.job.now self.now.activity.now chosen.old.items (lent_lists lists.now))
             found.new.items) }
+        ensures same { OnOk result (chosen.new.items ≡ chosen.old.items) }
         ensures many { IfErr result
             (λ e. e ≡ Halt.TooMany → HasSome
-            (JoinsThird self.now.job.now self.now.activity.now thirds.now first.now second.now)) }
+            (JoinsAll self.now.job.now self.now.activity.now chosen.old.items
+            (lent_lists lists.now))) }
     {
-        for third in thirds {
-            let tripled = of_three(self.alloc, self.activity, first, second, third)?;
-            self.add(found, tripled)?;
-        }
+        let [values, others @ ..] = lists else {
+            let joined = of_values(self.alloc, self.activity, chosen)?;
+            self.add(found, joined)?;
+            return Ok(());
+        };
+        self.add_each(values, others, chosen, found)?;
         Ok(())
     }
 
-    /// Adds the firings that have this first value, and a second and a third one of the lists.
-    fn add_pairs(
+    /// Adds the firings that have the chosen values and behind them one of these values, and one of each
+    /// of the other lists. What is chosen stays.
+    #[cycle(choosing)]
+    fn add_each(
         &self,
-        first: &Value,
-        seconds: &[Value],
-        thirds: &[Value],
+        values: &[Value],
+        others: &[&[Value]],
+        chosen: &mut Vec<Value>,
         found: &mut Vec<Firing>,
     ) -> Result<(), Halt>
+        requires { IsBetween 1 (length chosen.old.items + 1 + length others.now) most_ports }
         ensures ok { OnOk result
             (Gains found.old.items
-            (JoinsPair self.now.job.now self.now.activity.now seconds.now thirds.now first.now)
+            (JoinsAll self.now.job.now self.now.activity.now chosen.old.items
+            (values.now ∷ lent_lists others.now))
             found.new.items) }
+        ensures same { OnOk result (chosen.new.items ≡ chosen.old.items) }
         ensures many { IfErr result
             (λ e. e ≡ Halt.TooMany → HasSome
-            (JoinsPair self.now.job.now self.now.activity.now seconds.now thirds.now first.now)) }
+            (JoinsAll self.now.job.now self.now.activity.now chosen.old.items
+            (values.now ∷ lent_lists others.now))) }
     {
-        for second in seconds {
-            self.add_thirds(first, second, thirds, found)?;
-        }
-        Ok(())
-    }
-
-    /// Adds the firings that have a value of each of the three lists.
-    fn add_threes(
-        &self,
-        firsts: &[Value],
-        seconds: &[Value],
-        thirds: &[Value],
-        found: &mut Vec<Firing>,
-    ) -> Result<(), Halt>
-        ensures ok { OnOk result
-            (Gains found.old.items
-            (SomeOf firsts.now
-            (JoinsPair self.now.job.now self.now.activity.now seconds.now thirds.now))
-            found.new.items) }
-        ensures many { IfErr result
-            (λ e. e ≡ Halt.TooMany → HasSome
-            (SomeOf firsts.now
-            (JoinsPair self.now.job.now self.now.activity.now seconds.now thirds.now))) }
-    {
-        for first in firsts {
-            self.add_pairs(first, seconds, thirds, found)?;
+        for value in values {
+            let copy = value.copy()?;
+            chosen.push(copy)?;
+            self.add_all(others, chosen, found)?;
+            chosen.pop();
         }
         Ok(())
     }
@@ -280,6 +274,12 @@ fn gathered(
         activity,
         most,
     };
+    if ports > 2 {
+        let lists = met_at_each(alloc, history, token, ports)?;
+        let mut chosen = Vec::new(alloc);
+        joining.add_all(&lists, &mut chosen, &mut found)?;
+        return Ok(found);
+    }
     let first = port_of(token, 1)?;
     let firsts = met_at(history, token, &first);
     if ports == 1 {
@@ -288,13 +288,7 @@ fn gathered(
     }
     let second = port_of(token, 2)?;
     let seconds = met_at(history, token, &second);
-    if ports == 2 {
-        joining.add_twos(firsts, seconds, &mut found)?;
-        return Ok(found);
-    }
-    let third = port_of(token, 3)?;
-    let thirds = met_at(history, token, &third);
-    joining.add_threes(firsts, seconds, thirds, &mut found)?;
+    joining.add_twos(firsts, seconds, &mut found)?;
     Ok(found)
 }
 

@@ -1,6 +1,7 @@
 //! Firings that are made of an activity and values.
 ghost use Rattle.std.specs.Prelude.{◌≡◌, [], ◌∷◌, IfOk, Some, None};
 ghost use Rattle.u_rule.specs.EntryOrder.{firing};
+ghost use Rattle.u_rule.specs.Parts.{IsValueList};
 
 use std::alloc::{AllocError, Global};
 use u_name::Name;
@@ -34,23 +35,19 @@ pub(crate) fn of_two(
     })
 }
 
-/// The firing of three values.
-pub(crate) fn of_three(
+/// The firing of the values, one for each port.
+pub(crate) fn of_values(
     alloc: Global,
     activity: &Name,
-    first: &Value,
-    second: &Value,
-    third: &Value,
+    values: &[Value],
 ) -> Result<Firing, AllocError>
-    ensures { IfOk result
-        (λ f. f ≡ firing activity.now (first.now ∷ second.now ∷ third.now ∷ []) None) }
+    requires { IsValueList values.now }
+    ensures { IfOk result (λ f. f ≡ firing activity.now values.now None) }
 {
-    let value = first.copy()?;
-    let other = second.copy()?;
-    let last = third.copy()?;
+    let values = Values::of(alloc, values)?;
     Ok(Firing {
         activity: activity.copy()?,
-        values: Values::three(alloc, value, other, last)?,
+        values,
         write: None,
     })
 }

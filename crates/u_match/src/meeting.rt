@@ -1,11 +1,12 @@
 //! Where entries meet: tokens at the ports of an activity, and reads with writes at a cell.
-ghost use Rattle.std.specs.Prelude.{◌≡◌, IfOk, Contains};
+ghost use Rattle.std.specs.Prelude.{◌≡◌, ◌≤◌, IfOk, Contains, length};
+ghost use Rattle.u_rule.specs.Parts.{most_ports};
 ghost use Rattle.u_sets.specs.Members.{AreThose};
 ghost use Rattle.u_history.specs.Clashes.{port_of};
-ghost use Rattle.u_match.specs.Keys.{IsMet};
+ghost use Rattle.u_match.specs.Keys.{IsMet, AreMetFrom, lent_lists};
 ghost use Rattle.u_match.specs.ReadOrder.{read_ties};
 
-use std::alloc::AllocError;
+use std::alloc::{AllocError, Global};
 use std::slice;
 use u_history::{History, Port};
 use u_name::{Cell, Name};
@@ -50,4 +51,24 @@ pub(crate) fn met_at<'a>(history: &'a History, token: &'a Token, at: &Port) -> &
         return slice::from_ref(token.value());
     }
     history.values_at(at)
+}
+
+/// The values that the token meets at each of the first ports of its activity, so many.
+pub(crate) fn met_at_each<'a>(
+    alloc: Global,
+    history: &'a History,
+    token: &'a Token,
+    ports: usize,
+) -> Result<Vec<&'a [Value]>, AllocError>
+    requires { ports ≤ most_ports }
+    ensures each { IfOk result
+        (λ v. AreMetFrom (Contains history.now) token.now 1 (lent_lists v.items)) }
+    ensures count { IfOk result (λ v. length v.items ≡ ports) }
+{
+    let mut lists = Vec::with_capacity(alloc, ports)?;
+    for place in 0..ports {
+        let port = port_of(token, place as u8 + 1)?;
+        lists.push(met_at(history, token, &port))?;
+    }
+    Ok(lists)
 }

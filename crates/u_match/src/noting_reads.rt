@@ -1,6 +1,6 @@
 //! How the reads that an entry makes go into the table, each once. Where memory runs out the table may
 //! have more than before, and nothing is lost.
-ghost use Rattle.std.specs.Prelude.{◌≡◌, ◌⊎◌, OnOk, IsFalse, Contains};
+ghost use Rattle.std.specs.Prelude.{◌<◌, ◌⊎◌, OnOk, IsFalse, Contains};
 ghost use Rattle.u_value.specs.declared.value.Value.{Value};
 ghost use Rattle.u_system.specs.Firing.{Within};
 ghost use Rattle.u_match.specs.Keys.{IsMet, Notes, NamesNone, IsCompleteWith};
@@ -86,13 +86,14 @@ fn may_name(token: &Token) -> bool
     }
 }
 
-/// Notes the reads that the token makes with what it meets. A token at the third port makes none.
+/// Notes the reads that the token makes with what it meets. A token
+/// beyond the second port makes none.
 fn note_reads_of(history: &History, reads: &mut Reads, token: &Token) -> Result<(), AllocError>
     ensures kept { Within (Contains reads.new) reads.old }
     ensures ok { OnOk result
         ((v w : Value) → IsMet (Contains history.now) token.now 1 v
         → IsMet (Contains history.now) token.now 2 w
-        → (token.now.port ≡ 3) ⊎ Notes token.now.activity v w reads.new) }
+        → (2 < token.now.port) ⊎ Notes token.now.activity v w reads.new) }
 {
     if !may_name(token) {
         return Ok(());

@@ -123,7 +123,7 @@ fn record_of_three(
     let last = third.value().copy()?;
     Ok(Firing {
         activity: first.activity().copy()?,
-        values: Values::three(alloc, value, other, last)?,
+        values: Values::of(alloc, &[value, other, last])?,
         write: None,
     })
 }

@@ -13,25 +13,10 @@ use Rattle.u_value.specs.declared.fault_kind.FaultKind.{FaultKind}
 use Rattle.u_value.specs.declared.fault_kind.FaultKind.TheVariants as kinds
 use Rattle.u_rule.proofs.FirstByteLaws.{turned, NotBehind, chosen, passed, begins_with, begins_with_none}
 use Rattle.u_rule.proofs.StepLaws.{lead_both, both_ok}
-use Rattle.u_rule.specs.EntryReading.{cell_at, spaced_cell, writer_and_value, port_of, port_at, kind_of, ind, verflow, ero, eep, nitiation, ength, bounds, kind_at, token_at, write_at, fault_at, answer_at, token_of, written_of, faulted_of, answer_of, entry_of, entry_at}
+use Rattle.u_rule.specs.EntryReading.{cell_at, spaced_cell, writer_and_value, kind_of, ind, verflow, ero, eep, nitiation, ength, bounds, kind_at, token_at, write_at, fault_at, answer_at, token_of, written_of, faulted_of, answer_of, entry_of, entry_at}
 use Rattle.u_rule.specs.declared.entry.Entry.{Entry}
 use Rattle.u_rule.specs.declared.entry.Entry.TheVariants as entries
 use Rattle.u_rule.specs.declared.parts.Write.{Write}
-
--- ports
-
-abbrev second_or_third : Reader (Unit {0} ⊎ Unit {0})
-second_or_third = choice 50 (empty tt) (fixed (51 ∷ []))
-
-pub port_one : (bs cs : List ℕ) → bs ≡ 49 ∷ cs → port_at bs ≡ Ok (1, cs)
-port_one bs cs e = chosen 49 (empty tt) second_or_third port_of bs cs e
-
-pub port_two : (bs cs : List ℕ) → bs ≡ 50 ∷ cs → port_at bs ≡ Ok (2, cs)
-port_two bs cs e =
-    passed 49 (empty tt) second_or_third port_of bs (begins_with 50 49 bs cs e (λ f. omega arith)) ∙ chosen 50 (empty tt) (fixed (51 ∷ [])) (λ y. port_of (inr y)) bs cs e
-
-pub port_other : (bs : List ℕ) → NotBehind 49 bs → NotBehind 50 bs → port_at bs ≡ mapped (λ _. 3) (fixed (51 ∷ [])) bs
-port_other bs a b = passed 49 (empty tt) second_or_third port_of bs a ∙ passed 50 (empty tt) (fixed (51 ∷ [])) (λ y. port_of (inr y)) bs b
 
 -- kinds of faults
 

@@ -29,7 +29,9 @@ use Rattle.u_value.specs.declared.value.Value.{Value}
 use Rattle.u_value.specs.declared.fault_kind.FaultKind.{FaultKind}
 use Rattle.u_value.specs.declared.fault_kind.FaultKind.TheVariants as kinds
 use Rattle.u_rule.specs.EntryText.{entry_text}
-use Rattle.u_rule.specs.EntryReading.{IsEntry, OneOfThree, port_of, port_at, cell_at, OneOfSeven, kind_of, ind, verflow, ero, eep, nitiation, ength, bounds, kind_at, token_at, write_at, fault_at, answer_at, Read, entry_of, entry_at, IsEntryOf, IsEntryErrorOf}
+use Rattle.u_rule.specs.Parts.{most_ports}
+use Rattle.u_rule.proofs.PortLaws.{port_Reads}
+use Rattle.u_rule.specs.EntryReading.{IsEntry, port_at, cell_at, OneOfSeven, kind_of, ind, verflow, ero, eep, nitiation, ength, bounds, kind_at, token_at, write_at, fault_at, answer_at, Read, entry_of, entry_at, IsEntryOf, IsEntryErrorOf}
 use Rattle.u_rule.specs.declared.entry.Entry.{Entry}
 use Rattle.u_rule.specs.declared.entry.Entry.TheVariants as entries
 use Rattle.u_rule.specs.declared.reading.TextError.TheVariants.{BadText}
@@ -40,53 +42,6 @@ other_byte c d t u n e = n (let f : c ≡ d = cc in f)
 
 no_digit : (b c : ℕ) (t u : List ℕ) → b ≤ 47 → IsDigit c → b ∷ t ≡ c ∷ u → ⊥
 no_digit b c t u h m e = let f : b ≡ c = cc in omega (arith, m.0)
-
--- ports
-
-abbrev port_word : OneOfThree → List ℕ
-port_word = one_text 49 (λ _. []) (one_text 50 (λ _. []) (λ _. 51 ∷ []))
-
-abbrev IsPortWord : OneOfThree → Type 0
-IsPortWord = IsOne IsUnit (IsOne IsUnit IsUnit)
-
-abbrev word_of_port : ℕ → OneOfThree
-word_of_port zero = inr (inr tt)
-word_of_port (suc zero) = inl tt
-word_of_port (suc (suc zero)) = inr (inl tt)
-word_of_port (suc (suc (suc n))) = inr (inr tt)
-
-port_there : (x : OneOfThree) → IsPortWord x → IsBetween 1 (port_of x) 3
-port_there (inl t) v = (omega arith, omega arith)
-port_there (inr (inl t)) v = (omega arith, omega arith)
-port_there (inr (inr t)) v = (omega arith, omega arith)
-
-port_spelled : (x : OneOfThree) → IsPortWord x → decimal (port_of x) ≡ port_word x
-port_spelled (inl t) v = decimal_digit 1 (omega arith)
-port_spelled (inr (inl t)) v = decimal_digit 2 (omega arith)
-port_spelled (inr (inr t)) v = decimal_digit 3 (omega arith)
-
-port_back : (n : ℕ) → IsBetween 1 n 3 → IsPortWord (word_of_port n)
-port_back zero v = refl
-port_back (suc zero) v = refl
-port_back (suc (suc zero)) v = refl
-port_back (suc (suc (suc n))) v = refl
-
-port_again : (n : ℕ) → IsBetween 1 n 3 → port_of (word_of_port n) ≡ n
-port_again zero v = absurd (omega (arith, v.0))
-port_again (suc zero) v = refl
-port_again (suc (suc zero)) v = refl
-port_again (suc (suc (suc zero))) v = refl
-port_again (suc (suc (suc (suc n)))) v = absurd (omega (arith, v.1))
-
-pub port_Reads : Reads decimal (λ n. IsBetween 1 n 3) NoByte port_at
-port_Reads =
-    mapped_Reads
-    (choice_Reads 49 (empty_Reads tt) (choice_Reads 50 (empty_Reads tt) (fixed_Reads (51 ∷ [])) (λ y u v w e. other_byte 51 50 u v (λ f. omega arith) e)) apart)
-    {f = port_of} {g = word_of_port} (record { there = port_there; spelled = port_spelled; back = port_back; again = port_again })
-  where
-    apart : (y : Unit {0} ⊎ Unit {0}) (u v : List ℕ) → IsOne IsUnit IsUnit y → one_text 50 (λ _. []) (λ _. 51 ∷ []) y ++ u ≡ 49 ∷ v → ⊥
-    apart (inl t) u v w e = other_byte 50 49 u v (λ f. omega arith) e
-    apart (inr t) u v w e = other_byte 51 49 u v (λ f. omega arith) e
 
 -- cells
 
@@ -271,7 +226,7 @@ abbrev token_word : Activity × (ℕ × Value) → List ℕ
 token_word t = 32 ∷ after name_text (λ _. λ (r : ℕ × Value). 32 ∷ after decimal (λ _ v. 32 ∷ value_text v) r) t
 
 abbrev IsTokenWord : Activity × (ℕ × Value) → Type 0
-IsTokenWord = AreBoth IsName (λ _. AreBoth (λ n. IsBetween 1 n 3) (λ _. IsValue))
+IsTokenWord = AreBoth IsName (λ _. AreBoth (λ n. IsBetween 1 n most_ports) (λ _. IsValue))
 
 token_Reads : Reads token_word IsTokenWord IsBlockByte token_at
 token_Reads =

@@ -1,6 +1,6 @@
 -- The readers of the parts of a firing, once the first byte is known, and how the firing is put together of them.
-use Rattle.std.specs.Prelude.{◌≡◌, ℕ, suc, ◌⊎◌, List, [], ◌∷◌, Option, Some, None, length, Ok, Err, refl}
-use Rattle.std.proofs.Common.{sym, ◌∙◌, ap, inl, inr, arith}
+use Rattle.std.specs.Prelude.{◌≡◌, ℕ, suc, ◌-◌, ◌<◌, ◌⊎◌, List, [], ◌∷◌, ◌++◌, Option, Some, None, length, Ok, Err, refl}
+use Rattle.std.proofs.Common.{sym, ◌∙◌, ap, inl, inr, arith, append_assoc, append-nil, length-append}
 use Rattle.u_text.specs.Reader.{Reader, ◌>>=◌}
 use Rattle.u_text.specs.Parts.{empty, lead, after_byte}
 use Rattle.u_text.specs.Then.{both}
@@ -12,8 +12,9 @@ use Rattle.u_value.specs.declared.value.Value.{Value}
 use Rattle.u_rule.proofs.FirstByteLaws.{ReadOf, turned, twice, NotBehind, taken, skipped, chosen, passed, begins_with, begins_with_none, behind, other, first_byte}
 use Rattle.u_rule.proofs.StepLaws.{lead_both, both_ok, both_err}
 use Rattle.u_rule.specs.EntryReading.{spaced_value}
+use Rattle.u_rule.specs.Parts.{most_ports}
 use Rattle.u_rule.specs.EntryOrder.{firing}
-use Rattle.u_rule.specs.FiringReading.{By, by_at, Tail, tail_at, values_of, write_in, values_at, firing_of, activity_at, firing_at, written_next, next_value, behind_space, next_at, spaced_by, last_write, end_at, behind_first, behind_second, behind_third, behind_name}
+use Rattle.u_rule.specs.FiringReading.{By, by_at, Tail, tail_at, values_of, write_in, values_at, firing_of, activity_at, firing_at, written_next, next_value, behind_space, next_at, spaced_by, last_write, end_at, more_values, behind_values, firing_behind, behind_name}
 use Rattle.u_rule.specs.declared.firing.Firing.{Firing}
 use Rattle.u_rule.specs.declared.firing.Written.{Written}
 use Rattle.u_rule.specs.declared.firing_reading.Next.{Next}
@@ -152,79 +153,104 @@ tail_read k bs n rest h = tail_next k bs ∙ ap (goes_on k) h
 pub tail_refused : (k : ℕ) (bs rest : List ℕ) → next_at bs ≡ Err rest → tail_at (suc k) bs ≡ Err rest
 tail_refused k bs rest h = tail_next k bs ∙ ap (goes_on k) h
 
--- the firing whose name and first value are read
+-- the firing whose name and values are read, where so many more may come
 
-abbrev with_first : Activity → Value → Tail 2 → Firing
-with_first name a t = firing name (a ∷ values_of 2 t) (write_in 2 t)
+abbrev with_values : (k : ℕ) → Activity → List Value → Tail k → Firing
+with_values k name vs t = firing name (vs ++ values_of k t) (write_in k t)
 
-first_ends : (name : Activity) (a : Value) (w : Option Written) (rest : List ℕ) → turned (with_first name a) (tail_behind 1 (End w) rest) ≡ Ok (firing name (a ∷ []) w, rest)
-first_ends name a None rest = refl
-first_ends name a (Some w) rest = refl
+ends : (k : ℕ) (name : Activity) (vs : List Value) (w : Option Written) (rest : List ℕ) → turned (with_values (suc k) name vs) (tail_behind k (End w) rest) ≡ Ok (firing name vs w, rest)
+ends k name vs None rest = ap (λ (us : List Value). Ok (firing name us None, rest)) (append-nil vs)
+ends k name vs (Some w) rest = ap (λ (us : List Value). Ok (firing name us (Some w), rest)) (append-nil vs)
 
-pub first_end : (name : Activity) (a : Value) (w : Option Written) (bs rest : List ℕ) → next_at bs ≡ Ok (End w, rest) → behind_first name a bs ≡ Ok (firing name (a ∷ []) w, rest)
-unfolding behind_first
-first_end name a w bs rest h = ap (turned (with_first name a)) (tail_read 1 bs (End w) rest h) ∙ first_ends name a w rest
+ends_at : (k : ℕ) (name : Activity) (vs : List Value) (w : Option Written) (bs rest : List ℕ) → next_at bs ≡ Ok (End w, rest) → behind_values (suc k) name vs bs ≡ Ok (firing name vs w, rest)
+ends_at k name vs w bs rest h = ap (turned (with_values (suc k) name vs)) (tail_read k bs (End w) rest h) ∙ ends k name vs w rest
 
-pub first_another : (name : Activity) (a b : Value) (bs rest : List ℕ) (r : ReadOf Firing) → next_at bs ≡ Ok (Another b, rest) → behind_second name a b rest ≡ r → behind_first name a bs ≡ r
-unfolding behind_first behind_second
-first_another name a b bs rest r h k = ap (turned (with_first name a)) (tail_read 1 bs (Another b) rest h) ∙ twice (λ t. inr (inr (b, t))) (with_first name a) (tail_at 1 rest) ∙ k
+-- one value more, and what comes behind it
+one_more : (k : ℕ) (name : Activity) (vs : List Value) (v : Value) (r : ReadOf (Tail k)) → turned (λ t. firing name (vs ++ (v ∷ values_of k t)) (write_in k t)) r ≡ turned (with_values k name (vs ++ (v ∷ []))) r
+one_more k name vs v (Ok t) = ap (λ (us : List Value). Ok (firing name us (write_in k t.0), t.1)) (sym (append_assoc vs (v ∷ []) (values_of k t.0)))
+one_more k name vs v (Err e) = refl
 
-pub first_refused : (name : Activity) (a : Value) (bs rest : List ℕ) → next_at bs ≡ Err rest → behind_first name a bs ≡ Err rest
-unfolding behind_first
-first_refused name a bs rest h = ap (turned (with_first name a)) (tail_refused 1 bs rest h)
+another_at : (k : ℕ) (name : Activity) (vs : List Value) (v : Value) (bs rest : List ℕ) → next_at bs ≡ Ok (Another v, rest) → behind_values (suc k) name vs bs ≡ behind_values k name (vs ++ (v ∷ [])) rest
+another_at k name vs v bs rest h =
+    ap (turned (with_values (suc k) name vs)) (tail_read k bs (Another v) rest h)
+    ∙ twice (λ t. inr (inr (v, t))) (with_values (suc k) name vs) (tail_at k rest)
+    ∙ one_more k name vs v (tail_at k rest)
 
--- and two values
+refused_at : (k : ℕ) (name : Activity) (vs : List Value) (bs rest : List ℕ) → next_at bs ≡ Err rest → behind_values (suc k) name vs bs ≡ Err rest
+refused_at k name vs bs rest h = ap (turned (with_values (suc k) name vs)) (tail_refused k bs rest h)
 
-abbrev with_second : Activity → Value → Value → Tail 1 → Firing
-with_second name a b t = firing name (a ∷ b ∷ values_of 1 t) (write_in 1 t)
+-- where the values are fewer than there may be
 
-second_ends : (name : Activity) (a b : Value) (w : Option Written) (rest : List ℕ) → turned (with_second name a b) (tail_behind 0 (End w) rest) ≡ Ok (firing name (a ∷ b ∷ []) w, rest)
-second_ends name a b None rest = refl
-second_ends name a b (Some w) rest = refl
+room : (n : ℕ) → n < most_ports → most_ports - n ≡ suc (most_ports - suc n)
+room n l = omega (arith, l)
 
-pub second_end : (name : Activity) (a b : Value) (w : Option Written) (bs rest : List ℕ) → next_at bs ≡ Ok (End w, rest) → behind_second name a b bs ≡ Ok (firing name (a ∷ b ∷ []) w, rest)
-unfolding behind_second
-second_end name a b w bs rest h = ap (turned (with_second name a b)) (tail_read 0 bs (End w) rest h) ∙ second_ends name a b w rest
+pub values_end : (name : Activity) (vs : List Value) (w : Option Written) (bs rest : List ℕ) → length vs < most_ports → next_at bs ≡ Ok (End w, rest) → firing_behind name vs bs ≡ Ok (firing name vs w, rest)
+unfolding firing_behind
+values_end name vs w bs rest l h = ap (λ k. behind_values k name vs bs) (room (length vs) l) ∙ ends_at (most_ports - suc (length vs)) name vs w bs rest h
 
-pub second_another : (name : Activity) (a b c : Value) (bs rest : List ℕ) (r : ReadOf Firing) → next_at bs ≡ Ok (Another c, rest) → behind_third name a b c rest ≡ r → behind_second name a b bs ≡ r
-unfolding behind_second behind_third end_at
-second_another name a b c bs rest r h k =
-    ap (turned (with_second name a b)) (tail_read 0 bs (Another c) rest h)
-    ∙ twice (λ t. inr (inr (c, t))) (with_second name a b) (tail_at 0 rest)
-    ∙ sym (twice (write_in 0) (λ w. firing name (a ∷ b ∷ c ∷ []) w) (tail_at 0 rest))
+pub values_another : (name : Activity) (vs : List Value) (v : Value) (bs rest : List ℕ) (r : ReadOf Firing) → length vs < most_ports → next_at bs ≡ Ok (Another v, rest) → firing_behind name (vs ++ (v ∷ [])) rest ≡ r → firing_behind name vs bs ≡ r
+unfolding firing_behind
+values_another name vs v bs rest r l h k =
+    let n : length (vs ++ (v ∷ [])) ≡ suc (length vs) = omega (arith, length-append vs (v ∷ [])) in
+    ap (λ j. behind_values j name vs bs) (room (length vs) l)
+    ∙ another_at (most_ports - suc (length vs)) name vs v bs rest h
+    ∙ ap (λ j. behind_values (most_ports - j) name (vs ++ (v ∷ [])) rest) (sym n)
     ∙ k
 
-pub second_refused : (name : Activity) (a b : Value) (bs rest : List ℕ) → next_at bs ≡ Err rest → behind_second name a b bs ≡ Err rest
-unfolding behind_second
-second_refused name a b bs rest h = ap (turned (with_second name a b)) (tail_refused 0 bs rest h)
+pub values_refused : (name : Activity) (vs : List Value) (bs rest : List ℕ) → length vs < most_ports → next_at bs ≡ Err rest → firing_behind name vs bs ≡ Err rest
+unfolding firing_behind
+values_refused name vs bs rest l h = ap (λ k. behind_values k name vs bs) (room (length vs) l) ∙ refused_at (most_ports - suc (length vs)) name vs bs rest h
 
--- and three
+-- behind the first
 
-pub third_end : (name : Activity) (a b c : Value) (w : Option Written) (bs rest : List ℕ) → end_at bs ≡ Ok (w, rest) → behind_third name a b c bs ≡ Ok (firing name (a ∷ b ∷ c ∷ []) w, rest)
-unfolding behind_third
-third_end name a b c w bs rest h = ap (turned (λ w. firing name (a ∷ b ∷ c ∷ []) w)) h
+pub first_end : (name : Activity) (a : Value) (w : Option Written) (bs rest : List ℕ) → next_at bs ≡ Ok (End w, rest) → firing_behind name (a ∷ []) bs ≡ Ok (firing name (a ∷ []) w, rest)
+first_end name a w bs rest h = values_end name (a ∷ []) w bs rest (omega arith) h
 
-pub third_refused : (name : Activity) (a b c : Value) (bs rest : List ℕ) → end_at bs ≡ Err rest → behind_third name a b c bs ≡ Err rest
-unfolding behind_third
-third_refused name a b c bs rest h = ap (turned (λ w. firing name (a ∷ b ∷ c ∷ []) w)) h
+pub first_another : (name : Activity) (a b : Value) (bs rest : List ℕ) (r : ReadOf Firing) → next_at bs ≡ Ok (Another b, rest) → firing_behind name (a ∷ b ∷ []) rest ≡ r → firing_behind name (a ∷ []) bs ≡ r
+first_another name a b bs rest r h k = values_another name (a ∷ []) b bs rest r (omega arith) h k
+
+pub first_refused : (name : Activity) (a : Value) (bs rest : List ℕ) → next_at bs ≡ Err rest → firing_behind name (a ∷ []) bs ≡ Err rest
+first_refused name a bs rest h = values_refused name (a ∷ []) bs rest (omega arith) h
+
+-- and where they are all
+
+none_left : (n : ℕ) → n ≡ most_ports → most_ports - n ≡ 0
+none_left n e = omega (arith, e)
+
+none_behind : (name : Activity) (vs : List Value) (bs : List ℕ) → length vs ≡ most_ports → firing_behind name vs bs ≡ mapped (λ w. firing name vs w) end_at bs
+unfolding firing_behind end_at
+none_behind name vs bs e =
+    ap (λ k. behind_values k name vs bs) (none_left (length vs) e)
+    ∙ all_there (tail_at 0 bs)
+    ∙ sym (twice (write_in 0) (λ w. firing name vs w) (tail_at 0 bs))
+  where
+    all_there : (r : ReadOf (Tail 0)) → turned (with_values 0 name vs) r ≡ turned (λ t. firing name vs (write_in 0 t)) r
+    all_there (Ok t) = ap (λ (us : List Value). Ok (firing name us (write_in 0 t.0), t.1)) (append-nil vs)
+    all_there (Err x) = refl
+
+pub last_end : (name : Activity) (vs : List Value) (w : Option Written) (bs rest : List ℕ) → length vs ≡ most_ports → end_at bs ≡ Ok (w, rest) → firing_behind name vs bs ≡ Ok (firing name vs w, rest)
+last_end name vs w bs rest e h = none_behind name vs bs e ∙ ap (turned (λ w. firing name vs w)) h
+
+pub last_refused : (name : Activity) (vs : List Value) (bs rest : List ℕ) → length vs ≡ most_ports → end_at bs ≡ Err rest → firing_behind name vs bs ≡ Err rest
+last_refused name vs bs rest e h = none_behind name vs bs e ∙ ap (turned (λ w. firing name vs w)) h
 
 -- from the front on
 
 abbrev FirstAndTail : Type 0
-FirstAndTail = Value × Tail 2
+FirstAndTail = Value × Tail more_values
 
 abbrev first_and_tail : Activity → FirstAndTail → Firing
-first_and_tail name t = firing name (t.0 ∷ values_of 2 t.1) (write_in 2 t.1)
+first_and_tail name t = firing name (t.0 ∷ values_of more_values t.1) (write_in more_values t.1)
 
-abbrev any_tail : Value → Reader (Tail 2)
-any_tail _ = tail_at 2
+abbrev any_tail : Value → Reader (Tail more_values)
+any_tail _ = tail_at more_values
 
 name_then : (name : Activity) (bs : List ℕ) → behind_name name bs ≡ mapped (first_and_tail name) (both spaced_value any_tail) bs
 unfolding behind_name
 name_then name bs = ap (turned (first_and_tail name)) (lead_both 32 value_at any_tail bs)
 
-pub name_and_first : (name : Activity) (a : Value) (bs rest : List ℕ) (r : ReadOf Firing) → spaced_value bs ≡ Ok (a, rest) → behind_first name a rest ≡ r → behind_name name bs ≡ r
-unfolding behind_first
+pub name_and_first : (name : Activity) (a : Value) (bs rest : List ℕ) (r : ReadOf Firing) → spaced_value bs ≡ Ok (a, rest) → firing_behind name (a ∷ []) rest ≡ r → behind_name name bs ≡ r
+unfolding firing_behind
 name_and_first name a bs rest r h k = name_then name bs ∙ both_ok spaced_value any_tail (first_and_tail name) bs a rest h ∙ k
 
 pub name_alone : (name : Activity) (bs rest : List ℕ) → spaced_value bs ≡ Err rest → behind_name name bs ≡ Err rest

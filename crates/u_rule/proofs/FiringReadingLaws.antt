@@ -26,7 +26,7 @@ use Rattle.u_value.specs.declared.value.Value.TheVariants as values
 use Rattle.u_rule.proofs.EndedLaws.{ended_whole, ended_left_over, ended_refused, ended_refused_behind, ended_left_within}
 use Rattle.u_rule.specs.EntryOrder.{firing}
 use Rattle.u_rule.specs.FiringText.{values_text, written_text, firing_text}
-use Rattle.u_rule.specs.FiringReading.{AreValues, IsWritten, IsFiring, line, By, by_at, Tail, tail_at, written_by, values_of, write_in, firing_of, firing_at, IsFiringOf, IsFiringErrorOf}
+use Rattle.u_rule.specs.FiringReading.{AreValues, IsWritten, IsFiring, line, By, by_at, Tail, tail_at, written_by, more_values, values_of, write_in, firing_of, firing_at, IsFiringOf, IsFiringErrorOf}
 use Rattle.u_rule.specs.declared.firing.Firing.{Firing}
 use Rattle.u_rule.specs.declared.firing.Written.{Written}
 use Rattle.u_rule.specs.declared.reading.TextError.TheVariants.{BadText}
@@ -101,20 +101,20 @@ tail_Reads (suc k) =
 -- the line
 
 abbrev Line : Type 0
-Line = Activity × (Value × Tail 2)
+Line = Activity × (Value × Tail more_values)
 
 abbrev line_word : Line → List ℕ
-line_word t = 102 ∷ (32 ∷ after name_text (λ _. λ (r : Value × Tail 2). 32 ∷ after value_text (λ _. tail_word 2) r) t)
+line_word t = 102 ∷ (32 ∷ after name_text (λ _. λ (r : Value × Tail more_values). 32 ∷ after value_text (λ _. tail_word more_values) r) t)
 
 abbrev IsLineWord : Line → Type 0
-IsLineWord = AreBoth IsName (λ _. AreBoth IsValue (λ _. IsTailWord 2))
+IsLineWord = AreBoth IsName (λ _. AreBoth IsValue (λ _. IsTailWord more_values))
 
-line_Reads : Reads line_word IsLineWord NoByte (lead 102 (lead 32 (both name_steps (λ _. lead 32 (both value_at (λ _. tail_at 2))))))
+line_Reads : Reads line_word IsLineWord NoByte (lead 102 (lead 32 (both name_steps (λ _. lead 32 (both value_at (λ _. tail_at more_values))))))
 line_Reads =
     lead_Reads 102
     (lead_Reads 32
     (both_Reads name_steps_Reads
-    (λ _ _. lead_Reads 32 (both_Reads value_Reads (λ _ _. tail_Reads 2) (λ x y c r u v w m e. tail_goes_on_in_no_block 2 y c r u m e)))
+    (λ _ _. lead_Reads 32 (both_Reads value_Reads (λ _ _. tail_Reads more_values) (λ x y c r u v w m e. tail_goes_on_in_no_block more_values y c r u m e)))
     (λ x y c r u v w m e. space_is_no_digit c _ u m e)))
 
 -- from what is read to the firing
@@ -139,7 +139,7 @@ fine_write (suc k) (inr (inl b)) v = (v.0, v.1.0)
 fine_write (suc k) (inr (inr p)) v = fine_write k p.1 v.1
 
 there : (x : Line) → IsLineWord x → IsFiring (firing_of x)
-there x v = (v.0, record { count = (omega arith, omega (arith, few_values 2 x.1.1)) }, (v.1.0, fine_values 2 x.1.1 v.1.1), fine_write 2 x.1.1 v.1.1)
+there x v = (v.0, record { count = (omega arith, omega (arith, few_values more_values x.1.1)) }, (v.1.0, fine_values more_values x.1.1 v.1.1), fine_write more_values x.1.1 v.1.1)
 
 -- the same bytes
 
@@ -163,13 +163,13 @@ firing_line f = line (firing_text f)
 spelled : (x : Line) → IsLineWord x → firing_line (firing_of x) ≡ line_word x
 unfolding firing_text
 spelled x v =
-    let rest : List ℕ = values_text (values_of 2 x.1.1) ++ written_text (write_in 2 x.1.1) in
+    let rest : List ℕ = values_text (values_of more_values x.1.1) ++ written_text (write_in more_values x.1.1) in
     ap (λ t. 102 ∷ (32 ∷ t))
-    (append_assoc (name_text x.0) (values_text (x.1.0 ∷ values_of 2 x.1.1) ++ written_text (write_in 2 x.1.1)) (10 ∷ [])
+    (append_assoc (name_text x.0) (values_text (x.1.0 ∷ values_of more_values x.1.1) ++ written_text (write_in more_values x.1.1)) (10 ∷ [])
     ∙ ap (λ t. name_text x.0 ++ (32 ∷ t))
-    (ap (λ t. t ++ (10 ∷ [])) (append_assoc (value_text x.1.0) (values_text (values_of 2 x.1.1)) (written_text (write_in 2 x.1.1)))
+    (ap (λ t. t ++ (10 ∷ [])) (append_assoc (value_text x.1.0) (values_text (values_of more_values x.1.1)) (written_text (write_in more_values x.1.1)))
     ∙ append_assoc (value_text x.1.0) rest (10 ∷ [])
-    ∙ ap (λ t. value_text x.1.0 ++ t) (tail_spelled 2 x.1.1)))
+    ∙ ap (λ t. value_text x.1.0 ++ t) (tail_spelled more_values x.1.1)))
 
 -- and back
 
@@ -192,7 +192,7 @@ others_of [] = []
 others_of (v ∷ vs) = vs
 
 abbrev read_of : Firing → Line
-read_of f = (f.activity, (first_of f.values, tail_of 2 (others_of f.values) f.write))
+read_of f = (f.activity, (first_of f.values, tail_of more_values (others_of f.values) f.write))
 
 tail_back : (k : ℕ) (vs : List Value) (w : Option Written) → AreValues vs → IsWritten w → IsTailWord k (tail_of k vs w)
 tail_back zero vs None a b = refl
@@ -203,7 +203,7 @@ tail_back (suc k) (v ∷ vs) w a b = (a.0, tail_back k vs w a.1 b)
 
 line_back : (name : Activity) (vs : List Value) (w : Option Written) → IsFiring (firing name vs w) → IsLineWord (read_of (firing name vs w))
 line_back name [] w v = absurd (omega (arith, v.1.count.0))
-line_back name (x ∷ vs) w v = (v.0, (v.2.0, tail_back 2 vs w v.2.1 v.3))
+line_back name (x ∷ vs) w v = (v.0, (v.2.0, tail_back more_values vs w v.2.1 v.3))
 
 values_again : (k : ℕ) (vs : List Value) (w : Option Written) → length vs ≤ k → values_of k (tail_of k vs w) ≡ vs
 values_again zero [] w h = refl
@@ -222,8 +222,8 @@ write_again (suc k) (v ∷ vs) w = write_again k vs w
 line_again : (name : Activity) (vs : List Value) (w : Option Written) → IsFiring (firing name vs w) → firing_of (read_of (firing name vs w)) ≡ firing name vs w
 line_again name [] w v = absurd (omega (arith, v.1.count.0))
 line_again name (x ∷ vs) w v =
-    ap (λ t. firing name (x ∷ t) (write_in 2 (tail_of 2 vs w))) (values_again 2 vs w (omega (arith, v.1.count.1)))
-    ∙ ap (λ t. firing name (x ∷ vs) t) (write_again 2 vs w)
+    ap (λ t. firing name (x ∷ t) (write_in more_values (tail_of more_values vs w))) (values_again more_values vs w (omega (arith, v.1.count.1)))
+    ∙ ap (λ t. firing name (x ∷ vs) t) (write_again more_values vs w)
 
 pub firing_Reads : Reads firing_line IsFiring NoByte firing_at
 unfolding firing_at

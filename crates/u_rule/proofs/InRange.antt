@@ -24,7 +24,7 @@ use Rattle.u_system.specs.Firing.{Held, Enabled, Derivation}
 use Rattle.u_system.proofs.Member.{Contains-nil, Contains-head, Contains-tail}
 use Rattle.u_system.proofs.Held.{Held-nil, Held-push}
 use Rattle.u_system.proofs.Determinate.{Derivation-along}
-use Rattle.u_rule.specs.Parts.{ValueList}
+use Rattle.u_rule.specs.Parts.{most_ports, ValueList}
 use Rattle.u_rule.specs.Fits.{statement_of, fits_at}
 use Rattle.u_rule.specs.Rule.{has_its_values, is_firing_at, is_firing_of, tokens_from, needs_of, given_at, gives_of, start_of, system_of}
 use Rattle.u_rule.specs.Structures.{cell_named, has_its_write, wrote, read_from, write_read}
@@ -37,7 +37,7 @@ use Rattle.u_rule.proofs.GivenInRange.{AreEntries, statement_in_range, given_in_
 use Rattle.u_rule.proofs.Firings.{at_statement}
 
 -- a statement has one port to three
-ports_between : (k : Kind) → IsBetween 1 (ports_of k) 3
+ports_between : (k : Kind) → IsBetween 1 (ports_of k) most_ports
 ports_between (Binary o) = (omega arith, omega arith)
 ports_between Select = (omega arith, omega arith)
 ports_between Switch = (omega arith, omega arith)

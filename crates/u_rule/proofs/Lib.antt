@@ -10,6 +10,7 @@ pub mod Lists
 pub mod Firings
 pub mod FirstByteLaws
 pub mod StepLaws
+pub mod PortLaws
 pub mod EntryPartLaws
 pub mod EntryReadingLaws
 pub mod EndedLaws

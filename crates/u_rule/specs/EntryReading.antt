@@ -1,5 +1,5 @@
 -- The reader of entries, and what reading an entry answers.
-use Rattle.std.specs.Prelude.{ℕ, ◌⊎◌, List, [], ◌∷◌, codes}
+use Rattle.std.specs.Prelude.{ℕ, ◌+◌, ◌-◌, ◌⊎◌, Bool, ◌&&◌, nat_le, cond, List, [], ◌∷◌, Ok, Err, codes}
 use Rattle.std.proofs.Common.{inl, inr}
 use Rattle.u_name.specs.Context.{IsBetween}
 use Rattle.u_name.specs.Name.{Activity, IsName}
@@ -16,7 +16,7 @@ use Rattle.u_value.specs.Reading.{IsValue, value_at}
 use Rattle.u_value.specs.declared.value.Value.{Value}
 use Rattle.u_value.specs.declared.fault_kind.FaultKind.{FaultKind}
 use Rattle.u_value.specs.declared.fault_kind.FaultKind.TheVariants as kinds
-use Rattle.u_rule.specs.Parts.{token}
+use Rattle.u_rule.specs.Parts.{token, most_ports}
 use Rattle.u_rule.specs.EntryOrder.{write_of}
 use Rattle.u_rule.specs.EntryText.{entry_text}
 use Rattle.u_rule.specs.declared.parts.Fault.{Fault}
@@ -27,21 +27,22 @@ use Rattle.u_rule.specs.declared.reading.TextError.TheVariants.{BadText, NoMemor
 
 -- the parts of an entry are in their ranges
 abbrev pub IsEntry : Entry → Type 0
-IsEntry (entries.Token t) = IsName t.activity × IsBetween 1 t.port 3 × IsValue t.value
+IsEntry (entries.Token t) = IsName t.activity × IsBetween 1 t.port most_ports × IsValue t.value
 IsEntry (entries.Write w) = IsName w.cell.name × IsCell w.cell × IsName w.writer × IsValue w.value
 IsEntry (entries.Fault f) = IsName f.activity
 IsEntry (entries.Answer v) = IsValue v
 
--- what is read of a port, by its byte
-abbrev pub OneOfThree : Type 0
-OneOfThree = Unit {0} ⊎ (Unit {0} ⊎ Unit {0})
+-- a digit from `1` to that of the greatest port
+abbrev pub is_port_digit : ℕ → Bool
+is_port_digit c = nat_le 49 c && nat_le c (48 + most_ports)
 
-abbrev pub port_of : OneOfThree → ℕ
-port_of = elim [ inl _ ↦ 1 | inr y ↦ elim y [ inl _ ↦ 2 | inr _ ↦ 3 ] ]
+abbrev pub port_by : Bool → ℕ → Reader ℕ
+port_by b c cs = cond b (Ok (c - 48, cs)) (Err (c ∷ cs))
 
--- `1`, `2` or `3`
+-- a port, which is one digit
 abbrev pub port_at : Reader ℕ
-port_at = mapped port_of (choice 49 (empty tt) (choice 50 (empty tt) (fixed (51 ∷ []))))
+port_at [] = Err []
+port_at (c ∷ cs) = port_by (is_port_digit c) c cs
 
 -- behind a name: an index in brackets
 abbrev pub index_at : Reader (ℕ × Unit {0})

@@ -1,6 +1,6 @@
 -- The reader of firings, which reads a firing's line, its text with a newline behind it; and what
 -- reading a firing answers.
-use Rattle.std.specs.Prelude.{ℕ, ◌⊎◌, zero, suc, List, [], ◌∷◌, ◌++◌, Option, Some, None}
+use Rattle.std.specs.Prelude.{ℕ, ◌-◌, ◌⊎◌, zero, suc, List, [], ◌∷◌, ◌++◌, length, Option, Some, None}
 use Rattle.std.proofs.Common.{inl, inr}
 use Rattle.u_name.specs.Name.{Activity, IsName}
 use Rattle.u_name.specs.NameReader.{name_steps}
@@ -12,7 +12,7 @@ use Rattle.u_text.specs.Fixed.{fixed}
 use Rattle.u_text.specs.TextAt.{IsTextOf, IsNoText}
 use Rattle.u_value.specs.Reading.{IsValue, value_at}
 use Rattle.u_value.specs.declared.value.Value.{Value}
-use Rattle.u_rule.specs.Parts.{IsValueList}
+use Rattle.u_rule.specs.Parts.{most_ports, IsValueList}
 use Rattle.u_rule.specs.EntryOrder.{firing, written}
 use Rattle.u_rule.specs.FiringText.{firing_text}
 use Rattle.u_rule.specs.declared.firing.Firing.{Firing}
@@ -71,12 +71,16 @@ abbrev pub write_in : (k : ℕ) → Tail k → Option Written
 write_in zero t = elim t [ inl _ ↦ None | inr b ↦ written_by b ]
 write_in (suc k) t = elim t [ inl _ ↦ None | inr y ↦ elim y [ inl b ↦ written_by b | inr p ↦ write_in k p.1 ] ]
 
--- a value, and what is behind it
-abbrev pub values_at : Reader (Value × Tail 2)
-values_at = lead 32 (both value_at (λ _. tail_at 2))
+-- so many values may come behind the first
+abbrev pub more_values : ℕ
+more_values = most_ports - 1
 
-abbrev pub firing_of : Activity × (Value × Tail 2) → Firing
-firing_of t = firing t.0 (t.1.0 ∷ values_of 2 t.1.1) (write_in 2 t.1.1)
+-- a value, and what is behind it
+abbrev pub values_at : Reader (Value × Tail more_values)
+values_at = lead 32 (both value_at (λ _. tail_at more_values))
+
+abbrev pub firing_of : Activity × (Value × Tail more_values) → Firing
+firing_of t = firing t.0 (t.1.0 ∷ values_of more_values t.1.1) (write_in more_values t.1.1)
 
 -- `f NAME`
 abbrev pub activity_at : Reader Activity
@@ -114,19 +118,16 @@ unfoldable pub end_at : Reader (Option Written)
 end_at = mapped (write_in 0) (tail_at 0)
 
 -- the firing whose name and first values are read
+-- where so many more may come
+abbrev pub behind_values : ℕ → Activity → List Value → Reader Firing
+behind_values k name vs = mapped (λ t. firing name (vs ++ values_of k t) (write_in k t)) (tail_at k)
 
-unfoldable pub behind_first : Activity → Value → Reader Firing
-behind_first name a = mapped (λ t. firing name (a ∷ values_of 2 t) (write_in 2 t)) (tail_at 2)
-
-unfoldable pub behind_second : Activity → Value → Value → Reader Firing
-behind_second name a b = mapped (λ t. firing name (a ∷ b ∷ values_of 1 t) (write_in 1 t)) (tail_at 1)
-
-unfoldable pub behind_third : Activity → Value → Value → Value → Reader Firing
-behind_third name a b c = mapped (λ w. firing name (a ∷ b ∷ c ∷ []) w) end_at
+unfoldable pub firing_behind : Activity → List Value → Reader Firing
+firing_behind name vs = behind_values (most_ports - length vs) name vs
 
 -- the firing whose name is read
 unfoldable pub behind_name : Activity → Reader Firing
-behind_name name = mapped (λ t. firing name (t.0 ∷ values_of 2 t.1) (write_in 2 t.1)) values_at
+behind_name name = mapped (λ t. firing name (t.0 ∷ values_of more_values t.1) (write_in more_values t.1)) values_at
 
 -- what reading a firing answers
 

@@ -6,6 +6,10 @@ use Rattle.u_name.specs.Name.{Activity, activity_code}
 use Rattle.u_value.specs.declared.value.Value.{Value}
 use Rattle.u_value.specs.contracts.value.Value as values
 
+-- the greatest number of ports that an activity has
+abbrev pub most_ports : ℕ
+most_ports = 3
+
 -- a value at a port of an activity
 pub record TokenParts : Type 0 where
   pub activity : Activity
@@ -16,7 +20,7 @@ abbrev pub token : Activity → ℕ → Value → TokenParts
 token activity port value = record { activity = activity; port = port; value = value }
 
 pub record IsToken (t : TokenParts) : Type 0 where
-  pub port : IsBetween 1 t.port 3
+  pub port : IsBetween 1 t.port most_ports
 
 -- how values and tokens are stored
 abbrev pub value_code : Coded Value
@@ -38,4 +42,4 @@ abbrev pub value_list_code : Coded ValueList
 value_list_code = coded_list value_code
 
 pub record IsValueList (vs : ValueList) : Type 0 where
-  pub count : IsBetween 1 (length vs) 3
+  pub count : IsBetween 1 (length vs) most_ports

@@ -2,17 +2,18 @@
 //!
 //! Behind a value another may come, a write, or nothing. So that a byte says which, the text is read
 //! with a newline behind it.
-ghost use Rattle.std.specs.Prelude.{◌≡◌, Ok, Err, MatchResult, IfOk};
+ghost use Rattle.std.specs.Prelude.{◌≡◌, [], ◌∷◌, Ok, Err, MatchResult, IfOk, length};
 ghost use Rattle.u_text.specs.Choice.{mapped};
 ghost use Rattle.u_text.specs.Parts.{lead};
 ghost use Rattle.u_rule.specs.EntryReading.{spaced_name};
 ghost use Rattle.u_rule.specs.EntryOrder.{firing};
 ghost use Rattle.u_rule.specs.FiringReading as reader;
 ghost use Rattle.u_rule.specs.FiringReading.{line, last_value, by_at, next_at, end_at, firing_at};
-ghost use Rattle.u_rule.specs.FiringReading.{behind_name, behind_first, behind_second};
-ghost use Rattle.u_rule.specs.FiringReading.{behind_third, IsFiringOf, IsFiringErrorOf};
+ghost use Rattle.u_rule.specs.FiringReading.{behind_name, firing_behind, IsFiringOf, IsFiringErrorOf};
+ghost use Rattle.u_rule.specs.Parts.{most_ports, IsValueList};
 
 use crate::firing::{Firing, Written};
+use crate::parts::MOST_PORTS;
 use crate::reading::{TextError, spaced_name, spaced_value};
 use crate::values::Values;
 use std::alloc::{AllocError, Global};
@@ -165,7 +166,7 @@ fn last_write(alloc: Global, bytes: &[u8]) -> Result<Front<'_, Option<Written>>,
     }
 }
 
-/// What stands behind a third value.
+/// What stands behind the last value that there may be.
 #[tactic(auto, using(crate::proofs::FiringPartLaws::end_here, crate::proofs::FiringPartLaws::end_behind_other, crate::proofs::FiringPartLaws::end_behind_nothing))]
 fn front_end(alloc: Global, bytes: &[u8]) -> Result<Front<'_, Option<Written>>, AllocError>
     ensures { IfOk result (λ front. MatchResult front
@@ -181,25 +182,24 @@ fn front_end(alloc: Global, bytes: &[u8]) -> Result<Front<'_, Option<Written>>, 
     }
 }
 
-/// The firing of these three values, behind the third.
-#[tactic(auto, using(crate::proofs::FiringPartLaws::third_end, crate::proofs::FiringPartLaws::third_refused))]
-fn with_three(
+/// The firing of these values, behind the last that there may be.
+#[tactic(auto, using(crate::proofs::FiringPartLaws::last_end, crate::proofs::FiringPartLaws::last_refused))]
+fn with_all<'a>(
     alloc: Global,
     activity: Name,
-    first: Value,
-    second: Value,
-    third: Value,
-    bytes: &[u8],
-) -> Result<Front<'_, Firing>, AllocError>
+    values: &[Value],
+    bytes: &'a [u8],
+) -> Result<Front<'a, Firing>, AllocError>
+    requires { length values.now ≡ most_ports }
     ensures { IfOk result (λ front. MatchResult front
-        (λ found. behind_third activity first second third bytes.now ≡ Ok (found.0, found.1.now))
-        (λ rest. behind_third activity first second third bytes.now ≡ Err rest.now)) }
+        (λ found. firing_behind activity values.now bytes.now ≡ Ok (found.0, found.1.now))
+        (λ rest. firing_behind activity values.now bytes.now ≡ Err rest.now)) }
 {
     let (write, rest) = match front_end(alloc, bytes)? {
         Ok(found) => found,
         Err(rest) => return Ok(Err(rest)),
     };
-    let values = Values::three(alloc, first, second, third)?;
+    let values = Values::of(alloc, values)?;
     let firing = Firing {
         activity,
         values,
@@ -208,30 +208,34 @@ fn with_three(
     Ok(Ok((firing, rest)))
 }
 
-/// The firing of these two values or of three, behind the second.
-#[tactic(auto, using(crate::proofs::FiringPartLaws::second_end, crate::proofs::FiringPartLaws::second_another, crate::proofs::FiringPartLaws::second_refused))]
-fn with_two(
+/// The firing of these values or of more, behind the last of them.
+#[tactic(auto, using(crate::proofs::FiringPartLaws::values_end, crate::proofs::FiringPartLaws::values_another, crate::proofs::FiringPartLaws::values_refused))]
+fn with_more(
     alloc: Global,
     activity: Name,
-    first: Value,
-    second: Value,
+    mut values: Vec<Value>,
     bytes: &[u8],
 ) -> Result<Front<'_, Firing>, AllocError>
+    requires { IsValueList values.items }
     ensures { IfOk result (λ front. MatchResult front
-        (λ found. behind_second activity first second bytes.now ≡ Ok (found.0, found.1.now))
-        (λ rest. behind_second activity first second bytes.now ≡ Err rest.now)) }
+        (λ found. firing_behind activity values.items bytes.now ≡ Ok (found.0, found.1.now))
+        (λ rest. firing_behind activity values.items bytes.now ≡ Err rest.now)) }
 {
+    if values.len() == MOST_PORTS {
+        return with_all(alloc, activity, &values, bytes);
+    }
     let (next, rest) = match front_next(alloc, bytes)? {
         Ok(found) => found,
         Err(rest) => return Ok(Err(rest)),
     };
     let write = match next {
-        Next::Another(third) => {
-            return with_three(alloc, activity, first, second, third, rest);
+        Next::Another(value) => {
+            values.push(value)?;
+            return with_more(alloc, activity, values, rest);
         }
         Next::End(write) => write,
     };
-    let values = Values::two(alloc, first, second)?;
+    let values = Values::of(alloc, &values)?;
     let firing = Firing {
         activity,
         values,
@@ -240,7 +244,7 @@ fn with_two(
     Ok(Ok((firing, rest)))
 }
 
-/// The firing of this value or of more, behind the first.
+/// The firing of this value or of more, behind the first. One value takes no list.
 #[tactic(auto, using(crate::proofs::FiringPartLaws::first_end, crate::proofs::FiringPartLaws::first_another, crate::proofs::FiringPartLaws::first_refused))]
 fn with_one(
     alloc: Global,
@@ -249,15 +253,20 @@ fn with_one(
     bytes: &[u8],
 ) -> Result<Front<'_, Firing>, AllocError>
     ensures { IfOk result (λ front. MatchResult front
-        (λ found. behind_first activity first bytes.now ≡ Ok (found.0, found.1.now))
-        (λ rest. behind_first activity first bytes.now ≡ Err rest.now)) }
+        (λ found. firing_behind activity (first ∷ []) bytes.now ≡ Ok (found.0, found.1.now))
+        (λ rest. firing_behind activity (first ∷ []) bytes.now ≡ Err rest.now)) }
 {
     let (next, rest) = match front_next(alloc, bytes)? {
         Ok(found) => found,
         Err(rest) => return Ok(Err(rest)),
     };
     let write = match next {
-        Next::Another(second) => return with_two(alloc, activity, first, second, rest),
+        Next::Another(second) => {
+            let mut values = Vec::new(alloc);
+            values.push(first)?;
+            values.push(second)?;
+            return with_more(alloc, activity, values, rest);
+        }
         Next::End(write) => write,
     };
     let values = Values::one(alloc, first)?;
@@ -346,8 +355,8 @@ fn whole(firing: Firing, bytes: &[u8], rest: &[u8]) -> Result<Firing, TextError>
 }
 
 impl Firing {
-    /// Returns the firing whose text the bytes are: `f NAME VALUE..` with one to three values, and
-    /// ` by WRITER VALUE` behind them where it has a write.
+    /// Returns the firing whose text the bytes are: `f NAME VALUE..` with one value for each
+    /// port, and ` by WRITER VALUE` behind them where it has a write.
     ///
     /// # Errors
     /// `BadText` where the bytes are no firing's text: it holds the offset where the longest front of

@@ -26,7 +26,7 @@ mod writing;
 
 pub use entry::Entry;
 pub use firing::{Firing, Written};
-pub use parts::{Fault, Token, Write};
+pub use parts::{Fault, MOST_PORTS, Token, Write};
 pub use ports::ports_at;
 pub use reading::TextError;
 pub use rule::{RuleError, given_by, gives, is_firing, needs, start};

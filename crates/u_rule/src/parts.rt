@@ -1,12 +1,15 @@
 //! What entries are made of: tokens, writes and faults.
 ghost use Rattle.std.specs.Prelude.{◌≡◌, IfOk};
 ghost use Rattle.u_name.specs.Context.{IsBetween};
-ghost use Rattle.u_rule.specs.Parts.{token, IsToken};
+ghost use Rattle.u_rule.specs.Parts.{token, IsToken, most_ports};
 
 use std::alloc::AllocError;
 use std::marker::Model;
 use u_name::{Cell, Name};
 use u_value::{FaultKind, Value};
+
+/// The greatest number of ports that an activity has.
+pub const MOST_PORTS: usize = 3;
 
 /// A value at a port of an activity. Tokens are ordered by activity, port and value.
 #[derive(PartialEq, Eq, PartialOrd, Ord, Hash, Drop)]
@@ -31,9 +34,9 @@ impl Model for Token {
 }
 
 impl Token {
-    /// The token of that value at that port, 1 to 3.
+    /// The token of that value at that port, from 1 on.
     pub fn new(activity: Name, port: u8, value: Value) -> Token
-        requires { IsBetween 1 port 3 }
+        requires { IsBetween 1 port most_ports }
         ensures { result ≡ token activity port value }
     {
         Token {
@@ -50,7 +53,7 @@ impl Token {
         &self.activity
     }
 
-    /// The port, 1 to 3.
+    /// The port, from 1 on.
     pub fn port(&self) -> u8
         ensures port { result ≡ self.now.port }
         ensures range { IsToken self.now }
@@ -65,10 +68,10 @@ impl Token {
         &self.value
     }
 
-    /// The activity, the port, 1 to 3, and the value.
+    /// The activity, the port and the value.
     pub fn into_parts(self) -> (Name, u8, Value)
         ensures parts { token result.0 result.1 result.2 ≡ self }
-        ensures range { IsBetween 1 result.1 3 }
+        ensures range { IsBetween 1 result.1 most_ports }
     {
         (self.activity, self.port, self.value)
     }

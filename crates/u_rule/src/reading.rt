@@ -3,6 +3,7 @@ ghost use Rattle.std.specs.Prelude.{◌≡◌, Ok, Err, MatchResult, IfOk};
 ghost use Rattle.u_text.specs.Choice.{mapped};
 ghost use Rattle.u_text.specs.Fixed.{fixed};
 ghost use Rattle.u_name.specs.Context.{IsBetween};
+ghost use Rattle.u_rule.specs.Parts.{most_ports};
 ghost use Rattle.u_rule.specs.EntryReading as reader;
 ghost use Rattle.u_rule.specs.EntryReading.{port_at, index_at, cell_at, kind_at, entry_at};
 ghost use Rattle.u_rule.specs.EntryReading.{token_at, write_at, fault_at, answer_at};
@@ -12,7 +13,7 @@ ghost use Rattle.u_rule.specs.EntryReading.{IsEntryOf, IsEntryErrorOf};
 ghost use Rattle.u_rule.specs.declared.reading.TextError.TheVariants.{NoMemory};
 
 use crate::entry::Entry;
-use crate::parts::{Fault, Token, Write};
+use crate::parts::{Fault, MOST_PORTS, Token, Write};
 use std::alloc::{AllocError, Global};
 use thiserror::Error;
 use u_name::{Cell, Front, Name, front_name};
@@ -39,17 +40,19 @@ impl From<AllocError> for TextError {
     }
 }
 
-/// A port, 1 to 3.
-#[tactic(auto, using(crate::proofs::EntryPartLaws::port_one, crate::proofs::EntryPartLaws::port_two, crate::proofs::EntryPartLaws::port_other))]
+/// A port, which is one digit.
+#[tactic(auto, using(crate::proofs::PortLaws::digit_read, crate::proofs::PortLaws::other_refused))]
 fn front_port(bytes: &[u8]) -> Front<'_, u8>
     ensures { MatchResult result
-        (λ found. (port_at bytes.now ≡ Ok (found.0, found.1.now)) × IsBetween 1 found.0 3)
+        (λ found. (port_at bytes.now ≡ Ok (found.0, found.1.now))
+        × IsBetween 1 found.0 most_ports)
         (λ rest. port_at bytes.now ≡ Err rest.now) }
 {
     match bytes.split_first() {
-        Some((b'1', rest)) => Ok((1, rest)),
-        Some((b'2', rest)) => Ok((2, rest)),
-        _ => Ok((3, after_all(bytes, b"3")?)),
+        Some((digit, rest)) if b'1' <= *digit && *digit <= b'0' + MOST_PORTS as u8 => {
+            Ok((*digit - b'0', rest))
+        }
+        _ => Err(bytes),
     }
 }
 
@@ -134,7 +137,7 @@ fn front_cell(alloc: Global, bytes: &[u8]) -> Result<Front<'_, Cell>, AllocError
 fn spaced_port(bytes: &[u8]) -> Front<'_, u8>
     ensures { MatchResult result
         (λ found. (reader.spaced_port bytes.now ≡ Ok (found.0, found.1.now))
-        × IsBetween 1 found.0 3)
+        × IsBetween 1 found.0 most_ports)
         (λ rest. reader.spaced_port bytes.now ≡ Err rest.now) }
 {
     front_port(after(bytes, b' ')?)

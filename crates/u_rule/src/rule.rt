@@ -11,6 +11,7 @@ ghost use Rattle.u_rule.specs.declared.rule.RuleError.TheVariants as errors;
 ghost use Rattle.u_rule.specs.EntryOrder.{entry_cmp};
 ghost use Rattle.u_sets.specs.Rising.{Rises};
 ghost use Rattle.u_rule.specs.Fits.{statement_of, fits_at, IsFitting, AllFit};
+ghost use Rattle.u_rule.specs.Parts.{most_ports};
 ghost use Rattle.u_rule.specs.Rule.{tokens_from, start_of, needs_of, gives_of, is_firing_of, is_firing_at, has_its_values};
 
 use crate::entry::Entry;
@@ -176,7 +177,7 @@ pub fn given_by(alloc: Global, job: &Job, firing: &Firing) -> Result<Vec<Entry>,
 
 /// Adds the tokens that have these values at the activity's ports, from that port on.
 fn add_tokens(tokens: &mut Vec<Entry>, activity: &Name, values: &[Value]) -> Result<(), AllocError>
-    requires { length values.now ≤ 3 }
+    requires { length values.now ≤ most_ports }
     ensures { OnOk result
         (tokens.new.items ≡ tokens.old.items ++ tokens_from activity.now 1 values.now) }
 {

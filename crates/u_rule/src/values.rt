@@ -15,20 +15,20 @@ use std::marker::Model;
 use std::sync::Arc;
 use u_value::Value;
 
-/// One to three values, in the order of the ports. Contracts see a list. Lists are ordered value by
-/// value, and a list comes before those that go on behind it. One value takes no memory of its own, and
-/// copies of two or three share them.
+/// The values at an activity's ports, in the order of the ports: one at least, and as many as an activity
+/// has ports at most. Contracts see a list. Lists are ordered value by value, and a list comes before those
+/// that go on behind it. One value takes no memory of its own, and copies of two or more share them.
 #[derive(Drop)]
 pub struct Values {
-    held: OneToThree,
+    held: Held,
 }
 
 /// One value in its place, or a way to more.
 #[derive(Drop)]
-enum OneToThree {
+enum Held {
     One([Value; 1]),
     Two(Arc<[Value; 2], Global>),
-    Three(Arc<[Value; 3], Global>),
+    More(Arc<Vec<Value>, Global>),
 }
 
 impl Model for Values {
@@ -45,6 +45,18 @@ impl Model for Values {
     ghost invariant = { λ v. IsValueList (values_held v.held) };
 }
 
+/// Copies of the values.
+fn copies(alloc: Global, values: &[Value]) -> Result<Vec<Value>, AllocError>
+    ensures { IfOk result (λ v. v.items ≡ values.now) }
+{
+    let mut list = Vec::new(alloc);
+    list.reserve_exact(values.len())?;
+    for value in values {
+        list.push(value.copy()?)?;
+    }
+    Ok(list)
+}
+
 impl Values {
     /// One value.
     ///
@@ -54,7 +66,7 @@ impl Values {
         ensures { IfOk result (λ v. v ≡ first ∷ []) }
     {
         Ok(Values {
-            held: OneToThree::One([first]),
+            held: Held::One([first]),
         })
     }
 
@@ -67,26 +79,34 @@ impl Values {
     {
         let two = Arc::new(alloc, [first, second])?;
         Ok(Values {
-            held: OneToThree::Two(two),
+            held: Held::Two(two),
         })
     }
 
-    /// Three values.
+    /// These values, as they are.
+    fn more(alloc: Global, values: Vec<Value>) -> Result<Values, AllocError>
+        requires { IsValueList values.items }
+        ensures { IfOk result (λ v. v ≡ values.items) }
+    {
+        let more = Arc::new(alloc, values)?;
+        Ok(Values {
+            held: Held::More(more),
+        })
+    }
+
+    /// Copies of these values: one at least, and as many as an activity has ports at most.
     ///
     /// # Errors
     /// `AllocError` where there is no memory.
-    pub fn three(
-        alloc: Global,
-        first: Value,
-        second: Value,
-        third: Value,
-    ) -> Result<Values, AllocError>
-        ensures { IfOk result (λ v. v ≡ first ∷ second ∷ third ∷ []) }
+    pub fn of(alloc: Global, values: &[Value]) -> Result<Values, AllocError>
+        requires { IsValueList values.now }
+        ensures { IfOk result (λ v. v ≡ values.now) }
     {
-        let three = Arc::new(alloc, [first, second, third])?;
-        Ok(Values {
-            held: OneToThree::Three(three),
-        })
+        match values {
+            [only] => Values::one(alloc, only.copy()?),
+            [first, second] => Values::two(alloc, first.copy()?, second.copy()?),
+            _ => Values::more(alloc, copies(alloc, values)?),
+        }
     }
 
     /// The values, in the order of the ports.
@@ -95,13 +115,13 @@ impl Values {
         ensures count { IsValueList self.now }
     {
         match &self.held {
-            OneToThree::One(one) => &one[..],
-            OneToThree::Two(two) => &two[..],
-            OneToThree::Three(three) => &three[..],
+            Held::One(one) => &one[..],
+            Held::Two(two) => &two[..],
+            Held::More(more) => &more[..],
         }
     }
 
-    /// An equal list. Two or three values are shared.
+    /// An equal list. Two values and more are shared.
     ///
     /// # Errors
     /// `AllocError` where there is no memory.
@@ -109,9 +129,9 @@ impl Values {
         ensures { IfOk result (λ v. v ≡ self.now) }
     {
         let held = match &self.held {
-            OneToThree::One([only]) => OneToThree::One([only.copy()?]),
-            OneToThree::Two(two) => OneToThree::Two(Arc::try_clone(two)?),
-            OneToThree::Three(three) => OneToThree::Three(Arc::try_clone(three)?),
+            Held::One([only]) => Held::One([only.copy()?]),
+            Held::Two(two) => Held::Two(Arc::try_clone(two)?),
+            Held::More(more) => Held::More(Arc::try_clone(more)?),
         };
         Ok(Values { held })
     }

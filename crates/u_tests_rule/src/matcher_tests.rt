@@ -295,20 +295,41 @@ fn is_known(matcher: &mut Matcher, job: &Job, entry: &Entry) -> Result<bool, All
     Ok(matches!(came, Entered::Known) && matcher.len() == len)
 }
 
+/// The firings that the entry wakes in a matcher with these entries.
+fn woken_in(
+    alloc: Global,
+    job: &Job,
+    crowd: &[Numbered],
+    entry: &Entry,
+) -> Result<Vec<Firing>, AllocError> {
+    let mut matcher = crowded(alloc, crowd)?;
+    matcher.enter(job, entry)
+}
+
+/// Whether the entry is put off exactly where it has to be, and wakes what is wanted.
+fn comes_with(
+    matcher: &mut Matcher,
+    job: &Job,
+    entry: &Entry,
+    wanted: &[Firing],
+    is_put_off: bool,
+) -> Result<bool, AllocError> {
+    match matcher.enter_few(job, entry)? {
+        Entered::Known => Ok(false),
+        Entered::Woken(found) => {
+            let same = found.as_slice() == wanted;
+            Ok(same && !is_put_off && is_known(matcher, job, entry)?)
+        }
+        Entered::Many => Ok(is_put_off && wakes_later(matcher, job, entry, wanted)?),
+    }
+}
+
 /// Whether the entry is put off where it has to be, and wakes what it wakes in another matcher.
 fn comes_so(alloc: Global, job: &Job, crowd: &Crowd) -> Result<bool, AllocError> {
     let entry = entry_of(alloc, crowd.1)?;
-    let mut other = crowded(alloc, crowd.0)?;
-    let wanted = other.enter(job, &entry)?;
+    let wanted = woken_in(alloc, job, crowd.0, &entry)?;
     let mut matcher = crowded(alloc, crowd.0)?;
-    match matcher.enter_few(job, &entry)? {
-        Entered::Known => Ok(false),
-        Entered::Woken(found) => {
-            let same = found.as_slice() == wanted.as_slice();
-            Ok(same && !crowd.2 && is_known(&mut matcher, job, &entry)?)
-        }
-        Entered::Many => Ok(crowd.2 && wakes_later(&mut matcher, job, &entry, &wanted)?),
-    }
+    comes_with(&mut matcher, job, &entry, &wanted, crowd.2)
 }
 
 #[test]

@@ -1,7 +1,7 @@
 //! What is to blame for several values at a port: a cell that was written twice.
 ghost use Rattle.std.specs.Prelude.{◌≡◌, IfOk};
 ghost use Rattle.u_rule.specs.Rule.{system_of};
-ghost use Rattle.u_rule.specs.Parts.{token};
+ghost use Rattle.u_rule.specs.Parts.{token, most_ports};
 ghost use Rattle.u_rule.specs.declared.entry.Entry.TheVariants as entries;
 ghost use Rattle.u_name.specs.Context.{IsBetween};
 ghost use Rattle.u_system.specs.Firing.{Held, Derivation};
@@ -23,7 +23,7 @@ use u_value::Value;
 
 /// The token of that value at the port.
 fn token_at(activity: &Name, port: u8, value: &Value) -> Result<Entry, AllocError>
-    requires { IsBetween 1 port 3 }
+    requires { IsBetween 1 port most_ports }
     ensures { IfOk result (λ e. e ≡ entries.Token (token activity.now port value.now)) }
 {
     let activity = activity.copy()?;
@@ -37,7 +37,7 @@ fn first_tokens(
     port: u8,
     values: &[Value],
 ) -> Result<Option<(Entry, Entry)>, AllocError>
-    requires { IsBetween 1 port 3 }
+    requires { IsBetween 1 port most_ports }
     ensures { IfOk result (AreFirstTokens activity.now port values.now) }
 {
     match values {
@@ -59,7 +59,7 @@ fn two_least(
     activity: &Name,
     port: u8,
 ) -> Result<Option<(Entry, Entry)>, AllocError>
-    requires { IsBetween 1 port 3 }
+    requires { IsBetween 1 port most_ports }
     ensures { IfOk result (AreLeastTokens job.now log.now activity.now port) }
 {
     let held = held_by(alloc, job, log)?;
@@ -98,7 +98,7 @@ fn blame_in(
     activity: &Name,
     port: u8,
 ) -> Result<Option<Blame>, BlameError>
-    requires port { IsBetween 1 port 3 }
+    requires port { IsBetween 1 port most_ports }
     requires derivation { Derivation (system_of job.now) log.now }
     ensures { BlameOf job.now log.now activity.now port result }
 {
@@ -128,7 +128,7 @@ pub fn blame(
     activity: &Name,
     port: u8,
 ) -> Result<Option<Blame>, BlameError>
-    requires { IsBetween 1 port 3 }
+    requires { IsBetween 1 port most_ports }
     ensures answer { BlameAnswer machine.now activity.now port result }
     ensures cell { IfOk result (BlamesByWrites machine.now.job) }
 {

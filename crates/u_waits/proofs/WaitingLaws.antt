@@ -4,19 +4,20 @@ use Rattle.u_name.specs.Context.{IsBetween}
 use Rattle.u_name.specs.Name.{Activity}
 use Rattle.u_program.specs.Parts.{BlockParts}
 use Rattle.u_rule.specs.declared.entry.Entry.{Entry}
+use Rattle.u_rule.specs.Parts.{most_ports}
 use Rattle.u_waits.specs.Ports.{has_port}
 use Rattle.u_waits.specs.Waiting.{HasToken, IsPortOf, IsWaiting}
 use Rattle.u_waits.specs.declared.ports.Ports.{Ports}
 use Rattle.u_waits.specs.declared.activities.WaitingActivity.{WaitingActivity}
-use Rattle.u_waits.proofs.PortLaws.{ports_same, three_ports}
+use Rattle.u_waits.proofs.PortLaws.{ports_same, few_ports}
 
 abbrev pub waiting : Activity → Ports → Ports → WaitingActivity
 waiting activity has lacks = record { activity = activity; has = has; lacks = lacks }
 
-pub port_between : (p : List BlockParts) (a : Activity) (k : ℕ) → IsPortOf p a k → IsBetween 1 k 3
-port_between p a k (s, e, w) = let t = three_ports s.kind in (w.0, omega (arith, w.1, t))
+pub port_between : (p : List BlockParts) (a : Activity) (k : ℕ) → IsPortOf p a k → IsBetween 1 k most_ports
+port_between p a k (s, e, w) = let t = few_ports s.kind in (w.0, omega (arith, w.1, t))
 
-module _ (p : List BlockParts) (H : Entry → Type 0) (a : Activity) (all tokens has lacks : Ports) (of_all : (k : ℕ) → IsTrue (has_port all k) ↔ IsPortOf p a k) (of_tokens : (k : ℕ) → IsTrue (has_port tokens k) ↔ (IsBetween 1 k 3 × HasToken H a k)) (both : (k : ℕ) → IsTrue (has_port has k) ↔ (IsTrue (has_port all k) × IsTrue (has_port tokens k))) (but : (k : ℕ) → IsTrue (has_port lacks k) ↔ (IsTrue (has_port all k) × (IsTrue (has_port tokens k) → ⊥))) where
+module _ (p : List BlockParts) (H : Entry → Type 0) (a : Activity) (all tokens has lacks : Ports) (of_all : (k : ℕ) → IsTrue (has_port all k) ↔ IsPortOf p a k) (of_tokens : (k : ℕ) → IsTrue (has_port tokens k) ↔ (IsBetween 1 k most_ports × HasToken H a k)) (both : (k : ℕ) → IsTrue (has_port has k) ↔ (IsTrue (has_port all k) × IsTrue (has_port tokens k))) (but : (k : ℕ) → IsTrue (has_port lacks k) ↔ (IsTrue (has_port all k) × (IsTrue (has_port tokens k) → ⊥))) where
   pub has_those : (k : ℕ) → IsTrue (has_port has k) ↔ (IsPortOf p a k × HasToken H a k)
   has_those k = (
     (λ h. let w = (both k).0 h in ((of_all k).0 w.0, ((of_tokens k).0 w.1).1)),

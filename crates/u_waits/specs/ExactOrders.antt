@@ -1,8 +1,8 @@
 -- Waiting activities and deferred reads have orders in which only a thing itself ties with it. The laws
 -- stand here because the impls of `ExactOrd` cite them.
-use Rattle.std.specs.Prelude.{Bool, true, false, refl}
+use Rattle.std.specs.Prelude.{ℕ}
 use Rattle.std.proofs.Common.{ap, ◌∙◌}
-use Rattle.std.specs.Ordering.{bool_cmp}
+use Rattle.std.specs.FinMap.{nat_cmp-IsAntisymmetric}
 use Rattle.u_name.specs.Name.{Activity}
 use Rattle.u_name.specs.Cell.{CellOf}
 use Rattle.u_name.specs.ContextLaws.{both}
@@ -15,8 +15,8 @@ use Rattle.u_waits.specs.declared.activities.WaitingActivity.{WaitingActivity}
 use Rattle.u_waits.specs.declared.reads.DeferredRead.{DeferredRead}
 use Rattle.u_waits.specs.contracts.ports.PortsOrd.TheImpl as ports_ord
 
-abbrev ports : Bool → Bool → Bool → Ports
-ports first second third = record { first = first; second = second; third = third }
+abbrev ports : ℕ → Ports
+ports bits = record { bits = bits }
 
 abbrev waiting : Activity → Ports → Ports → WaitingActivity
 waiting activity has lacks = record { activity = activity; has = has; lacks = lacks }
@@ -24,19 +24,8 @@ waiting activity has lacks = record { activity = activity; has = has; lacks = la
 abbrev read : Activity → CellOf → DeferredRead
 read reader cell = record { reader = reader; cell = cell }
 
-bool_ties : IsExact bool_cmp
-bool_ties true true h = refl
-bool_ties true false h = cc
-bool_ties false true h = cc
-bool_ties false false h = refl
-
 ports_ties : IsExact (ports_ord.ghosts).cmp
-ports_ties a b h =
-    let u = both _ _ h in
-    let v = both _ _ u.1 in
-    ap (λ x. ports x a.second a.third) (bool_ties a.first b.first u.0)
-    ∙ ap (λ x. ports b.first x a.third) (bool_ties a.second b.second v.0)
-    ∙ ap (λ x. ports b.first b.second x) (bool_ties a.third b.third v.1)
+ports_ties a b h = ap ports (nat_cmp-IsAntisymmetric a.bits b.bits h)
 
 pub waiting_ties : IsExact waiting_order
 waiting_ties a b h =

@@ -1,9 +1,10 @@
 -- The lines of what waits.
-use Rattle.std.specs.Prelude.{ℕ, List, [], ◌∷◌, ◌++◌, if◌then◌else◌, codes, map}
+use Rattle.std.specs.Prelude.{ℕ, zero, suc, ◌+◌, List, [], ◌∷◌, ◌++◌, if◌then◌else◌, codes, map}
 use Rattle.std.specs.Fmt.{decimal}
 use Rattle.u_text.specs.Spaced.{ended}
 use Rattle.u_name.specs.NameText.{name_text}
 use Rattle.u_name.specs.Cell.{cell_text}
+use Rattle.u_rule.specs.Parts.{most_ports}
 use Rattle.u_waits.specs.Ports.{has_port}
 use Rattle.u_waits.specs.declared.ports.Ports.{Ports}
 use Rattle.u_waits.specs.declared.activities.WaitingActivity.{WaitingActivity}
@@ -14,9 +15,13 @@ use Rattle.u_waits.specs.declared.answer.Waiting.{Waiting}
 abbrev pub port_text : Ports → ℕ → List ℕ
 port_text p k = if has_port p k then 32 ∷ decimal k else []
 
--- the numbers of the ports in ascending order, each behind a space
+-- those of so many ports from that one on, in ascending order, each behind a space
+abbrev pub ports_from : Ports → ℕ → ℕ → List ℕ
+ports_from p k zero = []
+ports_from p k (suc n) = port_text p k ++ ports_from p (k + 1) n
+
 abbrev pub ports_text : Ports → List ℕ
-ports_text p = port_text p 1 ++ (port_text p 2 ++ port_text p 3)
+ports_text p = ports_from p 1 most_ports
 
 -- a word, and behind it the numbers of the ports
 abbrev pub listed : List ℕ → Ports → List ℕ

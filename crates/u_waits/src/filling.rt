@@ -1,10 +1,11 @@
 //! Which ports an activity has, and which of them have a token.
-ghost use Rattle.std.specs.Prelude.{◌≡◌, ◌≤◌, ◌↔◌, ℕ, Contains, IfOk, IsTrue};
+ghost use Rattle.std.specs.Prelude.{◌≡◌, ◌≤◌, ◌↔◌, ◌⊎◌, ℕ, Contains, IfOk, IsTrue};
 ghost use Rattle.u_name.specs.Context.{IsBetween};
+ghost use Rattle.u_rule.specs.Parts.{most_ports};
 ghost use Rattle.u_waits.specs.Ports.{has_port};
 ghost use Rattle.u_waits.specs.Waiting.{HasToken, IsPortOf};
 
-use crate::ports::Ports;
+use crate::ports::{MOST_PORTS, Ports};
 use crate::statements::executed;
 use std::alloc::AllocError;
 use u_check::ports_of;
@@ -22,19 +23,35 @@ fn has_token(history: &History, activity: &Name, number: u8) -> Result<bool, All
     Ok(!history.values_at(&port).is_empty())
 }
 
-/// Those of the ports 1 to 3 of the activity at which the history has a token.
+/// The ports, and that one where the history has a token there.
+fn with_filled(
+    history: &History,
+    activity: &Name,
+    number: u8,
+    ports: Ports,
+) -> Result<Ports, AllocError>
+    requires { number ≤ most_ports }
+    ensures { IfOk result (λ p. (k : ℕ) → IsTrue (has_port p k)
+        ↔ (IsTrue (has_port ports k)
+        ⊎ ((k ≡ number) × HasToken (Contains history.now) activity.now k))) }
+{
+    let there = has_token(history, activity, number)?;
+    if there {
+        return Ok(ports.with(number));
+    }
+    Ok(ports)
+}
+
+/// Those of the ports that an activity may have at which the history has a token of this one.
 pub(crate) fn filled(history: &History, activity: &Name) -> Result<Ports, AllocError>
     ensures { IfOk result (λ p. (k : ℕ) → IsTrue (has_port p k)
-        ↔ (IsBetween 1 k 3 × HasToken (Contains history.now) activity.now k)) }
+        ↔ (IsBetween 1 k most_ports × HasToken (Contains history.now) activity.now k)) }
 {
-    let first = has_token(history, activity, 1)?;
-    let second = has_token(history, activity, 2)?;
-    let third = has_token(history, activity, 3)?;
-    Ok(Ports {
-        first,
-        second,
-        third,
-    })
+    let mut ports = Ports::none();
+    for number in 1..MOST_PORTS + 1 {
+        ports = with_filled(history, activity, number, ports)?;
+    }
+    Ok(ports)
 }
 
 /// The ports of the activity: those of its statement, or none where the program has no such

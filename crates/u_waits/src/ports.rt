@@ -1,26 +1,46 @@
 //! Sets of ports.
-ghost use Rattle.std.specs.Prelude.{◌≡◌, ◌≤◌, ◌↔◌, ℕ, IsTrue, IsFalse};
+ghost use Rattle.std.specs.Prelude.{◌≡◌, ◌≤◌, ◌↔◌, ◌⊎◌, ◌==◌, ℕ, IsTrue, IsFalse};
+ghost use Rattle.std.specs.Int.{bit_at};
 ghost use Rattle.u_name.specs.Context.{IsBetween};
+ghost use Rattle.u_rule.specs.Parts.{most_ports};
 ghost use Rattle.u_waits.specs.Ports.{has_port};
 
-/// Some of the ports of an activity. Ports are numbered 1 to 3.
+/// The greatest number of ports that an activity has; a set has room for 7.
+pub(crate) const MOST_PORTS: u8 = u_rule::MOST_PORTS as u8;
+
+/// Some of the ports of an activity. Ports are numbered from 1.
 #[derive(Clone, Copy, PartialEq, Eq, PartialOrd, Ord, Hash, Debug)]
 pub struct Ports {
-    pub(crate) first: bool,
-    pub(crate) second: bool,
-    pub(crate) third: bool,
+    /// The bit of a port that is there is 1. The lowest is that of no port, the next that of port 1.
+    pub(crate) bits: u8,
 }
 
 impl Ports {
+    /// No port.
+    pub(crate) fn none() -> Ports
+        ensures { (k : ℕ) → IsTrue (has_port result k) → ⊥ }
+    {
+        Ports { bits: 0 }
+    }
+
     /// The ports from 1 to that number.
     pub(crate) fn up_to(count: usize) -> Ports
-        requires { count ≤ 3 }
+        requires { count ≤ most_ports }
         ensures { (k : ℕ) → IsTrue (has_port result k) ↔ IsBetween 1 k count }
     {
         Ports {
-            first: count >= 1,
-            second: count >= 2,
-            third: count >= 3,
+            bits: (2 << count) - 2,
+        }
+    }
+
+    /// The ports, and that one.
+    pub(crate) fn with(self, port: u8) -> Ports
+        requires { port ≤ most_ports }
+        ensures { (k : ℕ) → IsTrue (has_port result k)
+            ↔ (IsTrue (has_port self k) ⊎ (k ≡ port)) }
+    {
+        Ports {
+            bits: self.bits | (1 << port),
         }
     }
 
@@ -28,12 +48,7 @@ impl Ports {
     pub fn contains(&self, port: u8) -> bool
         ensures { result ≡ has_port self.now port }
     {
-        match port {
-            1 => self.first,
-            2 => self.second,
-            3 => self.third,
-            _ => false,
-        }
+        has_bit(self.bits, port)
     }
 
     /// Whether it has no port.
@@ -41,13 +56,7 @@ impl Ports {
         ensures empty { IsTrue result → (k : ℕ) → IsTrue (has_port self.now k) → ⊥ }
         ensures other { IsFalse result → (k : ℕ) × IsTrue (has_port self.now k) }
     {
-        if self.first {
-            return false;
-        }
-        if self.second {
-            return false;
-        }
-        !self.third
+        self.bits == 0
     }
 
     /// The ports that the other has too.
@@ -56,9 +65,7 @@ impl Ports {
             ↔ (IsTrue (has_port self k) × IsTrue (has_port other k)) }
     {
         Ports {
-            first: self.first && other.first,
-            second: self.second && other.second,
-            third: self.third && other.third,
+            bits: self.bits & other.bits,
         }
     }
 
@@ -68,9 +75,17 @@ impl Ports {
             ↔ (IsTrue (has_port self k) × (IsTrue (has_port other k) → ⊥)) }
     {
         Ports {
-            first: self.first && !other.first,
-            second: self.second && !other.second,
-            third: self.third && !other.third,
+            bits: self.bits ^ (self.bits & other.bits),
         }
     }
+}
+
+/// Whether that bit of the number, counted from the lowest, is 1.
+fn has_bit(bits: u8, place: u8) -> bool
+    ensures { result ≡ (bit_at bits place == 1) }
+{
+    if place > 7 {
+        return false;
+    }
+    (bits >> place) & 1 == 1
 }

@@ -7,7 +7,7 @@ ghost use Rattle.u_waits.specs.Text.{waiting_text, read_text, waits_text};
 
 use crate::activities::WaitingActivity;
 use crate::answer::Waiting;
-use crate::ports::Ports;
+use crate::ports::{MOST_PORTS, Ports};
 use crate::reads::DeferredRead;
 use std::alloc::AllocError;
 use u_text::{cut_back, push_behind};
@@ -25,14 +25,15 @@ fn push_port(out: &mut Vec<u8>, ports: Ports, port: u8) -> Result<(), AllocError
 
 /// Appends the numbers of the ports, each behind a space. On an error a part of them may stand
 /// there.
-#[tactic(auto, using(u_text::proofs::AppendingLaws::extends_same, u_text::proofs::AppendingLaws::extends_by, u_text::proofs::AppendingLaws::extends_behind, crate::proofs::Texts::join3))]
+#[tactic(auto, using(u_text::proofs::AppendingLaws::extends_same, u_text::proofs::AppendingLaws::extends_by, u_text::proofs::AppendingLaws::extends_behind))]
 fn push_ports(out: &mut Vec<u8>, ports: Ports) -> Result<(), AllocError>
     ensures ok { OnOk result (out.new.items ≡ out.old.items ++ ports_text ports) }
     ensures err { OnErr result (Extends out.old.items out.new.items) }
 {
-    push_port(out, ports, 1)?;
-    push_port(out, ports, 2)?;
-    push_port(out, ports, 3)
+    for port in 1..MOST_PORTS + 1 {
+        push_port(out, ports, port)?;
+    }
+    Ok(())
 }
 
 /// Appends the word, and behind it the numbers of the ports. On an error a part of it may stand

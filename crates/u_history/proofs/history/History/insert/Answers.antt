@@ -1,4 +1,4 @@
-use Rattle.std.proofs.Common.{refl, arith}
+use Rattle.std.proofs.Common.{refl, ◌∙◌, arith}
 use Rattle.u_history.proofs.Tabled.{held_in, more_entries, one_entry_more}
 use Rattle.u_history.proofs.history.History.insert.Goals as goal
 
@@ -15,7 +15,7 @@ pub invariant_of-self-2 : goal.invariant_of-self-2
 invariant_of-self-2 c =
     let t = c.if-not-added.false in
     let k = one_entry_more c.self.inside.tables c.insert.new.self c.args.entry c.self.inside.count c.self.invariant.others c.in_ok-added.ensures.others c.in_ok-added.ensures.ok (c.in_ok-added.ensures.new.0 (cc)) c.self.invariant.count in
-    record { others = c.in_ok-added.ensures.others; count = omega arith }
+    record { ports = c.in_ok-added.ensures.ports ∙ c.self.invariant.ports; others = c.in_ok-added.ensures.others; count = omega arith }
 
 pub returns-clause-ok : goal.returns-clause-ok
 returns-clause-ok c = rw (← c.self.view_is) (more_entries c.self.inside.tables c.insert.new.self c.args.entry c.self.invariant.others c.in_ok-added.ensures.others c.in_ok-added.ensures.ok)

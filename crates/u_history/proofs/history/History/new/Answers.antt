@@ -5,6 +5,7 @@ use Rattle.u_history.proofs.history.History.new.Goals as goal
 
 pub invariant_of-result : goal.invariant_of-result
 invariant_of-result c = record {
+  ports = c.new.ensures.ports;
   others = c.new.ensures.others;
   count = ap (λ (es : List Entry). length es) (sym (no_entries c.new.result c.new.ensures.others c.new.ensures.held));
 }

@@ -5,4 +5,4 @@ use Rattle.u_history.proofs.history.History.unordered_entries.Goals as goal
 pub returns-clause-all : goal.returns-clause-all
 returns-clause-all c =
     let t = c.self.inside.tables in
-    rw (c.in_ok-entries.ensures.all, ← c.self.view_is) (unordered_is (listed_entries t.first t.second t.third t.writes t.rest))
+    rw (c.in_ok-entries.ensures.all, ← c.self.view_is) (unordered_is (listed_entries t.tokens t.writes t.rest))

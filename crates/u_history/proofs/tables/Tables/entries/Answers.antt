@@ -8,5 +8,5 @@ use Rattle.u_history.proofs.tables.Tables.entries.Goals as goal
 pub returns : goal.returns
 returns c =
     let t = c.args.self.now in
-    in_order_is (listed_entries t.first t.second t.third t.writes t.rest) c.put_in_order.new.list.items c.put_in_order.ensures.rises
+    in_order_is (listed_entries t.tokens t.writes t.rest) c.put_in_order.new.list.items c.put_in_order.ensures.rises
     (subst (λ (es : List Entry). Same (Contains c.put_in_order.new.list.items) (Contains es)) c.in_ok-list.ensures.all c.put_in_order.ensures.same)

@@ -1,9 +1,0 @@
-use Rattle.std.proofs.Common.{take, ◌⊎◌, ◌↔◌}
-use Rattle.std.specs.Prelude.{Contains}
-use Rattle.u_rule.specs.declared.firing.Firing.{Firing}
-use Rattle.u_sets.specs.Members.{SomeOf}
-use Rattle.u_match.specs.Joins.{IsThree}
-use Rattle.u_match.proofs.joining_tokens.Joining.add_thirds.Given as goal
-
-abbrev pub invariant-loop-third : goal.invariant-loop-third
-invariant-loop-third l = (f : Firing) → Contains l.found.items f ↔ (Contains l.initial.found.items f ⊎ SomeOf (take l.third-index l.thirds) (IsThree l.self.job.now l.self.activity.now l.first l.second) f)
