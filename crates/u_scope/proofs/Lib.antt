@@ -1,0 +1,6 @@
+pub mod ScopeLaws
+pub mod VerdictLaws
+pub mod ValueLaws
+pub mod CheckLaws
+pub mod KnownLaws
+pub mod MeaningLaws
