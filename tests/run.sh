@@ -1,7 +1,7 @@
 #!/usr/bin/env bash
 # Runs the built program on the cases of tests/cases, and compares standard output, standard error
-# and the exit status with what stands there; runs the examples of README.md, docs/LANGUAGE.md and
-# docs/programs; compares the manual page and the completions with `--help`, what README counts with what
+# and the exit status with what stands there; runs the examples of README.md, docs/LANGUAGE.md,
+# docs/REPLICAS.md and docs/programs; compares the manual page and the completions with `--help`, what README counts with what
 # there is, and the names that docs/THEOREMS.md lists with those of its promises; and compares programs/ and
 # the example of docs/LIBRARY.md with the code that tests run. The last line is 'N passed, M failed'.
 #
@@ -236,7 +236,7 @@ run_examples() {
     end_example
 }
 
-for page in README.md docs/LANGUAGE.md docs/programs/*.md; do
+for page in README.md docs/LANGUAGE.md docs/REPLICAS.md docs/programs/*.md; do
     run_examples "$page"
 done
 
@@ -316,6 +316,15 @@ done
 for file in programs/*.u; do
     expect_same "the pictures of runs of $file" '' "$(tests/drawn_runs.py "$binary" "$file" 3 60 2>&1)"
     expect_same "the pictures of whole runs of $file" '' "$(tests/drawn_runs.py "$binary" "$file" 2 2000 2>&1)"
+done
+
+# The pictures of worlds: what tests/drawn_worlds.py, which makes the random events anew, finds wrong with them.
+for file in programs/*.u; do
+    for world in '2 1 60' '3 7 200' '8 11 100' '1 5 30'; do
+        read -r replicas seed events <<<"$world"
+        expect_same "the picture of a world of $file: $world" '' \
+            "$(tests/drawn_worlds.py "$binary" "$file" 2 "$replicas" "$seed" "$events" 2>&1)"
+    done
 done
 
 # The pictures of the documents are drawn from what `draw` prints today.

@@ -1,6 +1,7 @@
 #!/usr/bin/env bash
-# Says which pictures of docs/pictures are old: each was drawn by Graphviz from what `u draw` printed of the
-# program of the same name, or of a run of one, and ends with the checksum of that text. The last line is 'N passed, M failed'.
+# Says which pictures of docs/pictures are old: each was drawn by Graphviz from what `u` printed of the program of
+# the same name, of a run of one, or of a world, and ends with the checksum of that text. The last line is
+# 'N passed, M failed'.
 #
 #   docs/pictures/draw.sh           says which are old
 #   docs/pictures/draw.sh --write   draws those anew, with Graphviz, which it installs by name if it is missing
@@ -28,11 +29,11 @@ room=$(mktemp -d) || exit 2
 trap 'rm -rf -- "$room"' EXIT
 passed=0
 failed=0
-# Counts whether the picture of that name is of what `u draw` prints with the other words.
+# Counts whether the picture of that name is of what `u` prints with the other words.
 look() {
     local name=$1 picture=docs/pictures/$1.svg
     shift
-    "$binary" draw "$@" >"$room/$name"
+    "$binary" "$@" >"$room/$name"
     [ -s "$room/$name" ] || exit 2
     if [ "$(tail -n 1 -- "$picture" 2>/dev/null)" != "$(mark "$room/$name")" ] && [ -n "$writes" ]; then
         write "$room/$name" "$picture"
@@ -46,9 +47,17 @@ look() {
 }
 
 for program in programs/*.u; do
-    look "$(basename -- "$program" .u)" "$program"
+    look "$(basename -- "$program" .u)" draw "$program"
 done
-look sum_run programs/sum.u 3
-look two_writers_run programs/two_writers.u 0
+look sum_run draw programs/sum.u 3
+look two_writers_run draw programs/two_writers.u 0
+look factorial_run draw programs/factorial.u 1
+look fibonacci_run draw programs/fibonacci.u 3
+look gcd_run draw programs/gcd.u 7
+look nested_run draw programs/nested.u 1
+look no_writer_run draw programs/no_writer.u 0
+look producer_run draw programs/producer.u 1
+look wavefront_run draw programs/wavefront.u 1
+look sum_world world programs/sum.u 3 --seed 11097 --events 28 --draw
 echo "$passed passed, $failed failed"
 [ "$failed" -eq 0 ]

@@ -12,7 +12,7 @@ use u_cli::{
     explain_text, fleet_text, read_input, restore_text, run_text, save_text, share_text,
     trace_text, waits_text, world_text,
 };
-use u_pictures::{draw_run_text, draw_story_text, draw_text};
+use u_pictures::{draw_run_text, draw_story_text, draw_text, draw_world_text};
 
 /// The argument of the stored run, and how often it may fire.
 const STORED_ARGUMENT: &[u8] = b"4";
@@ -227,6 +227,20 @@ pub fn world(
     let program = read_file(rt, file)?;
     let mut out = io::writer(rt);
     world_text(rt.alloc(), &program, argument.as_bytes(), plan, &mut out)
+}
+
+/// `world FILE ARG --draw`: the picture of what happens by the plan.
+pub fn draw_world(
+    rt: &HostRuntime,
+    file: &str,
+    argument: &str,
+    plan: WorldPlan,
+) -> Result<u8, CommandError>
+    requires { IsOneToEight plan.replicas }
+{
+    let program = read_file(rt, file)?;
+    let mut out = io::writer(rt);
+    draw_world_text(rt.alloc(), &program, argument.as_bytes(), plan, &mut out)
 }
 
 /// `fleet FILE ARG`, with 1 to 8 workers, each a thread from `threads`, and so many rounds for each.

@@ -151,6 +151,7 @@ fn follow<T: Threads + Wait + Sync>(
             seed,
             events,
             firings,
+            draw,
         } => {
             let plan = WorldPlan {
                 replicas,
@@ -158,7 +159,11 @@ fn follow<T: Threads + Wait + Sync>(
                 events,
                 firings,
             };
-            commands::world(rt, file, argument, plan)
+            if draw {
+                commands::draw_world(rt, file, argument, plan)
+            } else {
+                commands::world(rt, file, argument, plan)
+            }
         }
         Request::Fleet {
             file,

@@ -1,2 +1,3 @@
 pub mod Draws
 pub mod DrawnRuns
+pub mod DrawnWorlds

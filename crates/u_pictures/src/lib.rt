@@ -1,4 +1,4 @@
-//! What the command `draw` does, over bytes: the texts that come in, and the picture and the status that
+//! What the commands that draw do, over bytes: the texts that come in, and the picture and the status that
 //! go out.
 #![tactic(auto)]
 
@@ -6,7 +6,9 @@ mod drawing;
 mod holding;
 mod runs;
 mod stories;
+mod worlds;
 
 pub use drawing::draw_text;
 pub use runs::draw_run_text;
 pub use stories::draw_story_text;
+pub use worlds::draw_world_text;

@@ -24,7 +24,7 @@ IsInRange (Restore file argument checkpoint firings) = IsFirings firings
 IsInRange (Trace file argument entry firings) = IsFirings firings
 IsInRange (Blame file argument activity port) = IsPort port
 IsInRange (Waits file argument firings) = IsFirings firings
-IsInRange (World file argument replicas seed events firings) =
+IsInRange (World file argument replicas seed events firings draw) =
     IsOneToEight replicas × (events ≤ 100000) × IsFirings firings
 IsInRange (Fleet file argument workers rounds) = IsOneToEight workers × (rounds ≤ 1000)
 IsInRange (Share file argument follow burst report) = IsFirings burst
@@ -127,13 +127,14 @@ IsWaitsRequest found request = ⊥
 
 -- a world, with the words that were found for it
 abbrev pub IsWorldRequest : Found → Request → Type 0
-IsWorldRequest found (World file argument replicas seed events firings) =
+IsWorldRequest found (World file argument replicas seed events firings draw) =
     AreRunWords found file.now argument.now firings
     × IsOneToEight replicas
     × IsNumberText replicas (word_of found (codes "replicas"))
     × IsNumberText seed (word_of found (codes "seed"))
     × (events ≤ 100000)
     × IsNumberText events (word_of found (codes "events"))
+    × IsFlag draw (word_of found (codes "draw"))
 IsWorldRequest found request = ⊥
 
 -- a fleet, with the words that were found for it

@@ -1,6 +1,7 @@
 //! The words of the command line: what they ask for, and the numbers among them.
 #![tactic(auto)]
 
+mod arguments;
 mod number;
 mod words;
 

@@ -6,9 +6,13 @@ ghost use Rattle.u_words.specs.Requests.{IsExplainRequest, IsDrawRequest, IsNumb
 ghost use Rattle.u_words.specs.Requests.{IsBlameRequest, IsShareRequest};
 ghost use Rattle.u_words.specs.Numbers.{IsFirings, IsDrawn, IsOneToEight, IsPort, IsNumberText};
 
+use crate::arguments::{
+    burst, choice, drawn, most_firings, number_of_events, number_of_replicas, number_of_rounds,
+    number_of_workers, perhaps, report, seed, word,
+};
 use crate::number::{firings_of, number_of};
 use clap::error::ErrorKind;
-use clap::{Arg, ArgAction, ArgMatches, Command, Error, value_parser};
+use clap::{ArgMatches, Command, Error};
 use std::alloc::{AllocError, Global};
 
 /// The word of the command that checks.
@@ -140,7 +144,7 @@ pub enum Request<'a> {
         firings: usize,
     },
     /// `world FILE ARG`: 1 to 8 replicas, each of which takes at most `firings` firings, from 1 to
-    /// 1000000; and at most 100000 random events.
+    /// 1000000; and at most 100000 random events. Their picture is asked for only if `draw` says so.
     World {
         file: &'a str,
         argument: &'a str,
@@ -148,6 +152,7 @@ pub enum Request<'a> {
         seed: u64,
         events: usize,
         firings: usize,
+        draw: bool,
     },
     /// `fleet FILE ARG`: 1 to 8 workers, and at most 1000 rounds for each.
     Fleet {
@@ -286,7 +291,7 @@ fn not_drawn(alloc: Global, matches: &ArgMatches<'_>, most: &str) -> Result<Erro
     let message = format!(in alloc;
         "invalid value '{word}' for '--firings <N>': here it is a number from 1 to {most}, without a sign or a leading zero"
     )?;
-    told(draw(alloc), message.as_str())
+    told(draw(alloc, "u draw"), message.as_str())
 }
 
 /// The words of `run`.
@@ -377,7 +382,7 @@ fn port(matches: &ArgMatches<'_>) -> Option<u8>
 fn no_port(alloc: Global, matches: &ArgMatches<'_>) -> Result<Error, AllocError> {
     let word = text(matches, "PORT");
     let message = format!(in alloc; "invalid value '{word}' for '<PORT>': a port is 1, 2 or 3")?;
-    told(blame(alloc), message.as_str())
+    told(blame(alloc, "u blame"), message.as_str())
 }
 
 /// The words of `waits`.
@@ -417,6 +422,7 @@ fn world_request<'a>(alloc: Global, matches: &ArgMatches<'a>) -> Result<Request<
         seed,
         events: events as usize,
         firings,
+        draw: flag(matches, "draw"),
     })
 }
 
@@ -519,12 +525,12 @@ fn commands<'a>(alloc: Global) -> Result<Command<'a>, AllocError> {
         .disable_help_subcommand(true);
     let all = with(all, check(alloc))?;
     let all = with(all, explain(alloc))?;
-    let all = with(all, draw(alloc))?;
+    let all = with(all, draw(alloc, DRAW))?;
     let all = with(all, run(alloc, "run"))?;
     let all = with(all, save(alloc, SAVE))?;
     let all = with(all, restore(alloc, RESTORE))?;
     let all = with(all, trace(alloc, TRACE))?;
-    let all = with(all, blame(alloc))?;
+    let all = with(all, blame(alloc, BLAME))?;
     let all = with(all, waits(alloc, WAITS))?;
     let all = with(all, world(alloc, WORLD))?;
     let all = with(all, fleet(alloc, FLEET))?;
@@ -579,11 +585,6 @@ fn check<'a>(alloc: Global) -> Result<Command<'a>, AllocError> {
     ))
 }
 
-/// An option that takes no value.
-fn choice<'a>(alloc: Global, name: &'a str) -> Arg<'a> {
-    Arg::new(alloc, name).long(name).action(ArgAction::SetTrue)
-}
-
 fn explain<'a>(alloc: Global) -> Result<Command<'a>, AllocError> {
     of_program(
         alloc,
@@ -594,10 +595,10 @@ fn explain<'a>(alloc: Global) -> Result<Command<'a>, AllocError> {
     .arg(choice(alloc, "strict").help("Say of an allowed program why it is not strict"))
 }
 
-fn draw<'a>(alloc: Global) -> Result<Command<'a>, AllocError> {
+fn draw<'a>(alloc: Global, name: &'a str) -> Result<Command<'a>, AllocError> {
     of_program(
         alloc,
-        DRAW,
+        name,
         "Prints the picture of the program, of a run or of an entry's story, for Graphviz",
         "Examples:
   ./u draw programs/sum.u | dot -Tsvg -o sum.svg
@@ -611,22 +612,6 @@ fn draw<'a>(alloc: Global) -> Result<Command<'a>, AllocError> {
         "An entry's text, one word: the firings that it rests on are drawn",
     ))?
     .arg(drawn(alloc)?)
-}
-
-/// A word that may be left out.
-fn perhaps<'a>(alloc: Global, name: &'a str) -> Arg<'a> {
-    Arg::new(alloc, name).action(ArgAction::Set)
-}
-
-/// How many firings are drawn, where a run is.
-fn drawn<'a>(alloc: Global) -> Result<Arg<'a>, AllocError> {
-    Arg::new(alloc, "firings")
-        .long("firings")
-        .value_name("N")
-        .help("The most firings of a run's picture, from 1 to 2000 [default: 200]")
-        .action(ArgAction::Set)
-        .value_parser(value_parser!(u32).range(1..=1000000))
-        .requires_arg("ARG")
 }
 
 fn run<'a>(alloc: Global, name: &'a str) -> Result<Command<'a>, AllocError> {
@@ -673,10 +658,10 @@ fn trace<'a>(alloc: Global, name: &'a str) -> Result<Command<'a>, AllocError> {
     .arg(most_firings(alloc))
 }
 
-fn blame<'a>(alloc: Global) -> Result<Command<'a>, AllocError> {
+fn blame<'a>(alloc: Global, name: &'a str) -> Result<Command<'a>, AllocError> {
     of_run(
         alloc,
-        BLAME,
+        name,
         "Runs the program and prints the cell whose two writes lie behind two values at a port",
         "Example: ./u blame programs/two_writers.u 0 -.main.10.1 1",
     )?
@@ -703,8 +688,13 @@ fn world<'a>(alloc: Global, name: &'a str) -> Result<Command<'a>, AllocError> {
         alloc,
         name,
         "Lets random events happen between replicas, and prints what they hold and the report",
-        "Example: ./u world programs/sum.u 3 --replicas 3 --seed 7 --events 200",
+        "Examples:
+  ./u world programs/sum.u 3 --replicas 3 --seed 7 --events 200
+  ./u world programs/sum.u 3 --events 40 --draw | neato -Tsvg -o world.svg",
     )?
+    .arg(choice(alloc, "draw").help(
+        "Print the picture of the events in place of the lines, for Graphviz",
+    ))?
     .arg(number_of_replicas(alloc))?
     .arg(seed(alloc))?
     .arg(number_of_events(alloc))?
@@ -732,86 +722,4 @@ fn share<'a>(alloc: Global, name: &'a str) -> Result<Command<'a>, AllocError> {
     .arg(choice(alloc, "follow").help("Fire only while no one else does"))?
     .arg(burst(alloc))?
     .arg(report(alloc))
-}
-
-fn burst<'a>(alloc: Global) -> Arg<'a> {
-    Arg::new(alloc, "burst")
-        .long("burst")
-        .value_name("B")
-        .help("The most firings between two reads, from 1 to 1000000")
-        .action(ArgAction::Set)
-        .default_value("64")
-        .value_parser(value_parser!(u32).range(1..=1000000))
-}
-
-fn report<'a>(alloc: Global) -> Arg<'a> {
-    Arg::new(alloc, "report")
-        .long("report")
-        .value_name("PATH")
-        .help("The file of the report, in place of standard error")
-        .action(ArgAction::Set)
-}
-
-fn number_of_workers<'a>(alloc: Global) -> Arg<'a> {
-    Arg::new(alloc, "workers")
-        .long("workers")
-        .value_name("N")
-        .help("How many workers, from 1 to 8")
-        .action(ArgAction::Set)
-        .default_value("2")
-        .value_parser(value_parser!(u32).range(1..=8))
-}
-
-fn number_of_rounds<'a>(alloc: Global) -> Arg<'a> {
-    Arg::new(alloc, "rounds")
-        .long("rounds")
-        .value_name("R")
-        .help("How many rounds of a worker, at most 1000, before it fires all that is left")
-        .action(ArgAction::Set)
-        .default_value("8")
-        .value_parser(value_parser!(u32).range(0..=1000))
-}
-
-fn number_of_replicas<'a>(alloc: Global) -> Arg<'a> {
-    Arg::new(alloc, "replicas")
-        .long("replicas")
-        .value_name("K")
-        .help("How many replicas, from 1 to 8")
-        .action(ArgAction::Set)
-        .default_value("2")
-        .value_parser(value_parser!(u32).range(1..=8))
-}
-
-fn seed<'a>(alloc: Global) -> Arg<'a> {
-    Arg::new(alloc, "seed")
-        .long("seed")
-        .value_name("S")
-        .help("The seed of the random events, from 0 to 18446744073709551615")
-        .action(ArgAction::Set)
-        .default_value("1")
-        .value_parser(value_parser!(u64))
-}
-
-fn number_of_events<'a>(alloc: Global) -> Arg<'a> {
-    Arg::new(alloc, "events")
-        .long("events")
-        .value_name("N")
-        .help("How many random events, at most 100000")
-        .action(ArgAction::Set)
-        .default_value("100")
-        .value_parser(value_parser!(u32).range(0..=100000))
-}
-
-fn most_firings<'a>(alloc: Global) -> Arg<'a> {
-    Arg::new(alloc, "firings")
-        .long("firings")
-        .value_name("N")
-        .help("The most firings, from 1 to 1000000")
-        .action(ArgAction::Set)
-        .default_value("100000")
-        .value_parser(value_parser!(u32).range(1..=1000000))
-}
-
-fn word<'a>(alloc: Global, name: &'a str) -> Arg<'a> {
-    Arg::new(alloc, name).required(true).action(ArgAction::Set)
 }

@@ -1,0 +1,5 @@
+pub mod Joined
+pub mod ToldLaws
+pub mod Noting
+pub mod Lives
+pub mod Going

@@ -1,0 +1,4 @@
+pub mod Words
+pub mod Living
+pub mod Looks
+pub mod Picture
