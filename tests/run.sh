@@ -75,6 +75,8 @@ make_checkpoints() {
     sed '3s/3$/03/' "$temp/whole" >"$temp/leading_zero"
     sed 's/^end 5$/end 4/' "$temp/whole" >"$temp/wrong_count"
     sed '2s/.*/f -.main.99.1 1/' "$temp/whole" >"$temp/other_firing"
+    sed '2s/$/ 1 2 3 4/' "$temp/whole" >"$temp/five_values"
+    sed '2s/$/ 1 2 3 4 5/' "$temp/whole" >"$temp/six_values"
     { head -n 3 -- "$temp/whole"; sed '1,2d;s/^end 5$/end 6/' "$temp/whole"; } >"$temp/firing_twice"
     { cat -- "$temp/whole"; printf 'x'; } >"$temp/byte_behind"
     { sed 's/ 3$/ 9999/' "$temp/whole" | head -n 5; echo 'end 4'; } >"$temp/four_of_9999"

@@ -136,7 +136,7 @@ written_short : (w : Option Written) → IsWritten w → length (written_text w)
 written_short None v = omega arith
 written_short (Some w) v = omega (arith, length-append (name_text w.writer) (32 ∷ value_text w.value), name_short w.writer v.0, value_short w.value v.1)
 
-pub firing_short : (f : Firing) → IsFiring f → length (firing_text f) ≤ 17200
+pub firing_short : (f : Firing) → IsFiring f → length (firing_text f) ≤ 22938
 unfolding firing_text
 firing_short f v =
     omega (arith, length-append (name_text f.activity) (values_text f.values ++ written_text f.write), length-append (values_text f.values) (written_text f.write), name_short f.activity v.0, values_short f.values v.2, v.1.count.1, written_short f.write v.3)

@@ -38,7 +38,7 @@ pub struct CellClash {
 pub struct PortClash {
     /// The activity.
     pub activity: Name,
-    /// Its port, 1 to 3.
+    /// Its port, 1 to 5.
     pub port: u8,
     /// All values at the port, in order.
     pub values: Listed<Value>,
@@ -49,7 +49,7 @@ pub struct PortClash {
 pub struct Port {
     /// The activity.
     pub activity: Name,
-    /// Its port, 1 to 3.
+    /// Its port, 1 to 5.
     pub number: u8,
 }
 

@@ -38,7 +38,7 @@ counted job f h = counted_at job.program.blocks (statement_of job.program.blocks
 -- how many ports an activity has at most
 few_in : (s : Option StatementParts) → ports_in s ≤ most_ports
 few_in None = omega arith
-few_in (Some s) = (few_ports s.kind).1
+few_in (Some s) = let few = few_ports s.kind in omega (arith, few.1)
 
 pub few_at : (job : JobParts) (a : Activity) → ports_at job a ≤ most_ports
 few_at job a = few_in (statement_of job.program.blocks a.block a.statement)

@@ -13,26 +13,29 @@ use Rattle.u_value.specs.declared.fault_kind.FaultKind.{FaultKind}
 use Rattle.u_value.specs.declared.fault_kind.FaultKind.TheVariants as kinds
 use Rattle.u_rule.proofs.FirstByteLaws.{turned, NotBehind, chosen, passed, begins_with, begins_with_none}
 use Rattle.u_rule.proofs.StepLaws.{lead_both, both_ok}
-use Rattle.u_rule.specs.EntryReading.{cell_at, spaced_cell, writer_and_value, kind_of, ind, verflow, ero, eep, nitiation, ength, bounds, kind_at, token_at, write_at, fault_at, answer_at, token_of, written_of, faulted_of, answer_of, entry_of, entry_at}
+use Rattle.u_rule.specs.EntryReading.{cell_at, spaced_cell, writer_and_value, kind_of, ind, verflow, ero, eep, nitiation, ength, ounds, arity, kind_at, token_at, write_at, fault_at, answer_at, token_of, written_of, faulted_of, answer_of, entry_of, entry_at}
 use Rattle.u_rule.specs.declared.entry.Entry.{Entry}
 use Rattle.u_rule.specs.declared.entry.Entry.TheVariants as entries
 use Rattle.u_rule.specs.declared.parts.Write.{Write}
 
 -- kinds of faults
 
-abbrev others5 : Reader (Unit {0} ⊎ Unit {0})
-others5 = choice 108 (fixed ength) (fixed bounds)
+abbrev others6 : Reader (Unit {0} ⊎ Unit {0})
+others6 = choice 98 (fixed ounds) (fixed arity)
 
-abbrev others4 : Reader (Unit {0} ⊎ (Unit {0} ⊎ Unit {0}))
+abbrev others5 : Reader (Unit {0} ⊎ (Unit {0} ⊎ Unit {0}))
+others5 = choice 108 (fixed ength) others6
+
+abbrev others4 : Reader (Unit {0} ⊎ (Unit {0} ⊎ (Unit {0} ⊎ Unit {0})))
 others4 = choice 105 (fixed nitiation) others5
 
-abbrev others3 : Reader (Unit {0} ⊎ (Unit {0} ⊎ (Unit {0} ⊎ Unit {0})))
+abbrev others3 : Reader (Unit {0} ⊎ (Unit {0} ⊎ (Unit {0} ⊎ (Unit {0} ⊎ Unit {0}))))
 others3 = choice 100 (fixed eep) others4
 
-abbrev others2 : Reader (Unit {0} ⊎ (Unit {0} ⊎ (Unit {0} ⊎ (Unit {0} ⊎ Unit {0}))))
+abbrev others2 : Reader (Unit {0} ⊎ (Unit {0} ⊎ (Unit {0} ⊎ (Unit {0} ⊎ (Unit {0} ⊎ Unit {0})))))
 others2 = choice 122 (fixed ero) others3
 
-abbrev others1 : Reader (Unit {0} ⊎ (Unit {0} ⊎ (Unit {0} ⊎ (Unit {0} ⊎ (Unit {0} ⊎ Unit {0})))))
+abbrev others1 : Reader (Unit {0} ⊎ (Unit {0} ⊎ (Unit {0} ⊎ (Unit {0} ⊎ (Unit {0} ⊎ (Unit {0} ⊎ Unit {0}))))))
 others1 = choice 111 (fixed verflow) others2
 
 pub kind_kind : (bs cs : List ℕ) → bs ≡ 107 ∷ cs → kind_at bs ≡ mapped (λ _. kinds.Kind) (fixed ind) cs
@@ -72,16 +75,27 @@ kind_length bs cs e =
     ∙ passed 122 (fixed ero) others3 (λ y. kind_of (inr (inr y))) bs (begins_with 108 122 bs cs e (λ f. omega arith))
     ∙ passed 100 (fixed eep) others4 (λ y. kind_of (inr (inr (inr y)))) bs (begins_with 108 100 bs cs e (λ f. omega arith))
     ∙ passed 105 (fixed nitiation) others5 (λ y. kind_of (inr (inr (inr (inr y))))) bs (begins_with 108 105 bs cs e (λ f. omega arith))
-    ∙ chosen 108 (fixed ength) (fixed bounds) (λ y. kind_of (inr (inr (inr (inr (inr y)))))) bs cs e
+    ∙ chosen 108 (fixed ength) others6 (λ y. kind_of (inr (inr (inr (inr (inr y)))))) bs cs e
 
-pub kind_other : (bs : List ℕ) → NotBehind 107 bs → NotBehind 111 bs → NotBehind 122 bs → NotBehind 100 bs → NotBehind 105 bs → NotBehind 108 bs → kind_at bs ≡ mapped (λ _. kinds.Bounds) (fixed bounds) bs
-kind_other bs n107 n111 n122 n100 n105 n108 =
+pub kind_bounds : (bs cs : List ℕ) → bs ≡ 98 ∷ cs → kind_at bs ≡ mapped (λ _. kinds.Bounds) (fixed ounds) cs
+kind_bounds bs cs e =
+    passed 107 (fixed ind) others1 kind_of bs (begins_with 98 107 bs cs e (λ f. omega arith))
+    ∙ passed 111 (fixed verflow) others2 (λ y. kind_of (inr y)) bs (begins_with 98 111 bs cs e (λ f. omega arith))
+    ∙ passed 122 (fixed ero) others3 (λ y. kind_of (inr (inr y))) bs (begins_with 98 122 bs cs e (λ f. omega arith))
+    ∙ passed 100 (fixed eep) others4 (λ y. kind_of (inr (inr (inr y)))) bs (begins_with 98 100 bs cs e (λ f. omega arith))
+    ∙ passed 105 (fixed nitiation) others5 (λ y. kind_of (inr (inr (inr (inr y))))) bs (begins_with 98 105 bs cs e (λ f. omega arith))
+    ∙ passed 108 (fixed ength) others6 (λ y. kind_of (inr (inr (inr (inr (inr y)))))) bs (begins_with 98 108 bs cs e (λ f. omega arith))
+    ∙ chosen 98 (fixed ounds) (fixed arity) (λ y. kind_of (inr (inr (inr (inr (inr (inr y))))))) bs cs e
+
+pub kind_other : (bs : List ℕ) → NotBehind 107 bs → NotBehind 111 bs → NotBehind 122 bs → NotBehind 100 bs → NotBehind 105 bs → NotBehind 108 bs → NotBehind 98 bs → kind_at bs ≡ mapped (λ _. kinds.Arity) (fixed arity) bs
+kind_other bs n107 n111 n122 n100 n105 n108 n98 =
     passed 107 (fixed ind) others1 kind_of bs n107
     ∙ passed 111 (fixed verflow) others2 (λ y. kind_of (inr y)) bs n111
     ∙ passed 122 (fixed ero) others3 (λ y. kind_of (inr (inr y))) bs n122
     ∙ passed 100 (fixed eep) others4 (λ y. kind_of (inr (inr (inr y)))) bs n100
     ∙ passed 105 (fixed nitiation) others5 (λ y. kind_of (inr (inr (inr (inr y))))) bs n105
-    ∙ passed 108 (fixed ength) (fixed bounds) (λ y. kind_of (inr (inr (inr (inr (inr y)))))) bs n108
+    ∙ passed 108 (fixed ength) others6 (λ y. kind_of (inr (inr (inr (inr (inr y)))))) bs n108
+    ∙ passed 98 (fixed ounds) (fixed arity) (λ y. kind_of (inr (inr (inr (inr (inr (inr y))))))) bs n98
 
 -- writes
 

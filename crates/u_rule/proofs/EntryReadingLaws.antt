@@ -31,7 +31,7 @@ use Rattle.u_value.specs.declared.fault_kind.FaultKind.TheVariants as kinds
 use Rattle.u_rule.specs.EntryText.{entry_text}
 use Rattle.u_rule.specs.Parts.{most_ports}
 use Rattle.u_rule.proofs.PortLaws.{port_Reads}
-use Rattle.u_rule.specs.EntryReading.{IsEntry, port_at, cell_at, OneOfSeven, kind_of, ind, verflow, ero, eep, nitiation, ength, bounds, kind_at, token_at, write_at, fault_at, answer_at, Read, entry_of, entry_at, IsEntryOf, IsEntryErrorOf}
+use Rattle.u_rule.specs.EntryReading.{IsEntry, port_at, cell_at, OneOfEight, kind_of, ind, verflow, ero, eep, nitiation, ength, ounds, arity, kind_at, token_at, write_at, fault_at, answer_at, Read, entry_of, entry_at, IsEntryOf, IsEntryErrorOf}
 use Rattle.u_rule.specs.declared.entry.Entry.{Entry}
 use Rattle.u_rule.specs.declared.entry.Entry.TheVariants as entries
 use Rattle.u_rule.specs.declared.reading.TextError.TheVariants.{BadText}
@@ -74,123 +74,141 @@ cell_Reads =
     no_digit_93 : (c : ℕ) (t u : List ℕ) → IsDigit c → 93 ∷ t ≡ c ∷ u → ⊥
     no_digit_93 c t u m e = let f : 93 ≡ c = cc in omega (arith, m.1)
 
--- kinds of faults: the words from `bounds` on up, each with the reader of those before it
+-- kinds of faults: the words from `arity` on up, each with the reader of those before it
 
-abbrev bounds_word : Unit {0} → List ℕ
-bounds_word _ = bounds
+abbrev arity_word : Unit {0} → List ℕ
+arity_word _ = arity
 
-abbrev length_word : Unit {0} ⊎ Unit {0} → List ℕ
+arity_apart : (d : ℕ) → (97 ≡ d → ⊥) → (y : Unit {0}) (u v : List ℕ) → IsUnit y → arity_word y ++ u ≡ d ∷ v → ⊥
+arity_apart d n97 y u v w e = other_byte 97 d _ v n97 e
+
+abbrev bounds_word : Unit {0} ⊎ Unit {0} → List ℕ
+bounds_word = one_text 98 (λ _. ounds) arity_word
+
+abbrev IsBounds : Unit {0} ⊎ Unit {0} → Type 0
+IsBounds = IsOne IsUnit IsUnit
+
+abbrev bounds_at : Reader (Unit {0} ⊎ Unit {0})
+bounds_at = choice 98 (fixed ounds) (fixed arity)
+
+bounds_Reads : Reads bounds_word IsBounds NoByte bounds_at
+bounds_Reads = choice_Reads 98 (fixed_Reads ounds) (fixed_Reads arity) (arity_apart 98 (λ f. omega arith))
+
+bounds_apart : (d : ℕ) → (98 ≡ d → ⊥) → (97 ≡ d → ⊥) → (y : Unit {0} ⊎ Unit {0}) (u v : List ℕ) → IsBounds y → bounds_word y ++ u ≡ d ∷ v → ⊥
+bounds_apart d n98 n97 (inl t) u v w e = other_byte 98 d _ v n98 e
+bounds_apart d n98 n97 (inr y) u v w e = arity_apart d n97 y u v w e
+
+abbrev length_word : Unit {0} ⊎ (Unit {0} ⊎ Unit {0}) → List ℕ
 length_word = one_text 108 (λ _. ength) bounds_word
 
-abbrev IsLength : Unit {0} ⊎ Unit {0} → Type 0
-IsLength = IsOne IsUnit IsUnit
+abbrev IsLength : Unit {0} ⊎ (Unit {0} ⊎ Unit {0}) → Type 0
+IsLength = IsOne IsUnit IsBounds
 
-abbrev length_at : Reader (Unit {0} ⊎ Unit {0})
-length_at = choice 108 (fixed ength) (fixed bounds)
-
-bounds_apart : (d : ℕ) → (98 ≡ d → ⊥) → (y : Unit {0}) (u v : List ℕ) → IsUnit y → bounds_word y ++ u ≡ d ∷ v → ⊥
-bounds_apart d n98 y u v w e = other_byte 98 d _ v n98 e
+abbrev length_at : Reader (Unit {0} ⊎ (Unit {0} ⊎ Unit {0}))
+length_at = choice 108 (fixed ength) bounds_at
 
 length_Reads : Reads length_word IsLength NoByte length_at
-length_Reads = choice_Reads 108 (fixed_Reads ength) (fixed_Reads bounds) (bounds_apart 108 (λ f. omega arith))
+length_Reads = choice_Reads 108 (fixed_Reads ength) bounds_Reads (bounds_apart 108 (λ f. omega arith) (λ f. omega arith))
 
-abbrev initiation_word : Unit {0} ⊎ (Unit {0} ⊎ Unit {0}) → List ℕ
+length_apart : (d : ℕ) → (108 ≡ d → ⊥) → (98 ≡ d → ⊥) → (97 ≡ d → ⊥) → (y : Unit {0} ⊎ (Unit {0} ⊎ Unit {0})) (u v : List ℕ) → IsLength y → length_word y ++ u ≡ d ∷ v → ⊥
+length_apart d n108 n98 n97 (inl t) u v w e = other_byte 108 d _ v n108 e
+length_apart d n108 n98 n97 (inr y) u v w e = bounds_apart d n98 n97 y u v w e
+
+abbrev initiation_word : Unit {0} ⊎ (Unit {0} ⊎ (Unit {0} ⊎ Unit {0})) → List ℕ
 initiation_word = one_text 105 (λ _. nitiation) length_word
 
-abbrev IsInitiation : Unit {0} ⊎ (Unit {0} ⊎ Unit {0}) → Type 0
+abbrev IsInitiation : Unit {0} ⊎ (Unit {0} ⊎ (Unit {0} ⊎ Unit {0})) → Type 0
 IsInitiation = IsOne IsUnit IsLength
 
-abbrev initiation_at : Reader (Unit {0} ⊎ (Unit {0} ⊎ Unit {0}))
+abbrev initiation_at : Reader (Unit {0} ⊎ (Unit {0} ⊎ (Unit {0} ⊎ Unit {0})))
 initiation_at = choice 105 (fixed nitiation) length_at
 
-length_apart : (d : ℕ) → (108 ≡ d → ⊥) → (98 ≡ d → ⊥) → (y : Unit {0} ⊎ Unit {0}) (u v : List ℕ) → IsLength y → length_word y ++ u ≡ d ∷ v → ⊥
-length_apart d n108 n98 (inl t) u v w e = other_byte 108 d _ v n108 e
-length_apart d n108 n98 (inr y) u v w e = bounds_apart d n98 y u v w e
-
 initiation_Reads : Reads initiation_word IsInitiation NoByte initiation_at
-initiation_Reads = choice_Reads 105 (fixed_Reads nitiation) length_Reads (length_apart 105 (λ f. omega arith) (λ f. omega arith))
+initiation_Reads = choice_Reads 105 (fixed_Reads nitiation) length_Reads (length_apart 105 (λ f. omega arith) (λ f. omega arith) (λ f. omega arith))
 
-abbrev deep_word : Unit {0} ⊎ (Unit {0} ⊎ (Unit {0} ⊎ Unit {0})) → List ℕ
+initiation_apart : (d : ℕ) → (105 ≡ d → ⊥) → (108 ≡ d → ⊥) → (98 ≡ d → ⊥) → (97 ≡ d → ⊥) → (y : Unit {0} ⊎ (Unit {0} ⊎ (Unit {0} ⊎ Unit {0}))) (u v : List ℕ) → IsInitiation y → initiation_word y ++ u ≡ d ∷ v → ⊥
+initiation_apart d n105 n108 n98 n97 (inl t) u v w e = other_byte 105 d _ v n105 e
+initiation_apart d n105 n108 n98 n97 (inr y) u v w e = length_apart d n108 n98 n97 y u v w e
+
+abbrev deep_word : Unit {0} ⊎ (Unit {0} ⊎ (Unit {0} ⊎ (Unit {0} ⊎ Unit {0}))) → List ℕ
 deep_word = one_text 100 (λ _. eep) initiation_word
 
-abbrev IsDeep : Unit {0} ⊎ (Unit {0} ⊎ (Unit {0} ⊎ Unit {0})) → Type 0
+abbrev IsDeep : Unit {0} ⊎ (Unit {0} ⊎ (Unit {0} ⊎ (Unit {0} ⊎ Unit {0}))) → Type 0
 IsDeep = IsOne IsUnit IsInitiation
 
-abbrev deep_at : Reader (Unit {0} ⊎ (Unit {0} ⊎ (Unit {0} ⊎ Unit {0})))
+abbrev deep_at : Reader (Unit {0} ⊎ (Unit {0} ⊎ (Unit {0} ⊎ (Unit {0} ⊎ Unit {0}))))
 deep_at = choice 100 (fixed eep) initiation_at
 
-initiation_apart : (d : ℕ) → (105 ≡ d → ⊥) → (108 ≡ d → ⊥) → (98 ≡ d → ⊥) → (y : Unit {0} ⊎ (Unit {0} ⊎ Unit {0})) (u v : List ℕ) → IsInitiation y → initiation_word y ++ u ≡ d ∷ v → ⊥
-initiation_apart d n105 n108 n98 (inl t) u v w e = other_byte 105 d _ v n105 e
-initiation_apart d n105 n108 n98 (inr y) u v w e = length_apart d n108 n98 y u v w e
-
 deep_Reads : Reads deep_word IsDeep NoByte deep_at
-deep_Reads = choice_Reads 100 (fixed_Reads eep) initiation_Reads (initiation_apart 100 (λ f. omega arith) (λ f. omega arith) (λ f. omega arith))
+deep_Reads = choice_Reads 100 (fixed_Reads eep) initiation_Reads (initiation_apart 100 (λ f. omega arith) (λ f. omega arith) (λ f. omega arith) (λ f. omega arith))
 
-abbrev zero_word : Unit {0} ⊎ (Unit {0} ⊎ (Unit {0} ⊎ (Unit {0} ⊎ Unit {0}))) → List ℕ
+deep_apart : (d : ℕ) → (100 ≡ d → ⊥) → (105 ≡ d → ⊥) → (108 ≡ d → ⊥) → (98 ≡ d → ⊥) → (97 ≡ d → ⊥) → (y : Unit {0} ⊎ (Unit {0} ⊎ (Unit {0} ⊎ (Unit {0} ⊎ Unit {0})))) (u v : List ℕ) → IsDeep y → deep_word y ++ u ≡ d ∷ v → ⊥
+deep_apart d n100 n105 n108 n98 n97 (inl t) u v w e = other_byte 100 d _ v n100 e
+deep_apart d n100 n105 n108 n98 n97 (inr y) u v w e = initiation_apart d n105 n108 n98 n97 y u v w e
+
+abbrev zero_word : Unit {0} ⊎ (Unit {0} ⊎ (Unit {0} ⊎ (Unit {0} ⊎ (Unit {0} ⊎ Unit {0})))) → List ℕ
 zero_word = one_text 122 (λ _. ero) deep_word
 
-abbrev IsZero : Unit {0} ⊎ (Unit {0} ⊎ (Unit {0} ⊎ (Unit {0} ⊎ Unit {0}))) → Type 0
+abbrev IsZero : Unit {0} ⊎ (Unit {0} ⊎ (Unit {0} ⊎ (Unit {0} ⊎ (Unit {0} ⊎ Unit {0})))) → Type 0
 IsZero = IsOne IsUnit IsDeep
 
-abbrev zero_at : Reader (Unit {0} ⊎ (Unit {0} ⊎ (Unit {0} ⊎ (Unit {0} ⊎ Unit {0}))))
+abbrev zero_at : Reader (Unit {0} ⊎ (Unit {0} ⊎ (Unit {0} ⊎ (Unit {0} ⊎ (Unit {0} ⊎ Unit {0})))))
 zero_at = choice 122 (fixed ero) deep_at
 
-deep_apart : (d : ℕ) → (100 ≡ d → ⊥) → (105 ≡ d → ⊥) → (108 ≡ d → ⊥) → (98 ≡ d → ⊥) → (y : Unit {0} ⊎ (Unit {0} ⊎ (Unit {0} ⊎ Unit {0}))) (u v : List ℕ) → IsDeep y → deep_word y ++ u ≡ d ∷ v → ⊥
-deep_apart d n100 n105 n108 n98 (inl t) u v w e = other_byte 100 d _ v n100 e
-deep_apart d n100 n105 n108 n98 (inr y) u v w e = initiation_apart d n105 n108 n98 y u v w e
-
 zero_Reads : Reads zero_word IsZero NoByte zero_at
-zero_Reads = choice_Reads 122 (fixed_Reads ero) deep_Reads (deep_apart 122 (λ f. omega arith) (λ f. omega arith) (λ f. omega arith) (λ f. omega arith))
+zero_Reads = choice_Reads 122 (fixed_Reads ero) deep_Reads (deep_apart 122 (λ f. omega arith) (λ f. omega arith) (λ f. omega arith) (λ f. omega arith) (λ f. omega arith))
 
-abbrev overflow_word : Unit {0} ⊎ (Unit {0} ⊎ (Unit {0} ⊎ (Unit {0} ⊎ (Unit {0} ⊎ Unit {0})))) → List ℕ
+zero_apart : (d : ℕ) → (122 ≡ d → ⊥) → (100 ≡ d → ⊥) → (105 ≡ d → ⊥) → (108 ≡ d → ⊥) → (98 ≡ d → ⊥) → (97 ≡ d → ⊥) → (y : Unit {0} ⊎ (Unit {0} ⊎ (Unit {0} ⊎ (Unit {0} ⊎ (Unit {0} ⊎ Unit {0}))))) (u v : List ℕ) → IsZero y → zero_word y ++ u ≡ d ∷ v → ⊥
+zero_apart d n122 n100 n105 n108 n98 n97 (inl t) u v w e = other_byte 122 d _ v n122 e
+zero_apart d n122 n100 n105 n108 n98 n97 (inr y) u v w e = deep_apart d n100 n105 n108 n98 n97 y u v w e
+
+abbrev overflow_word : Unit {0} ⊎ (Unit {0} ⊎ (Unit {0} ⊎ (Unit {0} ⊎ (Unit {0} ⊎ (Unit {0} ⊎ Unit {0}))))) → List ℕ
 overflow_word = one_text 111 (λ _. verflow) zero_word
 
-abbrev IsOverflow : Unit {0} ⊎ (Unit {0} ⊎ (Unit {0} ⊎ (Unit {0} ⊎ (Unit {0} ⊎ Unit {0})))) → Type 0
+abbrev IsOverflow : Unit {0} ⊎ (Unit {0} ⊎ (Unit {0} ⊎ (Unit {0} ⊎ (Unit {0} ⊎ (Unit {0} ⊎ Unit {0}))))) → Type 0
 IsOverflow = IsOne IsUnit IsZero
 
-abbrev overflow_at : Reader (Unit {0} ⊎ (Unit {0} ⊎ (Unit {0} ⊎ (Unit {0} ⊎ (Unit {0} ⊎ Unit {0})))))
+abbrev overflow_at : Reader (Unit {0} ⊎ (Unit {0} ⊎ (Unit {0} ⊎ (Unit {0} ⊎ (Unit {0} ⊎ (Unit {0} ⊎ Unit {0}))))))
 overflow_at = choice 111 (fixed verflow) zero_at
 
-zero_apart : (d : ℕ) → (122 ≡ d → ⊥) → (100 ≡ d → ⊥) → (105 ≡ d → ⊥) → (108 ≡ d → ⊥) → (98 ≡ d → ⊥) → (y : Unit {0} ⊎ (Unit {0} ⊎ (Unit {0} ⊎ (Unit {0} ⊎ Unit {0})))) (u v : List ℕ) → IsZero y → zero_word y ++ u ≡ d ∷ v → ⊥
-zero_apart d n122 n100 n105 n108 n98 (inl t) u v w e = other_byte 122 d _ v n122 e
-zero_apart d n122 n100 n105 n108 n98 (inr y) u v w e = deep_apart d n100 n105 n108 n98 y u v w e
-
 overflow_Reads : Reads overflow_word IsOverflow NoByte overflow_at
-overflow_Reads = choice_Reads 111 (fixed_Reads verflow) zero_Reads (zero_apart 111 (λ f. omega arith) (λ f. omega arith) (λ f. omega arith) (λ f. omega arith) (λ f. omega arith))
+overflow_Reads = choice_Reads 111 (fixed_Reads verflow) zero_Reads (zero_apart 111 (λ f. omega arith) (λ f. omega arith) (λ f. omega arith) (λ f. omega arith) (λ f. omega arith) (λ f. omega arith))
 
-abbrev kind_word : Unit {0} ⊎ (Unit {0} ⊎ (Unit {0} ⊎ (Unit {0} ⊎ (Unit {0} ⊎ (Unit {0} ⊎ Unit {0}))))) → List ℕ
+overflow_apart : (d : ℕ) → (111 ≡ d → ⊥) → (122 ≡ d → ⊥) → (100 ≡ d → ⊥) → (105 ≡ d → ⊥) → (108 ≡ d → ⊥) → (98 ≡ d → ⊥) → (97 ≡ d → ⊥) → (y : Unit {0} ⊎ (Unit {0} ⊎ (Unit {0} ⊎ (Unit {0} ⊎ (Unit {0} ⊎ (Unit {0} ⊎ Unit {0})))))) (u v : List ℕ) → IsOverflow y → overflow_word y ++ u ≡ d ∷ v → ⊥
+overflow_apart d n111 n122 n100 n105 n108 n98 n97 (inl t) u v w e = other_byte 111 d _ v n111 e
+overflow_apart d n111 n122 n100 n105 n108 n98 n97 (inr y) u v w e = zero_apart d n122 n100 n105 n108 n98 n97 y u v w e
+
+abbrev kind_word : Unit {0} ⊎ (Unit {0} ⊎ (Unit {0} ⊎ (Unit {0} ⊎ (Unit {0} ⊎ (Unit {0} ⊎ (Unit {0} ⊎ Unit {0})))))) → List ℕ
 kind_word = one_text 107 (λ _. ind) overflow_word
 
-abbrev IsKind : Unit {0} ⊎ (Unit {0} ⊎ (Unit {0} ⊎ (Unit {0} ⊎ (Unit {0} ⊎ (Unit {0} ⊎ Unit {0}))))) → Type 0
+abbrev IsKind : Unit {0} ⊎ (Unit {0} ⊎ (Unit {0} ⊎ (Unit {0} ⊎ (Unit {0} ⊎ (Unit {0} ⊎ (Unit {0} ⊎ Unit {0})))))) → Type 0
 IsKind = IsOne IsUnit IsOverflow
 
-abbrev kind_word_at : Reader (Unit {0} ⊎ (Unit {0} ⊎ (Unit {0} ⊎ (Unit {0} ⊎ (Unit {0} ⊎ (Unit {0} ⊎ Unit {0}))))))
+abbrev kind_word_at : Reader (Unit {0} ⊎ (Unit {0} ⊎ (Unit {0} ⊎ (Unit {0} ⊎ (Unit {0} ⊎ (Unit {0} ⊎ (Unit {0} ⊎ Unit {0})))))))
 kind_word_at = choice 107 (fixed ind) overflow_at
 
-overflow_apart : (d : ℕ) → (111 ≡ d → ⊥) → (122 ≡ d → ⊥) → (100 ≡ d → ⊥) → (105 ≡ d → ⊥) → (108 ≡ d → ⊥) → (98 ≡ d → ⊥) → (y : Unit {0} ⊎ (Unit {0} ⊎ (Unit {0} ⊎ (Unit {0} ⊎ (Unit {0} ⊎ Unit {0}))))) (u v : List ℕ) → IsOverflow y → overflow_word y ++ u ≡ d ∷ v → ⊥
-overflow_apart d n111 n122 n100 n105 n108 n98 (inl t) u v w e = other_byte 111 d _ v n111 e
-overflow_apart d n111 n122 n100 n105 n108 n98 (inr y) u v w e = zero_apart d n122 n100 n105 n108 n98 y u v w e
-
 spelled_kind_Reads : Reads kind_word IsKind NoByte kind_word_at
-spelled_kind_Reads = choice_Reads 107 (fixed_Reads ind) overflow_Reads (overflow_apart 107 (λ f. omega arith) (λ f. omega arith) (λ f. omega arith) (λ f. omega arith) (λ f. omega arith) (λ f. omega arith))
+spelled_kind_Reads = choice_Reads 107 (fixed_Reads ind) overflow_Reads (overflow_apart 107 (λ f. omega arith) (λ f. omega arith) (λ f. omega arith) (λ f. omega arith) (λ f. omega arith) (λ f. omega arith) (λ f. omega arith))
 
-abbrev word_of_kind : FaultKind → OneOfSeven
+abbrev word_of_kind : FaultKind → OneOfEight
 word_of_kind kinds.Kind = inl tt
 word_of_kind kinds.Overflow = inr (inl tt)
 word_of_kind kinds.Zero = inr (inr (inl tt))
 word_of_kind kinds.Deep = inr (inr (inr (inl tt)))
 word_of_kind kinds.Initiation = inr (inr (inr (inr (inl tt))))
 word_of_kind kinds.Length = inr (inr (inr (inr (inr (inl tt)))))
-word_of_kind kinds.Bounds = inr (inr (inr (inr (inr (inr tt)))))
+word_of_kind kinds.Bounds = inr (inr (inr (inr (inr (inr (inl tt))))))
+word_of_kind kinds.Arity = inr (inr (inr (inr (inr (inr (inr tt))))))
 
-kind_spelled : (x : OneOfSeven) → IsKind x → fault_kind_text (kind_of x) ≡ kind_word x
+kind_spelled : (x : OneOfEight) → IsKind x → fault_kind_text (kind_of x) ≡ kind_word x
 kind_spelled (inl t) v = refl
 kind_spelled (inr (inl t)) v = refl
 kind_spelled (inr (inr (inl t))) v = refl
 kind_spelled (inr (inr (inr (inl t)))) v = refl
 kind_spelled (inr (inr (inr (inr (inl t))))) v = refl
 kind_spelled (inr (inr (inr (inr (inr (inl t)))))) v = refl
-kind_spelled (inr (inr (inr (inr (inr (inr t)))))) v = refl
+kind_spelled (inr (inr (inr (inr (inr (inr (inl t))))))) v = refl
+kind_spelled (inr (inr (inr (inr (inr (inr (inr t))))))) v = refl
 
 kind_back : (k : FaultKind) → IsKind (word_of_kind k)
 kind_back kinds.Kind = refl
@@ -200,6 +218,7 @@ kind_back kinds.Deep = refl
 kind_back kinds.Initiation = refl
 kind_back kinds.Length = refl
 kind_back kinds.Bounds = refl
+kind_back kinds.Arity = refl
 
 kind_again : (k : FaultKind) → kind_of (word_of_kind k) ≡ k
 kind_again kinds.Kind = refl
@@ -209,6 +228,7 @@ kind_again kinds.Deep = refl
 kind_again kinds.Initiation = refl
 kind_again kinds.Length = refl
 kind_again kinds.Bounds = refl
+kind_again kinds.Arity = refl
 
 abbrev Always : FaultKind → Type 0
 Always _ = Unit {0}

@@ -121,7 +121,8 @@ delivered_in_range : (o : Option FaultKind) (k : Kind) (a : Activity) (to : List
 delivered_in_range None k a to v r i n f w x m =
     let q = mapped (reached k a) v to x m in
     let d = w q.0 q.1 in
-    subst (λ (y : Entry). IsEntry y) q.2 (reached_name k a q.0.statement i n d.statement r, d.port, f)
+    let p = d.port in
+    subst (λ (y : Entry). IsEntry y) q.2 (reached_name k a q.0.statement i n d.statement r, (p.0, omega (arith, p.1)), f)
 delivered_in_range (Some why) k a to v r i n f w x m = fault_in_range a why n x m
 
 handed_in_range : (s : StatementParts) (a : Activity) (vs : ValueList) (r : Result Value FaultKind) → IsStatement the_limits s → IsName a → IsMade r → AreEntries (handed_on s.kind a (list_of s.kind s vs) r)

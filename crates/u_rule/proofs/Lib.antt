@@ -19,5 +19,6 @@ pub mod FiringPartLaws
 pub mod ResultsInRange
 pub mod GivenInRange
 pub mod InRange
+mod TokenLaws
 mod Both
 mod Cells

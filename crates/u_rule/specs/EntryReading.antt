@@ -53,10 +53,10 @@ unfoldable pub cell_at : Reader CellOf
 cell_at = mapped (λ t. cell_of t.0 t.1.0) (both name_steps (λ _. index_at))
 
 -- what is read of a kind of fault, by the first byte of its word
-abbrev pub OneOfSeven : Type 0
-OneOfSeven = Unit {0} ⊎ (Unit {0} ⊎ (Unit {0} ⊎ (Unit {0} ⊎ (Unit {0} ⊎ (Unit {0} ⊎ Unit {0})))))
+abbrev pub OneOfEight : Type 0
+OneOfEight = Unit {0} ⊎ (Unit {0} ⊎ (Unit {0} ⊎ (Unit {0} ⊎ (Unit {0} ⊎ (Unit {0} ⊎ (Unit {0} ⊎ Unit {0}))))))
 
-abbrev pub kind_of : OneOfSeven → FaultKind
+abbrev pub kind_of : OneOfEight → FaultKind
 kind_of =
     elim [
       | inl _ ↦ kinds.Kind
@@ -66,7 +66,10 @@ kind_of =
           | inl _ ↦ kinds.Zero
           | inr c ↦ elim c [
             | inl _ ↦ kinds.Deep
-            | inr d ↦ elim d [ inl _ ↦ kinds.Initiation | inr e ↦ elim e [ inl _ ↦ kinds.Length | inr _ ↦ kinds.Bounds ] ]
+            | inr d ↦ elim d [
+              | inl _ ↦ kinds.Initiation
+              | inr e ↦ elim e [ inl _ ↦ kinds.Length | inr f ↦ elim f [ inl _ ↦ kinds.Bounds | inr _ ↦ kinds.Arity ] ]
+            ]
           ]
         ]
       ]
@@ -92,8 +95,11 @@ nitiation = codes "nitiation"
 abbrev pub ength : List ℕ
 ength = codes "ength"
 
-abbrev pub bounds : List ℕ
-bounds = codes "bounds"
+abbrev pub ounds : List ℕ
+ounds = codes "ounds"
+
+abbrev pub arity : List ℕ
+arity = codes "arity"
 
 -- the word of a kind of fault
 abbrev pub kind_at : Reader FaultKind
@@ -101,7 +107,8 @@ kind_at =
     mapped kind_of
     (choice 107 (fixed ind)
     (choice 111 (fixed verflow)
-    (choice 122 (fixed ero) (choice 100 (fixed eep) (choice 105 (fixed nitiation) (choice 108 (fixed ength) (fixed bounds)))))))
+    (choice 122 (fixed ero)
+    (choice 100 (fixed eep) (choice 105 (fixed nitiation) (choice 108 (fixed ength) (choice 98 (fixed ounds) (fixed arity))))))))
 
 -- a space, and what stands behind it
 

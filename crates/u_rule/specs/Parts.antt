@@ -8,7 +8,7 @@ use Rattle.u_value.specs.contracts.value.Value as values
 
 -- the greatest number of ports that an activity has
 abbrev pub most_ports : ℕ
-most_ports = 3
+most_ports = 5
 
 -- a value at a port of an activity
 pub record TokenParts : Type 0 where

@@ -9,7 +9,7 @@ use u_name::{Cell, Name};
 use u_value::{FaultKind, Value};
 
 /// The greatest number of ports that an activity has.
-pub const MOST_PORTS: usize = 3;
+pub const MOST_PORTS: usize = 5;
 
 /// A value at a port of an activity. Tokens are ordered by activity, port and value.
 #[derive(PartialEq, Eq, PartialOrd, Ord, Hash, Drop)]

@@ -79,7 +79,8 @@ fn front_kind(bytes: &[u8]) -> Front<'_, FaultKind>
         Some((b'd', rest)) => front_word(rest, b"eep", FaultKind::Deep),
         Some((b'i', rest)) => front_word(rest, b"nitiation", FaultKind::Initiation),
         Some((b'l', rest)) => front_word(rest, b"ength", FaultKind::Length),
-        _ => front_word(bytes, b"bounds", FaultKind::Bounds),
+        Some((b'b', rest)) => front_word(rest, b"ounds", FaultKind::Bounds),
+        _ => front_word(bytes, b"arity", FaultKind::Arity),
     }
 }
 

@@ -164,6 +164,7 @@ const FAULTS: &[(FaultKind, &str)] = &[
     (FaultKind::Initiation, "initiation"),
     (FaultKind::Length, "length"),
     (FaultKind::Bounds, "bounds"),
+    (FaultKind::Arity, "arity"),
 ];
 
 #[test]

@@ -7,6 +7,8 @@ use u_rule::{Entry, Firing, TextError};
 const ENTRIES: &[&str] = &[
     "t -.main.1.1 1 3",
     "t (-.main.L1.1).main.4.2 3 @main",
+    "t -.main.4.2 4 false",
+    "t -.main.4.2 5 -9",
     "w -.main.6.1[0] -.main.9.1 false",
     "w -.main.6.1[999999] (-.main.L1.1).main.9.2 &-.main.6.1#10",
     "x -.main.4.1 kind",
@@ -16,6 +18,7 @@ const ENTRIES: &[&str] = &[
     "x -.main.4.1 initiation",
     "x -.main.4.1 length",
     "x -.main.4.1 bounds",
+    "x -.main.4.1 arity",
     "a -7",
 ];
 
@@ -27,8 +30,9 @@ const NO_ENTRIES: &[(&str, usize)] = &[
     ("t-.main.1.1 1 3", 1),
     ("t -.main.1.1", 12),
     ("t -.main.1.1 0 3", 13),
-    ("t -.main.1.1 4 3", 13),
+    ("t -.main.1.1 6 3", 13),
     ("t -.main.1.1 13", 14),
+    ("t -.main.1.1 53", 14),
     ("t -.main.1.1 1 3 ", 16),
     ("w -.main.6.1 -.main.9.1 3", 12),
     ("w -.main.6.1[] -.main.9.1 3", 13),
@@ -39,6 +43,9 @@ const NO_ENTRIES: &[(&str, usize)] = &[
     ("x -.main.4.1 none", 13),
     ("x -.main.4.1 dead", 15),
     ("x -.main.4.1 zer", 16),
+    ("x -.main.4.1 bound", 18),
+    ("x -.main.4.1 aritys", 18),
+    ("x -.main.4.1 ar", 15),
     ("x -.main.4.1 kinds", 17),
     ("a7", 1),
     ("a 07", 3),
@@ -52,6 +59,9 @@ const FIRINGS: &[(&str, usize, bool)] = &[
     ("f -.main.3.1 1 by -.main.2.1 7", 1, true),
     ("f -.main.3.1 &-.main.6.1#10 2 by -.main.2.1 7", 2, true),
     ("f -.main.3.1 &-.main.6.1#10 2 3 by -.main.2.1 -7", 3, true),
+    ("f -.main.3.1 1 2 3 4", 4, false),
+    ("f -.main.3.1 @main 2 3 4 5", 5, false),
+    ("f -.main.3.1 1 2 3 4 5 by -.main.2.1 7", 5, true),
 ];
 
 /// Texts of no firing, and where the longest front of one ends.
@@ -68,7 +78,8 @@ const NO_FIRINGS: &[(&str, usize)] = &[
     ("f -.main.3.1 1\n", 14),
     ("f -.main.3.1 1 ", 15),
     ("f -.main.3.1 1 -0", 16),
-    ("f -.main.3.1 1 2 3 4", 19),
+    ("f -.main.3.1 1 2 3 4 5 6", 23),
+    ("f -.main.3.1 1 2 3 4 5 ", 23),
     ("f -.main.3.1 1 b", 16),
     ("f -.main.3.1 1 by", 17),
     ("f -.main.3.1 1 by ", 18),
@@ -77,6 +88,7 @@ const NO_FIRINGS: &[(&str, usize)] = &[
     ("f -.main.3.1 1 by -.main.2.1 -0", 30),
     ("f -.main.3.1 1 by -.main.2.1 7 8", 30),
     ("f -.main.3.1 1 2 3 by -.main.2.1 7\n", 34),
+    ("f -.main.3.1 1 2 3 4 5 by -.main.2.1 7 8", 38),
 ];
 
 /// The rows. A proof that calls these knows none of them, and so is short.

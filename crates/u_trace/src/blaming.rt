@@ -111,7 +111,7 @@ fn blame_in(
     }
 }
 
-/// What is to blame for the two least values at that port, 1 to 3, of the activity. Of the applied
+/// What is to blame for the two least values at that port, 1 to 5, of the activity. Of the applied
 /// firings the stories of the two tokens are joined, one behind the other. The answer is the least
 /// cell that has two pairs of a writer and a value among what these firings give, with its two least
 /// pairs, and with the first of these firings that gives the write of each. It is `None` where no cell

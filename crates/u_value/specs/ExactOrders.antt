@@ -16,7 +16,7 @@ use Rattle.u_value.specs.FaultKinds.{fault_kind_cmp, fault_kind_place}
 use Rattle.u_value.specs.declared.value.Value.{Value}
 use Rattle.u_value.specs.declared.value.Value.TheVariants.{Int, Bool, Proc, Ref}
 use Rattle.u_value.specs.declared.fault_kind.FaultKind.{FaultKind}
-use Rattle.u_value.specs.declared.fault_kind.FaultKind.TheVariants.{Kind, Overflow, Zero, Deep, Initiation, Length, Bounds}
+use Rattle.u_value.specs.declared.fault_kind.FaultKind.TheVariants.{Kind, Overflow, Zero, Deep, Initiation, Length, Bounds, Arity}
 use Rattle.u_value.specs.contracts.value.ValueOrd.TheImpl as value_ord
 use Rattle.u_value.specs.contracts.value.ValuePartialEq.TheImpl as value_eq
 use Rattle.u_value.specs.contracts.value.ValueOrd.TheImpl.Laws as value_laws
@@ -37,6 +37,7 @@ derived_fault_kind_cmp Deep Deep = refl
 derived_fault_kind_cmp Initiation Initiation = refl
 derived_fault_kind_cmp Length Length = refl
 derived_fault_kind_cmp Bounds Bounds = refl
+derived_fault_kind_cmp Arity Arity = refl
 derived_fault_kind_cmp a b = refl
 
 -- an order that agrees with a total one is total
@@ -81,7 +82,8 @@ kind_at (suc (suc zero)) = Zero
 kind_at (suc (suc (suc zero))) = Deep
 kind_at (suc (suc (suc (suc zero)))) = Initiation
 kind_at (suc (suc (suc (suc (suc zero))))) = Length
-kind_at (suc (suc (suc (suc (suc (suc n)))))) = Bounds
+kind_at (suc (suc (suc (suc (suc (suc zero)))))) = Bounds
+kind_at (suc (suc (suc (suc (suc (suc (suc n))))))) = Arity
 
 kind_at_place : (k : FaultKind) → kind_at (fault_kind_place k) ≡ k
 unfolding kind_at
@@ -92,6 +94,7 @@ kind_at_place Deep = refl
 kind_at_place Initiation = refl
 kind_at_place Length = refl
 kind_at_place Bounds = refl
+kind_at_place Arity = refl
 
 -- kinds that tie are the same
 pub fault_kind_cmp_ties : (a b : FaultKind) → fault_kind_cmp a b ≡ Equal → a ≡ b

@@ -21,6 +21,8 @@ pub enum FaultKind {
     Length,
     /// The index is below 0 or not below the length.
     Bounds,
+    /// A procedure takes another number of arguments than the call has.
+    Arity,
 }
 
 impl FaultKind {
@@ -44,6 +46,7 @@ impl FaultKind {
             FaultKind::Initiation => "initiation",
             FaultKind::Length => "length",
             FaultKind::Bounds => "bounds",
+            FaultKind::Arity => "arity",
         }
     }
 }

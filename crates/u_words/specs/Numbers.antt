@@ -18,6 +18,6 @@ IsNumberText n word = word ≡ decimal n
 abbrev pub IsOneToEight : ℕ → Type 0
 IsOneToEight n = (1 ≤ n) × (n ≤ 8)
 
--- which port of an activity: the first, the second or the third
+-- which port of an activity: from the first to the fifth
 abbrev pub IsPort : ℕ → Type 0
-IsPort n = (1 ≤ n) × (n ≤ 3)
+IsPort n = (1 ≤ n) × (n ≤ 5)

@@ -130,7 +130,7 @@ pub enum Request<'a> {
         entry: &'a str,
         firings: usize,
     },
-    /// `blame FILE ARG NAME PORT`: the port of an activity, from 1 to 3.
+    /// `blame FILE ARG NAME PORT`: the port of an activity, from 1 to 5.
     Blame {
         file: &'a str,
         argument: &'a str,
@@ -367,13 +367,13 @@ fn blame_request<'a>(alloc: Global, matches: &ArgMatches<'a>) -> Result<Request<
     }
 }
 
-/// The number of a port, from 1 to 3, that the word is.
+/// The number of a port, from 1 to 5, that the word is.
 fn port(matches: &ArgMatches<'_>) -> Option<u8>
     ensures { IfSome result (λ n. IsPort n
         × IsNumberText n (word_of (found_of matches.now) (codes "PORT"))) }
 {
     match number_of(text(matches, "PORT"), 9) {
-        Some(number) if 1 <= number && number <= 3 => Some(number as u8),
+        Some(number) if 1 <= number && number <= 5 => Some(number as u8),
         _ => None,
     }
 }
@@ -381,7 +381,7 @@ fn port(matches: &ArgMatches<'_>) -> Option<u8>
 /// The mistake that the word is no port.
 fn no_port(alloc: Global, matches: &ArgMatches<'_>) -> Result<Error, AllocError> {
     let word = text(matches, "PORT");
-    let message = format!(in alloc; "invalid value '{word}' for '<PORT>': a port is 1, 2 or 3")?;
+    let message = format!(in alloc; "invalid value '{word}' for '<PORT>': a port is 1 to 5")?;
     told(blame(alloc, "u blame"), message.as_str())
 }
 
@@ -670,7 +670,7 @@ fn blame<'a>(alloc: Global, name: &'a str) -> Result<Command<'a>, AllocError> {
             .allow_hyphen_values(true)
             .help("The activity's name, as the report prints it"),
     )?
-    .arg(word(alloc, "PORT").help("The port's number: 1, 2 or 3"))
+    .arg(word(alloc, "PORT").help("The port's number, 1 to 5"))
 }
 
 fn waits<'a>(alloc: Global, name: &'a str) -> Result<Command<'a>, AllocError> {
