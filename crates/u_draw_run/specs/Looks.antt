@@ -113,10 +113,11 @@ meet (entries.Write w) (entries.Write x) = eq_by_cmp cell_cmp w.cell x.cell
 meet (entries.Answer v) (entries.Answer x) = true
 meet e f = false
 
--- from the node of an entry to a firing that needs it: a token to its port's cell, what is read dashed
+-- from the node of an entry to a firing that needs it: a token to its port's cell; what is read dashed, and over
+-- two ranks of the layout, so that its dashes show
 unfoldable pub need_look : Entry → List Attribute
 need_look (entries.Token t) = entry t.port ∷ []
-need_look e = attribute (codes "style") (codes "dashed") ∷ []
+need_look e = attribute (codes "style") (codes "dashed") ∷ attribute (codes "minlen") (codes "2") ∷ []
 
 -- a line to a token, blue from a `next`
 abbrev pub line_by : Kind → List Attribute

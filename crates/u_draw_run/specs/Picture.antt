@@ -59,15 +59,23 @@ abbrev pub is_drawn : Option Entry → Entry → Bool
 is_drawn before (entries.Write w) = not (meets_one before (entries.Write w))
 is_drawn before e = true
 
--- the node of an entry that has this one before it and these behind it
+-- the clusters of a token, in which no firing may lie yet
+abbrev pub entry_clusters : List BlockParts → Entry → List Shown
+entry_clusters p (entries.Token t) = clusters_of p t.activity
+entry_clusters p e = []
+
+abbrev pub entry_node : JobParts → Bool → Entry → Shown
+entry_node job meets e = Node (entry_place job.program.blocks e) (entry_name e) (entry_attributes job meets e)
+
+-- the node of an entry that has this one before it and these behind it, and before the node its clusters
 unfoldable pub entry_nodes : JobParts → Option Entry → Entry → List Entry → List Shown
 entry_nodes job before e behind =
     if is_drawn before e
-    then Node (entry_place job.program.blocks e) (entry_name e)
-    (entry_attributes job (meets_one before e || meets_one (first behind) e) e) ∷ []
+    then entry_clusters job.program.blocks e
+    ++ (entry_node job (meets_one before e || meets_one (first behind) e) e ∷ [])
     else []
 
--- the nodes of entries in order, behind this one
+-- the lines of entries in order, behind this one
 abbrev pub nodes_from : JobParts → Option Entry → List Entry → List Shown
 nodes_from job before [] = []
 nodes_from job before (e ∷ es) = entry_nodes job before e es ++ nodes_from job (Some e) es

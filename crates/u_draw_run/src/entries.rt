@@ -4,13 +4,14 @@ ghost use Rattle.std.specs.Option.{option_copied};
 ghost use Rattle.u_text.specs.Appending.{Extends};
 ghost use Rattle.std.specs.Ordering.{eq_by_cmp};
 ghost use Rattle.u_rule.specs.EntryOrder.{entry_cmp};
-ghost use Rattle.u_draw.specs.Dot.{attributes_text, text};
+ghost use Rattle.u_draw.specs.Dot.{attributes_text, shown_line, text};
 ghost use Rattle.u_draw_run.specs.Places.{clusters_at};
-ghost use Rattle.u_draw_run.specs.Picture.{entry_place, is_start, entry_attributes, meets_one, is_drawn, entry_nodes, nodes_from};
+ghost use Rattle.u_draw_run.specs.Picture.{entry_place, is_start, entry_attributes, meets_one, is_drawn};
+ghost use Rattle.u_draw_run.specs.Picture.{entry_clusters, entry_node, entry_nodes, nodes_from};
 
 use crate::looks::{meet, push_entry_look};
 use crate::names::{entry_name, text_of_entry};
-use crate::places::{Place, begin_line, end_line, place_of};
+use crate::places::{Place, begin_line, end_line, place_of, push_clusters};
 use std::alloc::{AllocError, Global};
 use u_check::Job;
 use u_draw::{push_attribute, push_node};
@@ -85,9 +86,49 @@ fn is_drawn(before: Option<&Entry>, entry: &Entry) -> bool
     }
 }
 
-/// Appends a line for the node of an entry that has this one before it and that one behind it. On an
+/// Appends a line for each cluster of a token, in which no firing may lie yet. On an error a part of them
+/// may stand there.
+#[tactic(auto, using(u_text::proofs::AppendingLaws::extends_same))]
+fn push_entry_clusters(
+    out: &mut Vec<u8>,
+    program: &Program,
+    entry: &Entry,
+) -> Result<(), AllocError>
+    ensures ok { OnOk result (out.new.items
+        ≡ out.old.items ++ text (entry_clusters program.now.blocks entry.now)) }
+    ensures err { OnErr result (Extends out.old.items out.new.items) }
+{
+    match entry {
+        Entry::Token(token) => push_clusters(out, program, token.activity()),
+        _ => Ok(()),
+    }
+}
+
+/// Appends a line for the node of an entry, in whose place another entry lies if `meets` says so. On an
 /// error a part of it may stand there.
-#[tactic(auto, unfolding(crate::specs::Picture::entry_nodes, u_draw::specs::Dot::shown_line), using(u_text::proofs::AppendingLaws::extends_same, u_text::proofs::AppendingLaws::extends_behind, u_draw::proofs::Nests::framed, u_draw::proofs::Shows::text_one))]
+#[tactic(auto, unfolding(u_draw::specs::Dot::shown_line), using(u_text::proofs::AppendingLaws::extends_same, u_text::proofs::AppendingLaws::extends_behind, u_draw::proofs::Nests::framed))]
+fn push_entry_node(
+    out: &mut Vec<u8>,
+    job: &Job,
+    meets: bool,
+    entry: &Entry,
+) -> Result<(), AllocError>
+    ensures ok { OnOk result
+        (out.new.items ≡ out.old.items ++ shown_line (entry_node job.now meets entry.now)) }
+    ensures err { OnErr result (Extends out.old.items out.new.items) }
+{
+    let alloc = *out.allocator();
+    let name = entry_name(alloc, entry)?;
+    let attributes = entry_attributes(alloc, job, meets, entry)?;
+    let place = entry_place(job.program(), entry);
+    begin_line(out, place)?;
+    push_node(out, &name, &attributes)?;
+    end_line(out, place)
+}
+
+/// Appends the lines of an entry that has this one before it and that one behind it: for its clusters and
+/// its node. On an error a part of them may stand there.
+#[tactic(auto, unfolding(crate::specs::Picture::entry_nodes), using(u_text::proofs::AppendingLaws::extends_same, u_text::proofs::AppendingLaws::extends_behind, u_draw::proofs::Shows::text_more))]
 fn push_entry(
     out: &mut Vec<u8>,
     job: &Job,
@@ -102,14 +143,9 @@ fn push_entry(
     if !is_drawn(before, entry) {
         return Ok(());
     }
-    let alloc = *out.allocator();
     let meets = meets_one(before, entry) || meets_one(behind.first(), entry);
-    let name = entry_name(alloc, entry)?;
-    let attributes = entry_attributes(alloc, job, meets, entry)?;
-    let place = entry_place(job.program(), entry);
-    begin_line(out, place)?;
-    push_node(out, &name, &attributes)?;
-    end_line(out, place)
+    push_entry_clusters(out, job.program(), entry)?;
+    push_entry_node(out, job, meets, entry)
 }
 
 /// Appends the lines of the entries, which are in order. On an error a part of them may stand there.

@@ -231,7 +231,7 @@ pub fn need_look(entry: &Entry) -> &'static [u8]
 {
     match entry {
         Entry::Token(token) => entry_of(token.port()),
-        _ => b" style=\"dashed\"".as_slice(),
+        _ => b" style=\"dashed\" minlen=\"2\"".as_slice(),
     }
 }
 
