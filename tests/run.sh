@@ -354,6 +354,13 @@ expect_explained() {
 expect_explained tests/explain
 expect_explained tests/explain/strict --strict
 
+# What is said behind a terminal of how far a command is: what tests/watched.py finds wrong with it.
+expect_same 'run says how far it is' '' \
+    "$(tests/watched.py "$binary" run programs/sum.u 99998 --firings 1000000 2>&1)"
+"$binary" save programs/sum.u 59998 --firings 1000000 >"$temp/saved"
+expect_same 'restore says how far it is' '' \
+    "$(tests/watched.py "$binary" restore programs/sum.u 59998 "$temp/saved" 2>&1)"
+
 # The example of docs/LIBRARY.md is a program that the gate runs.
 expect_same 'the example of docs/LIBRARY.md is u_example' "$(cat crates/u_example/src/main.rt)" \
     "$(sed -n '/^```rust$/,/^```$/p' docs/LIBRARY.md | sed '1d;$d')"

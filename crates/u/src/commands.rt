@@ -3,16 +3,18 @@
 ghost use Rattle.std.specs.Prelude.{◌≤◌};
 ghost use Rattle.u_words.specs.Numbers.{IsOneToEight, IsPort};
 
+use crate::telling::Telling;
 use std::io::{Read, Write};
 use std::sync::Wait;
 use std::thread::Threads;
 use std::{fs, io};
 use u_cli::{
-    Asked, Bus, CommandError, Plan, STORED_PROGRAM, WorldPlan, blame_text, check_text,
-    explain_text, fleet_text, read_input, restore_text, run_text, save_text, share_text,
-    trace_text, waits_text, world_text,
+    Asked, Bus, CommandError, JobTexts, Plan, STORED_PROGRAM, WorldPlan, blame_watched_text,
+    check_text, draw_world_text, explain_text, fleet_text, read_input, restore_watched_text,
+    run_text, run_watched_text, save_watched_text, share_text, trace_watched_text,
+    waits_watched_text, world_watched_text,
 };
-use u_pictures::{draw_run_text, draw_story_text, draw_text, draw_world_text};
+use u_pictures::{draw_run_text, draw_story_text, draw_text};
 
 /// The argument of the stored run, and how often it may fire.
 const STORED_ARGUMENT: &[u8] = b"4";
@@ -118,8 +120,12 @@ pub fn run(rt: &HostRuntime, file: &str, argument: &str, firings: usize) -> Resu
     requires { firings ≤ 1000000 }
 {
     let program = read_file(rt, file)?;
-    let mut out = io::writer(rt);
-    run_text(rt.alloc(), &program, argument.as_bytes(), firings, &mut out)
+    let texts = JobTexts {
+        program: &program,
+        argument: argument.as_bytes(),
+    };
+    let mut watch = Telling::new(rt);
+    run_watched_text(rt.alloc(), texts, firings, &mut watch, &mut io::writer(rt))
 }
 
 /// `save FILE ARG`, with so many firings at most.
@@ -132,8 +138,12 @@ pub fn save(
     requires { firings ≤ 1000000 }
 {
     let program = read_file(rt, file)?;
-    let mut out = io::writer(rt);
-    save_text(rt.alloc(), &program, argument.as_bytes(), firings, &mut out)
+    let texts = JobTexts {
+        program: &program,
+        argument: argument.as_bytes(),
+    };
+    let mut watch = Telling::new(rt);
+    save_watched_text(rt.alloc(), texts, firings, &mut watch, &mut io::writer(rt))
 }
 
 /// `restore FILE ARG CHECKPOINT`, with so many firings at most after those of the checkpoint.
@@ -146,15 +156,13 @@ pub fn restore(
 ) -> Result<u8, CommandError> {
     let program = read_file(rt, file)?;
     let saved = read_path(rt, checkpoint)?;
+    let texts = JobTexts {
+        program: &program,
+        argument: argument.as_bytes(),
+    };
+    let mut watch = Telling::new(rt);
     let mut out = io::writer(rt);
-    restore_text(
-        rt.alloc(),
-        &program,
-        argument.as_bytes(),
-        &saved,
-        firings,
-        &mut out,
-    )
+    restore_watched_text(rt.alloc(), texts, &saved, firings, &mut watch, &mut out)
 }
 
 /// `trace FILE ARG ENTRY`, after so many firings at most.
@@ -168,15 +176,14 @@ pub fn trace(
     requires { firings ≤ 1000000 }
 {
     let program = read_file(rt, file)?;
+    let texts = JobTexts {
+        program: &program,
+        argument: argument.as_bytes(),
+    };
+    let mut watch = Telling::new(rt);
+    let entry = entry.as_bytes();
     let mut out = io::writer(rt);
-    trace_text(
-        rt.alloc(),
-        &program,
-        argument.as_bytes(),
-        entry.as_bytes(),
-        firings,
-        &mut out,
-    )
+    trace_watched_text(rt.alloc(), texts, entry, firings, &mut watch, &mut out)
 }
 
 /// `blame FILE ARG NAME PORT`.
@@ -190,15 +197,14 @@ pub fn blame(
     requires { IsPort port }
 {
     let program = read_file(rt, file)?;
+    let texts = JobTexts {
+        program: &program,
+        argument: argument.as_bytes(),
+    };
+    let mut watch = Telling::new(rt);
+    let activity = activity.as_bytes();
     let mut out = io::writer(rt);
-    blame_text(
-        rt.alloc(),
-        &program,
-        argument.as_bytes(),
-        activity.as_bytes(),
-        port,
-        &mut out,
-    )
+    blame_watched_text(rt.alloc(), texts, activity, port, &mut watch, &mut out)
 }
 
 /// `waits FILE ARG`, after so many firings at most.
@@ -211,8 +217,12 @@ pub fn waits(
     requires { firings ≤ 1000000 }
 {
     let program = read_file(rt, file)?;
-    let mut out = io::writer(rt);
-    waits_text(rt.alloc(), &program, argument.as_bytes(), firings, &mut out)
+    let texts = JobTexts {
+        program: &program,
+        argument: argument.as_bytes(),
+    };
+    let mut watch = Telling::new(rt);
+    waits_watched_text(rt.alloc(), texts, firings, &mut watch, &mut io::writer(rt))
 }
 
 /// `world FILE ARG`, with what happens by the plan.
@@ -225,8 +235,12 @@ pub fn world(
     requires { IsOneToEight plan.replicas }
 {
     let program = read_file(rt, file)?;
-    let mut out = io::writer(rt);
-    world_text(rt.alloc(), &program, argument.as_bytes(), plan, &mut out)
+    let texts = JobTexts {
+        program: &program,
+        argument: argument.as_bytes(),
+    };
+    let mut watch = Telling::new(rt);
+    world_watched_text(rt.alloc(), texts, plan, &mut watch, &mut io::writer(rt))
 }
 
 /// `world FILE ARG --draw`: the picture of what happens by the plan.

@@ -5,6 +5,7 @@
 ghost use Rattle.u_words.specs.Requests.{IsInRange};
 
 mod commands;
+mod telling;
 
 use std::alloc::Global;
 use std::io;

@@ -1,2 +1,3 @@
 pub mod AllDone
 pub mod Gathering
+pub mod WorldLaws

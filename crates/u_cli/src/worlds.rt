@@ -10,7 +10,9 @@ ghost use Rattle.u_cli.specs.Worlds.{TellsWorld, WorldRefused, WorldTextAnswer};
 use std::alloc::{AllocError, Global};
 use std::io::Write;
 use u_check::Job;
-use u_commands::{CommandError, job_of, push_numbered, run_behind, write_whole};
+use u_commands::{
+    CommandError, JobTexts, Unwatched, Watch, job_of, push_numbered, run_behind, write_whole,
+};
 use u_replica::Replica;
 use u_world::{Event, World, WorldError, random_events};
 
@@ -115,7 +117,12 @@ fn first_of<'a>(alloc: Global, mut world: World<'a>) -> Result<Replica<'a>, Comm
 
 /// What is told of a world in which the first replica fires so many times at most in the end, and the
 /// exit status.
-fn told_of(alloc: Global, world: World<'_>, firings: usize) -> Result<(Vec<u8>, u8), CommandError>
+fn told_of<V: Watch>(
+    alloc: Global,
+    world: World<'_>,
+    firings: usize,
+    watch: &mut V,
+) -> Result<(Vec<u8>, u8), CommandError>
     ensures { MatchResult result
         (λ p. TellsEnd world.entry firings p.0.items p.1)
         (λ fault. EndsRefused world.entry firings fault) }
@@ -125,11 +132,16 @@ fn told_of(alloc: Global, world: World<'_>, firings: usize) -> Result<(Vec<u8>, 
         Ok(first) => first,
         Err(fault) => return Err(fault),
     };
-    run_behind(alloc, &lines, &mut first, firings)
+    run_behind(alloc, &lines, &mut first, firings, watch)
 }
 
 /// What is told of a world of the job, and the exit status.
-fn world_job(alloc: Global, job: &Job, plan: WorldPlan) -> Result<(Vec<u8>, u8), CommandError>
+pub(crate) fn world_job<V: Watch>(
+    alloc: Global,
+    job: &Job,
+    plan: WorldPlan,
+    watch: &mut V,
+) -> Result<(Vec<u8>, u8), CommandError>
     requires { IsBetween 1 plan.replicas 8 }
     ensures { MatchResult result (λ p. TellsWorld job.now plan p.0.items p.1)
         (λ fault. WorldRefused job.now plan fault) }
@@ -138,7 +150,7 @@ fn world_job(alloc: Global, job: &Job, plan: WorldPlan) -> Result<(Vec<u8>, u8),
         Ok(world) => world,
         Err(fault) => return Err(fault),
     };
-    told_of(alloc, world, plan.firings)
+    told_of(alloc, world, plan.firings, watch)
 }
 
 /// Lets the random events of the plan happen in a world of replicas of the program with this text, on
@@ -161,8 +173,27 @@ pub fn world_text<W: Write>(
     ensures { WorldTextAnswer program.now argument.now plan (W.contents writer.old) result
         (W.contents writer.new) }
 {
-    let job = job_of(alloc, program, argument)?;
-    let (written, status) = match world_job(alloc, &job, plan) {
+    let texts = JobTexts { program, argument };
+    world_watched_text(alloc, texts, plan, &mut Unwatched, writer)
+}
+
+/// Does what `world_text` does. The watch is told how far it has come.
+///
+/// # Errors
+/// Those of `world_text`.
+pub fn world_watched_text<V: Watch, W: Write>(
+    alloc: Global,
+    texts: JobTexts<'_>,
+    plan: WorldPlan,
+    watch: &mut V,
+    writer: &mut W,
+) -> Result<u8, CommandError>
+    requires { IsBetween 1 plan.replicas 8 }
+    ensures { WorldTextAnswer texts.entry.program.now texts.entry.argument.now plan
+        (W.contents writer.old) result (W.contents writer.new) }
+{
+    let job = job_of(alloc, texts.program, texts.argument)?;
+    let (written, status) = match world_job(alloc, &job, plan, watch) {
         Ok(told) => told,
         Err(fault) => return Err(fault),
     };

@@ -9,7 +9,7 @@ use Rattle.u_rule.specs.Rule.{system_of}
 use Rattle.u_rule.specs.declared.firing.Firing.{Firing}
 use Rattle.u_machine.specs.State.{State, Taken, IsMachine, IsSettled}
 use Rattle.u_machine.specs.Calls.{firing_le, Fires, RunAnswer}
-use Rattle.u_machine.specs.Taking.{AreFirings, IsTooLong, TakesAll}
+use Rattle.u_machine.specs.Taking.{TakesAll}
 use Rattle.u_machine.specs.declared.answer.Ran.{Ran}
 use Rattle.u_machine.specs.declared.answer.Ran.TheVariants as ran
 use Rattle.u_machine.specs.declared.answer.Refusal.TheVariants as refusals
@@ -17,11 +17,15 @@ use Rattle.u_machine.proofs.States.{settled_is_Cl}
 use Rattle.u_history.specs.declared.report.Ending.TheVariants as states
 use Rattle.u_replica.specs.declared.checkpoint.Ending.{Ending}
 use Rattle.u_replica.specs.ReplicaState.{ReplicaState}
-use Rattle.u_replica.specs.Restoring.{blank, WasRead, IsRestored}
+use Rattle.u_replica.specs.Checkpoints.{IsCheckpointOf}
+use Rattle.u_replica.specs.Restoring.{blank, IsRestored}
 use Rattle.u_commands.specs.Runs.{ReportsMachine, RunsBehind, RunRefused, ending_of}
 use Rattle.u_commands.specs.declared.command_error.CommandError.{CommandError}
 use Rattle.u_commands.specs.declared.command_error.CommandError.TheVariants as faults
-use Rattle.u_commands.specs.Restores.{most_taken, SavedOrFired, GoesOn, ReportsOn, FillsUp, ending_line, RestoresJob, HasNoRoom, CheckpointRefused}
+use Rattle.std.specs.Prelude.{Option}
+use Rattle.u_commands.proofs.Known.{kept}
+use Rattle.u_commands.specs.Restores.{HasJob, RestoreTextAnswer, most_taken, SavedOrFired, GoesOn, ReportsOn, FillsUp, ending_line, RestoresJob, CheckpointRefused}
+use Rattle.u_commands.specs.Takings.{IsReplicaWith, HasNoReplica}
 
 module _ {E F : Type 0} (s : System E F) (le : F → F → Type 0) (M N : F → Type 0) (same : Same M N) (done : List F) where
   there : (f : F) → M f ⊎ Contains done f → N f ⊎ Contains done f
@@ -143,6 +147,58 @@ module _ (job : JobParts) (number life firings : ℕ) (checkpoint : List ℕ) (e
   restored_refused faults.NotReadable r = r
   restored_refused faults.NotWritten r = r
 
--- firings of the job that are too many from the start
-pub too_many : (job : JobParts) (checkpoint : List ℕ) → WasRead checkpoint (λ fs. AreFirings job fs × IsTooLong (blank job most_taken) fs) → (firings : ℕ) → WasRead checkpoint (λ fs. HasNoRoom job firings fs)
-too_many job checkpoint r firings = record { firings = r.firings; ending = r.ending; read = r.read; so = (r.so.0, inl r.so.1) }
+-- what was read of a checkpoint was taken, or was not
+module _ (job : JobParts) (checkpoint : List ℕ) (ending : Ending) (fs gs : List Firing) (read : IsCheckpointOf checkpoint ending fs) (same : gs ≡ fs) where
+  pub restored_with : (r : ReplicaState) → IsReplicaWith job gs r → IsRestored job most_taken 1 1 checkpoint ending r
+  restored_with r w =
+      let v = subst (λ (xs : List Firing). IsReplicaWith job xs r) same w in
+      record { firings = fs; read = read; of_job = v.taken.firings; takes = v.taken.takes; settled = v.taken.settled; beside = v.beside }
+
+  refused : (fault : CommandError) → HasNoReplica job fs fault → (n : ℕ) → CheckpointRefused job n checkpoint fault
+  refused (faults.LineNotAllowed k) h n = h
+  refused (faults.TooMany k) h n = h
+  refused faults.CutShort h n = h
+  refused (faults.Rule b) h n = h
+  refused faults.ArgumentNotAllowed h n = h
+  refused faults.InputTooLong h n = h
+  refused (faults.CheckpointLineNotAllowed k) h n = absurd h
+  refused (faults.CheckpointLineTooLong k) h n = absurd h
+  refused (faults.OtherFiring place) h n = record { firings = fs; ending = ending; read = read; so = h }
+  refused (faults.EntryNotAllowed k) h n = h
+  refused faults.EntryNotHeld h n = h
+  refused (faults.NameNotAllowed k) h n = h
+  refused faults.NameTooDeep h n = h
+  refused faults.PortNotClashed h n = h
+  refused faults.Full h n = record { firings = fs; ending = ending; read = read; so = (h.0, inl h.1) }
+  refused faults.NoMemory h n = tt
+  refused faults.NoThread h n = h
+  refused faults.NoReader h n = h
+  refused faults.NotReadable h n = h
+  refused faults.NotWritten h n = h
+
+  pub restored_not : (fault : CommandError) → HasNoReplica job gs fault → (n : ℕ) → CheckpointRefused job n checkpoint fault
+  restored_not fault h = refused fault (subst (λ (xs : List Firing). HasNoReplica job xs fault) same h)
+
+-- nothing is written where nothing is restored of a job
+module _ (bytes word checkpoint : List ℕ) (firings : ℕ) (old : Option (List ℕ)) where
+  pub not_restored : (fault : CommandError) → HasJob bytes word (λ job. CheckpointRefused job firings checkpoint fault) → RestoreTextAnswer bytes word checkpoint firings old (Err fault) old
+  not_restored (faults.LineNotAllowed k) h = (inr h, kept old)
+  not_restored (faults.TooMany k) h = (inr h, kept old)
+  not_restored faults.CutShort h = (inr h, kept old)
+  not_restored (faults.Rule b) h = (inr h, kept old)
+  not_restored faults.ArgumentNotAllowed h = (inr h, kept old)
+  not_restored faults.InputTooLong h = (inr h, kept old)
+  not_restored (faults.CheckpointLineNotAllowed k) h = (inr h, kept old)
+  not_restored (faults.CheckpointLineTooLong k) h = (inr h, kept old)
+  not_restored (faults.OtherFiring place) h = (inr h, kept old)
+  not_restored (faults.EntryNotAllowed k) h = (inr h, kept old)
+  not_restored faults.EntryNotHeld h = (inr h, kept old)
+  not_restored (faults.NameNotAllowed k) h = (inr h, kept old)
+  not_restored faults.NameTooDeep h = (inr h, kept old)
+  not_restored faults.PortNotClashed h = (inr h, kept old)
+  not_restored faults.Full h = (inr h, kept old)
+  not_restored faults.NoMemory h = (inr h, kept old)
+  not_restored faults.NoThread h = (inr h, kept old)
+  not_restored faults.NoReader h = (inr h, kept old)
+  not_restored faults.NotReadable h = (inr h, kept old)
+  not_restored faults.NotWritten h = absurd h.so

@@ -1,5 +1,6 @@
 pub mod Statuses
 pub mod Outputs
+pub mod Watches
 pub mod Inputs
 pub mod Arguments
 pub mod Checks
@@ -7,6 +8,7 @@ pub mod Explains
 pub mod Runs
 pub mod Saves
 pub mod Restores
+pub mod Takings
 pub mod Traces
 pub mod Blaming
 pub mod Waits

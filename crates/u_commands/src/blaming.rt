@@ -11,7 +11,8 @@ ghost use Rattle.u_commands.specs.declared.command_error.CommandError.TheVariant
 
 use crate::command_error::CommandError;
 use crate::output::write_whole;
-use crate::run::{job_of, ran};
+use crate::run::{JobTexts, job_of, ran_watched};
+use crate::watch::{Unwatched, Watch};
 use std::alloc::{AllocError, Global};
 use std::io::Write;
 use u_check::Job;
@@ -118,12 +119,18 @@ fn blamed(
 }
 
 /// What is to blame for two values at the port, after a run of the job.
-fn blame_job(alloc: Global, job: &Job, activity: &Name, port: u8) -> Result<Vec<u8>, CommandError>
+fn blame_job<V: Watch>(
+    alloc: Global,
+    job: &Job,
+    activity: &Name,
+    port: u8,
+    watch: &mut V,
+) -> Result<Vec<u8>, CommandError>
     requires { IsBetween 1 port most_ports }
     ensures { MatchResult result (λ v. BlamesJob job.now activity.now port v.items)
         (λ fault. BlameRefused job.now activity.now port fault) }
 {
-    let (machine, _) = ran(alloc, job, BLAMED_FIRINGS)?;
+    let (machine, _) = ran_watched(alloc, job, BLAMED_FIRINGS, watch)?;
     blamed(alloc, &machine, activity, port)
 }
 
@@ -149,12 +156,32 @@ pub fn blame_text<W: Write>(
     ensures { BlameTextAnswer program.now argument.now name.now port (W.contents writer.old) result
         (W.contents writer.new) }
 {
-    let job = job_of(alloc, program, argument)?;
+    let texts = JobTexts { program, argument };
+    blame_watched_text(alloc, texts, name, port, &mut Unwatched, writer)
+}
+
+/// Does what `blame_text` does. The watch is told how far it has come.
+///
+/// # Errors
+/// Those of `blame_text`.
+pub fn blame_watched_text<V: Watch, W: Write>(
+    alloc: Global,
+    texts: JobTexts<'_>,
+    name: &[u8],
+    port: u8,
+    watch: &mut V,
+    writer: &mut W,
+) -> Result<u8, CommandError>
+    requires { IsBetween 1 port most_ports }
+    ensures { BlameTextAnswer texts.entry.program.now texts.entry.argument.now name.now port
+        (W.contents writer.old) result (W.contents writer.new) }
+{
+    let job = job_of(alloc, texts.program, texts.argument)?;
     let activity = match name_of(alloc, name) {
         Ok(activity) => activity,
         Err(fault) => return Err(fault),
     };
-    let written = match blame_job(alloc, &job, &activity, port) {
+    let written = match blame_job(alloc, &job, &activity, port, watch) {
         Ok(written) => written,
         Err(fault) => return Err(fault),
     };

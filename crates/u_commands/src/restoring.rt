@@ -1,36 +1,55 @@
 //! The command `restore`.
 ghost use Rattle.std.specs.Prelude.{◌≡◌, MatchResult, ℕ};
+ghost use Rattle.u_check.specs.Jobs.{JobParts};
+ghost use Rattle.u_replica.specs.Checkpoints.{IsCheckpointOf};
 ghost use Rattle.u_replica.specs.Restoring.{IsRestored};
 ghost use Rattle.u_commands.specs.Runs.{RunsBehind, RunRefused};
 ghost use Rattle.u_commands.specs.Restores.{most_taken, fault_of, ending_line, RestoresJob, CheckpointRefused, RestoreTextAnswer};
 
 use crate::command_error::CommandError;
 use crate::output::{joined, write_whole};
-use crate::run::{FIRING_LIMIT, ending_of, job_of, report_of};
+use crate::run::{JobTexts, ending_of, job_of, report_of};
+use crate::running::run_watched;
+use crate::taking::replica_with;
+use crate::watch::{Unwatched, Watch};
 use std::alloc::Global;
 use std::io::Write;
 use u_check::Job;
 use u_machine::Refusal;
-use u_replica::{Ending, Replica, RestoreError};
+use u_replica::{Checkpoint, CheckpointError, Ending, Replica, read_checkpoint};
 
-/// A replica of the job that took the firings of the checkpoint, and how the checkpoint ended.
-#[tactic(auto, unfolding(crate::specs::Restores::most_taken), using(crate::proofs::Restored::too_many))]
-fn restored<'a>(
+/// The checkpoint that the bytes are.
+fn checkpoint_in(alloc: Global, bytes: &[u8]) -> Result<Checkpoint, CommandError>
+    ensures { MatchResult result (λ c. IsCheckpointOf bytes.now c.ending c.firings)
+        (λ fault. (job : JobParts) (n : ℕ) → CheckpointRefused job n bytes.now fault) }
+{
+    match read_checkpoint(alloc, bytes) {
+        Ok(checkpoint) => Ok(checkpoint),
+        Err(CheckpointError::BadLine(line)) => Err(CommandError::CheckpointLineNotAllowed(line)),
+        Err(CheckpointError::TooLong(line)) => Err(CommandError::CheckpointLineTooLong(line)),
+        Err(CheckpointError::NoMemory) => Err(CommandError::NoMemory),
+    }
+}
+
+/// A replica of the job that took the firings of the checkpoint, and how the checkpoint ended. The watch
+/// is told how far it has come.
+fn restored<'a, V: Watch>(
     alloc: Global,
     job: &'a Job,
     checkpoint: &[u8],
+    watch: &mut V,
 ) -> Result<(Replica<'a>, Ending), CommandError>
     ensures { MatchResult result
         (λ p. IsRestored job.now most_taken 1 1 checkpoint.now p.1 p.0)
         (λ fault. (n : ℕ) → CheckpointRefused job.now n checkpoint.now fault) }
 {
-    match Replica::restore(alloc, job, FIRING_LIMIT, 1, 1, checkpoint) {
-        Ok(restored) => Ok(restored),
-        Err(RestoreError::BadLine(line)) => Err(CommandError::CheckpointLineNotAllowed(line)),
-        Err(RestoreError::TooLong(line)) => Err(CommandError::CheckpointLineTooLong(line)),
-        Err(RestoreError::NotAFiring(place)) => Err(CommandError::OtherFiring(place)),
-        Err(RestoreError::Full) => Err(CommandError::Full),
-        Err(RestoreError::NoMemory) => Err(CommandError::NoMemory),
+    let read = match checkpoint_in(alloc, checkpoint) {
+        Ok(read) => read,
+        Err(fault) => return Err(fault),
+    };
+    match replica_with(alloc, job, read.firings.as_slice(), watch) {
+        Ok(replica) => Ok((replica, read.ending)),
+        Err(fault) => Err(fault),
     }
 }
 
@@ -56,18 +75,19 @@ fn ending_line(ending: Ending) -> &'static [u8]
 }
 
 /// The front, and behind it the report of a replica that fires so many times at most; and the exit
-/// status.
-pub fn run_behind(
+/// status. The watch is told how far it has come.
+pub fn run_behind<V: Watch>(
     alloc: Global,
     front: &[u8],
     replica: &mut Replica<'_>,
     firings: usize,
+    watch: &mut V,
 ) -> Result<(Vec<u8>, u8), CommandError>
     ensures { MatchResult result
         (λ p. RunsBehind front.now replica.old.machine firings p.0.items p.1)
         (λ fault. RunRefused replica.old.machine firings fault) }
 {
-    let ran = replica.run(firings);
+    let ran = run_watched(replica, firings, watch);
     replica.holds();
     let state = match ran {
         Ok(ran) => ending_of(ran),
@@ -80,21 +100,22 @@ pub fn run_behind(
 
 /// How the checkpoint ended and the report of a replica that goes on from it with so many firings at
 /// most, and the exit status.
-fn restore_job(
+fn restore_job<V: Watch>(
     alloc: Global,
     job: &Job,
     checkpoint: &[u8],
     firings: usize,
+    watch: &mut V,
 ) -> Result<(Vec<u8>, u8), CommandError>
     ensures { MatchResult result
         (λ p. RestoresJob job.now firings checkpoint.now p.0.items p.1)
         (λ fault. CheckpointRefused job.now firings checkpoint.now fault) }
 {
-    let (mut replica, ending) = match restored(alloc, job, checkpoint) {
+    let (mut replica, ending) = match restored(alloc, job, checkpoint, watch) {
         Ok(restored) => restored,
         Err(fault) => return Err(fault),
     };
-    run_behind(alloc, ending_line(ending), &mut replica, firings)
+    run_behind(alloc, ending_line(ending), &mut replica, firings, watch)
 }
 
 /// Restores a replica of the program with this text, on the argument that the word gives, from the
@@ -117,8 +138,30 @@ pub fn restore_text<W: Write>(
     ensures { RestoreTextAnswer program.now argument.now checkpoint.now firings
         (W.contents writer.old) result (W.contents writer.new) }
 {
-    let job = job_of(alloc, program, argument)?;
-    let (written, status) = restore_job(alloc, &job, checkpoint, firings)?;
+    let texts = JobTexts { program, argument };
+    restore_watched_text(alloc, texts, checkpoint, firings, &mut Unwatched, writer)
+}
+
+/// Does what `restore_text` does. The watch is told how far it has come.
+///
+/// # Errors
+/// Those of `restore_text`.
+pub fn restore_watched_text<V: Watch, W: Write>(
+    alloc: Global,
+    texts: JobTexts<'_>,
+    checkpoint: &[u8],
+    firings: usize,
+    watch: &mut V,
+    writer: &mut W,
+) -> Result<u8, CommandError>
+    ensures { RestoreTextAnswer texts.entry.program.now texts.entry.argument.now checkpoint.now
+        firings (W.contents writer.old) result (W.contents writer.new) }
+{
+    let job = job_of(alloc, texts.program, texts.argument)?;
+    let (written, status) = match restore_job(alloc, &job, checkpoint, firings, watch) {
+        Ok(told) => told,
+        Err(fault) => return Err(fault),
+    };
     match write_whole(writer, &written) {
         Ok(()) => Ok(status),
         Err(_) => Err(CommandError::NotWritten),

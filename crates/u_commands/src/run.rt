@@ -13,15 +13,27 @@ use crate::argument::argument_of;
 use crate::checking::checked_of;
 use crate::command_error::CommandError;
 use crate::output::write_whole;
+use crate::running::run_watched;
+use crate::watch::{Unwatched, Watch};
 use std::alloc::{AllocError, Global};
 use std::io::Write;
 use u_check::Job;
 use u_determinate::only_writes_clash;
 use u_history::{Counts, Ending, Verdict, report_of_outcome};
 use u_machine::{Machine, Ran, Refusal};
+use u_replica::Replica;
 
 /// How many firings a machine of the program takes at most.
 pub const FIRING_LIMIT: usize = 1_000_000;
+
+/// The texts of a job.
+#[derive(Clone, Copy, Debug, PartialEq, Eq)]
+pub struct JobTexts<'a> {
+    /// The text of the program.
+    pub program: &'a [u8],
+    /// The word that gives the argument.
+    pub argument: &'a [u8],
+}
 
 /// The job of the program with this text on the argument that the word gives.
 pub fn job_of(alloc: Global, bytes: &[u8], word: &[u8]) -> Result<Job, CommandError>
@@ -87,20 +99,62 @@ pub fn report_of(
     Ok((report, status(state, outcome.verdict())))
 }
 
-/// Lets a machine that has taken nothing fire so many times at most. Returns the state that a report
+/// Lets a replica that has taken nothing fire so many times at most. Returns the state that a report
 /// names then.
-fn run_new(machine: &mut Machine<'_>, firings: usize) -> Result<Ending, CommandError>
-    requires fresh { IsFresh machine.old }
-    requires room { firings ≤ machine.old.limit }
-    ensures ok { IfOk result (λ state. RanTo machine.old.job firings state machine.new) }
+fn run_new<V: Watch>(
+    replica: &mut Replica<'_>,
+    firings: usize,
+    watch: &mut V,
+) -> Result<Ending, CommandError>
+    requires fresh { IsFresh replica.old.machine }
+    requires room { firings ≤ replica.old.machine.limit }
+    ensures ok { IfOk result
+        (λ state. RanTo replica.old.machine.job firings state replica.new.machine) }
     ensures memory { IfErr result (λ e. e ≡ faults.NoMemory) }
 {
-    let ran = machine.run(firings);
-    machine.holds();
+    let ran = run_watched(replica, firings, watch);
+    replica.holds();
     match ran {
         Ok(ran) => Ok(ending_of(ran)),
         Err(Refusal::NoMemory) => Err(CommandError::NoMemory),
         Err(Refusal::Full) => unreachable!(),
+    }
+}
+
+/// A new replica of the job after so many firings at most, and the state that a report names then. The
+/// watch is told how far it has come.
+pub(crate) fn replica_ran<'a, V: Watch>(
+    alloc: Global,
+    job: &'a Job,
+    firings: usize,
+    watch: &mut V,
+) -> Result<(Replica<'a>, Ending), CommandError>
+    requires { firings ≤ 1000000 }
+    ensures ok { IfOk result (λ p. RanTo job.now firings p.1 p.0.machine) }
+    ensures memory { IfErr result (λ e. e ≡ faults.NoMemory) }
+{
+    let mut replica = Replica::new(alloc, job, FIRING_LIMIT, 1)?;
+    match run_new(&mut replica, firings, watch) {
+        Ok(state) => Ok((replica, state)),
+        Err(fault) => Err(fault),
+    }
+}
+
+/// A new machine of the job after so many firings at most, and the state that a report names then. The
+/// watch is told how far it has come.
+pub fn ran_watched<'a, V: Watch>(
+    alloc: Global,
+    job: &'a Job,
+    firings: usize,
+    watch: &mut V,
+) -> Result<(Machine<'a>, Ending), CommandError>
+    requires { firings ≤ 1000000 }
+    ensures ok { IfOk result (λ p. RanTo job.now firings p.1 p.0) }
+    ensures memory { IfErr result (λ e. e ≡ faults.NoMemory) }
+{
+    match replica_ran(alloc, job, firings, watch) {
+        Ok((replica, state)) => Ok((replica.into_machine(), state)),
+        Err(fault) => Err(fault),
     }
 }
 
@@ -110,20 +164,21 @@ pub fn ran(alloc: Global, job: &Job, firings: usize) -> Result<(Machine<'_>, End
     ensures ok { IfOk result (λ p. RanTo job.now firings p.1 p.0) }
     ensures memory { IfErr result (λ e. e ≡ faults.NoMemory) }
 {
-    let mut machine = Machine::new(alloc, job, FIRING_LIMIT)?;
-    match run_new(&mut machine, firings) {
-        Ok(state) => Ok((machine, state)),
-        Err(fault) => Err(fault),
-    }
+    ran_watched(alloc, job, firings, &mut Unwatched)
 }
 
 /// The report of a new machine of the job after so many firings at most, and the exit status.
-fn run_job(alloc: Global, job: &Job, firings: usize) -> Result<(Vec<u8>, u8), CommandError>
+fn run_job<V: Watch>(
+    alloc: Global,
+    job: &Job,
+    firings: usize,
+    watch: &mut V,
+) -> Result<(Vec<u8>, u8), CommandError>
     requires { firings ≤ 1000000 }
     ensures ok { IfOk result (λ p. ReportsRunOfJob job.now firings p.0.items p.1) }
     ensures memory { IfErr result (λ e. e ≡ faults.NoMemory) }
 {
-    let (machine, state) = ran(alloc, job, firings)?;
+    let (machine, state) = ran_watched(alloc, job, firings, watch)?;
     // Brings in what clashes there are if the program is strict or determinate.
     only_writes_clash(job);
     let told = report_of(alloc, &machine, state)?;
@@ -149,8 +204,27 @@ pub fn run_text<W: Write>(
     ensures { RunTextAnswer program.now argument.now firings (W.contents writer.old) result
         (W.contents writer.new) }
 {
-    let job = job_of(alloc, program, argument)?;
-    let (report, status) = run_job(alloc, &job, firings)?;
+    let texts = JobTexts { program, argument };
+    run_watched_text(alloc, texts, firings, &mut Unwatched, writer)
+}
+
+/// Does what `run_text` does. The watch is told how far it has come.
+///
+/// # Errors
+/// Those of `run_text`.
+pub fn run_watched_text<V: Watch, W: Write>(
+    alloc: Global,
+    texts: JobTexts<'_>,
+    firings: usize,
+    watch: &mut V,
+    writer: &mut W,
+) -> Result<u8, CommandError>
+    requires { firings ≤ 1000000 }
+    ensures { RunTextAnswer texts.entry.program.now texts.entry.argument.now firings
+        (W.contents writer.old) result (W.contents writer.new) }
+{
+    let job = job_of(alloc, texts.program, texts.argument)?;
+    let (report, status) = run_job(alloc, &job, firings, watch)?;
     match write_whole(writer, &report) {
         Ok(()) => Ok(status),
         Err(_) => Err(CommandError::NotWritten),

@@ -1,42 +1,30 @@
 //! The command `save`.
 ghost use Rattle.std.specs.Prelude.{◌≡◌, ◌≤◌, IfOk, IfErr};
-ghost use Rattle.u_machine.specs.Calls.{IsFresh};
 ghost use Rattle.u_commands.specs.Saves.{SavesRunOfJob, SaveTextAnswer};
 ghost use Rattle.u_commands.specs.declared.command_error.CommandError.TheVariants as faults;
 
 use crate::command_error::CommandError;
 use crate::output::write_whole;
-use crate::run::{FIRING_LIMIT, job_of};
+use crate::run::{JobTexts, job_of, replica_ran};
+use crate::watch::{Unwatched, Watch};
 use std::alloc::Global;
 use std::io::Write;
 use u_check::Job;
-use u_machine::Refusal;
-use u_replica::Replica;
-
-/// The checkpoint of a replica that has taken nothing, after so many firings at most.
-fn checkpoint_of(replica: &mut Replica<'_>, firings: usize) -> Result<Vec<u8>, CommandError>
-    requires fresh { IsFresh replica.old.machine }
-    requires room { firings ≤ replica.old.machine.limit }
-    ensures ok { IfOk result (λ v. SavesRunOfJob replica.old.machine.job firings v.items) }
-    ensures memory { IfErr result (λ e. e ≡ faults.NoMemory) }
-{
-    match replica.run(firings) {
-        Ok(_) => {}
-        Err(Refusal::NoMemory) => return Err(CommandError::NoMemory),
-        Err(Refusal::Full) => unreachable!(),
-    }
-    let checkpoint = replica.save()?;
-    Ok(checkpoint)
-}
 
 /// The checkpoint of a new replica of the job after so many firings at most.
-fn save_job(alloc: Global, job: &Job, firings: usize) -> Result<Vec<u8>, CommandError>
+fn save_job<V: Watch>(
+    alloc: Global,
+    job: &Job,
+    firings: usize,
+    watch: &mut V,
+) -> Result<Vec<u8>, CommandError>
     requires { firings ≤ 1000000 }
     ensures ok { IfOk result (λ v. SavesRunOfJob job.now firings v.items) }
     ensures memory { IfErr result (λ e. e ≡ faults.NoMemory) }
 {
-    let mut replica = Replica::new(alloc, job, FIRING_LIMIT, 1)?;
-    checkpoint_of(&mut replica, firings)
+    let (replica, _) = replica_ran(alloc, job, firings, watch)?;
+    let checkpoint = replica.save()?;
+    Ok(checkpoint)
 }
 
 /// Runs the program with this text on the argument that the word gives, with so many firings at
@@ -55,8 +43,27 @@ pub fn save_text<W: Write>(
     ensures { SaveTextAnswer program.now argument.now firings (W.contents writer.old) result
         (W.contents writer.new) }
 {
-    let job = job_of(alloc, program, argument)?;
-    let checkpoint = save_job(alloc, &job, firings)?;
+    let texts = JobTexts { program, argument };
+    save_watched_text(alloc, texts, firings, &mut Unwatched, writer)
+}
+
+/// Does what `save_text` does. The watch is told how far it has come.
+///
+/// # Errors
+/// Those of `save_text`.
+pub fn save_watched_text<V: Watch, W: Write>(
+    alloc: Global,
+    texts: JobTexts<'_>,
+    firings: usize,
+    watch: &mut V,
+    writer: &mut W,
+) -> Result<u8, CommandError>
+    requires { firings ≤ 1000000 }
+    ensures { SaveTextAnswer texts.entry.program.now texts.entry.argument.now firings
+        (W.contents writer.old) result (W.contents writer.new) }
+{
+    let job = job_of(alloc, texts.program, texts.argument)?;
+    let checkpoint = save_job(alloc, &job, firings, watch)?;
     match write_whole(writer, &checkpoint) {
         Ok(()) => Ok(0),
         Err(_) => Err(CommandError::NotWritten),

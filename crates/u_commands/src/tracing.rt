@@ -7,7 +7,8 @@ ghost use Rattle.u_commands.specs.declared.command_error.CommandError.TheVariant
 
 use crate::command_error::CommandError;
 use crate::output::{push_numbered, write_whole};
-use crate::run::{job_of, ran};
+use crate::run::{JobTexts, job_of, ran_watched};
+use crate::watch::{Unwatched, Watch};
 use std::alloc::{AllocError, Global};
 use std::io::Write;
 use u_check::Job;
@@ -78,17 +79,18 @@ fn traced(alloc: Global, machine: &Machine<'_>, entry: &Entry) -> Result<Vec<u8>
 }
 
 /// The causes and the story of the entry, after a run of the job with so many firings at most.
-fn trace_job(
+fn trace_job<V: Watch>(
     alloc: Global,
     job: &Job,
     entry: &Entry,
     firings: usize,
+    watch: &mut V,
 ) -> Result<Vec<u8>, CommandError>
     requires { firings ≤ 1000000 }
     ensures { MatchResult result (λ v. TracesJob job.now firings entry.now v.items)
         (λ fault. TraceRefused job.now firings entry.now fault) }
 {
-    let (machine, _) = ran(alloc, job, firings)?;
+    let (machine, _) = ran_watched(alloc, job, firings, watch)?;
     traced(alloc, &machine, entry)
 }
 
@@ -112,9 +114,29 @@ pub fn trace_text<W: Write>(
     ensures { TraceTextAnswer program.now argument.now entry.now firings (W.contents writer.old)
         result (W.contents writer.new) }
 {
-    let job = job_of(alloc, program, argument)?;
+    let texts = JobTexts { program, argument };
+    trace_watched_text(alloc, texts, entry, firings, &mut Unwatched, writer)
+}
+
+/// Does what `trace_text` does. The watch is told how far it has come.
+///
+/// # Errors
+/// Those of `trace_text`.
+pub fn trace_watched_text<V: Watch, W: Write>(
+    alloc: Global,
+    texts: JobTexts<'_>,
+    entry: &[u8],
+    firings: usize,
+    watch: &mut V,
+    writer: &mut W,
+) -> Result<u8, CommandError>
+    requires { firings ≤ 1000000 }
+    ensures { TraceTextAnswer texts.entry.program.now texts.entry.argument.now entry.now firings
+        (W.contents writer.old) result (W.contents writer.new) }
+{
+    let job = job_of(alloc, texts.program, texts.argument)?;
     let entry = entry_of(alloc, entry)?;
-    let written = match trace_job(alloc, &job, &entry, firings) {
+    let written = match trace_job(alloc, &job, &entry, firings, watch) {
         Ok(written) => written,
         Err(fault) => return Err(fault),
     };

@@ -6,7 +6,8 @@ ghost use Rattle.u_commands.specs.declared.command_error.CommandError.TheVariant
 
 use crate::command_error::CommandError;
 use crate::output::write_whole;
-use crate::run::{job_of, ran, status};
+use crate::run::{JobTexts, job_of, ran_watched, status};
+use crate::watch::{Unwatched, Watch};
 use std::alloc::{AllocError, Global};
 use std::io::Write;
 use u_check::Job;
@@ -40,12 +41,17 @@ fn told(alloc: Global, machine: &Machine<'_>, state: Ending) -> Result<(Vec<u8>,
 }
 
 /// What a new machine of the job waits for after so many firings at most, and the exit status.
-fn waits_job(alloc: Global, job: &Job, firings: usize) -> Result<(Vec<u8>, u8), CommandError>
+fn waits_job<V: Watch>(
+    alloc: Global,
+    job: &Job,
+    firings: usize,
+    watch: &mut V,
+) -> Result<(Vec<u8>, u8), CommandError>
     requires { firings ≤ 1000000 }
     ensures ok { IfOk result (λ p. WaitsAfterRun job.now firings p.0.items p.1) }
     ensures memory { IfErr result (λ e. e ≡ faults.NoMemory) }
 {
-    let (machine, state) = ran(alloc, job, firings)?;
+    let (machine, state) = ran_watched(alloc, job, firings, watch)?;
     let told = told(alloc, &machine, state)?;
     Ok(told)
 }
@@ -68,8 +74,27 @@ pub fn waits_text<W: Write>(
     ensures { WaitsTextAnswer program.now argument.now firings (W.contents writer.old) result
         (W.contents writer.new) }
 {
-    let job = job_of(alloc, program, argument)?;
-    let (written, status) = waits_job(alloc, &job, firings)?;
+    let texts = JobTexts { program, argument };
+    waits_watched_text(alloc, texts, firings, &mut Unwatched, writer)
+}
+
+/// Does what `waits_text` does. The watch is told how far it has come.
+///
+/// # Errors
+/// Those of `waits_text`.
+pub fn waits_watched_text<V: Watch, W: Write>(
+    alloc: Global,
+    texts: JobTexts<'_>,
+    firings: usize,
+    watch: &mut V,
+    writer: &mut W,
+) -> Result<u8, CommandError>
+    requires { firings ≤ 1000000 }
+    ensures { WaitsTextAnswer texts.entry.program.now texts.entry.argument.now firings
+        (W.contents writer.old) result (W.contents writer.new) }
+{
+    let job = job_of(alloc, texts.program, texts.argument)?;
+    let (written, status) = waits_job(alloc, &job, firings, watch)?;
     match write_whole(writer, &written) {
         Ok(()) => Ok(status),
         Err(_) => Err(CommandError::NotWritten),

@@ -1,3 +1,2 @@
 pub mod HeldLaws
 pub mod DrawnLaws
-pub mod WorldLaws

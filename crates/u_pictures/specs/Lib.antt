@@ -1,3 +1,2 @@
 pub mod Draws
 pub mod DrawnRuns
-pub mod DrawnWorlds

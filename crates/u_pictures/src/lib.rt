@@ -6,9 +6,7 @@ mod drawing;
 mod holding;
 mod runs;
 mod stories;
-mod worlds;
 
 pub use drawing::draw_text;
 pub use runs::draw_run_text;
 pub use stories::draw_story_text;
-pub use worlds::draw_world_text;

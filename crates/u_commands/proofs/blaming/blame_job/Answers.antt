@@ -8,9 +8,9 @@ use Rattle.u_commands.proofs.blaming.blame_job.Goals as goal
 
 pub blamed-requires-clause-ran : goal.blamed-requires-clause-ran
 unfolding most_blamed
-blamed-requires-clause-ran c =
+blamed-requires-clause-ran g c =
     subst (λ (j : JobParts). RanPlainly j most_blamed c.in_ok-machine.machine) (sym c.in_ok-machine.ensures.ok.of) (ran_plainly c.args.job.now most_blamed c.in_ok-machine.machine _ c.in_ok-machine.ensures.ok)
 
 pub returns : goal.returns
-returns c =
+returns g c =
     subst (λ (j : JobParts). MatchResult c.blamed.result (λ v. BlamesJob j c.args.activity.now c.args.port v.items) (λ fault. BlameRefused j c.args.activity.now c.args.port fault)) c.in_ok-machine.ensures.ok.of c.blamed.ensures

@@ -4,7 +4,7 @@ use Rattle.u_commands.proofs.Traced.{of_run}
 use Rattle.u_commands.proofs.tracing.trace_job.Goals as goal
 
 pub returns : goal.returns
-returns c =
+returns g c =
     let ran = c.in_ok-machine.ensures.ok in
     match_more c.traced.result _ _ _ _ (λ v h. of_run c.args.job.now c.args.firings c.in_ok-machine.machine _ ran (λ j n. TracesJob j n c.args.entry.now v.items) h)
     (λ fault h. of_run c.args.job.now c.args.firings c.in_ok-machine.machine _ ran (λ j n. TraceRefused j n c.args.entry.now fault) h) c.traced.ensures

@@ -6,8 +6,8 @@ use Rattle.u_commands.proofs.Waited.{waits_after}
 use Rattle.u_commands.proofs.waiting.waits_job.Goals as goal
 
 pub returns-clause-ok : goal.returns-clause-ok
-returns-clause-ok c =
+returns-clause-ok g c =
     waits_after c.args.job.now c.args.firings c.in_ok-machine.state c.in_ok-machine.machine c.in_ok-told.told.0.items c.in_ok-told.told.1 c.in_ok-machine.ensures.ok c.in_ok-told.ensures
 
 pub returns-in_err-told-clause-memory : goal.returns-in_err-told-clause-memory
-returns-in_err-told-clause-memory c = error_is c.from_residual-in_err-told.result (λ (e : CommandError). e ≡ NoMemory) c.from_residual-in_err-told.ensures.1
+returns-in_err-told-clause-memory g c = error_is c.from_residual-in_err-told.result (λ (e : CommandError). e ≡ NoMemory) c.from_residual-in_err-told.ensures.1
