@@ -1,3 +1,4 @@
+pub mod Wide
 pub mod Lists
 pub mod WordLaws
 pub mod ListLaws

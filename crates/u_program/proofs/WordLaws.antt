@@ -18,13 +18,19 @@ use Rattle.std.proofs.lemmas.Option.{same_Some, none-some}
 use Rattle.u_program.specs.declared.program.Constant.{Constant}
 use Rattle.u_program.specs.declared.program.Constant.TheVariants as constants
 use Rattle.u_program.specs.declared.program.Kind.{Kind}
-use Rattle.u_program.specs.declared.program.Kind.TheVariants.{Begin, Const, Pass, Unary, Binary, Select, Switch, Enter, Next, Last, Leave, Apply, Back, Alloc, Store, Fetch, End}
+use Rattle.u_program.specs.declared.program.Kind.TheVariants.{Begin, Const, Pass, Unary, Binary, Select, Switch, Enter, Next, Last, Leave, Apply, Back, Alloc, Store, Fetch, End, Param}
+use Rattle.u_program.specs.declared.program.Version.{Version}
+use Rattle.u_program.specs.declared.program.Version.TheVariants as versions
+use Rattle.u_program.specs.declared.program.Arguments.{Arguments}
+use Rattle.u_program.specs.declared.program.Arguments.TheVariants as arguments
+use Rattle.u_program.specs.declared.program.Parameter.{Parameter}
+use Rattle.u_program.specs.declared.program.Parameter.TheVariants as parameters
 use Rattle.u_value.specs.declared.operators.UnaryOperator.TheVariants.{Not, Length}
 use Rattle.u_value.specs.declared.operators.BinaryOperator.TheVariants.{And, Or, Add, Sub, Mul, Div, Rem, Lt, Le, Eq}
 use Rattle.u_program.specs.declared.program.Destination.{Destination}
-use Rattle.u_program.specs.Limits.{IsConstant, IsKind, IsDestination}
-use Rattle.u_program.specs.Text.{arrow, kind_word, constant_word, argument_words, destination_word}
-use Rattle.u_program.specs.Reading.{Words, word_at, name_word, dot_at, ported, destination_at, other_constant, constant_at, plain_kinds, kind_among, const_at, enter_at, apply_at, plain_at, kind_of, kind_at, arrow_at}
+use Rattle.u_program.specs.Limits.{IsConstant, IsKind, HasKind, HasCount, IsDestination, greatest_port}
+use Rattle.u_program.specs.Text.{arrow, kind_word, constant_word, count_word, place_word, count_words, argument_words, destination_word}
+use Rattle.u_program.specs.Reading.{Words, name_word, dot_at, ported, destination_at, other_constant, constant_at, plain_kinds, kind_among, const_at, enter_at, arguments_at, parameter_at, count_at, apply_at, param_at, plain_at, kind_of, kind_at, arrow_at}
 
 pub name_word_sound : (w name : List ℕ) → name_word w ≡ Some name → IsBlock name × (w ≡ name)
 unfolding name_word
@@ -50,26 +56,36 @@ dot_text d = decimal d.0 ++ (46 ∷ decimal d.1)
 dot_Reads : Reads (after decimal (λ _ i. 46 ∷ decimal i)) (AreBoth (IsUpTo 999) (λ _. IsUpTo 9)) IsDigit dot_at
 dot_Reads = both_Reads (number_Reads 999 (omega arith) (omega arith)) (λ _ _. lead_Reads 46 (number_Reads 9 (omega arith) (omega arith))) (λ x y c r u v w m e. no_dot c _ u m e)
 
-ported_sound : (z : ℕ × ℕ) (d : Destination) → ported z ≡ Some d → (z.1 ≤ 3) × (◌≡◌ {A = Destination} (record { statement = z.0; port = z.1 }) d)
-ported_sound z d h =
-    elim (le_cases z.1 3) [
+few_ports : (version : Version) → greatest_port version ≤ 9
+few_ports versions.One = omega arith
+few_ports versions.Two = omega arith
+
+few_of_all : (version : Version) → greatest_port version ≤ 5
+few_of_all versions.One = omega arith
+few_of_all versions.Two = omega arith
+
+ported_sound : (version : Version) (z : ℕ × ℕ) (d : Destination) → ported version z ≡ Some d → (z.1 ≤ greatest_port version) × (◌≡◌ {A = Destination} (record { statement = z.0; port = z.1 }) d)
+ported_sound version z d h =
+    elim (le_cases z.1 (greatest_port version)) [
       | inl a ↦ (a.1, same_Some _ d (ap (λ t. cond t (Some (record { statement = z.0; port = z.1 })) None) (sym a.0) ∙ h))
       | inr a ↦ absurd (none-some d (ap (λ t. cond t (Some (record { statement = z.0; port = z.1 })) None) (sym a.0) ∙ h))
     ]
 
-pub destination_sound : (w : List ℕ) (d : Destination) → destination_at w ≡ Some d → IsDestination d × (w ≡ destination_word d)
+pub destination_sound : (version : Version) (w : List ℕ) (d : Destination) → destination_at version w ≡ Some d → IsDestination d × (d.port ≤ greatest_port version) × (w ≡ destination_word d)
 unfolding destination_at
-destination_sound w d h =
-    let a = then_some (whole (dot_at w)) ported d h in
+destination_sound version w d h =
+    let a = then_some (whole (dot_at w)) (ported version) d h in
     let s = whole_sound dot_Reads w a.0 a.1 in
-    let p = ported_sound a.0 d a.2 in
-    subst (λ (d : Destination). IsDestination d × (w ≡ destination_word d)) p.1 (record { statement = (s.0.0.0, s.0.0.1); port = (s.0.1.0, p.0) }, s.1)
+    let p = ported_sound version a.0 d a.2 in
+    let few = few_of_all version in
+    subst (λ (d : Destination). IsDestination d × (d.port ≤ greatest_port version) × (w ≡ destination_word d)) p.1 (record { statement = (s.0.0.0, s.0.0.1); port = (s.0.1.0, omega (arith, p.0, few)) }, p.0, s.1)
 
-pub destination_complete : (d : Destination) → IsDestination d → destination_at (destination_word d) ≡ Some d
+pub destination_complete : (version : Version) (d : Destination) → IsDestination d → d.port ≤ greatest_port version → destination_at version (destination_word d) ≡ Some d
 unfolding destination_at
-destination_complete d v =
-    let c = whole_complete dot_Reads (d.statement, d.port) ((v.statement.0, v.statement.1), (v.port.0, omega (arith, v.port.1))) in
-    ap (λ r. r then ported) c ∙ elim (le_cases d.port 3) [ inl a ↦ ap (λ t. cond t (Some d) None) a.0 | inr a ↦ absurd (omega (arith, v.port.1)) ]
+destination_complete version d v low =
+    let few = few_ports version in
+    let c = whole_complete dot_Reads (d.statement, d.port) ((v.statement.0, v.statement.1), (v.port.0, omega (arith, low, few))) in
+    ap (λ r. r then ported version) c ∙ elim (le_cases d.port (greatest_port version)) [ inl a ↦ ap (λ t. cond t (Some d) None) a.0 | inr a ↦ absurd (omega (arith, low, a.1)) ]
 
 -- constants
 
@@ -157,120 +173,250 @@ constant_complete (constants.Int (negsuc n)) v =
 
 -- kinds
 
-IsPlain : Kind → Type 0
-IsPlain k = IsKind k × (argument_words k ≡ [])
+IsPlain : Version → Kind → Type 0
+IsPlain version k = IsKind k × HasKind version k × (argument_words version k ≡ [])
 
-among_sound : (ks : List Kind) (w : List ℕ) (k : Kind) → AllByRecursion IsPlain ks → kind_among ks w ≡ Some k → IsPlain k × (w ≡ kind_word k)
+among_sound : (version : Version) (ks : List Kind) (w : List ℕ) (k : Kind) → AllByRecursion (IsPlain version) ks → kind_among ks w ≡ Some k → IsPlain version k × (w ≡ kind_word k)
 unfolding kind_among
-among_sound [] w k v h = absurd (none-some k h)
-among_sound (j ∷ ks) w k v h =
+among_sound version [] w k v h = absurd (none-some k h)
+among_sound version (j ∷ ks) w k v h =
     elim (told w (kind_word j) (is w (kind_word j)) refl) [
       | inl a ↦
           let e = same_Some j k (ap (λ b. cond b (Some j) (kind_among ks w)) (sym a.0) ∙ h) in
-          subst (λ k. IsPlain k × (w ≡ kind_word k)) e (v.0, a.1)
-      | inr a ↦ among_sound ks w k v.1 (ap (λ b. cond b (Some j) (kind_among ks w)) (sym a) ∙ h)
+          subst (λ k. IsPlain version k × (w ≡ kind_word k)) e (v.0, a.1)
+      | inr a ↦ among_sound version ks w k v.1 (ap (λ b. cond b (Some j) (kind_among ks w)) (sym a) ∙ h)
     ]
 
-are_plain : AllByRecursion IsPlain plain_kinds
+are_plain : (version : Version) → AllByRecursion (IsPlain version) plain_kinds
 unfolding IsPlain
-are_plain = ((tt, refl), ((tt, refl), ((tt, refl), ((tt, refl), ((tt, refl), ((tt, refl), ((tt, refl), ((tt, refl), ((tt, refl), ((tt, refl), ((tt, refl), ((tt, refl), ((tt, refl), ((tt, refl), ((tt, refl), ((tt, refl), ((tt, refl), ((tt, refl), ((tt, refl), ((tt, refl), ((tt, refl), ((tt, refl), ((tt, refl), ((tt, refl), tt))))))))))))))))))))))))
+are_plain version = ((tt, tt, refl), ((tt, tt, refl), ((tt, tt, refl), ((tt, tt, refl), ((tt, tt, refl), ((tt, tt, refl), ((tt, tt, refl), ((tt, tt, refl), ((tt, tt, refl), ((tt, tt, refl), ((tt, tt, refl), ((tt, tt, refl), ((tt, tt, refl), ((tt, tt, refl), ((tt, tt, refl), ((tt, tt, refl), ((tt, tt, refl), ((tt, tt, refl), ((tt, tt, refl), ((tt, tt, refl), ((tt, tt, refl), ((tt, tt, refl), ((tt, tt, refl), ((tt, tt, refl), tt))))))))))))))))))))))))
 
-SaysKind : List ℕ → Words → Kind → Words → Type 0
-SaysKind w ws k rest = IsKind k × (w ∷ ws ≡ kind_word k ∷ (argument_words k ++ rest))
+SaysKind : Version → List ℕ → Words → Kind → Words → Type 0
+SaysKind version w ws k rest = IsKind k × HasKind version k × (w ∷ ws ≡ kind_word k ∷ (argument_words version k ++ rest))
 
-const_sound : (w : List ℕ) (ws : Words) (k : Kind) (rest : Words) → w ≡ codes "const" → const_at ws ≡ Some (k, rest) → SaysKind w ws k rest
-unfolding SaysKind
-const_sound w [] k rest e h = absurd (none-some _ h)
-const_sound w (v ∷ ws) k rest e h =
-    let a = then_some (constant_at v) (λ c. Some (Const c, ws)) (k, rest) h in
-    let s = constant_sound v a.0 a.1 in
-    let o = same_Some (Const a.0, ws) (k, rest) a.2 in
-    let f : Const a.0 ≡ k = ap (λ t. t.0) o in
-    let g : ws ≡ rest = ap (λ t. t.1) o in
-    subst (λ k. IsKind k × (w ∷ v ∷ ws ≡ kind_word k ∷ (argument_words k ++ rest))) f
-    (s.0, ap (λ w. w ∷ v ∷ ws) e ∙ ap (λ v. codes "const" ∷ v ∷ ws) s.1 ∙ ap (λ ws. codes "const" ∷ constant_word a.0 ∷ ws) g)
+module _ (version : Version) where
+  const_sound : (w : List ℕ) (ws : Words) (k : Kind) (rest : Words) → w ≡ codes "const" → const_at ws ≡ Some (k, rest) → SaysKind version w ws k rest
+  unfolding SaysKind
+  const_sound w [] k rest e h = absurd (none-some _ h)
+  const_sound w (v ∷ ws) k rest e h =
+      let a = then_some (constant_at v) (λ c. Some (Const c, ws)) (k, rest) h in
+      let s = constant_sound v a.0 a.1 in
+      let o = same_Some (Const a.0, ws) (k, rest) a.2 in
+      let f : Const a.0 ≡ k = ap (λ t. t.0) o in
+      let g : ws ≡ rest = ap (λ t. t.1) o in
+      subst (λ k. IsKind k × HasKind version k × (w ∷ v ∷ ws ≡ kind_word k ∷ (argument_words version k ++ rest))) f
+      (s.0, tt, ap (λ w. w ∷ v ∷ ws) e ∙ ap (λ v. codes "const" ∷ v ∷ ws) s.1 ∙ ap (λ ws. codes "const" ∷ constant_word a.0 ∷ ws) g)
 
--- a kind whose argument is a number from 1 on
-abbrev counted_at : ℕ → (ℕ → Kind) → Words → Option (Kind × Words)
-counted_at max make ws = word_at ws then λ a. number_word max a.0 then λ n. Some (make n, a.1)
+  enter_sound : (w : List ℕ) (ws : Words) (k : Kind) (rest : Words) → w ≡ codes "enter" → enter_at ws ≡ Some (k, rest) → SaysKind version w ws k rest
+  unfolding SaysKind
+  enter_sound w [] k rest e h = absurd (none-some _ h)
+  enter_sound w (v ∷ ws) k rest e h =
+      let a = then_some (number_word 99 v) (λ l. Some (Enter l, ws)) (k, rest) h in
+      let s = number_word_sound 99 v a.0 (omega arith) (omega arith) a.1 in
+      let o = same_Some (Enter a.0, ws) (k, rest) a.2 in
+      let f : Enter a.0 ≡ k = ap (λ t. t.0) o in
+      let g : ws ≡ rest = ap (λ t. t.1) o in
+      subst (λ k. IsKind k × HasKind version k × (w ∷ v ∷ ws ≡ kind_word k ∷ (argument_words version k ++ rest))) f
+      (s.0, tt, ap (λ w. w ∷ v ∷ ws) e ∙ ap (λ v. codes "enter" ∷ v ∷ ws) s.1 ∙ ap (λ ws. codes "enter" ∷ decimal a.0 ∷ ws) g)
 
-counted_sound : (max : ℕ) (word : List ℕ) (make : ℕ → Kind) → 9 ≤ max → max < 2 ^ 64 → ((n : ℕ) → IsUpTo max n → IsKind (make n)) → ((n : ℕ) → kind_word (make n) ≡ word) → ((n : ℕ) → argument_words (make n) ≡ decimal n ∷ []) → (w : List ℕ) (ws : Words) (k : Kind) (rest : Words) → w ≡ word → counted_at max make ws ≡ Some (k, rest) → SaysKind w ws k rest
-unfolding SaysKind
-counted_sound max word make low high valid named said w [] k rest e h = absurd (none-some _ h)
-counted_sound max word make low high valid named said w (v ∷ ws) k rest e h =
-    let a = then_some (number_word max v) (λ n. Some (make n, ws)) (k, rest) h in
-    let s = number_word_sound max v a.0 low high a.1 in
-    let o = same_Some (make a.0, ws) (k, rest) a.2 in
-    let f : make a.0 ≡ k = ap (λ t. t.0) o in
-    let g : ws ≡ rest = ap (λ t. t.1) o in
-    subst (λ k. IsKind k × (w ∷ v ∷ ws ≡ kind_word k ∷ (argument_words k ++ rest))) f
-    (valid a.0 s.0, ap (λ w. w ∷ v ∷ ws) (e ∙ sym (named a.0)) ∙ ap (λ v. kind_word (make a.0) ∷ v ∷ ws) s.1 ∙ ap (λ ws. kind_word (make a.0) ∷ decimal a.0 ∷ ws) g ∙ ap (λ t. kind_word (make a.0) ∷ (t ++ rest)) (sym (said a.0)))
-
-plain_sound : (w : List ℕ) (ws : Words) (k : Kind) (rest : Words) → plain_at w ws ≡ Some (k, rest) → SaysKind w ws k rest
-unfolding SaysKind IsPlain
-plain_sound w ws k rest h =
-    let a = then_some (kind_among plain_kinds w) (λ k. Some (k, ws)) (k, rest) h in
-    let s = among_sound plain_kinds w a.0 are_plain a.1 in
-    let o = same_Some (a.0, ws) (k, rest) a.2 in
-    let f : a.0 ≡ k = ap (λ t. t.0) o in
-    let g : ws ≡ rest = ap (λ t. t.1) o in
-    subst (λ k. IsKind k × (w ∷ ws ≡ kind_word k ∷ (argument_words k ++ rest))) f
-    (s.0.0, ap (λ w. w ∷ ws) s.1 ∙ ap (λ ws. kind_word a.0 ∷ ws) (g ∙ ap (λ l. l ++ rest) (sym s.0.1)))
-
-abbrev after_enter : Bool → List ℕ → Words → Option (Kind × Words)
-after_enter b w ws = cond b (enter_at ws) (cond (is w (codes "apply")) (apply_at ws) (plain_at w ws))
-
-kind_of_sound : (w : List ℕ) (ws : Words) (k : Kind) (rest : Words) → kind_of w ws ≡ Some (k, rest) → SaysKind w ws k rest
-kind_of_sound w ws k rest h =
-    elim (told w (codes "const") (is w (codes "const")) refl) [
-      | inl a ↦ const_sound w ws k rest a.1 (ap (λ b. cond b (const_at ws) (after_enter (is w (codes "enter")) w ws)) (sym a.0) ∙ h)
+arguments_sound : (w : List ℕ) (n : Arguments) → arguments_at w ≡ Some n → w ≡ count_word n
+unfolding arguments_at
+arguments_sound w n h =
+    elim (told w (codes "1") (is w (codes "1")) refl) [
+      | inl a ↦ a.1 ∙ ap count_word (same_Some arguments.One n (ap (λ b. cond b (Some arguments.One) (from_two (is w (codes "2")) (is w (codes "3")) (is w (codes "4")))) (sym a.0) ∙ h))
       | inr a ↦
-          let i = ap (λ b. cond b (const_at ws) (after_enter (is w (codes "enter")) w ws)) (sym a) ∙ h in
-          elim (told w (codes "enter") (is w (codes "enter")) refl) [
-            | inl d ↦ counted_sound 99 (codes "enter") (λ l. Enter l) (omega arith) (omega arith) (λ n v. v) (λ n. refl) (λ n. refl) w ws k rest d.1 (ap (λ b. after_enter b w ws) (sym d.0) ∙ i)
-            | inr d ↦
-                let j = ap (λ b. after_enter b w ws) (sym d) ∙ i in
-                elim (told w (codes "apply") (is w (codes "apply")) refl) [
-                  | inl f ↦ counted_sound 999 (codes "apply") (λ b. Apply b) (omega arith) (omega arith) (λ n v. v) (λ n. refl) (λ n. refl) w ws k rest f.1 (ap (λ b. cond b (apply_at ws) (plain_at w ws)) (sym f.0) ∙ j)
-                  | inr f ↦ plain_sound w ws k rest (ap (λ b. cond b (apply_at ws) (plain_at w ws)) (sym f) ∙ j)
+          let i = ap (λ b. cond b (Some arguments.One) (from_two (is w (codes "2")) (is w (codes "3")) (is w (codes "4")))) (sym a) ∙ h in
+          elim (told w (codes "2") (is w (codes "2")) refl) [
+            | inl b ↦ b.1 ∙ ap count_word (same_Some arguments.Two n (ap (λ b. from_two b (is w (codes "3")) (is w (codes "4"))) (sym b.0) ∙ i))
+            | inr b ↦
+                let j = ap (λ b. from_two b (is w (codes "3")) (is w (codes "4"))) (sym b) ∙ i in
+                elim (told w (codes "3") (is w (codes "3")) refl) [
+                  | inl c ↦ c.1 ∙ ap count_word (same_Some arguments.Three n (ap (λ b. from_three b (is w (codes "4"))) (sym c.0) ∙ j))
+                  | inr c ↦
+                      let k = ap (λ b. from_three b (is w (codes "4"))) (sym c) ∙ j in
+                      elim (told w (codes "4") (is w (codes "4")) refl) [
+                        | inl d ↦ d.1 ∙ ap count_word (same_Some arguments.Four n (ap from_four (sym d.0) ∙ k))
+                        | inr d ↦ absurd (none-some n (ap from_four (sym d) ∙ k))
+                      ]
                 ]
           ]
     ]
+  where
+    from_four : Bool → Option Arguments
+    from_four d = cond d (Some arguments.Four) None
 
-pub kind_sound : (ws : Words) (k : Kind) (rest : Words) → kind_at ws ≡ Some (k, rest) → IsKind k × (ws ≡ kind_word k ∷ (argument_words k ++ rest))
+    from_three : Bool → Bool → Option Arguments
+    from_three c d = cond c (Some arguments.Three) (from_four d)
+
+    from_two : Bool → Bool → Bool → Option Arguments
+    from_two b c d = cond b (Some arguments.Two) (from_three c d)
+
+arguments_complete : (n : Arguments) → arguments_at (count_word n) ≡ Some n
+unfolding arguments_at
+arguments_complete arguments.One = refl
+arguments_complete arguments.Two = refl
+arguments_complete arguments.Three = refl
+arguments_complete arguments.Four = refl
+
+parameter_sound : (w : List ℕ) (p : Parameter) → parameter_at w ≡ Some p → w ≡ place_word p
+unfolding parameter_at
+parameter_sound w p h =
+    elim (told w (codes "2") (is w (codes "2")) refl) [
+      | inl a ↦ a.1 ∙ ap place_word (same_Some parameters.Second p (ap (λ b. cond b (Some parameters.Second) (from_third (is w (codes "3")) (is w (codes "4")))) (sym a.0) ∙ h))
+      | inr a ↦
+          let i = ap (λ b. cond b (Some parameters.Second) (from_third (is w (codes "3")) (is w (codes "4")))) (sym a) ∙ h in
+          elim (told w (codes "3") (is w (codes "3")) refl) [
+            | inl b ↦ b.1 ∙ ap place_word (same_Some parameters.Third p (ap (λ b. from_third b (is w (codes "4"))) (sym b.0) ∙ i))
+            | inr b ↦
+                let j = ap (λ b. from_third b (is w (codes "4"))) (sym b) ∙ i in
+                elim (told w (codes "4") (is w (codes "4")) refl) [
+                  | inl c ↦ c.1 ∙ ap place_word (same_Some parameters.Fourth p (ap from_fourth (sym c.0) ∙ j))
+                  | inr c ↦ absurd (none-some p (ap from_fourth (sym c) ∙ j))
+                ]
+          ]
+    ]
+  where
+    from_fourth : Bool → Option Parameter
+    from_fourth d = cond d (Some parameters.Fourth) None
+
+    from_third : Bool → Bool → Option Parameter
+    from_third c d = cond c (Some parameters.Third) (from_fourth d)
+
+parameter_complete : (p : Parameter) → parameter_at (place_word p) ≡ Some p
+unfolding parameter_at
+parameter_complete parameters.Second = refl
+parameter_complete parameters.Third = refl
+parameter_complete parameters.Fourth = refl
+
+count_sound : (version : Version) (ws : Words) (n : Arguments) (rest : Words) → count_at version ws ≡ Some (n, rest) → HasCount version n × (ws ≡ count_words version n ++ rest)
+unfolding count_at
+count_sound versions.One ws n rest h = let o = same_Some (arguments.One, ws) (n, rest) h in (sym (ap (λ t. t.0) o), ap (λ t. t.1) o)
+count_sound versions.Two [] n rest h = absurd (none-some _ h)
+count_sound versions.Two (w ∷ ws) n rest h =
+    let a = then_some (arguments_at w) (λ n. Some (n, ws)) (n, rest) h in
+    let o = same_Some (a.0, ws) (n, rest) a.2 in
+    let e : a.0 ≡ n = ap (λ t. t.0) o in
+    let f : ws ≡ rest = ap (λ t. t.1) o in
+    (tt, ap (λ w. w ∷ ws) (arguments_sound w a.0 a.1) ∙ ap (λ n. count_word n ∷ ws) e ∙ ap (λ ws. count_word n ∷ ws) f)
+
+count_complete : (version : Version) (n : Arguments) (rest : Words) → HasCount version n → count_at version (count_words version n ++ rest) ≡ Some (n, rest)
+unfolding count_at
+count_complete versions.One n rest v = ap (λ n. Some (n, rest)) (sym v)
+count_complete versions.Two n rest v = ap (λ r. r then λ n. Some (n, rest)) (arguments_complete n)
+
+apply_sound : (version : Version) (w : List ℕ) (ws : Words) (k : Kind) (rest : Words) → w ≡ codes "apply" → apply_at version ws ≡ Some (k, rest) → SaysKind version w ws k rest
+unfolding SaysKind
+apply_sound version w [] k rest e h = absurd (none-some _ h)
+apply_sound version w (v ∷ ws) k rest e h =
+    let a = then_some (number_word 999 v) (λ b. count_at version ws then λ n. Some (Apply b n.0, n.1)) (k, rest) h in
+    let s = number_word_sound 999 v a.0 (omega arith) (omega arith) a.1 in
+    let c = then_some (count_at version ws) (λ n. Some (Apply a.0 n.0, n.1)) (k, rest) a.2 in
+    let t = count_sound version ws c.0.0 c.0.1 c.1 in
+    let o = same_Some (Apply a.0 c.0.0, c.0.1) (k, rest) c.2 in
+    let f : Apply a.0 c.0.0 ≡ k = ap (λ t. t.0) o in
+    let g : c.0.1 ≡ rest = ap (λ t. t.1) o in
+    subst (λ k. IsKind k × HasKind version k × (w ∷ v ∷ ws ≡ kind_word k ∷ (argument_words version k ++ rest))) f
+    (s.0, t.0, ap (λ w. w ∷ v ∷ ws) e ∙ ap (λ v. codes "apply" ∷ v ∷ ws) s.1 ∙ ap (λ ws. codes "apply" ∷ decimal a.0 ∷ ws) t.1 ∙ ap (λ r. codes "apply" ∷ decimal a.0 ∷ (count_words version c.0.0 ++ r)) g)
+
+param_sound : (version : Version) (w : List ℕ) (ws : Words) (k : Kind) (rest : Words) → w ≡ codes "param" → param_at version ws ≡ Some (k, rest) → SaysKind version w ws k rest
+unfolding SaysKind param_at
+param_sound versions.One w ws k rest e h = absurd (none-some _ h)
+param_sound versions.Two w [] k rest e h = absurd (none-some _ h)
+param_sound versions.Two w (v ∷ ws) k rest e h =
+    let a = then_some (parameter_at v) (λ p. Some (Param p, ws)) (k, rest) h in
+    let o = same_Some (Param a.0, ws) (k, rest) a.2 in
+    let f : Param a.0 ≡ k = ap (λ t. t.0) o in
+    let g : ws ≡ rest = ap (λ t. t.1) o in
+    subst (λ k. IsKind k × HasKind versions.Two k × (w ∷ v ∷ ws ≡ kind_word k ∷ (argument_words versions.Two k ++ rest))) f
+    (tt, refl, ap (λ w. w ∷ v ∷ ws) e ∙ ap (λ v. codes "param" ∷ v ∷ ws) (parameter_sound v a.0 a.1) ∙ ap (λ ws. codes "param" ∷ place_word a.0 ∷ ws) g)
+
+plain_sound : (version : Version) (w : List ℕ) (ws : Words) (k : Kind) (rest : Words) → plain_at w ws ≡ Some (k, rest) → SaysKind version w ws k rest
+unfolding SaysKind IsPlain
+plain_sound version w ws k rest h =
+    let a = then_some (kind_among plain_kinds w) (λ k. Some (k, ws)) (k, rest) h in
+    let s = among_sound version plain_kinds w a.0 (are_plain version) a.1 in
+    let o = same_Some (a.0, ws) (k, rest) a.2 in
+    let f : a.0 ≡ k = ap (λ t. t.0) o in
+    let g : ws ≡ rest = ap (λ t. t.1) o in
+    subst (λ k. IsKind k × HasKind version k × (w ∷ ws ≡ kind_word k ∷ (argument_words version k ++ rest))) f
+    (s.0.0, s.0.1, ap (λ w. w ∷ ws) s.1 ∙ ap (λ ws. kind_word a.0 ∷ ws) (g ∙ ap (λ l. l ++ rest) (sym s.0.2)))
+
+module _ (version : Version) (w : List ℕ) (ws : Words) (k : Kind) (rest : Words) where
+  abbrev param_or : Bool → Option (Kind × Words)
+  param_or d = cond d (param_at version ws) (plain_at w ws)
+
+  abbrev apply_or : Bool → Bool → Option (Kind × Words)
+  apply_or c d = cond c (apply_at version ws) (param_or d)
+
+  abbrev enter_or : Bool → Bool → Bool → Option (Kind × Words)
+  enter_or b c d = cond b (enter_at ws) (apply_or c d)
+
+  kind_of_sound : kind_of version w ws ≡ Some (k, rest) → SaysKind version w ws k rest
+  kind_of_sound h =
+      let x = is w (codes "enter") in
+      let y = is w (codes "apply") in
+      let z = is w (codes "param") in
+      elim (told w (codes "const") (is w (codes "const")) refl) [
+        | inl a ↦ const_sound version w ws k rest a.1 (ap (λ b. cond b (const_at ws) (enter_or x y z)) (sym a.0) ∙ h)
+        | inr a ↦
+            let i = ap (λ b. cond b (const_at ws) (enter_or x y z)) (sym a) ∙ h in
+            elim (told w (codes "enter") x refl) [
+              | inl d ↦ enter_sound version w ws k rest d.1 (ap (λ b. enter_or b y z) (sym d.0) ∙ i)
+              | inr d ↦
+                  let j = ap (λ b. enter_or b y z) (sym d) ∙ i in
+                  elim (told w (codes "apply") y refl) [
+                    | inl f ↦ apply_sound version w ws k rest f.1 (ap (λ b. apply_or b z) (sym f.0) ∙ j)
+                    | inr f ↦
+                        let l = ap (λ b. apply_or b z) (sym f) ∙ j in
+                        elim (told w (codes "param") z refl) [
+                          | inl g ↦ param_sound version w ws k rest g.1 (ap param_or (sym g.0) ∙ l)
+                          | inr g ↦ plain_sound version w ws k rest (ap param_or (sym g) ∙ l)
+                        ]
+                  ]
+            ]
+      ]
+
+pub kind_sound : (version : Version) (ws : Words) (k : Kind) (rest : Words) → kind_at version ws ≡ Some (k, rest) → IsKind k × HasKind version k × (ws ≡ kind_word k ∷ (argument_words version k ++ rest))
 unfolding kind_at SaysKind
-kind_sound [] k rest h = absurd (none-some _ h)
-kind_sound (w ∷ ws) k rest h = kind_of_sound w ws k rest h
+kind_sound version [] k rest h = absurd (none-some _ h)
+kind_sound version (w ∷ ws) k rest h = kind_of_sound version w ws k rest h
 
-pub kind_complete : (k : Kind) (rest : Words) → IsKind k → kind_at (kind_word k ∷ (argument_words k ++ rest)) ≡ Some (k, rest)
-unfolding kind_at kind_among
-kind_complete (Const c) rest v = ap (λ r. r then λ c. Some (Const c, rest)) (constant_complete c v)
-kind_complete (Enter l) rest v = ap (λ r. r then λ l. Some (Enter l, rest)) (number_word_complete 99 l (omega arith) (omega arith) v)
-kind_complete (Apply b) rest v = ap (λ r. r then λ b. Some (Apply b, rest)) (number_word_complete 999 b (omega arith) (omega arith) v)
-kind_complete Begin rest v = refl
-kind_complete Pass rest v = refl
-kind_complete (Unary Not) rest v = refl
-kind_complete (Unary Length) rest v = refl
-kind_complete (Binary And) rest v = refl
-kind_complete (Binary Or) rest v = refl
-kind_complete (Binary Add) rest v = refl
-kind_complete (Binary Sub) rest v = refl
-kind_complete (Binary Mul) rest v = refl
-kind_complete (Binary Div) rest v = refl
-kind_complete (Binary Rem) rest v = refl
-kind_complete (Binary Lt) rest v = refl
-kind_complete (Binary Le) rest v = refl
-kind_complete (Binary Eq) rest v = refl
-kind_complete Select rest v = refl
-kind_complete Switch rest v = refl
-kind_complete Next rest v = refl
-kind_complete Last rest v = refl
-kind_complete Leave rest v = refl
-kind_complete Back rest v = refl
-kind_complete Alloc rest v = refl
-kind_complete Store rest v = refl
-kind_complete Fetch rest v = refl
-kind_complete End rest v = refl
+pub kind_complete : (version : Version) (k : Kind) (rest : Words) → IsKind k → HasKind version k → kind_at version (kind_word k ∷ (argument_words version k ++ rest)) ≡ Some (k, rest)
+unfolding kind_at kind_among param_at
+kind_complete version (Const c) rest v h = ap (λ r. r then λ c. Some (Const c, rest)) (constant_complete c v)
+kind_complete version (Enter l) rest v h = ap (λ r. r then λ l. Some (Enter l, rest)) (number_word_complete 99 l (omega arith) (omega arith) v)
+kind_complete version (Apply b n) rest v h =
+    ap (λ r. r then λ b. count_at version (count_words version n ++ rest) then λ n. Some (Apply b n.0, n.1)) (number_word_complete 999 b (omega arith) (omega arith) v)
+    ∙ ap (λ r. r then λ n. Some (Apply b n.0, n.1)) (count_complete version n rest h)
+kind_complete versions.One (Param p) rest v h = absurd (other h)
+  where
+    other : versions.One ≡ versions.Two → ⊥
+    other e = cc
+kind_complete versions.Two (Param p) rest v h = ap (λ r. r then λ p. Some (Param p, rest)) (parameter_complete p)
+kind_complete version Begin rest v h = refl
+kind_complete version Pass rest v h = refl
+kind_complete version (Unary Not) rest v h = refl
+kind_complete version (Unary Length) rest v h = refl
+kind_complete version (Binary And) rest v h = refl
+kind_complete version (Binary Or) rest v h = refl
+kind_complete version (Binary Add) rest v h = refl
+kind_complete version (Binary Sub) rest v h = refl
+kind_complete version (Binary Mul) rest v h = refl
+kind_complete version (Binary Div) rest v h = refl
+kind_complete version (Binary Rem) rest v h = refl
+kind_complete version (Binary Lt) rest v h = refl
+kind_complete version (Binary Le) rest v h = refl
+kind_complete version (Binary Eq) rest v h = refl
+kind_complete version Select rest v h = refl
+kind_complete version Switch rest v h = refl
+kind_complete version Next rest v h = refl
+kind_complete version Last rest v h = refl
+kind_complete version Leave rest v h = refl
+kind_complete version Back rest v h = refl
+kind_complete version Alloc rest v h = refl
+kind_complete version Store rest v h = refl
+kind_complete version Fetch rest v h = refl
+kind_complete version End rest v h = refl
 
 pub arrow_sound : (ws : Words) (u : Unit {0}) (rest : Words) → arrow_at ws ≡ Some (u, rest) → ws ≡ arrow ∷ rest
 unfolding arrow_at

@@ -7,7 +7,7 @@ use Rattle.u_program.specs.Text.{program_text}
 
 -- the bytes that the program is written as
 abbrev pub text_of : ProgramParts → List ℕ
-text_of p = program_text p.blocks
+text_of p = program_text p.version p.blocks
 
 -- whether the two programs have the same text
 abbrev pub has_same_text : ProgramParts → ProgramParts → Bool

@@ -1,16 +1,19 @@
 -- Which line of a text is the first that is not allowed, and why.
-use Rattle.std.specs.Prelude.{◌≡◌, ℕ, suc, List, [], ◌∷◌, ◌++◌, length}
+use Rattle.std.specs.Prelude.{◌≡◌, ℕ, suc, List, [], ◌∷◌, ◌++◌, length, IsTrue}
 use Rattle.u_text.specs.Pieces.{lines}
-use Rattle.u_program.specs.Parts.{BlockParts}
-use Rattle.u_program.specs.Limits.{Limits, IsProgram, the_limits, no_limits}
+use Rattle.u_program.specs.declared.program.Version.{Version}
+use Rattle.u_program.specs.Parts.{BlockParts, ProgramParts}
+use Rattle.u_program.specs.Limits.{Limits, IsProgram, limits_of, no_limits, is_known}
 use Rattle.u_program.specs.Text.{program_lines, program_text}
 
--- some program within the limits begins with these lines
-pub record Begins (limits : Limits) (ls : List (List ℕ)) : Type 0 where
+-- some program within the limits of its version begins with these lines
+pub record Begins (limits : Version → Limits) (ls : List (List ℕ)) : Type 0 where
+  pub version : Version
+  pub known : IsTrue (is_known version)
   pub program : List BlockParts
   pub more : List (List ℕ)
-  pub valid : IsProgram limits program
-  pub there : program_lines program ≡ ls ++ more
+  pub valid : IsProgram (limits version) program
+  pub there : program_lines version program ≡ ls ++ more
 
 -- Line n, which ends with a newline, is the first that is not allowed: the lines before it begin a program,
 -- with it they do not, and the verdict holds of them.
@@ -20,8 +23,8 @@ pub record IsFirstBad (bytes : List ℕ) (n : ℕ) (Verdict : List (List ℕ) �
   pub others : List (List ℕ)
   pub there : lines bytes ≡ before ++ (line ∷ others)
   pub number : n ≡ suc (length before)
-  pub allowed : Begins the_limits before
-  pub refused : Begins the_limits (before ++ (line ∷ [])) → ⊥
+  pub allowed : Begins limits_of before
+  pub refused : Begins limits_of (before ++ (line ∷ [])) → ⊥
   pub verdict : Verdict (before ++ (line ∷ []))
 
 -- with it they begin none, were there no limits on numbers of parts
@@ -34,5 +37,6 @@ IsTooMany bytes n = IsFirstBad bytes n (λ ls. Begins no_limits ls)
 
 -- Each line that ends with a newline is allowed, and the text is no program's.
 pub record IsTruncated (bytes : List ℕ) : Type 0 where
-  pub allowed : Begins the_limits (lines bytes)
-  pub none : (p : List BlockParts) → IsProgram the_limits p → bytes ≡ program_text p → ⊥
+  pub allowed : Begins limits_of (lines bytes)
+  pub none : (p : ProgramParts) → IsTrue (is_known p.version) → IsProgram (limits_of p.version) p.blocks
+      → bytes ≡ program_text p.version p.blocks → ⊥

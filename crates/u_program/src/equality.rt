@@ -69,10 +69,13 @@ impl PartialEq for Program {
 
     ghost laws = { partial_equiv_from_equiv (on_texts_equal text_of) };
 
-    /// Whether the programs have equal blocks in the same order, so that their texts are the same.
+    /// Whether the programs have one version and equal blocks in the same order, so that their texts are
+    /// the same.
     /// Takes no memory.
     fn eq(&self, other: &Program) -> bool {
-        same_blocks(self.blocks(), other.blocks())
+        let left = self.blocks();
+        let right = other.blocks();
+        self.version() == other.version() && same_blocks(left, right)
     }
 }
 

@@ -2,9 +2,9 @@
 ghost use Rattle.std.specs.Prelude.{◌≡◌};
 ghost use Rattle.u_program.specs.Limits.{has_list, has_otherwise};
 ghost use Rattle.u_program.specs.Reading.{plain_kinds};
-ghost use Rattle.u_program.specs.Text.{unary_word, binary_word, kind_word};
+ghost use Rattle.u_program.specs.Text.{unary_word, binary_word, kind_word, count_word, place_word};
 
-use crate::program::Kind;
+use crate::program::{Arguments, Kind, Parameter};
 use u_value::{BinaryOperator, UnaryOperator};
 
 /// The kinds without an argument.
@@ -87,7 +87,8 @@ pub fn kind_word(kind: &Kind) -> &'static [u8]
         Kind::Next => b"next".as_slice(),
         Kind::Last => b"last".as_slice(),
         Kind::Leave => b"leave".as_slice(),
-        Kind::Apply(_) => b"apply".as_slice(),
+        Kind::Apply(_, _) => b"apply".as_slice(),
+        Kind::Param(_) => b"param".as_slice(),
         Kind::Back => b"back".as_slice(),
         Kind::Alloc => b"alloc".as_slice(),
         Kind::Store => b"store".as_slice(),
@@ -96,11 +97,34 @@ pub fn kind_word(kind: &Kind) -> &'static [u8]
     }
 }
 
+/// The word of a number of arguments: `3`, say.
+pub fn count_word(arguments: Arguments) -> &'static [u8]
+    ensures { result.now ≡ count_word arguments }
+{
+    match arguments {
+        Arguments::One => b"1".as_slice(),
+        Arguments::Two => b"2".as_slice(),
+        Arguments::Three => b"3".as_slice(),
+        Arguments::Four => b"4".as_slice(),
+    }
+}
+
+/// The word of a parameter's place: `2`, say.
+pub fn place_word(parameter: Parameter) -> &'static [u8]
+    ensures { result.now ≡ place_word parameter }
+{
+    match parameter {
+        Parameter::Second => b"2".as_slice(),
+        Parameter::Third => b"3".as_slice(),
+        Parameter::Fourth => b"4".as_slice(),
+    }
+}
+
 /// Whether statements of the kind list destinations. `apply`, `store` and `end` list none.
 pub fn has_list(kind: &Kind) -> bool
     ensures { result ≡ has_list kind.now }
 {
-    !matches!(kind, Kind::Apply(_) | Kind::Store | Kind::End)
+    !matches!(kind, Kind::Apply(_, _) | Kind::Store | Kind::End)
 }
 
 /// Whether statements of the kind have two lists: for true, and behind a slash for false. Only `switch`

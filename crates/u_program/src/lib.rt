@@ -10,7 +10,9 @@ mod reading;
 mod text;
 mod writing;
 
-pub use kind_words::{has_otherwise, kind_word, plain_kinds};
-pub use program::{Block, Constant, Destination, Kind, Program, Statement};
+pub use kind_words::{count_word, has_otherwise, kind_word, place_word, plain_kinds};
+pub use program::{
+    Arguments, Block, Constant, Destination, Kind, Parameter, Program, Statement, Version,
+};
 pub use read_error::ReadError;
 pub use text::read;

@@ -1,12 +1,13 @@
 //! A program of which some lines were read.
-ghost use Rattle.std.specs.Prelude.{◌≡◌, ◌++◌, ◌∷◌, [], MatchResult, IfOk};
+ghost use Rattle.std.specs.Prelude.{◌≡◌, ◌++◌, ◌∷◌, [], MatchResult, IfOk, IsTrue};
 ghost use Rattle.u_program.specs.declared.reading.Line.TheVariants as variants;
 ghost use Rattle.u_program.specs.Text.{header, block_line, loop_line, statement_line};
-ghost use Rattle.u_program.specs.Limits.{IsProgram, the_limits};
+ghost use Rattle.u_program.specs.Limits.{IsProgram, limits_of, is_known};
+ghost use Rattle.u_program.specs.Parts.{program};
 ghost use Rattle.u_program.specs.Begun.{IsLine, part_lines, IsPart};
 ghost use Rattle.u_program.specs.Faults.{IsLineFault};
 
-use crate::program::{Block, Program, Statement};
+use crate::program::{Block, Program, Statement, Version};
 use crate::reading::{Line, WordFault, read_line};
 use std::alloc::{AllocFailed, Global};
 use u_name::BlockName;
@@ -44,13 +45,13 @@ impl<T: Drop> From<AllocFailed<T>> for LineFault {
 impl Part {
     /// The part with the line that begins a block.
     #[tactic(auto, using(crate::proofs::Steps::block_closed, crate::proofs::Steps::block_over, crate::proofs::Steps::block_taken))]
-    fn with_block(self, alloc: Global, name: BlockName) -> Result<Part, LineFault>
-        requires part { IsPart the_limits self.done.items self.last }
+    fn with_block(self, alloc: Global, version: Version, name: BlockName) -> Result<Part, LineFault>
+        requires part { IsPart (limits_of version) self.done.items self.last }
         ensures { MatchResult result
-            (λ new. IsPart the_limits new.done.items new.last
-            × (part_lines new.done.items new.last
-            ≡ part_lines self.done.items self.last ++ (block_line name ∷ [])))
-            (λ fault. IsLineFault fault (header ∷ part_lines self.done.items self.last)
+            (λ new. IsPart (limits_of version) new.done.items new.last
+            × (part_lines version new.done.items new.last
+            ≡ part_lines version self.done.items self.last ++ (block_line name ∷ [])))
+            (λ fault. IsLineFault fault (header version ∷ part_lines version self.done.items self.last)
             (block_line name)) }
     {
         // Brings in that the block's name is one: 1 to 16 letters, digits and `_`.
@@ -71,14 +72,14 @@ impl Part {
 
     /// The part with the line of a loop.
     #[tactic(auto, using(crate::proofs::Steps::loop_wrong, crate::proofs::Steps::loop_over, crate::proofs::Steps::loop_taken))]
-    fn with_loop(self, number: u32, held_by: u8) -> Result<Part, LineFault>
-        requires part { IsPart the_limits self.done.items self.last }
-        requires line { IsLine (variants.Loop number held_by) }
+    fn with_loop(self, version: Version, number: u32, held_by: u8) -> Result<Part, LineFault>
+        requires part { IsPart (limits_of version) self.done.items self.last }
+        requires line { IsLine version (variants.Loop number held_by) }
         ensures { MatchResult result
-            (λ new. IsPart the_limits new.done.items new.last
-            × (part_lines new.done.items new.last
-            ≡ part_lines self.done.items self.last ++ (loop_line number held_by ∷ [])))
-            (λ fault. IsLineFault fault (header ∷ part_lines self.done.items self.last)
+            (λ new. IsPart (limits_of version) new.done.items new.last
+            × (part_lines version new.done.items new.last
+            ≡ part_lines version self.done.items self.last ++ (loop_line number held_by ∷ [])))
+            (λ fault. IsLineFault fault (header version ∷ part_lines version self.done.items self.last)
             (loop_line number held_by)) }
     {
         let Part { done, last } = self;
@@ -97,15 +98,20 @@ impl Part {
 
     /// The part with the line of a statement.
     #[tactic(auto, using(crate::proofs::Steps::number_wrong, crate::proofs::Steps::statement_over, crate::proofs::Steps::statement_taken))]
-    fn with_statement(self, number: u32, statement: Statement) -> Result<Part, LineFault>
-        requires part { IsPart the_limits self.done.items self.last }
-        requires line { IsLine (variants.Statement number statement) }
+    fn with_statement(
+        self,
+        version: Version,
+        number: u32,
+        statement: Statement,
+    ) -> Result<Part, LineFault>
+        requires part { IsPart (limits_of version) self.done.items self.last }
+        requires line { IsLine version (variants.Statement number statement) }
         ensures { MatchResult result
-            (λ new. IsPart the_limits new.done.items new.last
-            × (part_lines new.done.items new.last
-            ≡ part_lines self.done.items self.last ++ (statement_line number statement ∷ [])))
-            (λ fault. IsLineFault fault (header ∷ part_lines self.done.items self.last)
-            (statement_line number statement)) }
+            (λ new. IsPart (limits_of version) new.done.items new.last
+            × (part_lines version new.done.items new.last
+            ≡ part_lines version self.done.items self.last ++ (statement_line version number statement ∷ [])))
+            (λ fault. IsLineFault fault (header version ∷ part_lines version self.done.items self.last)
+            (statement_line version number statement)) }
     {
         let Part { done, last } = self;
         if number as usize != last.statements().len() + 1 {
@@ -123,37 +129,38 @@ impl Part {
 
     /// The part with one more line, which says why where it may not go on so.
     #[tactic(auto, using(crate::proofs::LineLaws::line_sound, crate::proofs::Steps::no_line))]
-    pub fn with_line(self, alloc: Global, text: &[u8]) -> Result<Part, LineFault>
-        requires part { IsPart the_limits self.done.items self.last }
+    pub fn with_line(self, alloc: Global, version: Version, text: &[u8]) -> Result<Part, LineFault>
+        requires part { IsPart (limits_of version) self.done.items self.last }
         ensures { MatchResult result
-            (λ new. IsPart the_limits new.done.items new.last
-            × (part_lines new.done.items new.last
-            ≡ part_lines self.done.items self.last ++ (text.now ∷ [])))
-            (λ fault. IsLineFault fault (header ∷ part_lines self.done.items self.last)
+            (λ new. IsPart (limits_of version) new.done.items new.last
+            × (part_lines version new.done.items new.last
+            ≡ part_lines version self.done.items self.last ++ (text.now ∷ [])))
+            (λ fault. IsLineFault fault (header version ∷ part_lines version self.done.items self.last)
             text.now) }
     {
-        let line = match read_line(alloc, text) {
+        let line = match read_line(alloc, version, text) {
             Ok(line) => line,
             Err(WordFault::Bad) => return Err(LineFault::Bad),
             Err(WordFault::NoMemory) => return Err(LineFault::NoMemory),
         };
         match line {
-            Line::Block(name) => self.with_block(alloc, name),
-            Line::Loop(number, held_by) => self.with_loop(number, held_by),
-            Line::Statement(number, statement) => self.with_statement(number, statement),
+            Line::Block(name) => self.with_block(alloc, version, name),
+            Line::Loop(number, held_by) => self.with_loop(version, number, held_by),
+            Line::Statement(number, statement) => self.with_statement(version, number, statement),
         }
     }
 
     /// The part that one line behind the header begins.
     #[tactic(auto, using(crate::proofs::Whole::first_part))]
-    pub fn first(alloc: Global, text: &[u8]) -> Result<Part, LineFault>
+    pub fn first(alloc: Global, version: Version, text: &[u8]) -> Result<Part, LineFault>
+        requires { IsTrue (is_known version) }
         ensures { MatchResult result
-            (λ new. IsPart the_limits new.done.items new.last
-            × (part_lines new.done.items new.last
+            (λ new. IsPart (limits_of version) new.done.items new.last
+            × (part_lines version new.done.items new.last
             ≡ text.now ∷ []))
-            (λ fault. IsLineFault fault (header ∷ []) text.now) }
+            (λ fault. IsLineFault fault (header version ∷ []) text.now) }
     {
-        let line = match read_line(alloc, text) {
+        let line = match read_line(alloc, version, text) {
             Ok(line) => line,
             Err(WordFault::Bad) => return Err(LineFault::Bad),
             Err(WordFault::NoMemory) => return Err(LineFault::NoMemory),
@@ -170,12 +177,13 @@ impl Part {
     }
 
     /// The program that ends here.
-    pub fn finish(self) -> Result<Program, AllocFailed<Block>>
-        requires { IsProgram the_limits (self.done.items ++ (self.last ∷ [])) }
-        ensures { IfOk result (λ p. p.blocks ≡ self.done.items ++ (self.last ∷ [])) }
+    pub fn finish(self, version: Version) -> Result<Program, AllocFailed<Block>>
+        requires { IsTrue (is_known version)
+            × IsProgram (limits_of version) (self.done.items ++ (self.last ∷ [])) }
+        ensures { IfOk result (λ p. p ≡ program version (self.done.items ++ (self.last ∷ []))) }
     {
         let Part { mut done, last } = self;
         done.push(last)?;
-        Ok(Program::new(done))
+        Ok(Program::new(version, done))
     }
 }

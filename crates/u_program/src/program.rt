@@ -1,19 +1,82 @@
 //! Programs: blocks of numbered statements.
 ghost use Rattle.std.specs.Prelude.{◌≡◌, ◌++◌, ◌∷◌, [], length, IfOk};
-ghost use Rattle.u_program.specs.Limits.{IsProgram, the_limits};
+ghost use Rattle.std.specs.Prelude.{IsTrue};
+ghost use Rattle.u_program.specs.Limits.{IsProgram, the_limits, limits_of, is_known, count_of, place_of};
 ghost use Rattle.u_program.specs.Parts.{statement, block, program};
+ghost use Rattle.u_program.specs.declared.program.Version.TheVariants as versions;
 
 use std::alloc::{AllocFailed, Global};
 use std::marker::Model;
 use u_name::BlockName;
 use u_value::{BinaryOperator, UnaryOperator};
 
+/// The version of a program's text. Both run alike; version 2 has what version 1 has, and besides it
+/// procedures of up to four parameters.
+#[derive(Clone, Copy, Debug, PartialEq, Eq)]
+pub enum Version {
+    /// Its first line is `u-program 1`.
+    One,
+    /// Its first line is `u-program 2`.
+    Two,
+}
+
+/// How many arguments an `apply` has.
+#[derive(Clone, Copy, Debug, PartialEq, Eq)]
+pub enum Arguments {
+    /// One, as each `apply` of version 1 has.
+    One,
+    /// Two.
+    Two,
+    /// Three.
+    Three,
+    /// Four.
+    Four,
+}
+
+impl Arguments {
+    /// How many they are, 1 to 4.
+    pub fn count(self) -> u8
+        ensures { result ≡ count_of self }
+    {
+        match self {
+            Arguments::One => 1,
+            Arguments::Two => 2,
+            Arguments::Three => 3,
+            Arguments::Four => 4,
+        }
+    }
+}
+
+/// A parameter of a block behind the first, which `begin` takes.
+#[derive(Clone, Copy, Debug, PartialEq, Eq)]
+pub enum Parameter {
+    /// The second.
+    Second,
+    /// The third.
+    Third,
+    /// The fourth.
+    Fourth,
+}
+
+impl Parameter {
+    /// Its place among the block's parameters, 2 to 4.
+    pub fn place(self) -> u8
+        ensures { result ≡ place_of self }
+    {
+        match self {
+            Parameter::Second => 2,
+            Parameter::Third => 3,
+            Parameter::Fourth => 4,
+        }
+    }
+}
+
 /// Where a value goes: a port of a statement of the same block.
 #[derive(Clone, Copy, Debug, PartialEq, Eq)]
 pub struct Destination {
     /// The statement's number, 1 to 999.
     pub statement: u16,
-    /// The port, 1 to 3.
+    /// The port, 1 to 5; in a program of version 1, 1 to 3.
     pub port: u8,
 }
 
@@ -31,8 +94,10 @@ pub enum Constant {
 /// What a statement does.
 #[derive(Clone, Copy, PartialEq, Eq)]
 pub enum Kind {
-    /// Hands on the argument of its block.
+    /// Hands on the argument of its block; of several, the first.
     Begin,
+    /// Hands on a further argument of its block. Version 2 has it.
+    Param(Parameter),
     /// Gives a constant.
     Const(Constant),
     /// Hands on a value.
@@ -53,8 +118,9 @@ pub enum Kind {
     Last,
     /// Hands on a value out of its loop.
     Leave,
-    /// Calls a procedure on an argument; its result comes back at the `back` of that number, 1 to 999.
-    Apply(u16),
+    /// Calls a procedure on as many arguments; its result comes back at the `back` of that number, 1 to
+    /// 999. In version 1 there is one argument.
+    Apply(u16, Arguments),
     /// Hands on the result of a call.
     Back,
     /// Makes a structure of as many cells as its value says, 0 to 1000000, and gives a reference to it.
@@ -100,21 +166,24 @@ impl Model for Block {
     ghost view = { λ b. block b.name b.loops.items b.statements.items };
 }
 
-/// A program, as its text says it: its blocks.
+/// A program, as its text says it: its version and its blocks.
 #[derive(Drop)]
 pub struct Program {
+    version: Version,
     blocks: Vec<Block>,
 }
 
 impl Model for Program {
     ghost use Rattle.u_program.specs.Parts.{ProgramParts, program};
-    ghost use Rattle.u_program.specs.Limits.{IsProgram, the_limits};
+    ghost use Rattle.u_program.specs.Limits.{IsProgram, limits_of, is_known};
+    ghost use Rattle.std.specs.Prelude.{IsTrue};
 
     ghost Value = { ProgramParts };
 
-    ghost view = { λ p. program p.blocks.items };
+    ghost view = { λ p. program p.version p.blocks.items };
 
-    ghost invariant = { λ p. IsProgram the_limits p.blocks.items };
+    ghost invariant = { λ p. IsTrue (is_known p.version)
+        × IsProgram (limits_of p.version) p.blocks.items };
 }
 
 impl Statement {
@@ -236,17 +305,39 @@ impl Block {
 
 impl Program {
     /// A program of these blocks.
-    pub(crate) fn new(blocks: Vec<Block>) -> Program
-        requires { IsProgram the_limits blocks.items }
-        ensures { result ≡ program blocks.items }
+    pub(crate) fn new(version: Version, blocks: Vec<Block>) -> Program
+        requires { IsTrue (is_known version) × IsProgram (limits_of version) blocks.items }
+        ensures { result ≡ program version blocks.items }
     {
-        Program { blocks }
+        Program { version, blocks }
+    }
+
+    /// The same blocks as a program of version 2, which runs alike. A program of version 2 is returned as
+    /// it is.
+    #[tactic(auto, using(crate::proofs::Wide::within_all))]
+    pub fn lift(self) -> Program
+        ensures { result ≡ program versions.Two self.blocks }
+    {
+        Program {
+            version: Version::Two,
+            blocks: self.blocks,
+        }
+    }
+
+    /// The version of its text.
+    pub fn version(&self) -> Version
+        ensures version { result ≡ self.now.version }
+        ensures known { IsTrue (is_known self.now.version) }
+    {
+        self.version
     }
 
     /// Its blocks, in the order of the text.
+    #[tactic(auto, using(crate::proofs::Wide::within_all))]
     pub fn blocks(&self) -> &[Block]
         ensures blocks { result.now ≡ self.now.blocks }
         ensures limits { IsProgram the_limits self.now.blocks }
+        ensures own_limits { IsProgram (limits_of self.now.version) self.now.blocks }
     {
         &self.blocks
     }

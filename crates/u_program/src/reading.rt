@@ -1,11 +1,12 @@
 //! Lines of a program's text, read.
 ghost use Rattle.std.specs.Prelude.{◌≡◌, ◌≤◌, ◌&&◌, Some, None, MatchOption, MatchResult};
-ghost use Rattle.u_program.specs.Reading.{plain_kinds, name_word, destination_at, is_slash, destinations_at, list_at, otherwise_at, constant_at, kind_among, kind_at, arrow_at, statement_at, numbers_at, line_at};
+ghost use Rattle.u_program.specs.Reading.{plain_kinds, name_word, destination_at, is_slash, destinations_at, list_at, otherwise_at, constant_at, kind_among, arguments_at, parameter_at, count_at, param_at, kind_at, arrow_at, statement_at, numbers_at, line_at};
+ghost use Rattle.u_program.specs.Limits.{greatest_port};
 ghost use Rattle.u_program.specs.Refuses.{Refuses};
 ghost use Rattle.u_text.specs.Pieces.{words};
 
 use crate::kind_words::{has_list, has_otherwise, kind_word, plain_kinds};
-use crate::program::{Constant, Destination, Kind, Statement};
+use crate::program::{Arguments, Constant, Destination, Kind, Parameter, Statement, Version};
 use std::alloc::{AllocFailed, Global};
 use u_name::BlockName;
 use u_text::{BadWord, Words, after, number_at, number_word, number0_word, signed_word};
@@ -99,11 +100,78 @@ fn plain_kind(word: &[u8]) -> Result<Kind, BadWord>
     kind_among(&plain_kinds(), word)
 }
 
-#[tactic(auto, unfolding(crate::specs::Reading::kind_at), using(crate::proofs::WordLaws::loop_bound, crate::proofs::WordLaws::back_bound))]
-fn kind(words: &mut Words<'_>) -> Result<Kind, BadWord>
+/// How many arguments the word says.
+#[tactic(auto, unfolding(crate::specs::Reading::arguments_at))]
+fn arguments(word: &[u8]) -> Result<Arguments, BadWord>
     ensures { MatchResult result
-        (λ k. kind_at words.old ≡ Some (k, words.new))
-        (λ _. kind_at words.old ≡ None) }
+        (λ n. arguments_at word.now ≡ Some n)
+        (λ _. arguments_at word.now ≡ None) }
+{
+    if word == b"1".as_slice() {
+        return Ok(Arguments::One);
+    }
+    if word == b"2".as_slice() {
+        return Ok(Arguments::Two);
+    }
+    if word == b"3".as_slice() {
+        return Ok(Arguments::Three);
+    }
+    if word == b"4".as_slice() {
+        return Ok(Arguments::Four);
+    }
+    Err(BadWord)
+}
+
+/// Which parameter the word says.
+#[tactic(auto, unfolding(crate::specs::Reading::parameter_at))]
+fn parameter(word: &[u8]) -> Result<Parameter, BadWord>
+    ensures { MatchResult result
+        (λ k. parameter_at word.now ≡ Some k)
+        (λ _. parameter_at word.now ≡ None) }
+{
+    if word == b"2".as_slice() {
+        return Ok(Parameter::Second);
+    }
+    if word == b"3".as_slice() {
+        return Ok(Parameter::Third);
+    }
+    if word == b"4".as_slice() {
+        return Ok(Parameter::Fourth);
+    }
+    Err(BadWord)
+}
+
+/// The number of arguments of an `apply`, which version 1 leaves out.
+#[tactic(auto, unfolding(crate::specs::Reading::count_at))]
+fn count(version: Version, words: &mut Words<'_>) -> Result<Arguments, BadWord>
+    ensures { MatchResult result
+        (λ n. count_at version words.old ≡ Some (n, words.new))
+        (λ _. count_at version words.old ≡ None) }
+{
+    match version {
+        Version::One => Ok(Arguments::One),
+        Version::Two => arguments(words.word()?),
+    }
+}
+
+/// What stands behind `param`, which version 1 does not have.
+#[tactic(auto, unfolding(crate::specs::Reading::param_at))]
+fn param(version: Version, words: &mut Words<'_>) -> Result<Kind, BadWord>
+    ensures { MatchResult result
+        (λ k. param_at version words.old ≡ Some (k, words.new))
+        (λ _. param_at version words.old ≡ None) }
+{
+    match version {
+        Version::One => Err(BadWord),
+        Version::Two => Ok(Kind::Param(parameter(words.word()?)?)),
+    }
+}
+
+#[tactic(auto, unfolding(crate::specs::Reading::kind_at), using(crate::proofs::WordLaws::loop_bound, crate::proofs::WordLaws::back_bound))]
+fn kind(version: Version, words: &mut Words<'_>) -> Result<Kind, BadWord>
+    ensures { MatchResult result
+        (λ k. kind_at version words.old ≡ Some (k, words.new))
+        (λ _. kind_at version words.old ≡ None) }
 {
     let word = words.word()?;
     if word == b"const".as_slice() {
@@ -116,7 +184,10 @@ fn kind(words: &mut Words<'_>) -> Result<Kind, BadWord>
     }
     if word == b"apply".as_slice() {
         let number = number_word(words.word()?, 999)?;
-        return Ok(Kind::Apply(number as u16));
+        return Ok(Kind::Apply(number as u16, count(version, words)?));
+    }
+    if word == b"param".as_slice() {
+        return param(version, words);
     }
     plain_kind(word)
 }
@@ -135,11 +206,21 @@ fn arrow(words: &mut Words<'_>) -> Result<(), BadWord>
     }
 }
 
+/// The greatest port that a destination names.
+fn greatest_port(version: Version) -> u32
+    ensures { result ≡ greatest_port version }
+{
+    match version {
+        Version::One => 3,
+        Version::Two => 5,
+    }
+}
+
 #[tactic(auto, unfolding(crate::specs::Reading::destination_at), using(u_text::proofs::NumberLaws::number_bound))]
-fn destination(word: &[u8]) -> Result<Destination, BadWord>
+fn destination(version: Version, word: &[u8]) -> Result<Destination, BadWord>
     ensures { MatchResult result
-        (λ d. destination_at word.now ≡ Some d)
-        (λ _. destination_at word.now ≡ None) }
+        (λ d. destination_at version word.now ≡ Some d)
+        (λ _. destination_at version word.now ≡ None) }
 {
     let Ok((statement, rest)) = number_at(word, 999) else {
         return Err(BadWord);
@@ -150,7 +231,7 @@ fn destination(word: &[u8]) -> Result<Destination, BadWord>
     let Ok((port, [])) = number_at(rest, 9) else {
         return Err(BadWord);
     };
-    if port > 3 {
+    if port > greatest_port(version) {
         return Err(BadWord);
     }
     Ok(Destination {
@@ -170,12 +251,13 @@ fn ends_list(word: &[u8], slashed: bool) -> bool
 #[tactic(auto, using(crate::proofs::ListLaws::destinations_turn, crate::proofs::ListLaws::destinations_bad, crate::proofs::ListLaws::destinations_low, crate::proofs::ListLaws::destinations_slash, crate::proofs::ListLaws::destinations_end, crate::proofs::ListLaws::destinations_open))]
 fn destinations(
     alloc: Global,
+    version: Version,
     words: &mut Words<'_>,
     slashed: bool,
 ) -> Result<Vec<Destination>, WordFault>
     ensures { MatchResult result
-        (λ to. destinations_at slashed 0 words.old ≡ Some (to.items, words.new))
-        (λ fault. Refuses fault (destinations_at slashed 0 words.old)) }
+        (λ to. destinations_at version slashed 0 words.old ≡ Some (to.items, words.new))
+        (λ fault. Refuses fault (destinations_at version slashed 0 words.old)) }
 {
     let mut to = Vec::new(alloc);
     let mut below = 0;
@@ -183,8 +265,8 @@ fn destinations(
         if ends_list(word, slashed) {
             return Ok(to);
         }
-        let next = destination(word)?;
-        let rank = 4 * u32::from(next.statement) + u32::from(next.port);
+        let next = destination(version, word)?;
+        let rank = 8 * u32::from(next.statement) + u32::from(next.port);
         if rank <= below {
             return Err(WordFault::Bad);
         }
@@ -199,13 +281,18 @@ fn destinations(
 
 /// The destinations of a statement of the kind; of a `switch`, those for true.
 #[tactic(auto, unfolding(crate::specs::Reading::list_at))]
-fn list(alloc: Global, kind: &Kind, words: &mut Words<'_>) -> Result<Vec<Destination>, WordFault>
+fn list(
+    alloc: Global,
+    version: Version,
+    kind: &Kind,
+    words: &mut Words<'_>,
+) -> Result<Vec<Destination>, WordFault>
     ensures { MatchResult result
-        (λ to. list_at kind.now words.old ≡ Some (to.items, words.new))
-        (λ fault. Refuses fault (list_at kind.now words.old)) }
+        (λ to. list_at version kind.now words.old ≡ Some (to.items, words.new))
+        (λ fault. Refuses fault (list_at version kind.now words.old)) }
 {
     if has_list(kind) {
-        return destinations(alloc, words, has_otherwise(kind));
+        return destinations(alloc, version, words, has_otherwise(kind));
     }
     match words.next() {
         None => Ok(Vec::new(alloc)),
@@ -217,31 +304,32 @@ fn list(alloc: Global, kind: &Kind, words: &mut Words<'_>) -> Result<Vec<Destina
 #[tactic(auto, unfolding(crate::specs::Reading::otherwise_at))]
 fn otherwise(
     alloc: Global,
+    version: Version,
     kind: &Kind,
     words: &mut Words<'_>,
 ) -> Result<Vec<Destination>, WordFault>
     ensures { MatchResult result
-        (λ to. otherwise_at kind.now words.old ≡ Some (to.items, words.new))
-        (λ fault. Refuses fault (otherwise_at kind.now words.old)) }
+        (λ to. otherwise_at version kind.now words.old ≡ Some (to.items, words.new))
+        (λ fault. Refuses fault (otherwise_at version kind.now words.old)) }
 {
     if has_otherwise(kind) {
-        return destinations(alloc, words, false);
+        return destinations(alloc, version, words, false);
     }
     Ok(Vec::new(alloc))
 }
 
 /// What stands behind a statement's number.
 #[tactic(auto, unfolding(crate::specs::Reading::statement_at), using(crate::proofs::WordLaws::region_bound))]
-fn statement(alloc: Global, words: &mut Words<'_>) -> Result<Statement, WordFault>
+fn statement(alloc: Global, version: Version, words: &mut Words<'_>) -> Result<Statement, WordFault>
     ensures { MatchResult result
-        (λ s. statement_at words.old ≡ Some s)
-        (λ fault. Refuses fault (statement_at words.old)) }
+        (λ s. statement_at version words.old ≡ Some s)
+        (λ fault. Refuses fault (statement_at version words.old)) }
 {
     let region = number0_word(words.word()?, 99)?;
-    let kind = kind(words)?;
+    let kind = kind(version, words)?;
     arrow(words)?;
-    let to = list(alloc, &kind, words)?;
-    let otherwise = otherwise(alloc, &kind, words)?;
+    let to = list(alloc, version, &kind, words)?;
+    let otherwise = otherwise(alloc, version, &kind, words)?;
     Ok(Statement::new(region as u8, kind, to, otherwise))
 }
 
@@ -271,11 +359,11 @@ fn loop_numbers(words: &mut Words<'_>) -> Result<Line, WordFault>
     }
 }
 
-/// Reads one line.
-pub fn read_line(alloc: Global, text: &[u8]) -> Result<Line, WordFault>
+/// Reads one line of a text of that version.
+pub fn read_line(alloc: Global, version: Version, text: &[u8]) -> Result<Line, WordFault>
     ensures { MatchResult result
-        (λ l. line_at (words text.now) ≡ Some l)
-        (λ fault. Refuses fault (line_at (words text.now))) }
+        (λ l. line_at version (words text.now) ≡ Some l)
+        (λ fault. Refuses fault (line_at version (words text.now))) }
 {
     let mut words = Words::new(text);
     let first = words.word()?;
@@ -290,6 +378,6 @@ pub fn read_line(alloc: Global, text: &[u8]) -> Result<Line, WordFault>
         return loop_numbers(&mut words);
     }
     let number = number_word(first, 1000)?;
-    let statement = statement(alloc, &mut words)?;
+    let statement = statement(alloc, version, &mut words)?;
     Ok(Line::Statement(number, statement))
 }

@@ -1,11 +1,15 @@
 //! The text of a program, read.
-ghost use Rattle.std.specs.Prelude.{◌≡◌, MatchResult};
+ghost use Rattle.std.specs.Prelude.{◌≡◌, ◌<◌, ◌∷◌, [], length, MatchOption, MatchResult, IsTrue};
 ghost use Rattle.u_program.specs.declared.read_error.ReadError.TheVariants as errors;
+ghost use Rattle.u_program.specs.declared.program.Version.{Version};
 ghost use Rattle.u_program.specs.Parts.{ProgramParts};
+ghost use Rattle.u_program.specs.Limits.{is_known};
+ghost use Rattle.u_program.specs.Text.{header};
+ghost use Rattle.u_program.specs.Begun.{IsRead};
 ghost use Rattle.u_program.specs.Answer.{IsTextOf, IsReadError, fault_at};
 
 use crate::part::{LineFault, Part};
-use crate::program::Program;
+use crate::program::{Program, Version};
 use crate::read_error::ReadError;
 use std::alloc::Global;
 use u_text::cut;
@@ -20,7 +24,7 @@ use u_text::cut;
 /// `Truncated`, whatever stands behind the last newline. The text of a program is refused for want of
 /// memory alone.
 ///
-/// `block NAME` begins a block. Behind it stand the lines of its loops, `loop NUMBER HELD_BY`, where
+/// The first line is `u-program 1` or `u-program 2` and says the version. `block NAME` begins a block. Behind it stand the lines of its loops, `loop NUMBER HELD_BY`, where
 /// `HELD_BY` is 0 or the number of an earlier loop, and behind them its statements, `NUMBER REGION KIND
 /// [ARGUMENT] -> DESTINATION..`, of a `switch` `-> DESTINATION.. / DESTINATION..` (for true, and for
 /// false). Loops and statements are numbered 1, 2, and so on. An argument is the constant of a `const`,
@@ -37,21 +41,52 @@ pub fn read(alloc: Global, bytes: &[u8]) -> Result<Program, ReadError>
     read_lines(alloc, bytes)
 }
 
-/// Reads line by line: the two first lines, and then what may follow them.
+/// Reads the first line, which says the version, and then the others.
 fn read_lines(alloc: Global, bytes: &[u8]) -> Result<Program, ReadError>
     ensures { MatchResult result (λ program. IsTextOf bytes.now program)
         (λ fault. IsReadError bytes.now fault) }
 {
-    let Some((first, after_first)) = cut(bytes, b'\n') else {
+    let Some((first, rest)) = cut(bytes, b'\n') else {
         return Err(ReadError::Truncated);
     };
-    if first != b"u-program 1".as_slice() {
+    let Some(version) = version_of(first) else {
         return Err(ReadError::BadLine(1));
+    };
+    read_blocks(alloc, version, bytes, rest)
+}
+
+/// The version that the first line of a program says.
+fn version_of(line: &[u8]) -> Option<Version>
+    ensures { MatchOption result ((v : Version) → line.now ≡ header v → ⊥)
+        (λ v. line.now ≡ header v) }
+{
+    if line == b"u-program 1".as_slice() {
+        return Some(Version::One);
     }
+    if line == b"u-program 2".as_slice() {
+        return Some(Version::Two);
+    }
+    None
+}
+
+/// Reads what stands behind the first line, line by line: the line of the first block, and then what may
+/// follow it.
+fn read_blocks(
+    alloc: Global,
+    version: Version,
+    bytes: &[u8],
+    after_first: &[u8],
+) -> Result<Program, ReadError>
+    requires known { IsTrue (is_known version) }
+    requires first { IsRead bytes.now (header version ∷ []) after_first.now }
+    requires shorter { length after_first.now < length bytes.now }
+    ensures { MatchResult result (λ program. IsTextOf bytes.now program)
+        (λ fault. IsReadError bytes.now fault) }
+{
     let Some((second, after_second)) = cut(after_first, b'\n') else {
         return Err(ReadError::Truncated);
     };
-    let mut part = match Part::first(alloc, second) {
+    let mut part = match Part::first(alloc, version, second) {
         Ok(part) => part,
         Err(fault) => return Err(at_line(fault, 2)),
     };
@@ -59,7 +94,7 @@ fn read_lines(alloc: Global, bytes: &[u8]) -> Result<Program, ReadError>
     let mut line = 2;
     while let Some((text, others)) = cut(rest, b'\n') {
         line += 1;
-        part = match part.with_line(alloc, text) {
+        part = match part.with_line(alloc, version, text) {
             Ok(part) => part,
             Err(fault) => return Err(at_line(fault, line)),
         };
@@ -68,7 +103,7 @@ fn read_lines(alloc: Global, bytes: &[u8]) -> Result<Program, ReadError>
     if !rest.is_empty() || part.last.statements().len() == 0 {
         return Err(ReadError::Truncated);
     }
-    Ok(part.finish()?)
+    Ok(part.finish(version)?)
 }
 
 /// The fault of a line, with the line's number.

@@ -2,11 +2,12 @@
 ghost use Rattle.std.specs.Prelude.{◌≡◌, ◌+◌, ◌<◌, ◌^◌, ◌++◌, ◌∷◌, [], map, OnOk, OnErr};
 ghost use Rattle.u_text.specs.Appending.{Extends};
 ghost use Rattle.u_text.specs.Spaced.{spaced, ended};
-ghost use Rattle.u_program.specs.Limits.{IsProgram, the_limits, has_otherwise};
-ghost use Rattle.u_program.specs.Text.{kind_word, constant_word, argument_words, destination_word, otherwise_words, tail_words, loop_line, loop_lines, statement_line, statement_lines, block_line, block_lines, blocks_lines, program_text};
+ghost use Rattle.std.specs.Fmt.{decimal};
+ghost use Rattle.u_program.specs.Limits.{IsProgram, limits_of, has_otherwise};
+ghost use Rattle.u_program.specs.Text.{header, kind_word, constant_word, count_words, argument_words, destination_word, otherwise_words, tail_words, loop_line, loop_lines, statement_line, statement_lines, block_line, block_lines, blocks_lines, program_text};
 
-use crate::kind_words::{has_otherwise, kind_word};
-use crate::program::{Block, Constant, Destination, Kind, Program, Statement};
+use crate::kind_words::{count_word, has_otherwise, kind_word, place_word};
+use crate::program::{Arguments, Block, Constant, Destination, Kind, Program, Statement, Version};
 use std::alloc::AllocError;
 use u_text::{cut_back, push_behind, push_long, push_number, push_signed, push_spaced};
 
@@ -29,17 +30,37 @@ fn push_constant(out: &mut Vec<u8>, constant: &Constant) -> Result<(), AllocErro
     }
 }
 
+/// Appends the `back` of an `apply`, and in version 2 how many arguments it has.
 #[tactic(auto, using(u_text::proofs::AppendingLaws::extends_same, u_text::proofs::AppendingLaws::extends_behind, std::proofs::Common::append_assoc))]
-fn push_kind(out: &mut Vec<u8>, kind: &Kind) -> Result<(), AllocError>
+fn push_call(
+    out: &mut Vec<u8>,
+    version: Version,
+    number: u16,
+    arguments: Arguments,
+) -> Result<(), AllocError>
     ensures ok { OnOk result
-        (out.new.items ≡ out.old.items ++ spaced (kind_word kind.now ∷ argument_words kind.now)) }
+        (out.new.items ≡ out.old.items ++ spaced (decimal number ∷ count_words version arguments)) }
+    ensures err { OnErr result (Extends out.old.items out.new.items) }
+{
+    push_behind(out, b' ', u32::from(number))?;
+    match version {
+        Version::One => Ok(()),
+        Version::Two => push_spaced(out, count_word(arguments)),
+    }
+}
+
+#[tactic(auto, using(u_text::proofs::AppendingLaws::extends_same, u_text::proofs::AppendingLaws::extends_behind, std::proofs::Common::append_assoc))]
+fn push_kind(out: &mut Vec<u8>, version: Version, kind: &Kind) -> Result<(), AllocError>
+    ensures ok { OnOk result
+        (out.new.items ≡ out.old.items ++ spaced (kind_word kind.now ∷ argument_words version kind.now)) }
     ensures err { OnErr result (Extends out.old.items out.new.items) }
 {
     push_spaced(out, kind_word(kind))?;
     match kind {
         Kind::Const(constant) => push_constant(out, constant),
         Kind::Enter(number) => push_behind(out, b' ', u32::from(*number)),
-        Kind::Apply(number) => push_behind(out, b' ', u32::from(*number)),
+        Kind::Apply(number, arguments) => push_call(out, version, *number, *arguments),
+        Kind::Param(parameter) => push_spaced(out, place_word(*parameter)),
         _ => Ok(()),
     }
 }
@@ -85,15 +106,16 @@ fn push_otherwise(out: &mut Vec<u8>, kind: &Kind, to: &[Destination]) -> Result<
 #[tactic(auto, using(u_text::proofs::AppendingLaws::extends_behind, crate::proofs::Written::tail_text))]
 fn push_tail(
     out: &mut Vec<u8>,
+    version: Version,
     kind: &Kind,
     to: &[Destination],
     otherwise: &[Destination],
 ) -> Result<(), AllocError>
     ensures ok { OnOk result
-        (out.new.items ≡ out.old.items ++ spaced (tail_words kind.now to.now otherwise.now)) }
+        (out.new.items ≡ out.old.items ++ spaced (tail_words version kind.now to.now otherwise.now)) }
     ensures err { OnErr result (Extends out.old.items out.new.items) }
 {
-    push_kind(out, kind)?;
+    push_kind(out, version, kind)?;
     push_spaced(out, b"->")?;
     push_list(out, to)?;
     push_otherwise(out, kind, otherwise)?;
@@ -101,15 +123,21 @@ fn push_tail(
 }
 
 #[tactic(auto, using(u_text::proofs::AppendingLaws::extends_same, u_text::proofs::AppendingLaws::extends_behind, crate::proofs::Written::statement_text))]
-fn push_statement(out: &mut Vec<u8>, number: u64, statement: &Statement) -> Result<(), AllocError>
+fn push_statement(
+    out: &mut Vec<u8>,
+    version: Version,
+    number: u64,
+    statement: &Statement,
+) -> Result<(), AllocError>
     ensures ok { OnOk result
-        (out.new.items ≡ out.old.items ++ (statement_line number statement.now ++ (10 ∷ []))) }
+        (out.new.items ≡ out.old.items ++ (statement_line version number statement.now ++ (10 ∷ []))) }
     ensures err { OnErr result (Extends out.old.items out.new.items) }
 {
     push_long(out, number)?;
     push_behind(out, b' ', u32::from(statement.region()))?;
     push_tail(
         out,
+        version,
         statement.kind(),
         statement.destinations(),
         statement.otherwise(),
@@ -119,13 +147,17 @@ fn push_statement(out: &mut Vec<u8>, number: u64, statement: &Statement) -> Resu
 }
 
 #[tactic(auto, using(u_text::proofs::AppendingLaws::extends_by, u_text::proofs::AppendingLaws::extends_behind, crate::proofs::Written::statements_more))]
-fn push_statements(out: &mut Vec<u8>, statements: &[Statement]) -> Result<(), AllocError>
+fn push_statements(
+    out: &mut Vec<u8>,
+    version: Version,
+    statements: &[Statement],
+) -> Result<(), AllocError>
     ensures ok { OnOk result
-        (out.new.items ≡ out.old.items ++ ended (statement_lines 1 statements.now)) }
+        (out.new.items ≡ out.old.items ++ ended (statement_lines version 1 statements.now)) }
     ensures err { OnErr result (Extends out.old.items out.new.items) }
 {
     for (i, statement) in statements.iter().enumerate() {
-        push_statement(out, i as u64 + 1, statement)?;
+        push_statement(out, version, i as u64 + 1, statement)?;
     }
     Ok(())
 }
@@ -166,37 +198,48 @@ fn push_block_line(out: &mut Vec<u8>, name: &[u8]) -> Result<(), AllocError>
 }
 
 #[tactic(auto, using(u_text::proofs::AppendingLaws::extends_behind, crate::proofs::Written::block_text))]
-fn push_block(out: &mut Vec<u8>, block: &Block) -> Result<(), AllocError>
-    ensures ok { OnOk result (out.new.items ≡ out.old.items ++ ended (block_lines block.now)) }
+fn push_block(out: &mut Vec<u8>, version: Version, block: &Block) -> Result<(), AllocError>
+    ensures ok { OnOk result (out.new.items ≡ out.old.items ++ ended (block_lines version block.now)) }
     ensures err { OnErr result (Extends out.old.items out.new.items) }
 {
     push_block_line(out, block.name().as_bytes())?;
     push_loops(out, block.loops())?;
-    push_statements(out, block.statements())?;
+    push_statements(out, version, block.statements())?;
     Ok(())
 }
 
 #[tactic(auto, using(u_text::proofs::AppendingLaws::extends_by, u_text::proofs::AppendingLaws::extends_behind, crate::proofs::Written::blocks_more))]
-fn push_blocks(out: &mut Vec<u8>, blocks: &[Block]) -> Result<(), AllocError>
-    ensures ok { OnOk result (out.new.items ≡ out.old.items ++ ended (blocks_lines blocks.now)) }
+fn push_blocks(out: &mut Vec<u8>, version: Version, blocks: &[Block]) -> Result<(), AllocError>
+    ensures ok { OnOk result (out.new.items ≡ out.old.items ++ ended (blocks_lines version blocks.now)) }
     ensures err { OnErr result (Extends out.old.items out.new.items) }
 {
     for block in blocks {
-        push_block(out, block)?;
+        push_block(out, version, block)?;
     }
     Ok(())
+}
+
+fn push_header(out: &mut Vec<u8>, version: Version) -> Result<(), AllocError>
+    ensures ok { OnOk result (out.new.items ≡ out.old.items ++ (header version ++ (10 ∷ []))) }
+    ensures err { OnErr result (Extends out.old.items out.new.items) }
+{
+    match version {
+        Version::One => out.extend_from_slice(b"u-program 1\n"),
+        Version::Two => out.extend_from_slice(b"u-program 2\n"),
+    }
 }
 
 impl Program {
     /// Appends the program's text. On an error a part of it may stand there.
     #[tactic(auto, using(u_text::proofs::AppendingLaws::extends_same, u_text::proofs::AppendingLaws::extends_behind, crate::proofs::Written::whole_text))]
     fn append(&self, out: &mut Vec<u8>) -> Result<(), AllocError>
-        ensures ok { OnOk result (out.new.items ≡ out.old.items ++ program_text self.now.blocks) }
+        ensures ok { OnOk result (out.new.items ≡ out.old.items ++ program_text self.now.version self.now.blocks) }
         ensures err { OnErr result (Extends out.old.items out.new.items) }
     {
+        let version = self.version();
         let blocks = self.blocks();
-        out.extend_from_slice(b"u-program 1\n")?;
-        push_blocks(out, blocks)?;
+        push_header(out, version)?;
+        push_blocks(out, version, blocks)?;
         Ok(())
     }
 
@@ -207,9 +250,9 @@ impl Program {
     /// `AllocError` where there is no memory. Then `out` is as it was.
     #[tactic(auto, using(u_text::proofs::AppendingLaws::extends_cut))]
     pub fn write_text(&self, out: &mut Vec<u8>) -> Result<(), AllocError>
-        ensures ok { OnOk result (out.new.items ≡ out.old.items ++ program_text self.now.blocks) }
+        ensures ok { OnOk result (out.new.items ≡ out.old.items ++ program_text self.now.version self.now.blocks) }
         ensures err { OnErr result (out.new.items ≡ out.old.items) }
-        ensures limits { IsProgram the_limits self.now.blocks }
+        ensures limits { IsProgram (limits_of self.now.version) self.now.blocks }
     {
         // Brings in that the program lies within its limits.
         let _ = self.blocks();
