@@ -10,14 +10,16 @@ use Rattle.std.proofs.lemmas.Option.{slice_get-get_or, slice_get_within}
 use Rattle.std.proofs.lemmas.List.FromFn.{get_or-range_with_len, length-range_with_len}
 use Rattle.u_program.specs.declared.program.Constant.TheVariants as constants
 use Rattle.u_program.specs.declared.program.Kind.{Kind}
-use Rattle.u_program.specs.declared.program.Kind.TheVariants.{Const, Enter, Apply, Back}
+use Rattle.u_program.specs.declared.program.Kind.TheVariants.{Const, Enter, Apply, Param, Back}
+use Rattle.u_program.specs.declared.program.Arguments.{Arguments}
+use Rattle.u_program.specs.declared.program.Parameter.{Parameter}
 use Rattle.u_program.specs.declared.program.Destination.{Destination}
-use Rattle.u_program.specs.Limits.{AreLoops}
+use Rattle.u_program.specs.Limits.{AreLoops, place_of}
 use Rattle.u_program.specs.Parts.{StatementParts, BlockParts}
 use Rattle.u_check.specs.declared.rule.Rule.{Rule}
-use Rattle.u_check.specs.declared.rule.Rule.TheVariants.{BlockNamesDiffer, MainExists, BeginComesFirst, RegionExists, DestinationExists, BeginAndBackTakeNothing, EnterReachesItsLoop, ApplyNamesBack, BackIsNamed, ConstantNamesBlock, LoopStatementsInLoops, LastSendsToLeave, LeaveSendsOut, EndInOuterRegion, OwnRegion, PortsAreFed}
-use Rattle.u_check.specs.Kinds.{ports_of, is_begin, is_back, is_last, is_leave, is_end, comes_from_outside, is_of_loop, crosses}
-use Rattle.u_check.specs.Rules.{main_name, names_block, block_named, statement_at, held_by, sends, begins_well, is_outer, has_port, reaches, takes_tokens, lies_in, holds, enters_inward, lies_in_entered, is_back_in, names_back, applies_to, is_applied, leaves_after_last, lies_in_some, gives_block, sends_to, is_fed, is_whole, program_keeps, block_keeps, itself_keeps, destination_keeps, statement_keeps, IsChecked}
+use Rattle.u_check.specs.declared.rule.Rule.TheVariants.{BlockNamesDiffer, MainExists, BeginComesFirst, RegionExists, DestinationExists, BeginAndBackTakeNothing, EnterReachesItsLoop, ApplyNamesBack, BackIsNamed, ConstantNamesBlock, LoopStatementsInLoops, LastSendsToLeave, LeaveSendsOut, EndInOuterRegion, OwnRegion, PortsAreFed, ParamsComeInOrder, MainTakesOne}
+use Rattle.u_check.specs.Kinds.{ports_of, is_begin, is_param, is_back, is_last, is_leave, is_end, comes_from_outside, is_of_loop, crosses}
+use Rattle.u_check.specs.Rules.{main_name, same_name, names_block, follows_params, comes_in_order, block_named, statement_at, held_by, sends, begins_well, is_outer, has_port, reaches, takes_tokens, lies_in, holds, enters_inward, lies_in_entered, is_back_in, names_back, applies_to, is_applied, leaves_after_last, lies_in_some, gives_block, sends_to, is_fed, is_whole, program_keeps, block_keeps, itself_keeps, destination_keeps, statement_keeps, IsChecked}
 use Rattle.u_check.proofs.First.{statement_breaks, at_place}
 use Rattle.u_check.proofs.Blocks.{place_of_member, named_first, named_some}
 use Rattle.u_check.proofs.KindTests.{back_kind}
@@ -74,7 +76,8 @@ pub record Returned (ss : List StatementParts) (region n : ℕ) : Type 0 where
 pub record Applied (ss : List StatementParts) (n : ℕ) : Type 0 where
   pub it : StatementParts
   pub stands : Contains ss it
-  pub names : it.kind ≡ Apply n
+  pub arguments : Arguments
+  pub names : it.kind ≡ Apply n arguments
 
 -- what is in one of a statement's lists is sent to
 pub in_to : (s : StatementParts) (d : Destination) → Contains s.to d → Contains (sends s) d
@@ -105,20 +108,21 @@ returned_from ss region n (Some t) q e =
     let a = and_parts (is_back t.kind) (region == t.region) e in
     record { it = t; stands = q; is_a_back = back_kind t.kind a.0; in_region = sym (eqb-true region t.region a.1) }
 
-returned : (ss : List StatementParts) (region n : ℕ) → names_back ss region (Apply n) ≡ true → Returned ss region n
+returned : (ss : List StatementParts) (region n : ℕ) (c : Arguments) → names_back ss region (Apply n c) ≡ true → Returned ss region n
 unfolding names_back
-returned ss region n e =
+returned ss region n c e =
     returned_from ss region n (statement_at ss n) refl e
 
-apply_of : (n : ℕ) (k : Kind) → applies_to n k ≡ true → k ≡ Apply n
-apply_of n (Apply m) e = ap (λ (j : ℕ). Apply j) (eqb-true m n e)
+apply_of : (n : ℕ) (k : Kind) → applies_to n k ≡ true → (c : Arguments) × (k ≡ Apply n c)
+apply_of n (Apply m c) e = (c, ap (λ (j : ℕ). Apply j c) (eqb-true m n e))
 apply_of n k e = absurd (false≢true e)
 
 applied : (ss : List StatementParts) (n : ℕ) → is_applied ss n ≡ true → Applied ss n
 unfolding is_applied
 applied ss n e =
     let a = Any-from_list_any (λ (s : StatementParts). applies_to n s.kind) ss e in
-    record { it = a.1; stands = (a.0, a.2, a.3); names = apply_of n a.1.kind a.4 }
+    let k = apply_of n a.1.kind a.4 in
+    record { it = a.1; stands = (a.0, a.2, a.3); arguments = k.0; names = k.1 }
 
 sender : (ss : List StatementParts) (n port : ℕ) → is_fed ss n port ≡ true → Sender ss n port
 unfolding is_fed sends_to
@@ -135,6 +139,18 @@ whole ss n kind e ne port from to =
     let r = get_or-range_with_len 1 (ports_of kind) (port - 1) port (omega arith) in
     let l = length-range_with_len 1 (ports_of kind) in
     pass_of (λ (j : ℕ). is_fed ss n j) (range_with_len 1 (ports_of kind)) port all (port - 1, omega arith, omega arith)
+
+ordered : (ss : List StatementParts) (n : ℕ) (s : StatementParts) (q : Parameter) → comes_in_order ss n s (Param q) ≡ true → (n ≡ place_of q) × (s.region ≡ 0) × (follows_params ss q ≡ true)
+unfolding comes_in_order
+ordered ss n s q e =
+    let a = and_parts (n == place_of q && is_outer s) (follows_params ss q) e in
+    let b = and_parts (n == place_of q) (is_outer s) a.0 in
+    (eqb-true n (place_of q) b.0, eqb-true s.region 0 b.1, a.1)
+
+no_main : (a b : Bool) → (not a || not b) ≡ true → b ≡ true → a ≡ false
+no_main false b e f = refl
+no_main true true e f = absurd (false≢true e)
+no_main true false e f = absurd (false≢true f)
 
 -- of two tests of which one holds, the other holds where the first does not
 other : (a b : Bool) → (a || b) ≡ true → a ≡ false → b ≡ true
@@ -270,8 +286,8 @@ module _ (p : List BlockParts) (c : IsChecked p) where
     enter_held l q = entered b.loops s.region l (sym (ap (enters_inward b.loops s.region) q) ∙ keeps_itself EnterReachesItsLoop)
 
     -- an `apply` names a `back` in its region
-    pub apply_returned : (n : ℕ) → s.kind ≡ Apply n → Returned b.statements s.region n
-    apply_returned n q = returned b.statements s.region n (sym (ap (names_back b.statements s.region) q) ∙ keeps_itself ApplyNamesBack)
+    pub apply_returned : (n : ℕ) (c : Arguments) → s.kind ≡ Apply n c → Returned b.statements s.region n
+    apply_returned n c q = returned b.statements s.region n c (sym (ap (names_back b.statements s.region) q) ∙ keeps_itself ApplyNamesBack)
 
     -- some `apply` names a `back`
     pub back_applied : is_back s.kind ≡ true → Applied b.statements (k + 1)
@@ -297,7 +313,15 @@ module _ (p : List BlockParts) (c : IsChecked p) where
     procedure_exists name q =
         named_some p name (procedure p name (sym (ap (gives_block p) q) ∙ keeps_itself ConstantNamesBlock))
 
-    -- every port of a statement that is no `begin` and no `back` is some destination of the block
+    -- a `param` stands in region 0, at the number of its parameter and behind those of the ones before it
+    pub param_in_order : (q : Parameter) → s.kind ≡ Param q → (k + 1 ≡ place_of q) × (s.region ≡ 0) × (follows_params b.statements q ≡ true)
+    param_in_order q e = ordered b.statements (k + 1) s q (sym (ap (comes_in_order b.statements (k + 1) s) e) ∙ keeps_itself ParamsComeInOrder)
+
+    -- `main` has none
+    pub main_takes_one : same_name b.name main_name ≡ true → is_param s.kind ≡ false
+    main_takes_one e = no_main (is_param s.kind) (same_name b.name main_name) (keeps_itself MainTakesOne) e
+
+    -- every port of a statement that is no `begin`, no `param` and no `back` is some destination of the block
     pub port_fed : comes_from_outside s.kind ≡ false → (port : ℕ) → 1 ≤ port → port ≤ ports_of s.kind → Sender b.statements (k + 1) port
     port_fed ne port from to =
         sender b.statements (k + 1) port (whole b.statements (k + 1) s.kind (keeps_itself PortsAreFed) ne port from to)
@@ -310,7 +334,7 @@ module _ (p : List BlockParts) (c : IsChecked p) where
 
       -- of the statement there
       module _ (t : StatementParts) (q : statement_at b.statements d.statement ≡ Some t) where
-        -- that is no `begin` and no `back`
+        -- that is no `begin`, no `param` and no `back`
         pub target_takes : comes_from_outside t.kind ≡ false
         target_takes = not-true (comes_from_outside t.kind) (sym (ap takes_tokens q) ∙ keeps_destination BeginAndBackTakeNothing d w)
 

@@ -6,13 +6,12 @@ use Rattle.std.specs.Cmp.Derive.{both_true}
 use Rattle.std.specs.Ordering.{int_eq}
 use Rattle.std.proofs.lemmas.Bool.{and_parts}
 use Rattle.u_program.specs.Parts.{ProgramParts}
-use Rattle.u_program.specs.Limits.{IsProgram, the_limits}
 use Rattle.u_program.specs.Equality.{has_same_text}
-use Rattle.u_program.proofs.Same.{equal_exactly}
+use Rattle.u_program.proofs.Same.{IsOne, equal_exactly}
 use Rattle.u_check.specs.Jobs.{JobParts, job, is_same_job}
 
 -- Two jobs are found to be the same exactly where contracts see them as equal.
-pub same_exactly : (a b : JobParts) → IsProgram the_limits a.program.blocks → IsProgram the_limits b.program.blocks → IsTrue (is_same_job a b) ↔ (a ≡ b)
+pub same_exactly : (a b : JobParts) → IsOne a.program → IsOne b.program → IsTrue (is_same_job a b) ↔ (a ≡ b)
 same_exactly a b v w = (
   λ t.
       let k = and_parts (has_same_text a.program b.program) (int_eq a.argument b.argument) t in

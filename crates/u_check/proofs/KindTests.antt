@@ -1,9 +1,10 @@
 -- What the tests on a statement's kind say.
-use Rattle.std.proofs.Common.{◌≡◌, refl, sym, true, false}
+use Rattle.std.proofs.Common.{◌≡◌, ◌≤◌, refl, sym, arith, true, false}
 use Rattle.std.proofs.lemmas.Bool.{false≢true}
 use Rattle.u_program.specs.declared.program.Kind.{Kind}
-use Rattle.u_program.specs.declared.program.Kind.TheVariants.{Begin, Last, Leave, Back, End}
-use Rattle.u_check.specs.Kinds.{is_begin, is_back, is_last, is_leave, is_end, comes_from_outside}
+use Rattle.u_program.specs.declared.program.Kind.TheVariants.{Begin, Param, Last, Leave, Apply, Back, End}
+use Rattle.u_program.specs.declared.program.Arguments.TheVariants as arguments
+use Rattle.u_check.specs.Kinds.{ports_of, is_begin, is_param, is_back, is_last, is_leave, is_end, comes_from_outside}
 
 pub begin_kind : (k : Kind) → is_begin k ≡ true → k ≡ Begin
 begin_kind Begin e = refl
@@ -24,6 +25,18 @@ leave_kind k e = absurd (false≢true e)
 pub end_kind : (k : Kind) → is_end k ≡ true → k ≡ End
 end_kind End e = refl
 end_kind k e = absurd (false≢true e)
+
+pub no_param : (k : Kind) → comes_from_outside k ≡ false → is_param k ≡ false
+no_param (Param p) e = absurd (false≢true (sym e))
+no_param k e = refl
+
+-- a statement has five ports at most
+pub few_ports : (k : Kind) → ports_of k ≤ 5
+few_ports (Apply b arguments.One) = omega arith
+few_ports (Apply b arguments.Two) = omega arith
+few_ports (Apply b arguments.Three) = omega arith
+few_ports (Apply b arguments.Four) = omega arith
+few_ports k = omega arith
 
 -- what takes tokens is neither a `begin` nor a `back`
 pub no_begin : (k : Kind) → comes_from_outside k ≡ false → is_begin k ≡ false

@@ -1,7 +1,8 @@
 -- What the checker and the firing rule ask of a statement's kind.
-use Rattle.std.specs.Prelude.{ℕ, Bool, true, false}
+use Rattle.std.specs.Prelude.{ℕ, Bool, true, false, Option, Some, None}
 use Rattle.u_program.specs.declared.program.Kind.{Kind}
-use Rattle.u_program.specs.declared.program.Kind.TheVariants.{Begin, Const, Pass, Unary, Binary, Select, Switch, Enter, Next}
+use Rattle.u_program.specs.declared.program.Kind.TheVariants.{Begin, Const, Pass, Unary, Binary, Select, Switch, Enter, Next, Param}
+use Rattle.u_program.specs.declared.program.Arguments.TheVariants as arguments
 use Rattle.u_program.specs.declared.program.Kind.TheVariants.{Last, Leave, Apply, Back, Alloc, Store, Fetch, End}
 
 -- how many ports a statement of that kind has
@@ -17,7 +18,11 @@ ports_of (Enter l) = 1
 ports_of Next = 1
 ports_of Last = 1
 ports_of Leave = 1
-ports_of (Apply n) = 2
+ports_of (Apply b arguments.One) = 2
+ports_of (Apply b arguments.Two) = 3
+ports_of (Apply b arguments.Three) = 4
+ports_of (Apply b arguments.Four) = 5
+ports_of (Param k) = 1
 ports_of Back = 1
 ports_of Alloc = 1
 ports_of Store = 3
@@ -41,8 +46,17 @@ is_leave Leave = true
 is_leave k = false
 
 abbrev pub is_apply : Kind → Bool
-is_apply (Apply n) = true
+is_apply (Apply b n) = true
 is_apply k = false
+
+abbrev pub is_param : Kind → Bool
+is_param (Param k) = true
+is_param k = false
+
+-- the `back` that an `apply` names
+abbrev pub back_named : Kind → Option ℕ
+back_named (Apply b n) = Some b
+back_named k = None
 
 abbrev pub is_end : Kind → Bool
 is_end End = true
@@ -51,6 +65,7 @@ is_end k = false
 -- whether its value comes from outside: from a call of its block, or from a call that it made
 abbrev pub comes_from_outside : Kind → Bool
 comes_from_outside Begin = true
+comes_from_outside (Param k) = true
 comes_from_outside Back = true
 comes_from_outside k = false
 

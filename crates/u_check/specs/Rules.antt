@@ -5,16 +5,19 @@ use Rattle.std.specs.List.{list_any, list_all, range_with_len}
 use lib.Pointwise.{pointwise}
 use Rattle.u_program.specs.declared.program.Constant.TheVariants as constants
 use Rattle.u_program.specs.declared.program.Kind.{Kind}
-use Rattle.u_program.specs.declared.program.Kind.TheVariants.{Const, Enter, Apply}
+use Rattle.u_program.specs.declared.program.Kind.TheVariants.{Const, Enter, Apply, Param}
+use Rattle.u_program.specs.declared.program.Parameter.{Parameter}
+use Rattle.u_program.specs.declared.program.Parameter.TheVariants as parameters
 use Rattle.u_program.specs.declared.program.Destination.{Destination}
+use Rattle.u_program.specs.Limits.{place_of}
 use Rattle.u_program.specs.Parts.{StatementParts, BlockParts}
-use Rattle.u_check.specs.Kinds.{ports_of, is_begin, is_back, is_last, is_leave, is_end, comes_from_outside, is_of_loop, crosses}
+use Rattle.u_check.specs.Kinds.{ports_of, is_begin, is_param, is_back, is_last, is_leave, is_end, comes_from_outside, is_of_loop, crosses}
 use Rattle.u_check.specs.declared.rule.Rule.{Rule}
 use Rattle.u_check.specs.declared.rule.Rule.TheVariants.{BlockNamesDiffer, MainExists, BeginComesFirst, RegionExists}
 use Rattle.u_check.specs.declared.rule.Rule.TheVariants.{DestinationExists, BeginAndBackTakeNothing, EnterReachesItsLoop}
 use Rattle.u_check.specs.declared.rule.Rule.TheVariants.{ApplyNamesBack, BackIsNamed, ConstantNamesBlock, LoopStatementsInLoops}
 use Rattle.u_check.specs.declared.rule.Rule.TheVariants.{LastSendsToLeave, LeaveSendsOut, EndInOuterRegion, OwnRegion}
-use Rattle.u_check.specs.declared.rule.Rule.TheVariants.{PortsAreFed}
+use Rattle.u_check.specs.declared.rule.Rule.TheVariants.{PortsAreFed, ParamsComeInOrder, MainTakesOne}
 
 abbrev pub main_name : List ℕ
 main_name = codes "main"
@@ -86,7 +89,7 @@ has_port (Some s) port = nat_le port (ports_of s.kind)
 unfoldable pub reaches : List StatementParts → Destination → Bool
 reaches ss d = nat_le 1 d.port && has_port (statement_at ss d.statement) d.port
 
--- no destination is a `begin` or a `back`
+-- no destination is a `begin`, a `param` or a `back`
 abbrev pub takes_tokens : Option StatementParts → Bool
 takes_tokens None = true
 takes_tokens (Some s) = not (comes_from_outside s.kind)
@@ -115,11 +118,11 @@ is_back_in region (Some s) = is_back s.kind && region == s.region
 
 -- an `apply` names a `back` of its region
 unfoldable pub names_back : List StatementParts → ℕ → Kind → Bool
-names_back ss region (Apply n) = is_back_in region (statement_at ss n)
+names_back ss region (Apply n c) = is_back_in region (statement_at ss n)
 names_back ss region k = true
 
 abbrev pub applies_to : ℕ → Kind → Bool
-applies_to n (Apply m) = m == n
+applies_to n (Apply m c) = m == n
 applies_to n k = false
 
 -- whether some `apply` names statement n
@@ -148,9 +151,24 @@ sends_to s n port = list_any (λ (d : Destination). d.statement == n && d.port =
 unfoldable pub is_fed : List StatementParts → ℕ → ℕ → Bool
 is_fed ss n port = list_any (λ (s : StatementParts). sends_to s n port) ss
 
--- whether every port of statement n is some destination of the block; `begin` and `back` need none
+-- whether every port of statement n is some destination of the block; `begin`, `param` and `back` need none
 unfoldable pub is_whole : List StatementParts → ℕ → Kind → Bool
 is_whole ss n kind = comes_from_outside kind || list_all (λ port. is_fed ss n port) (range_with_len 1 (ports_of kind))
+
+abbrev pub is_param_in : Option StatementParts → Bool
+is_param_in None = false
+is_param_in (Some s) = is_param s.kind
+
+-- the statements of the parameters behind the first and before this one are `param`
+unfoldable pub follows_params : List StatementParts → Parameter → Bool
+follows_params ss parameters.Second = true
+follows_params ss parameters.Third = is_param_in (statement_at ss 2)
+follows_params ss parameters.Fourth = is_param_in (statement_at ss 2) && is_param_in (statement_at ss 3)
+
+-- a `param` stands in region 0, at the number of its parameter and behind those of the ones before it
+unfoldable pub comes_in_order : List StatementParts → ℕ → StatementParts → Kind → Bool
+comes_in_order ss n s (Param k) = n == place_of k && is_outer s && follows_params ss k
+comes_in_order ss n s k = true
 
 -- what a rule demands of a program as a whole
 abbrev pub program_keeps : Rule → List BlockParts → Bool
@@ -173,6 +191,8 @@ itself_keeps ConstantNamesBlock p b n s = gives_block p s.kind
 itself_keeps LoopStatementsInLoops p b n s = not (is_of_loop s.kind) || not (is_outer s)
 itself_keeps EndInOuterRegion p b n s = not (is_end s.kind) || is_outer s
 itself_keeps PortsAreFed p b n s = is_whole b.statements n s.kind
+itself_keeps ParamsComeInOrder p b n s = comes_in_order b.statements n s s.kind
+itself_keeps MainTakesOne p b n s = not (is_param s.kind) || not (same_name b.name main_name)
 itself_keeps rule p b n s = true
 
 -- what a rule demands of an arc from statement s of block b that leads to the destination
@@ -207,6 +227,8 @@ number_of LeaveSendsOut = 13
 number_of EndInOuterRegion = 14
 number_of OwnRegion = 15
 number_of PortsAreFed = 16
+number_of ParamsComeInOrder = 17
+number_of MainTakesOne = 18
 
 -- the program as a whole breaks the rule: block 0, statement 0
 pub record ProgramBreaks (p : List BlockParts) (rule : Rule) (block statement : ℕ) : Type 0 where

@@ -8,7 +8,7 @@ use crate::rule::{Breach, Rule};
 use u_program::{Block, Program};
 
 /// The rules, in the order of their numbers.
-const RULES: [Rule; 16] = [
+const RULES: [Rule; 18] = [
     Rule::BlockNamesDiffer,
     Rule::MainExists,
     Rule::BeginComesFirst,
@@ -25,6 +25,8 @@ const RULES: [Rule; 16] = [
     Rule::EndInOuterRegion,
     Rule::OwnRegion,
     Rule::PortsAreFed,
+    Rule::ParamsComeInOrder,
+    Rule::MainTakesOne,
 ];
 
 /// A program that breaks a rule, handed back, and the first breach.

@@ -2,14 +2,14 @@
 ghost use Rattle.std.specs.Prelude.{◌≡◌, ◌-◌, ◌<◌, ◌≤◌, ◌==◌, ◌&&◌, ◌||◌, not, length, take};
 ghost use Rattle.std.specs.List.{list_any, list_all, range_with_len};
 ghost use Rattle.u_program.specs.declared.program.Destination.{Destination};
-ghost use Rattle.u_check.specs.Rules.{main_name, names_block, gives_block, sends_to, is_fed, is_whole, program_keeps, block_keeps, itself_keeps, destination_keeps, statement_keeps};
+ghost use Rattle.u_check.specs.Rules.{main_name, same_name, names_block, gives_block, sends_to, is_fed, is_whole, program_keeps, block_keeps, itself_keeps, destination_keeps, statement_keeps};
 
 use crate::kinds::{
-    comes_from_outside, crosses, is_back, is_end, is_last, is_leave, is_of_loop, ports_of,
+    comes_from_outside, crosses, is_back, is_end, is_last, is_leave, is_of_loop, is_param, ports_of,
 };
 use crate::places::{
-    begins_well, enters_inward, has_region, held_by, is_applied, is_outer, leaves_after_last,
-    lies_in, lies_in_entered, lies_in_some, names_back, reaches, takes_tokens,
+    begins_well, comes_in_order, enters_inward, has_region, held_by, is_applied, is_outer,
+    leaves_after_last, lies_in, lies_in_entered, lies_in_some, names_back, reaches, takes_tokens,
 };
 use crate::rule::Rule;
 use u_name::BlockName;
@@ -28,6 +28,13 @@ fn has_main(blocks: &[Block]) -> bool
 {
     let main = BlockName::new(b"main");
     names_block(blocks, &main)
+}
+
+/// Whether the block is called `main`.
+fn is_main(block: &Block) -> bool
+    ensures { result ≡ same_name block.now.name main_name }
+{
+    *block.name() == BlockName::new(b"main")
 }
 
 /// Whether a procedure that the statement gives is that of a block.
@@ -67,7 +74,7 @@ fn is_fed(statements: &[Statement], number: usize, port: usize) -> bool
 
 /// Whether each of so many ports of the statement of that number is some destination of the block.
 fn all_fed(statements: &[Statement], number: usize, ports: usize) -> bool
-    requires { ports ≤ 3 }
+    requires { ports ≤ 5 }
     ensures { result
         ≡ list_all (λ port. is_fed statements.now number port) (range_with_len 1 ports) }
 {
@@ -126,6 +133,8 @@ fn itself_keeps(
         Rule::LoopStatementsInLoops => !is_of_loop(kind) || !is_outer(statement),
         Rule::EndInOuterRegion => !is_end(kind) || is_outer(statement),
         Rule::PortsAreFed => is_whole(block.statements(), number, kind),
+        Rule::ParamsComeInOrder => comes_in_order(block.statements(), number, statement),
+        Rule::MainTakesOne => !is_param(kind) || !is_main(block),
         _ => true,
     }
 }

@@ -1,16 +1,18 @@
 //! What the checker and the firing rule ask of a statement's kind.
 ghost use Rattle.std.specs.Prelude.{◌≡◌};
-ghost use Rattle.u_check.specs.Kinds.{ports_of, is_begin, is_back, is_last, is_leave, is_apply, is_end, comes_from_outside, is_of_loop, crosses};
+ghost use Rattle.u_check.specs.Kinds.{ports_of, is_begin, is_back, is_last, is_leave, is_apply, is_param, back_named, is_end, comes_from_outside, is_of_loop, crosses};
 
-use u_program::Kind;
+use u_program::{Arguments, Kind};
 
 /// How many ports a statement of that kind has.
 pub fn ports_of(kind: &Kind) -> usize
     ensures { result ≡ ports_of kind.now }
 {
     match kind {
-        Kind::Select | Kind::Store => 3,
-        Kind::Binary(_) | Kind::Switch | Kind::Apply(_) | Kind::Fetch => 2,
+        Kind::Apply(_, Arguments::Four) => 5,
+        Kind::Apply(_, Arguments::Three) => 4,
+        Kind::Select | Kind::Store | Kind::Apply(_, Arguments::Two) => 3,
+        Kind::Binary(_) | Kind::Switch | Kind::Apply(_, Arguments::One) | Kind::Fetch => 2,
         _ => 1,
     }
 }
@@ -47,7 +49,24 @@ pub fn is_leave(kind: &Kind) -> bool
 pub fn is_apply(kind: &Kind) -> bool
     ensures { result ≡ is_apply kind.now }
 {
-    matches!(kind, Kind::Apply(_))
+    matches!(kind, Kind::Apply(_, _))
+}
+
+/// Whether it is `param`.
+pub fn is_param(kind: &Kind) -> bool
+    ensures { result ≡ is_param kind.now }
+{
+    matches!(kind, Kind::Param(_))
+}
+
+/// The number of the `back` that an `apply` names; other kinds name none.
+pub fn back_named(kind: &Kind) -> Option<u16>
+    ensures { result ≡ back_named kind.now }
+{
+    match kind {
+        Kind::Apply(number, _) => Some(*number),
+        _ => None,
+    }
 }
 
 /// Whether it is `end`.
@@ -57,12 +76,12 @@ pub fn is_end(kind: &Kind) -> bool
     matches!(kind, Kind::End)
 }
 
-/// Whether its value comes from no statement of its block: `begin`, which takes the argument of a call,
-/// and `back`, which takes the result of one.
+/// Whether its value comes from no statement of its block: `begin` and `param`, which take the arguments
+/// of a call, and `back`, which takes the result of one.
 pub fn comes_from_outside(kind: &Kind) -> bool
     ensures { result ≡ comes_from_outside kind.now }
 {
-    matches!(kind, Kind::Begin | Kind::Back)
+    matches!(kind, Kind::Begin | Kind::Param(_) | Kind::Back)
 }
 
 /// Whether it stands only in loops: `next`, `last` and `leave`.

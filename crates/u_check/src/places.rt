@@ -1,10 +1,10 @@
 //! Where statements stand: their regions, and the statements that others name.
 ghost use Rattle.std.specs.Prelude.{◌≡◌, ◌-◌, ◌<◌, ◌≤◌};
 ghost use Rattle.std.specs.Option.{option_copied};
-ghost use Rattle.u_check.specs.Rules.{is_outer, has_region, held_by, statement_at, begins_well, has_port, reaches, takes_tokens, lies_in, lies_in_some, lies_in_entered, enters_inward, is_back_in, names_back, applies_to, is_applied, leaves_after_last};
+ghost use Rattle.u_check.specs.Rules.{is_outer, has_region, held_by, statement_at, begins_well, has_port, reaches, takes_tokens, lies_in, lies_in_some, lies_in_entered, enters_inward, is_back_in, names_back, applies_to, is_applied, is_param_in, follows_params, comes_in_order, leaves_after_last};
 
-use crate::kinds::{comes_from_outside, is_back, is_begin, is_leave, ports_of};
-use u_program::{Destination, Kind, Statement};
+use crate::kinds::{comes_from_outside, is_back, is_begin, is_leave, is_param, ports_of};
+use u_program::{Destination, Kind, Parameter, Statement};
 
 /// Whether the statement lies in region 0.
 pub fn is_outer(statement: &Statement) -> bool
@@ -84,7 +84,7 @@ pub fn names_back(statements: &[Statement], region: u8, kind: &Kind) -> bool
     ensures { result ≡ names_back statements.now region kind.now }
 {
     match kind {
-        Kind::Apply(number) => is_back_in(region, statements, *number),
+        Kind::Apply(number, _) => is_back_in(region, statements, *number),
         _ => true,
     }
 }
@@ -94,7 +94,7 @@ fn applies_to(number: usize, kind: &Kind) -> bool
     ensures { result ≡ applies_to number kind.now }
 {
     match kind {
-        Kind::Apply(named) => usize::from(*named) == number,
+        Kind::Apply(named, _) => usize::from(*named) == number,
         _ => false,
     }
 }
@@ -105,6 +105,44 @@ pub fn is_applied(statements: &[Statement], number: usize) -> bool
     ensures { result ≡ is_applied statements.now number }
 {
     statements.iter().any(|s| applies_to(number, s.kind()))
+}
+
+/// Whether the statement of that number is a `param`.
+fn is_param_in(statements: &[Statement], number: u16) -> bool
+    ensures { result ≡ is_param_in (statement_at statements.now number) }
+{
+    match statement_at(statements, number) {
+        Some(statement) => is_param(statement.kind()),
+        None => false,
+    }
+}
+
+/// Whether the statements of the parameters behind the first and before this one are `param`.
+#[tactic(auto, unfolding(crate::specs::Rules::follows_params))]
+fn follows_params(statements: &[Statement], parameter: Parameter) -> bool
+    ensures { result ≡ follows_params statements.now parameter }
+{
+    match parameter {
+        Parameter::Second => true,
+        Parameter::Third => is_param_in(statements, 2),
+        Parameter::Fourth => is_param_in(statements, 2) && is_param_in(statements, 3),
+    }
+}
+
+/// Whether the statement, if it is a `param`, stands in region 0, at the number of its parameter and
+/// behind those of the ones before it.
+#[tactic(auto, unfolding(crate::specs::Rules::comes_in_order))]
+pub fn comes_in_order(statements: &[Statement], number: usize, statement: &Statement) -> bool
+    ensures { result ≡ comes_in_order statements.now number statement.now statement.now.kind }
+{
+    match statement.kind() {
+        Kind::Param(parameter) => {
+            number == usize::from(parameter.place())
+                && is_outer(statement)
+                && follows_params(statements, *parameter)
+        }
+        _ => true,
+    }
 }
 
 /// Whether there is a statement of that number, and its ports go up to that one.
@@ -126,7 +164,7 @@ pub fn reaches(statements: &[Statement], destination: &Destination) -> bool
     port >= 1 && has_port(statements, destination.statement, port)
 }
 
-/// Whether the destination is no `begin` and no `back`.
+/// Whether the destination is no `begin`, no `param` and no `back`.
 pub fn takes_tokens(statements: &[Statement], destination: &Destination) -> bool
     ensures { result ≡ takes_tokens (statement_at statements.now destination.now.statement) }
 {

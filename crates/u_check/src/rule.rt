@@ -18,7 +18,7 @@ pub enum Rule {
     RegionExists,
     /// A destination names a statement of the block and a port of it. Broken by the sender.
     DestinationExists,
-    /// No destination is a `begin` or a `back`. Broken by the sender.
+    /// No destination is a `begin`, a `param` or a `back`. Broken by the sender.
     BeginAndBackTakeNothing,
     /// The loop of an `enter` is held by the statement's region, and all its destinations lie in it.
     EnterReachesItsLoop,
@@ -38,12 +38,17 @@ pub enum Rule {
     EndInOuterRegion,
     /// Every statement but `enter` and `leave` sends into its own region. Broken by the sender.
     OwnRegion,
-    /// Every port of every statement but `begin` and `back` is some destination of the block.
+    /// Every port of every statement but `begin`, `param` and `back` is some destination of the block.
     PortsAreFed,
+    /// `param K` is statement K in region 0, and the statements 2 to K - 1 are `param`. Broken by the
+    /// `param`.
+    ParamsComeInOrder,
+    /// Block `main` has no `param`. Broken by its first one.
+    MainTakesOne,
 }
 
 impl Rule {
-    /// The rule's number, 1 to 16, by which rules are ordered.
+    /// The rule's number, 1 to 18, by which rules are ordered.
     pub fn number(self) -> u8
         ensures { result ≡ number_of self }
     {
@@ -64,6 +69,8 @@ impl Rule {
             Rule::EndInOuterRegion => 14,
             Rule::OwnRegion => 15,
             Rule::PortsAreFed => 16,
+            Rule::ParamsComeInOrder => 17,
+            Rule::MainTakesOne => 18,
         }
     }
 }
