@@ -2,7 +2,6 @@
 use Rattle.std.specs.Prelude.{◌≡◌, ℕ, ◌⊎◌, List, [], ◌∷◌, length, Result, Ok}
 use Rattle.std.proofs.Common.{sym, ◌∙◌, ap, inr, arith}
 use Rattle.u_text.specs.Reader.{Reader}
-use Rattle.u_text.specs.Parts.{empty}
 use Rattle.u_text.specs.Then.{both}
 use Rattle.u_text.specs.Choice.{mapped, choice}
 use Rattle.u_text.specs.Fixed.{fixed}

@@ -1,11 +1,10 @@
 -- The reader of entries reads the longest text of an entry.
-use Rattle.std.specs.Prelude.{◌≡◌, ℕ, zero, suc, ◌⊎◌, ◌-◌, ◌<◌, ◌≤◌, length, List, [], ◌∷◌, ◌++◌, Ok, Err, refl}
+use Rattle.std.specs.Prelude.{◌≡◌, ℕ, ◌⊎◌, ◌-◌, ◌<◌, ◌≤◌, length, List, [], ◌∷◌, ◌++◌, Ok, Err, refl}
 use Rattle.std.proofs.Common.{inl, inr, arith}
 use Rattle.std.specs.Fmt.{decimal}
-use Rattle.std.proofs.lemmas.Fmt.{decimal_digit}
 use Rattle.u_text.specs.Reader.{Reader}
 use Rattle.u_text.proofs.ReaderLaws.{Reads}
-use Rattle.u_text.proofs.PartsLaws.{NoByte, empty_Reads, lead_Reads, widened}
+use Rattle.u_text.proofs.PartsLaws.{NoByte, lead_Reads, widened}
 use Rattle.u_text.proofs.ThenLaws.{after, both_Reads}
 use Rattle.u_text.specs.Then.{AreBoth}
 use Rattle.u_text.proofs.ChoiceLaws.{mapped_Reads, choice_Reads, one_text}
@@ -31,7 +30,7 @@ use Rattle.u_value.specs.declared.fault_kind.FaultKind.TheVariants as kinds
 use Rattle.u_rule.specs.EntryText.{entry_text}
 use Rattle.u_rule.specs.Parts.{most_ports}
 use Rattle.u_rule.proofs.PortLaws.{port_Reads}
-use Rattle.u_rule.specs.EntryReading.{IsEntry, port_at, cell_at, OneOfEight, kind_of, ind, verflow, ero, eep, nitiation, ength, ounds, arity, kind_at, token_at, write_at, fault_at, answer_at, Read, entry_of, entry_at, IsEntryOf, IsEntryErrorOf}
+use Rattle.u_rule.specs.EntryReading.{IsEntry, cell_at, OneOfEight, kind_of, ind, verflow, ero, eep, nitiation, ength, ounds, arity, kind_at, token_at, write_at, fault_at, answer_at, Read, entry_of, entry_at, IsEntryOf, IsEntryErrorOf}
 use Rattle.u_rule.specs.declared.entry.Entry.{Entry}
 use Rattle.u_rule.specs.declared.entry.Entry.TheVariants as entries
 use Rattle.u_rule.specs.declared.reading.TextError.TheVariants.{BadText}

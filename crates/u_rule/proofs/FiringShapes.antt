@@ -1,12 +1,12 @@
 -- How many values a firing has, which tokens it needs for them, and which write.
-use Rattle.std.proofs.Common.{◌≡◌, ◌↔◌, ◌⊎◌, ◌∙◌, inl, inr, refl, sym, subst, arith, ap, Bool, true, false, ◌&&◌, IsTrue, ℕ, ◌≤◌, List, [], ◌∷◌, length, Contains, Option, Some, None}
+use Rattle.std.proofs.Common.{◌≡◌, ◌↔◌, ◌⊎◌, ◌∙◌, inl, inr, refl, sym, subst, arith, ap, Bool, true, false, IsTrue, ◌≤◌, List, [], ◌∷◌, length, Contains, Option, Some, None}
 use Rattle.std.specs.Prelude.{is_none, is_some, is_ok, if◌then◌else◌, ◌==◌, Result, Ok, Err}
-use Rattle.std.proofs.lemmas.Bool.Decides.{nat_tests}
 use Rattle.std.proofs.lemmas.Bool.{and_parts, eqb-true}
 use Rattle.u_name.specs.Name.{Activity}
 use Rattle.u_value.specs.declared.value.Value.{Value}
 use Rattle.u_program.specs.declared.program.Kind.{Kind}
-use Rattle.u_program.specs.declared.program.Kind.TheVariants.{Begin, Fetch}
+use Rattle.u_program.specs.declared.program.Arguments.TheVariants as arguments
+use Rattle.u_program.specs.declared.program.Kind.TheVariants.{Apply, Fetch}
 use Rattle.u_program.specs.Parts.{StatementParts, BlockParts}
 use Rattle.u_check.specs.Jobs.{JobParts}
 use Rattle.u_check.specs.Kinds.{ports_of}
@@ -24,7 +24,7 @@ use Rattle.u_rule.specs.declared.firing.Written.{Written}
 use Rattle.u_system.proofs.Member.{Contains-nil, Contains-head, Contains-tail, Contains-cons_cases}
 use Rattle.u_rule.proofs.Firings.{at_statement}
 
--- the members of a list of one, of two and of three
+-- the members of a list of one, two, three, four and five
 cons_member : {X : Type 0} (P : Type 0) (x e : X) (xs : List X) → Contains xs e ↔ P → Contains (x ∷ xs) e ↔ ((x ≡ e) ⊎ P)
 cons_member {X} P x e xs k = (to, back)
   where
@@ -47,6 +47,12 @@ two_members x y e = cons_member (y ≡ e) x e (y ∷ []) (one_member y e)
 pub three_members : {X : Type 0} (x y z e : X) → Contains (x ∷ y ∷ z ∷ []) e ↔ ((x ≡ e) ⊎ ((y ≡ e) ⊎ (z ≡ e)))
 three_members x y z e = cons_member ((y ≡ e) ⊎ (z ≡ e)) x e (y ∷ z ∷ []) (two_members y z e)
 
+pub four_members : {X : Type 0} (x y z u e : X) → Contains (x ∷ y ∷ z ∷ u ∷ []) e ↔ ((x ≡ e) ⊎ ((y ≡ e) ⊎ ((z ≡ e) ⊎ (u ≡ e))))
+four_members x y z u e = cons_member ((y ≡ e) ⊎ ((z ≡ e) ⊎ (u ≡ e))) x e (y ∷ z ∷ u ∷ []) (three_members y z u e)
+
+pub five_members : {X : Type 0} (x y z u w e : X) → Contains (x ∷ y ∷ z ∷ u ∷ w ∷ []) e ↔ ((x ≡ e) ⊎ ((y ≡ e) ⊎ ((z ≡ e) ⊎ ((u ≡ e) ⊎ (w ≡ e)))))
+five_members x y z u w e = cons_member ((y ≡ e) ⊎ ((z ≡ e) ⊎ ((u ≡ e) ⊎ (w ≡ e)))) x e (y ∷ z ∷ u ∷ w ∷ []) (four_members y z u w e)
+
 -- a write exactly where it is wanted
 pub read_or_none : (b : Bool) (w : Option Written) → (if b then is_some w else is_none w) ≡ true → ((b ≡ true) × ((x : Written) × (w ≡ Some x))) ⊎ (w ≡ None)
 read_or_none true None h = cc
@@ -63,9 +69,12 @@ pub reads : (k : Kind) (vs : ValueList) → reads_cell k vs ≡ true → (ports_
 reads Fetch vs h = (refl, ok_of (cell_named vs) h)
 reads k vs h = cc
 
--- a statement has one to three ports, whatever its kind
-pub few_ports : (k : Kind) → (1 ≤ ports_of k) × (ports_of k ≤ 3)
-few_ports Begin = (omega arith, omega arith)
+-- a statement has one to five ports, whatever its kind
+pub few_ports : (k : Kind) → (1 ≤ ports_of k) × (ports_of k ≤ 5)
+few_ports (Apply n arguments.One) = (omega arith, omega arith)
+few_ports (Apply n arguments.Two) = (omega arith, omega arith)
+few_ports (Apply n arguments.Three) = (omega arith, omega arith)
+few_ports (Apply n arguments.Four) = (omega arith, omega arith)
 few_ports k = (omega arith, omega arith)
 
 -- so many values
@@ -78,12 +87,24 @@ TwoValues vs = (v : Value) × (w : Value) × (vs ≡ v ∷ w ∷ [])
 abbrev pub ThreeValues : ValueList → Type 0
 ThreeValues vs = (v : Value) × (w : Value) × (u : Value) × (vs ≡ v ∷ w ∷ u ∷ [])
 
-listed : (vs : ValueList) → 1 ≤ length vs → length vs ≤ 3 → OneValue vs ⊎ (TwoValues vs ⊎ ThreeValues vs)
+abbrev pub FourValues : ValueList → Type 0
+FourValues vs = (v : Value) × (w : Value) × (u : Value) × (x : Value) × (vs ≡ v ∷ w ∷ u ∷ x ∷ [])
+
+abbrev pub FiveValues : ValueList → Type 0
+FiveValues vs = (v : Value) × (w : Value) × (u : Value) × (x : Value) × (y : Value) × (vs ≡ v ∷ w ∷ u ∷ x ∷ y ∷ [])
+
+-- one value to five
+abbrev pub SomeValues : ValueList → Type 0
+SomeValues vs = OneValue vs ⊎ (TwoValues vs ⊎ (ThreeValues vs ⊎ (FourValues vs ⊎ FiveValues vs)))
+
+listed : (vs : ValueList) → 1 ≤ length vs → length vs ≤ 5 → SomeValues vs
 listed [] low high = absurd (omega arith)
 listed (v ∷ []) low high = inl (v, refl)
 listed (v ∷ w ∷ []) low high = inr (inl (v, w, refl))
-listed (v ∷ w ∷ u ∷ []) low high = inr (inr (v, w, u, refl))
-listed (v ∷ w ∷ u ∷ x ∷ vs) low high = absurd (omega arith)
+listed (v ∷ w ∷ u ∷ []) low high = inr (inr (inl (v, w, u, refl)))
+listed (v ∷ w ∷ u ∷ x ∷ []) low high = inr (inr (inr (inl (v, w, u, x, refl))))
+listed (v ∷ w ∷ u ∷ x ∷ y ∷ []) low high = inr (inr (inr (inr (v, w, u, x, y, refl))))
+listed (v ∷ w ∷ u ∷ x ∷ y ∷ z ∷ vs) low high = absurd (omega arith)
 
 two_of : (vs : ValueList) → length vs ≡ 2 → TwoValues vs
 two_of [] h = absurd (omega arith)
@@ -91,10 +112,10 @@ two_of (v ∷ []) h = absurd (omega arith)
 two_of (v ∷ w ∷ []) h = (v, w, refl)
 two_of (v ∷ w ∷ u ∷ vs) h = absurd (omega arith)
 
--- a firing that reads nothing: one to three values, and no write
+-- a firing that reads nothing: one to five values, and no write
 pub record Plain (f : Firing) : Type 0 where
   pub write : f.write ≡ None
-  pub values : OneValue f.values ⊎ (TwoValues f.values ⊎ ThreeValues f.values)
+  pub values : SomeValues f.values
 
 -- a firing that reads a cell: two values, which name the cell, and the write
 pub record Reading (f : Firing) : Type 0 where
@@ -126,7 +147,7 @@ shape_of job f h = shape_at job.program.blocks (statement_of job.program.blocks 
 pub rebuilt : (f : Firing) (vs : ValueList) (w : Option Written) → f.write ≡ w → f.values ≡ vs → f ≡ firing f.activity vs w
 rebuilt f vs w p e = ap (λ (x : ValueList). firing f.activity x f.write) e ∙ ap (λ (x : Option Written). firing f.activity vs x) p
 
--- what a firing of one value needs, one of two and one of three
+-- what a firing of one value needs, one of two, and so on up to five
 pub needs_one : (a : Activity) (v : Value) (e : Entry) → Contains (needs_of (firing a (v ∷ []) None)) e ↔ (entries.Token (token a 1 v) ≡ e)
 unfolding needs_of
 needs_one a v e = one_member (entries.Token (token a 1 v)) e
@@ -138,6 +159,18 @@ needs_two a v w e = two_members (entries.Token (token a 1 v)) (entries.Token (to
 pub needs_three : (a : Activity) (v w u : Value) (e : Entry) → Contains (needs_of (firing a (v ∷ w ∷ u ∷ []) None)) e ↔ ((entries.Token (token a 1 v) ≡ e) ⊎ ((entries.Token (token a 2 w) ≡ e) ⊎ (entries.Token (token a 3 u) ≡ e)))
 unfolding needs_of
 needs_three a v w u e = three_members (entries.Token (token a 1 v)) (entries.Token (token a 2 w)) (entries.Token (token a 3 u)) e
+
+pub needs_four : (a : Activity) (v w u x : Value) (e : Entry)
+    → Contains (needs_of (firing a (v ∷ w ∷ u ∷ x ∷ []) None)) e
+    ↔ ((entries.Token (token a 1 v) ≡ e) ⊎ ((entries.Token (token a 2 w) ≡ e) ⊎ ((entries.Token (token a 3 u) ≡ e) ⊎ (entries.Token (token a 4 x) ≡ e))))
+unfolding needs_of
+needs_four a v w u x e = four_members (entries.Token (token a 1 v)) (entries.Token (token a 2 w)) (entries.Token (token a 3 u)) (entries.Token (token a 4 x)) e
+
+pub needs_five : (a : Activity) (v w u x y : Value) (e : Entry)
+    → Contains (needs_of (firing a (v ∷ w ∷ u ∷ x ∷ y ∷ []) None)) e
+    ↔ ((entries.Token (token a 1 v) ≡ e) ⊎ ((entries.Token (token a 2 w) ≡ e) ⊎ ((entries.Token (token a 3 u) ≡ e) ⊎ ((entries.Token (token a 4 x) ≡ e) ⊎ (entries.Token (token a 5 y) ≡ e)))))
+unfolding needs_of
+needs_five a v w u x y e = five_members (entries.Token (token a 1 v)) (entries.Token (token a 2 w)) (entries.Token (token a 3 u)) (entries.Token (token a 4 x)) (entries.Token (token a 5 y)) e
 
 -- what a firing that reads a cell needs
 pub needs_read : (a : Activity) (v w : Value) (x : Written) (cell : CellOf) → cell_named (v ∷ w ∷ []) ≡ Ok cell → (e : Entry)

@@ -8,7 +8,7 @@ use Rattle.u_rule.specs.Rule.{is_firing_of, is_firing_at}
 use Rattle.u_rule.specs.declared.firing.Firing.{Firing}
 
 module _ (job : JobParts) (f : Firing) (is : is_firing_of job f ≡ true) where
-  halves : (is_firing_at job.program.blocks (statement_of job.program.blocks f.activity.block f.activity.statement) f ≡ true) × (fires_in_turns f ≡ true)
+  halves : (is_firing_at job.program.blocks (statement_of job.program.blocks f.activity.block f.activity.statement) f ≡ true) × (fires_in_turns job.program.version f ≡ true)
   unfolding is_firing_of
   halves = and_parts _ _ is
 
@@ -17,5 +17,5 @@ module _ (job : JobParts) (f : Firing) (is : is_firing_of job f ≡ true) where
   at_statement = halves.0
 
   -- its initiations are those that a job has
-  pub in_turns : fires_in_turns f ≡ true
+  pub in_turns : fires_in_turns job.program.version f ≡ true
   in_turns = halves.1

@@ -1,28 +1,30 @@
 -- What a firing of a checked job gives lies where the job has a port for it.
 use Rattle.std.proofs.Common.{◌≡◌, ℕ, ◌≤◌, ◌-◌, ◌+◌, ◌==◌, ◌&&◌, refl, ap, sym, ◌∙◌, arith, subst, Bool, true, false, List, [], ◌∷◌, length, Option, Some, None, Result, Ok, Err, cond, inl, inr}
 use Rattle.std.specs.Prelude.{slice_get, Contains, IsTrue, is_some}
-use Rattle.std.proofs.lemmas.Bool.{false≢true, and_parts}
+use Rattle.std.proofs.lemmas.Bool.{false≢true, and_parts, eqb-true}
 use Rattle.std.proofs.lemmas.List.Elements.{All-from_recursion, All-contains}
 use Rattle.u_name.specs.Context.{Tree, Top, InLoop, InCall, depth}
-use Rattle.u_name.specs.Name.{Activity, activity, call_context, left, returned, IsInLoop}
+use Rattle.u_name.specs.Name.{Activity, activity, left, returned, IsInLoop}
 use Rattle.u_value.specs.declared.value.Value.{Value}
 use Rattle.u_value.specs.declared.value.Value.TheVariants as values
 use Rattle.u_value.specs.declared.fault_kind.FaultKind.{FaultKind}
 use Rattle.u_value.specs.declared.fault_kind.FaultKind.TheVariants as faults
 use Rattle.u_program.specs.Limits.{IsBlockOf, IsProgram, the_limits}
 use Rattle.u_program.specs.Parts.{StatementParts, BlockParts}
+use Rattle.u_program.specs.declared.program.Arguments.TheVariants as arguments
 use Rattle.u_program.specs.declared.program.Destination.{Destination}
+use Rattle.u_program.specs.declared.program.Version.{Version}
 use Rattle.u_program.specs.declared.program.Kind.{Kind}
 use Rattle.u_program.specs.declared.program.Kind.TheVariants.{Binary, Select, Switch, Enter, Next, Last, Leave, Apply, Store, Fetch}
-use Rattle.u_check.specs.Kinds.{ports_of, is_apply, is_end, is_of_loop, crosses, is_store}
-use Rattle.u_check.specs.Rules.{sends, main_name, names_block, block_named, statement_at, held_by, IsChecked}
+use Rattle.u_check.specs.Kinds.{ports_of, back_named, is_apply, is_end, is_of_loop, crosses, is_store}
+use Rattle.u_check.specs.Rules.{sends, main_name, block_named, statement_at, held_by, IsChecked}
 use Rattle.u_check.proofs.Arcs.{numbered}
-use Rattle.u_check.proofs.Blocks.{named_member, named_some}
+use Rattle.u_check.proofs.Blocks.{named_member}
 use Rattle.u_check.proofs.Facts.{Target, Returned, main_block, in_to, in_otherwise, held_is_loop, begin_first, enter_held, apply_returned, lies_in_loop, end_outside, target_exists, target_of_enter, target_of_leave, target_region}
 use Rattle.u_system.proofs.Member.{Contains-nil, Contains-cons_cases}
 use Rattle.u_rule.specs.Parts.{TokenParts, token, ValueList}
 use Rattle.u_rule.specs.Fits.{statement_in, statement_of, holder_in, holder_of, fits, fits_at, IsPlaced, IsFitting, AllFit}
-use Rattle.u_rule.specs.Rule.{is_firing_of, is_firing_at, beside, reached, refusal_of, list_of, result_of, first_of, delivered, handed_on, begun, called, back_named, back_of, brought_back, finished, ended, given, fault_of}
+use Rattle.u_rule.specs.Rule.{is_firing_of, is_firing_at, beside, reached, refusal_of, list_of, result_of, first_of, delivered, handed_on, arguments_from, called_first, begun, called_on, called, back_of, brought_back, finished, ended, given, fault_of}
 use Rattle.u_name.specs.Cell.{CellOf}
 use Rattle.u_rule.specs.Structures.{cell_named, has_its_write, wrote, stored, stored_in}
 use Rattle.u_check.specs.Jobs.{JobParts}
@@ -33,14 +35,19 @@ use Rattle.u_rule.specs.declared.entry.Entry.{Entry}
 use Rattle.u_rule.specs.declared.entry.Entry.TheVariants as entries
 use Rattle.u_rule.proofs.Linkage.{mapped}
 use Rattle.u_rule.proofs.Places.{Standing, standing, Looping, looping, Calling, calling, not_looping, each_turn, entering, calling_fits}
+use Rattle.u_rule.specs.Parameters.{parameters_of}
 use Rattle.u_rule.proofs.Firings.{at_statement}
+use Rattle.u_rule.proofs.ParameterLaws.{Taker, named_by, takes}
 
 -- every kind has a port
 ports_some : (k : Kind) → 1 ≤ ports_of k
 ports_some (Binary o) = omega arith
 ports_some Select = omega arith
 ports_some Switch = omega arith
-ports_some (Apply n) = omega arith
+ports_some (Apply n arguments.One) = omega arith
+ports_some (Apply n arguments.Two) = omega arith
+ports_some (Apply n arguments.Three) = omega arith
+ports_some (Apply n arguments.Four) = omega arith
 ports_some Store = omega arith
 ports_some Fetch = omega arith
 ports_some k = omega arith
@@ -139,7 +146,7 @@ module _ (p : List BlockParts) (c : IsChecked p) where
     ends_call q = by_context a.context (in_region q)
       where
         by_kind : (k : Kind) → is_apply k ≡ true → IsTrue (is_some (back_named k))
-        by_kind (Apply n) h = refl
+        by_kind (Apply n w) h = refl
         by_kind k h = absurd (false≢true h)
 
         named_back : (o : Option StatementParts) (t : StatementParts) → o ≡ Some t → is_apply t.kind ≡ true → IsTrue (is_some (back_of o))
@@ -192,31 +199,56 @@ module _ (p : List BlockParts) (c : IsChecked p) where
         subst (λ (y : Entry). IsFitting p y) q.2 (sent_fits q.0 (w q.0 q.1) v)
     delivered_fit (Some why) v to w x m = none_fit p a why x m
 
-    handed_fit : (vs : ValueList) (r : Result Value FaultKind) → AllFit p (handed_on s.kind a (list_of s.kind s vs) r)
-    handed_fit vs (Ok v) = delivered_fit (refusal_of s.kind a) v (list_of s.kind s vs) (sends_listed s.kind s vs)
-    handed_fit vs (Err kind) = none_fit p a kind
+    handed_fit : (version : Version) (vs : ValueList) (r : Result Value FaultKind) → AllFit p (handed_on version s.kind a (list_of s.kind s vs) r)
+    handed_fit version vs (Ok v) = delivered_fit (refusal_of version s.kind a) v (list_of s.kind s vs) (sends_listed s.kind s vs)
+    handed_fit version vs (Err kind) = none_fit p a kind
 
-    -- a call begins where the block begins
-    begun_fit : IsProgram the_limits p → is_apply s.kind ≡ true → (name : List ℕ) (v : Value) → names_block p name ≡ true → AllFit p (begun a name v)
-    begun_fit lim q name v n = at (depth a.context == 64)
-      where
-        first : Begun p name → IsPlaced p (token (activity (call_context a) name 1 1) 1 v)
-        first w =
-            placed p w.block (activity (call_context a) name 1 1) 1 v w.first w.named w.stands
-            (rw w.region (calling_fits p a.context a.block a.statement a.initiation s name e q n f)) (omega arith) (ports_some w.first.kind)
+    -- of a block that is called
+    module _ (lim : IsProgram the_limits p) (q : is_apply s.kind ≡ true) (name : List ℕ) (b : BlockParts) (n : block_named p name ≡ Some b) where
+      -- a parameter has its statement, and the argument lies there
+      taken : (k : ℕ) → 1 ≤ k → k ≤ parameters_of b → Taker b.statements k
+      taken = takes p c b (named_member p name b n).0 (first (begins lim name b n))
+        where
+          first : Begun p name → Taker b.statements 1
+          first w = (let same : w.block ≡ b = (let k = sym w.named ∙ n in cc) in
+              record { it = w.first; stands = ap (λ (x : BlockParts). statement_at x.statements 1) (sym same) ∙ w.stands; region = w.region })
 
-        at : (x : Bool) → AllFit p (cond x (fault_of a faults.Deep ∷ []) (entries.Token (token (activity (call_context a) name 1 1) 1 v) ∷ []))
-        at true = none_fit p a faults.Deep
-        at false =
-            let b = named_some p name n in
-            one_fits p (token (activity (call_context a) name 1 1) 1 v) (first (begins lim name b.0 b.1))
+      argument_fits : (k : ℕ) (v : Value) → 1 ≤ k → k ≤ parameters_of b → IsPlaced p (token (beside (called_first a name) k) 1 v)
+      argument_fits k v low high =
+          let w = taken k low high in
+          placed p b (beside (called_first a name) k) 1 v w.it n w.stands
+          (rw w.region (calling_fits p a.context a.block a.statement a.initiation s name e q (named_by p name b n) f)) (omega arith) (ports_some w.it.kind)
+
+      arguments_fit : (k : ℕ) (vs : ValueList) → 1 ≤ k → k + length vs ≤ parameters_of b + 1 → AllFit p (arguments_from (called_first a name) k vs)
+      unfolding IsFitting
+      arguments_fit k [] low high x m = absurd (Contains-nil x m)
+      arguments_fit k (v ∷ vs) low high x m =
+          elim (Contains-cons_cases (entries.Token (token (beside (called_first a name) k) 1 v)) x (arguments_from (called_first a name) (k + 1) vs) m) [
+            | inl g ↦ subst (λ (y : Entry). IsFitting p y) g (argument_fits k v low (omega (arith, high)))
+            | inr h ↦ arguments_fit (k + 1) vs (omega arith) (omega (arith, high)) x h
+          ]
+
+      -- a call begins where the block begins
+      begun_fit : (vs : ValueList) → length vs ≡ parameters_of b → AllFit p (begun a name vs)
+      begun_fit vs l = at (depth a.context == 64)
+        where
+          at : (x : Bool) → AllFit p (cond x (fault_of a faults.Deep ∷ []) (arguments_from (called_first a name) 1 vs))
+          at true = none_fit p a faults.Deep
+          at false = arguments_fit 1 vs (omega arith) (omega (arith, l))
+
+      called_on_fit : (vs : ValueList) → AllFit p (called_on (Some b) a name vs)
+      called_on_fit vs = at (length vs == parameters_of b) refl
+        where
+          at : (x : Bool) → (length vs == parameters_of b) ≡ x → AllFit p (cond x (begun a name vs) (fault_of a faults.Arity ∷ []))
+          at true l = begun_fit vs (eqb-true (length vs) (parameters_of b) l)
+          at false l = none_fit p a faults.Arity
 
     called_fit : IsProgram the_limits p → is_apply s.kind ≡ true → (vs : ValueList) → AllFit p (called p a vs)
-    called_fit lim q (values.Proc name ∷ v ∷ vs) = at (names_block p name) refl
+    called_fit lim q (values.Proc name ∷ vs) = at (block_named p name) refl
       where
-        at : (x : Bool) → names_block p name ≡ x → AllFit p (cond x (begun a name v) (fault_of a faults.Kind ∷ []))
-        at true n = begun_fit lim q name v n
-        at false n = none_fit p a faults.Kind
+        at : (o : Option BlockParts) → block_named p name ≡ o → AllFit p (called_on o a name vs)
+        at None n = none_fit p a faults.Kind
+        at (Some b) n = called_on_fit lim q name b n vs
     called_fit lim q vs = none_fit p a faults.Kind
 
     -- a result comes back to the `back` of its `apply`
@@ -232,8 +264,8 @@ module _ (p : List BlockParts) (c : IsChecked p) where
             rw l (placed p there.block (activity outer from n turn) 1 v g.it there.named g.stands (rw g.in_region w.fit) (omega arith) (ports_some g.it.kind))
 
         by_kind : (k : Kind) → w.by.kind ≡ k → AllFit p (brought_back a v (back_named k))
-        by_kind (Apply n) q =
-            one_fits p (token (returned a n) 1 v) (back n (apply_returned p c there.block there.member (caller - 1) w.by there.at_place n q))
+        by_kind (Apply n i) q =
+            one_fits p (token (returned a n) 1 v) (back n (apply_returned p c there.block there.member (caller - 1) w.by there.at_place n i q))
         by_kind k q = absurd (false≢true (ap is_apply (sym q) ∙ w.applies))
 
     finished_fit : is_end s.kind ≡ true → (v : Value) → AllFit p (finished p a a.context v)
@@ -249,18 +281,18 @@ module _ (p : List BlockParts) (c : IsChecked p) where
     ended_fit q (Ok v) = finished_fit q v
     ended_fit q (Err kind) = none_fit p a kind
 
-    given_fit : IsProgram the_limits p → (vs : ValueList) (write : Option Written) → AllFit p (given p s a vs write)
-    given_fit lim vs write = at (is_apply s.kind) (is_end s.kind) (is_store s.kind) refl refl
+    given_fit : (version : Version) → IsProgram the_limits p → (vs : ValueList) (write : Option Written) → AllFit p (given version p s a vs write)
+    given_fit version lim vs write = at (is_apply s.kind) (is_end s.kind) (is_store s.kind) refl refl
       where
-        at : (x y z : Bool) → is_apply s.kind ≡ x → is_end s.kind ≡ y → AllFit p (cond x (called p a vs) (cond y (ended p a (first_of vs)) (cond z (stored a vs) (handed_on s.kind a (list_of s.kind s vs) (result_of s.kind a vs write)))))
+        at : (x y z : Bool) → is_apply s.kind ≡ x → is_end s.kind ≡ y → AllFit p (cond x (called p a vs) (cond y (ended p a (first_of vs)) (cond z (stored a vs) (handed_on version s.kind a (list_of s.kind s vs) (result_of s.kind a vs write)))))
         at true y z q h = called_fit lim q vs
         at false true z q h = ended_fit h (first_of vs)
         at false false true q h = stored_fit p a (cell_named vs) vs
-        at false false false q h = handed_fit vs (result_of s.kind a vs write)
+        at false false false q h = handed_fit version vs (result_of s.kind a vs write)
 
   -- what a statement gives where an activity may execute it
-  pub all_given_fit : (es : List Entry) (s : StatementParts) (a : Activity) (vs : ValueList) (write : Option Written) → es ≡ given p s a vs write → IsProgram the_limits p → statement_of p a.block a.statement ≡ Some s → fits_at p s.region a ≡ true → AllFit p es
-  all_given_fit es s a vs write z lim e f = rw z (given_fit s a e f lim vs write)
+  pub all_given_fit : (es : List Entry) (version : Version) (s : StatementParts) (a : Activity) (vs : ValueList) (write : Option Written) → es ≡ given version p s a vs write → IsProgram the_limits p → statement_of p a.block a.statement ≡ Some s → fits_at p s.region a ≡ true → AllFit p es
+  all_given_fit es version s a vs write z lim e f = rw z (given_fit s a e f version lim vs write)
 
   -- the argument lies at the first statement of `main`
   started : IsProgram the_limits p → (v : Value) → IsPlaced p (token (activity Top main_name 1 1) 1 v)

@@ -1,5 +1,5 @@
 -- What a firing needs and what it gives stands in order, each entry once.
-use Rattle.std.proofs.Common.{◌≡◌, ◌⊎◌, inl, inr, ◌∙◌, sym, refl, arith, subst, Bool, true, false, ℕ, ◌+◌, ◌*◌, ◌<◌, ◌≤◌, List, [], ◌∷◌, ◌++◌, append-nil, map, Contains, Ordering, Option, Some, None, Result, Ok, Err, ◌==◌, cond}
+use Rattle.std.proofs.Common.{◌≡◌, ◌⊎◌, inl, inr, ◌∙◌, sym, refl, arith, subst, Bool, true, false, ℕ, ◌+◌, ◌*◌, ◌<◌, ◌≤◌, List, [], ◌∷◌, ◌++◌, append-nil, length, map, Contains, Ordering, Option, Some, None, Result, Ok, Err, ◌==◌, cond}
 use Rattle.std.specs.Ordering.{ordering_then, nat_cmp}
 use Rattle.std.specs.Cmp.{tied_itself, nat_cmp_is}
 use Rattle.std.specs.declared.cmp.Ordering.TheVariants.{Less, Equal, Greater}
@@ -8,7 +8,7 @@ use Rattle.std.proofs.lemmas.Cmp.{nat_list_cmp_total}
 use Rattle.u_name.specs.ContextOrder.{context_cmp}
 use Rattle.u_name.specs.ContextLaws.{context_cmp_total}
 use Rattle.u_name.specs.Context.{Tree, Top, InLoop, InCall, depth}
-use Rattle.u_name.specs.Name.{Activity, activity, call_context, returned}
+use Rattle.u_name.specs.Name.{Activity, returned}
 use Rattle.u_name.specs.NameOrder.{name_cmp, name_cmp_total}
 use Rattle.u_value.specs.declared.value.Value.{Value}
 use Rattle.u_value.specs.declared.value.Value.TheVariants as values
@@ -18,15 +18,17 @@ use Rattle.u_program.specs.Limits.{Ascending, IsDestination, IsStatement, rank, 
 use Rattle.u_program.specs.Parts.{StatementParts, BlockParts}
 use Rattle.u_program.specs.declared.program.Kind.{Kind}
 use Rattle.u_program.specs.declared.program.Destination.{Destination}
+use Rattle.u_program.specs.declared.program.Version.{Version}
 use Rattle.u_check.specs.Kinds.{is_apply, is_end, is_store}
-use Rattle.u_check.specs.Rules.{names_block}
+use Rattle.u_check.specs.Rules.{block_named}
 use Rattle.std.proofs.lemmas.List.Elements.{Contains-append_cases}
 use Rattle.u_name.specs.Cell.{CellOf}
 use Rattle.u_sets.specs.Rising.{Rises}
 use Rattle.u_system.proofs.Member.{Contains-nil, Contains-cons_cases}
 use Rattle.u_rule.specs.Parts.{token, ValueList}
 use Rattle.u_rule.specs.Fits.{statement_of}
-use Rattle.u_rule.specs.Rule.{sent, beside, reached, refusal_of, list_of, result_of, first_of, delivered, handed_on, called, back_of, brought_back, finished, ended, given, tokens_from, fault_of}
+use Rattle.u_rule.specs.Parameters.{parameters_of}
+use Rattle.u_rule.specs.Rule.{sent, beside, reached, refusal_of, list_of, result_of, first_of, delivered, handed_on, arguments_from, called_first, begun, called_on, called, back_of, brought_back, finished, ended, given, tokens_from, fault_of}
 use Rattle.u_rule.specs.Structures.{cell_named, read_from, write_read, wrote, stored, stored_in}
 use Rattle.u_rule.specs.HandingOn.{IsReachable}
 use Rattle.u_rule.proofs.Linkage.{mapped, reached_beside}
@@ -71,7 +73,7 @@ beside_less a s t l =
 below : (to : ℕ → Activity) (v : Value) (d e : Destination) → IsBeside to → IsDestination d → IsDestination e → rank d < rank e → entry_cmp (sent to v d) (sent to v e) ≡ Less
 below to v d e r i j l = at (cases d.statement e.statement d.port e.port (omega (arith, i.port.0)) (omega (arith, j.port.1)) l)
   where
-    cases : (s t p q : ℕ) → 1 ≤ p → q ≤ 3 → 4 * s + p < 4 * t + q → (s < t) ⊎ ((s ≡ t) × (p < q))
+    cases : (s t p q : ℕ) → 1 ≤ p → q ≤ 5 → 8 * s + p < 8 * t + q → (s < t) ⊎ ((s ≡ t) × (p < q))
     cases s t p q low high h = grind arith
 
     at : (d.statement < e.statement) ⊎ ((d.statement ≡ e.statement) × (d.port < e.port)) → entry_cmp (sent to v d) (sent to v e) ≡ Less
@@ -133,21 +135,44 @@ needs_rise a vs (Some w) = at (cell_named vs)
 reached_rises : (k : Kind) (a : Activity) → IsReachable k a → IsBeside (reached k a)
 reached_rises k a i s t l = rw (reached_beside k a s i, reached_beside k a t i) (beside_less (reached k a a.statement) s t l)
 
-handed_rise : (k : Kind) (s : StatementParts) (a : Activity) (vs : ValueList) (r : Result Value FaultKind) → IsStatement the_limits s → IsReachable k a → Rises entry_cmp (handed_on k a (list_of k s vs) r)
-handed_rise k s a vs (Err kind) i w = alone (fault_of a kind)
-handed_rise k s a vs (Ok v) i w = at (refusal_of k a)
+handed_rise : (version : Version) (k : Kind) (s : StatementParts) (a : Activity) (vs : ValueList) (r : Result Value FaultKind) → IsStatement the_limits s → IsReachable k a → Rises entry_cmp (handed_on version k a (list_of k s vs) r)
+handed_rise version k s a vs (Err kind) i w = alone (fault_of a kind)
+handed_rise version k s a vs (Ok v) i w = at (refusal_of version k a)
   where
     at : (o : Option FaultKind) → Rises entry_cmp (delivered o k a (list_of k s vs) v)
     at None = sent_rise (reached k a) v 0 (list_of k s vs) (reached_rises k a w) (list_ascends k s vs i)
     at (Some why) = alone (fault_of a why)
 
-called_rise : (p : List BlockParts) (a : Activity) (vs : ValueList) → Rises entry_cmp (called p a vs)
-called_rise p a (values.Proc name ∷ v ∷ vs) = at (names_block p name) (depth a.context == 64)
+-- the arguments of a call rise by the statements that take them
+argument_below : (first : Activity) (j k : ℕ) (v : Value) (vs : ValueList) → j < k → (x : Entry) → Contains (arguments_from first k vs) x → entry_cmp (entries.Token (token (beside first j) 1 v)) x ≡ Less
+argument_below first j k v [] l x m = absurd (Contains-nil x m)
+argument_below first j k v (w ∷ ws) l x m =
+    elim (Contains-cons_cases (entries.Token (token (beside first k) 1 w)) x (arguments_from first (k + 1) ws) m) [
+      | inl e ↦ subst (λ (y : Entry). entry_cmp (entries.Token (token (beside first j) 1 v)) y ≡ Less) e (at_less (name_cmp (beside first j) (beside first k)) _ (beside_less first j k l))
+      | inr n ↦ argument_below first j (k + 1) v ws (omega arith) x n
+    ]
+
+arguments_rise : (first : Activity) (k : ℕ) (vs : ValueList) → Rises entry_cmp (arguments_from first k vs)
+arguments_rise first k [] = tt
+arguments_rise first k (v ∷ vs) = (argument_below first k (k + 1) v vs (omega arith), arguments_rise first (k + 1) vs)
+
+begun_rise : (a : Activity) (name : List ℕ) (vs : ValueList) → Rises entry_cmp (begun a name vs)
+begun_rise a name vs = at (depth a.context == 64)
   where
-    at : (x y : Bool) → Rises entry_cmp (cond x (cond y (fault_of a faults.Deep ∷ []) (entries.Token (token (activity (call_context a) name 1 1) 1 v) ∷ [])) (fault_of a faults.Kind ∷ []))
-    at true true = alone (fault_of a faults.Deep)
-    at true false = alone (entries.Token (token (activity (call_context a) name 1 1) 1 v))
-    at false y = alone (fault_of a faults.Kind)
+    at : (x : Bool) → Rises entry_cmp (cond x (fault_of a faults.Deep ∷ []) (arguments_from (called_first a name) 1 vs))
+    at true = alone (fault_of a faults.Deep)
+    at false = arguments_rise (called_first a name) 1 vs
+
+called_rise : (p : List BlockParts) (a : Activity) (vs : ValueList) → Rises entry_cmp (called p a vs)
+called_rise p a (values.Proc name ∷ vs) = at (block_named p name)
+  where
+    counted : (x : Bool) → Rises entry_cmp (cond x (begun a name vs) (fault_of a faults.Arity ∷ []))
+    counted true = begun_rise a name vs
+    counted false = alone (fault_of a faults.Arity)
+
+    at : (o : Option BlockParts) → Rises entry_cmp (called_on o a name vs)
+    at None = alone (fault_of a faults.Kind)
+    at (Some b) = counted (length vs == parameters_of b)
 called_rise p a vs = alone (fault_of a faults.Kind)
 
 ended_rise : (p : List BlockParts) (a : Activity) (r : Result Value FaultKind) → Rises entry_cmp (ended p a r)
@@ -171,15 +196,15 @@ stored_rise a vs = at (cell_named vs) vs
     at (Ok cell) ws = alone (fault_of a faults.Kind)
     at (Err kind) ws = alone (fault_of a kind)
 
-given_rise : (p : List BlockParts) (s : StatementParts) (a : Activity) (vs : ValueList) (write : Option Written) → IsStatement the_limits s → IsReachable s.kind a → Rises entry_cmp (given p s a vs write)
-given_rise p s a vs write i w = at (is_apply s.kind) (is_end s.kind) (is_store s.kind)
+given_rise : (version : Version) (p : List BlockParts) (s : StatementParts) (a : Activity) (vs : ValueList) (write : Option Written) → IsStatement the_limits s → IsReachable s.kind a → Rises entry_cmp (given version p s a vs write)
+given_rise version p s a vs write i w = at (is_apply s.kind) (is_end s.kind) (is_store s.kind)
   where
-    at : (x y z : Bool) → Rises entry_cmp (cond x (called p a vs) (cond y (ended p a (first_of vs)) (cond z (stored a vs) (handed_on s.kind a (list_of s.kind s vs) (result_of s.kind a vs write)))))
+    at : (x y z : Bool) → Rises entry_cmp (cond x (called p a vs) (cond y (ended p a (first_of vs)) (cond z (stored a vs) (handed_on version s.kind a (list_of s.kind s vs) (result_of s.kind a vs write)))))
     at true y z = called_rise p a vs
     at false true z = ended_rise p a (first_of vs)
     at false false true = stored_rise a vs
-    at false false false = handed_rise s.kind s a vs (result_of s.kind a vs write) i w
+    at false false false = handed_rise version s.kind s a vs (result_of s.kind a vs write) i w
 
 -- what a statement of a program gives stands in order
-pub all_given_rise : (es : List Entry) (p : List BlockParts) (s : StatementParts) (a : Activity) (vs : ValueList) (write : Option Written) → es ≡ given p s a vs write → IsStatement the_limits s → IsReachable s.kind a → Rises entry_cmp es
-all_given_rise es p s a vs write e i w = subst (λ (ys : List Entry). Rises entry_cmp ys) (sym e) (given_rise p s a vs write i w)
+pub all_given_rise : (es : List Entry) (version : Version) (p : List BlockParts) (s : StatementParts) (a : Activity) (vs : ValueList) (write : Option Written) → es ≡ given version p s a vs write → IsStatement the_limits s → IsReachable s.kind a → Rises entry_cmp es
+all_given_rise es version p s a vs write e i w = subst (λ (ys : List Entry). Rises entry_cmp ys) (sym e) (given_rise version p s a vs write i w)

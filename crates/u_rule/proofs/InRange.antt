@@ -16,6 +16,7 @@ use Rattle.u_value.specs.declared.fault_kind.FaultKind.{FaultKind}
 use Rattle.u_program.specs.Limits.{IsProgram, the_limits}
 use Rattle.u_program.specs.Parts.{StatementParts}
 use Rattle.u_program.specs.declared.program.Kind.{Kind}
+use Rattle.u_program.specs.declared.program.Arguments.TheVariants as arguments
 use Rattle.u_program.specs.declared.program.Kind.TheVariants.{Binary, Select, Switch, Apply, Store, Fetch}
 use Rattle.u_check.specs.Kinds.{ports_of}
 use Rattle.u_check.specs.Rules.{main_name}
@@ -36,12 +37,15 @@ use Rattle.u_rule.specs.declared.firing.Written.{Written}
 use Rattle.u_rule.proofs.GivenInRange.{AreEntries, statement_in_range, given_in_range}
 use Rattle.u_rule.proofs.Firings.{at_statement}
 
--- a statement has one port to three
+-- a statement has one port to five
 ports_between : (k : Kind) → IsBetween 1 (ports_of k) most_ports
 ports_between (Binary o) = (omega arith, omega arith)
 ports_between Select = (omega arith, omega arith)
 ports_between Switch = (omega arith, omega arith)
-ports_between (Apply n) = (omega arith, omega arith)
+ports_between (Apply n arguments.One) = (omega arith, omega arith)
+ports_between (Apply n arguments.Two) = (omega arith, omega arith)
+ports_between (Apply n arguments.Three) = (omega arith, omega arith)
+ports_between (Apply n arguments.Four) = (omega arith, omega arith)
 ports_between Store = (omega arith, omega arith)
 ports_between Fetch = (omega arith, omega arith)
 ports_between k = (omega arith, omega arith)
@@ -89,10 +93,10 @@ pub gives_in_range : (job : JobParts) (f : Firing) → IsProgram the_limits job.
 unfolding gives_of
 gives_in_range job f lim i = at (statement_of job.program.blocks f.activity.block f.activity.statement) refl
   where
-    at : (o : Option StatementParts) → statement_of job.program.blocks f.activity.block f.activity.statement ≡ o → AreEntries (given_at job.program.blocks o f)
+    at : (o : Option StatementParts) → statement_of job.program.blocks f.activity.block f.activity.statement ≡ o → AreEntries (given_at job.program.version job.program.blocks o f)
     at None e x m = absurd (Contains-nil x m)
     at (Some s) e x m =
-        given_in_range job.program.blocks s f.activity f.values f.write lim (statement_in_range job.program.blocks f.activity.block f.activity.statement s lim e) i.0 i.2 i.3 x m
+        given_in_range job.program.version job.program.blocks s f.activity f.values f.write lim (statement_in_range job.program.blocks f.activity.block f.activity.statement s lim e) i.0 i.2 i.3 x m
 
 main_is_block : IsBlock main_name
 main_is_block = record { short = omega arith; first = refl; each = (refl, (refl, (refl, (refl, tt)))) }

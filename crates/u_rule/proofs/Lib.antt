@@ -2,6 +2,7 @@ pub mod Destinations
 pub mod Orders
 pub mod Linkage
 pub mod Places
+pub mod ParameterLaws
 pub mod Follow
 pub mod InOrder
 pub mod Texts
@@ -19,6 +20,7 @@ pub mod FiringPartLaws
 pub mod ResultsInRange
 pub mod GivenInRange
 pub mod InRange
+pub mod Lift
 mod TokenLaws
 mod Both
 mod Cells

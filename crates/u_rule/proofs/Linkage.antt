@@ -7,6 +7,7 @@ use Rattle.u_value.specs.declared.fault_kind.FaultKind.{FaultKind}
 use Rattle.u_program.specs.declared.program.Kind.{Kind}
 use Rattle.u_program.specs.declared.program.Kind.TheVariants.{Leave}
 use Rattle.u_program.specs.declared.program.Destination.{Destination}
+use Rattle.u_program.specs.declared.program.Version.{Version}
 use Rattle.u_system.proofs.Member.{Contains-nil, Contains-head, Contains-tail, Contains-cons_cases}
 use Rattle.u_rule.specs.declared.entry.Entry.{Entry}
 use Rattle.u_rule.specs.Rule.{sent, beside, reached, refusal_of, handed_on, fault_of}
@@ -36,9 +37,9 @@ sent_alike k a near v (d ∷ ds) i e =
     rw q (rw (sent_alike k a near v ds i e) refl)
 
 -- what is sent beside the activity that a statement reaches is what it hands on
-pub sent_on : (es : List Entry) (k : Kind) (a near : Activity) (v : Value) (ds : List Destination) → es ≡ map (sent (beside near) v) ds → IsReachable k a → near ≡ reached k a a.statement → refusal_of k a ≡ None → es ≡ handed_on k a ds (Ok v)
-sent_on es k a near v ds e i n r = rw r (e ∙ sent_alike k a near v ds i n)
+pub sent_on : (es : List Entry) (version : Version) (k : Kind) (a near : Activity) (v : Value) (ds : List Destination) → es ≡ map (sent (beside near) v) ds → IsReachable k a → near ≡ reached k a a.statement → refusal_of version k a ≡ None → es ≡ handed_on version k a ds (Ok v)
+sent_on es version k a near v ds e i n r = rw r (e ∙ sent_alike k a near v ds i n)
 
 -- a refusal is a fault
-pub refused_on : (es : List Entry) (k : Kind) (a : Activity) (v : Value) (ds : List Destination) (why : FaultKind) → es ≡ fault_of a why ∷ [] → refusal_of k a ≡ Some why → es ≡ handed_on k a ds (Ok v)
-refused_on es k a v ds why e r = rw r e
+pub refused_on : (es : List Entry) (version : Version) (k : Kind) (a : Activity) (v : Value) (ds : List Destination) (why : FaultKind) → es ≡ fault_of a why ∷ [] → refusal_of version k a ≡ Some why → es ≡ handed_on version k a ds (Ok v)
+refused_on es version k a v ds why e r = rw r e

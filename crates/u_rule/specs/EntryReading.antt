@@ -6,7 +6,7 @@ use Rattle.u_name.specs.Name.{Activity, IsName}
 use Rattle.u_name.specs.Cell.{CellOf, cell_of, IsCell}
 use Rattle.u_name.specs.NameReader.{name_steps}
 use Rattle.u_text.specs.Reader.{Reader}
-use Rattle.u_text.specs.Parts.{empty, lead}
+use Rattle.u_text.specs.Parts.{lead}
 use Rattle.u_text.specs.Then.{both}
 use Rattle.u_text.specs.Choice.{mapped, choice}
 use Rattle.u_text.specs.FromZero.{number0}

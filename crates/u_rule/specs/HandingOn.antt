@@ -9,6 +9,7 @@ use Rattle.u_value.specs.declared.fault_kind.FaultKind.{FaultKind}
 use Rattle.u_value.specs.declared.fault_kind.FaultKind.TheVariants as faults
 use Rattle.u_program.specs.declared.program.Kind.{Kind}
 use Rattle.u_program.specs.declared.program.Kind.TheVariants.{Leave}
+use Rattle.u_program.specs.declared.program.Version.{Version}
 use Rattle.u_program.specs.Parts.{BlockParts}
 use Rattle.u_rule.specs.Fits.{statement_of}
 use Rattle.u_rule.specs.Rule.{refusal_of, back_of}
@@ -25,10 +26,10 @@ IsReachable Leave a = IsInLoop a.context
 IsReachable k a = Unit {0}
 
 -- an error of the linkage is the statement's refusal, or want of memory
-abbrev pub IsRefusal : Kind → Activity → NameError → Type 0
-IsRefusal k a errors.Deep = refusal_of k a ≡ Some faults.Deep
-IsRefusal k a errors.Initiation = refusal_of k a ≡ Some faults.Initiation
-IsRefusal k a errors.NoMemory = Unit {0}
+abbrev pub IsRefusal : Version → Kind → Activity → NameError → Type 0
+IsRefusal version k a errors.Deep = refusal_of version k a ≡ Some faults.Deep
+IsRefusal version k a errors.Initiation = refusal_of version k a ≡ Some faults.Initiation
+IsRefusal version k a errors.NoMemory = Unit {0}
 
 -- a block ends in the root, or where an `apply` called it
 abbrev pub IsEndable : List BlockParts → Tree → Type 0

@@ -12,16 +12,18 @@ use Rattle.u_value.specs.Operators.{applied1, applied2, chosen}
 use Rattle.u_program.specs.declared.program.Constant.{Constant}
 use Rattle.u_program.specs.declared.program.Constant.TheVariants as constants
 use Rattle.u_program.specs.declared.program.Kind.{Kind}
-use Rattle.u_program.specs.declared.program.Kind.TheVariants.{Const, Unary, Binary, Select, Switch, Enter, Next, Last, Leave, Apply, Alloc, Fetch}
+use Rattle.u_program.specs.declared.program.Kind.TheVariants.{Const, Unary, Binary, Select, Switch, Enter, Next, Last, Leave, Alloc, Fetch}
 use Rattle.u_program.specs.declared.program.Destination.{Destination}
+use Rattle.u_program.specs.declared.program.Version.{Version}
 use Rattle.u_program.specs.Parts.{StatementParts, BlockParts}
-use Rattle.u_check.specs.Kinds.{ports_of, is_end, is_apply, is_store}
-use Rattle.u_check.specs.Rules.{main_name, names_block}
+use Rattle.u_check.specs.Kinds.{ports_of, back_named, is_end, is_apply, is_store}
+use Rattle.u_check.specs.Rules.{main_name, block_named}
 use Rattle.u_check.specs.Jobs.{JobParts}
 use Rattle.u_system.specs.Firing.{System}
 use Rattle.u_rule.specs.Parts.{ValueList, token}
 use Rattle.u_rule.specs.Fits.{statement_of, fits_at}
 use Rattle.u_rule.specs.Initiations.{last_turn, fires_in_turns}
+use Rattle.u_rule.specs.Parameters.{parameters_of}
 use Rattle.u_rule.specs.Structures.{cell_named, has_its_write, write_read, allocated, fetched, stored}
 use Rattle.u_rule.specs.declared.entry.Entry.{Entry}
 use Rattle.u_rule.specs.declared.entry.Entry.TheVariants as entries
@@ -39,7 +41,7 @@ is_firing_at p (Some s) f = fits_at p s.region f.activity && has_its_values s f
 unfoldable pub is_firing_of : JobParts → Firing → Bool
 is_firing_of job f =
     is_firing_at job.program.blocks (statement_of job.program.blocks f.activity.block f.activity.statement) f
-    && fires_in_turns f
+    && fires_in_turns job.program.version f
 
 -- the tokens of an activity that have these values at its ports, from that port on
 abbrev pub tokens_from : Activity → ℕ → ValueList → List Entry
@@ -109,10 +111,10 @@ reached Leave a t = left a t
 reached k a t = beside a t
 
 -- why it reaches none: contexts are at most 64 deep, and initiations have a greatest
-abbrev pub refusal_of : Kind → Activity → Option FaultKind
-refusal_of (Enter l) a = if depth a.context == 64 then Some faults.Deep else None
-refusal_of Next a = if nat_le last_turn a.initiation then Some faults.Initiation else None
-refusal_of k a = None
+abbrev pub refusal_of : Version → Kind → Activity → Option FaultKind
+refusal_of version (Enter l) a = if depth a.context == 64 then Some faults.Deep else None
+refusal_of version Next a = if nat_le (last_turn version) a.initiation then Some faults.Initiation else None
+refusal_of version k a = None
 
 -- the token of that value at a destination
 abbrev pub sent : (ℕ → Activity) → Value → Destination → Entry
@@ -127,23 +129,35 @@ delivered None k a to v = map (sent (reached k a) v) to
 delivered (Some kind) k a to v = fault_of a kind ∷ []
 
 -- what a statement that has a value, or has none, hands on
-abbrev pub handed_on : Kind → Activity → List Destination → Result Value FaultKind → List Entry
-handed_on k a to (Ok v) = delivered (refusal_of k a) k a to v
-handed_on k a to (Err kind) = fault_of a kind ∷ []
+abbrev pub handed_on : Version → Kind → Activity → List Destination → Result Value FaultKind → List Entry
+handed_on version k a to (Ok v) = delivered (refusal_of version k a) k a to v
+handed_on version k a to (Err kind) = fault_of a kind ∷ []
 
--- an `apply` of a procedure begins its block: the argument goes to statement 1, in the context of the call
-abbrev pub begun : Activity → List ℕ → Value → List Entry
-begun a block v = if depth a.context == 64 then fault_of a faults.Deep ∷ [] else entries.Token (token (activity (call_context a) block 1 1) 1 v) ∷ []
+-- the tokens of the arguments, from that one on: each goes to port 1 of the statement with its number,
+-- beside the first
+abbrev pub arguments_from : Activity → ℕ → ValueList → List Entry
+arguments_from first k [] = []
+arguments_from first k (v ∷ vs) = entries.Token (token (beside first k) 1 v) ∷ arguments_from first (k + 1) vs
 
+-- the activity of statement 1 of a block that an activity calls, in the context of the call
+abbrev pub called_first : Activity → List ℕ → Activity
+called_first a block = activity (call_context a) block 1 1
+
+-- a procedure that is called begins its block with the arguments
+abbrev pub begun : Activity → List ℕ → ValueList → List Entry
+begun a block vs = if depth a.context == 64 then fault_of a faults.Deep ∷ [] else arguments_from (called_first a block) 1 vs
+
+-- it is called on as many arguments as it has parameters
+abbrev pub called_on : Option BlockParts → Activity → List ℕ → ValueList → List Entry
+called_on None a block vs = fault_of a faults.Kind ∷ []
+called_on (Some b) a block vs = if length vs == parameters_of b then begun a block vs else fault_of a faults.Arity ∷ []
+
+-- what an `apply` gives: its first value is a procedure of the program, the others are the arguments
 abbrev pub called : List BlockParts → Activity → ValueList → List Entry
-called p a (values.Proc block ∷ v ∷ vs) = if names_block p block then begun a block v else fault_of a faults.Kind ∷ []
+called p a (values.Proc block ∷ vs) = called_on (block_named p block) a block vs
 called p a vs = fault_of a faults.Kind ∷ []
 
 -- the `back` that an `apply` names
-abbrev pub back_named : Kind → Option ℕ
-back_named (Apply b) = Some b
-back_named k = None
-
 abbrev pub back_of : Option StatementParts → Option ℕ
 back_of None = None
 back_of (Some s) = back_named s.kind
@@ -164,20 +178,20 @@ ended p a (Ok v) = finished p a a.context v
 ended p a (Err kind) = fault_of a kind ∷ []
 
 -- what a statement gives on these values and the write that it reads
-abbrev pub given : List BlockParts → StatementParts → Activity → ValueList → Option Written → List Entry
-given p s a vs write =
+abbrev pub given : Version → List BlockParts → StatementParts → Activity → ValueList → Option Written → List Entry
+given version p s a vs write =
     if is_apply s.kind then called p a vs
     else if is_end s.kind then ended p a (first_of vs)
     else if is_store s.kind then stored a vs
-    else handed_on s.kind a (list_of s.kind s vs) (result_of s.kind a vs write)
+    else handed_on version s.kind a (list_of s.kind s vs) (result_of s.kind a vs write)
 
-abbrev pub given_at : List BlockParts → Option StatementParts → Firing → List Entry
-given_at p None f = []
-given_at p (Some s) f = given p s f.activity f.values f.write
+abbrev pub given_at : Version → List BlockParts → Option StatementParts → Firing → List Entry
+given_at version p None f = []
+given_at version p (Some s) f = given version p s f.activity f.values f.write
 
 -- a firing gives its value or its write, or the fault why there is none
 unfoldable pub gives_of : JobParts → Firing → List Entry
-gives_of job f = given_at job.program.blocks (statement_of job.program.blocks f.activity.block f.activity.statement) f
+gives_of job f = given_at job.program.version job.program.blocks (statement_of job.program.blocks f.activity.block f.activity.statement) f
 
 -- the one start token: the argument, for statement 1 of `main`
 unfoldable pub start_of : JobParts → Entry

@@ -13,7 +13,7 @@ use u_name::{BlockName, Context, Node};
 use u_program::{Block, Kind, Program, Statement};
 
 /// The block of that name, where the program has it.
-fn block_of<'a>(program: &'a Program, name: &BlockName) -> Option<&'a Block>
+pub(crate) fn block_of<'a>(program: &'a Program, name: &BlockName) -> Option<&'a Block>
     ensures block { option_copied result ≡ block_named program.now.blocks name.now }
     ensures limits { IfSome result (λ b. IsBlockOf the_limits b.now) }
 {
@@ -21,7 +21,7 @@ fn block_of<'a>(program: &'a Program, name: &BlockName) -> Option<&'a Block>
 }
 
 /// Whether the program has a block of that name.
-pub(crate) fn names_block(program: &Program, name: &BlockName) -> bool
+fn names_block(program: &Program, name: &BlockName) -> bool
     ensures { result ≡ names_block program.now.blocks name.now }
 {
     program.blocks().iter().any(|block| block.name() == name)

@@ -2,9 +2,10 @@
 //!
 //! The linkage statements are those of Arvind and Gostelow (1982): `enter`, `next`, `last` and
 //! `leave` for loops, `apply` and `back` for calls. That contexts are at most 64 deep and initiations
-//! at most 4294967295, and that a fault is given beyond, is this project's profile. Structures are
-//! those of Arvind and Nikhil (1990), which `alloc` makes, `store` writes and `fetch` reads.
-ghost use Rattle.std.specs.Prelude.{◌≡◌, ◌++◌, ◌∷◌, [], map, true, Ok, IfOk, IfSome, OnOk, MatchResult, None};
+//! have a greatest, and that a fault is given beyond, is this project's profile, and that an `apply`
+//! of several arguments sends each to its own statement. Structures are those of Arvind and Nikhil
+//! (1990), which `alloc` makes, `store` writes and `fetch` reads.
+ghost use Rattle.std.specs.Prelude.{◌≡◌, ◌≤◌, ◌++◌, ◌∷◌, [], length, map, true, Ok, IfOk, IfSome, OnOk, MatchResult, None};
 ghost use Rattle.std.specs.List.{AllByRecursion};
 ghost use Rattle.u_name.specs.Context.{IsBetween};
 ghost use Rattle.u_program.specs.Limits.{IsDestination, IsStatement, IsKind, the_limits};
@@ -12,17 +13,18 @@ ghost use Rattle.u_check.specs.Kinds.{is_end};
 ghost use Rattle.u_rule.specs.HandingOn.{outcome_of, IsReachable, IsRefusal, IsEndable};
 ghost use Rattle.u_rule.specs.Fits.{statement_of};
 ghost use Rattle.u_rule.specs.Structures.{cell_named, allocated, fetched, stored};
-ghost use Rattle.u_rule.specs.Rule.{first_of, result_of, value_of, list_of, sent, beside, reached, refusal_of, handed_on, begun, called, back_of, finished, ended, given, fault_of};
+ghost use Rattle.u_rule.specs.Rule.{first_of, result_of, value_of, list_of, sent, beside, reached, refusal_of, handed_on, arguments_from, begun, called, back_of, finished, ended, given, fault_of};
 
 use crate::entry::Entry;
 use crate::firing::Firing;
-use crate::fits::{names_block, statement_of};
-use crate::initiations::LAST_TURN;
+use crate::fits::{block_of, statement_of};
+use crate::initiations::last_turn;
+use crate::parameters::parameters_of;
 use crate::parts::{Fault, Token};
 use crate::structures::{cell_named, wrote};
 use std::alloc::{AllocError, Global};
 use u_name::{BlockName, Name, NameError, Node};
-use u_program::{Constant, Destination, Kind, Program, Statement};
+use u_program::{Constant, Destination, Kind, Program, Statement, Version};
 use u_value::{FaultKind, Reference, Value, apply1, apply2, select};
 
 /// The constant as a value.
@@ -173,17 +175,18 @@ fn tokens_beside(
 }
 
 /// The activity beside which the destinations lie of a statement of that kind.
-fn reached(alloc: Global, kind: &Kind, activity: &Name) -> Result<Name, NameError>
+fn reached(alloc: Global, version: Version, kind: &Kind, activity: &Name) -> Result<Name, NameError>
     requires reaches { IsReachable kind.now activity.now }
     requires limits { IsKind kind.now }
     ensures { MatchResult result
         (λ n. (n ≡ reached kind.now activity.now activity.now.statement)
-        × (refusal_of kind.now activity.now ≡ None)) (λ e. IsRefusal kind.now activity.now e) }
+        × (refusal_of version kind.now activity.now ≡ None))
+        (λ e. IsRefusal version kind.now activity.now e) }
 {
     let statement = activity.statement();
     match kind {
         Kind::Enter(number) => activity.enter(alloc, *number, statement),
-        Kind::Next if activity.initiation() >= LAST_TURN => Err(NameError::Initiation),
+        Kind::Next if activity.initiation() >= last_turn(version) => Err(NameError::Initiation),
         Kind::Next => activity.next(statement),
         Kind::Last => activity.last(statement),
         Kind::Leave => activity.leave(statement),
@@ -192,20 +195,25 @@ fn reached(alloc: Global, kind: &Kind, activity: &Name) -> Result<Name, NameErro
 }
 
 /// The value at each of the destinations, or the fault why the statement reaches none.
-#[tactic(auto, using(crate::proofs::Linkage::refused_on))]
+#[tactic(auto, using(crate::proofs::Linkage::refused_on, crate::proofs::Destinations::list_in_range))]
 fn delivered(
     alloc: Global,
-    kind: &Kind,
-    activity: &Name,
-    to: &[Destination],
+    version: Version,
+    statement: &Statement,
+    firing: &Firing,
     value: &Value,
 ) -> Result<Vec<Entry>, AllocError>
-    requires reaches { IsReachable kind.now activity.now }
-    requires limits { IsKind kind.now }
-    requires within { AllByRecursion IsDestination to.now }
-    ensures { IfOk result (λ v. v.items ≡ handed_on kind.now activity.now to.now (Ok value.now)) }
+    requires reaches { IsReachable statement.now.kind firing.now.activity }
+    requires limits { IsStatement the_limits statement.now }
+    ensures { IfOk result
+        (λ v. v.items
+        ≡ handed_on version statement.now.kind firing.now.activity
+        (list_of statement.now.kind statement.now firing.now.values)
+        (Ok value.now)) }
 {
-    match reached(alloc, kind, activity) {
+    let activity = &firing.activity;
+    let to = list_of(statement, firing.values.as_slice());
+    match reached(alloc, version, statement.kind(), activity) {
         Ok(near) => tokens_beside(alloc, &near, value, to),
         Err(NameError::Deep) => fault(alloc, activity, FaultKind::Deep),
         Err(NameError::Initiation) => fault(alloc, activity, FaultKind::Initiation),
@@ -214,9 +222,9 @@ fn delivered(
 }
 
 /// What a statement that makes a value hands on.
-#[tactic(auto, using(crate::proofs::Destinations::list_in_range))]
 fn handed_on(
     alloc: Global,
+    version: Version,
     statement: &Statement,
     firing: &Firing,
 ) -> Result<Vec<Entry>, AllocError>
@@ -224,37 +232,50 @@ fn handed_on(
     requires limits { IsStatement the_limits statement.now }
     ensures { IfOk result
         (λ v. v.items
-        ≡ handed_on statement.now.kind firing.now.activity
+        ≡ handed_on version statement.now.kind firing.now.activity
         (list_of statement.now.kind statement.now firing.now.values)
         (result_of statement.now.kind firing.now.activity firing.now.values firing.now.write)) }
 {
-    let activity = &firing.activity;
     match made_by(alloc, statement.kind(), firing)? {
-        Made::Fault(kind) => fault(alloc, activity, kind),
-        Made::Value(value) => {
-            let to = list_of(statement, firing.values.as_slice());
-            delivered(alloc, statement.kind(), activity, to, &value)
-        }
+        Made::Fault(kind) => fault(alloc, &firing.activity, kind),
+        Made::Value(value) => delivered(alloc, version, statement, firing, &value),
     }
 }
 
-/// The argument at the first statement of the called block, or the fault where the context is the deepest.
+/// The tokens of the arguments: each at the statement with its number, beside the first.
+fn arguments_at(alloc: Global, first: &Name, arguments: &[Value]) -> Result<Vec<Entry>, AllocError>
+    requires { length arguments.now ≤ 4 }
+    ensures { IfOk result (λ v. v.items ≡ arguments_from first.now 1 arguments.now) }
+{
+    let mut entries = Vec::new(alloc);
+    let mut place = 1;
+    for argument in arguments {
+        let name = first.plain(place).map_err(|_| AllocError)?;
+        entries.push(Entry::Token(Token::new(name, 1, argument.copy()?)))?;
+        place += 1;
+    }
+    Ok(entries)
+}
+
+/// The arguments at the first statements of the called block, or the fault where the context is the deepest.
 fn begun(
     alloc: Global,
     activity: &Name,
     block: &BlockName,
-    argument: &Value,
+    arguments: &[Value],
 ) -> Result<Vec<Entry>, AllocError>
-    ensures { IfOk result (λ v. v.items ≡ begun activity.now block.now argument.now) }
+    requires { length arguments.now ≤ 4 }
+    ensures { IfOk result (λ v. v.items ≡ begun activity.now block.now arguments.now) }
 {
     match activity.call(alloc, *block, 1) {
-        Ok(first) => alone(alloc, Entry::Token(Token::new(first, 1, argument.copy()?))),
+        Ok(first) => arguments_at(alloc, &first, arguments),
         Err(NameError::NoMemory) => Err(AllocError),
         Err(_) => fault(alloc, activity, FaultKind::Deep),
     }
 }
 
-/// What `apply` gives.
+/// What `apply` gives. A first value that is no procedure of the program is looked for before another
+/// number of arguments, and this before the depth of the context.
 fn called(
     alloc: Global,
     program: &Program,
@@ -263,11 +284,15 @@ fn called(
 ) -> Result<Vec<Entry>, AllocError>
     ensures { IfOk result (λ v. v.items ≡ called program.now.blocks activity.now values.now) }
 {
-    match values {
-        [Value::Proc(block), argument, ..] if names_block(program, block) => {
-            begun(alloc, activity, block, argument)
+    let Some((Value::Proc(name), arguments)) = values.split_first() else {
+        return fault(alloc, activity, FaultKind::Kind);
+    };
+    match block_of(program, name) {
+        None => fault(alloc, activity, FaultKind::Kind),
+        Some(block) if arguments.len() == parameters_of(block) => {
+            begun(alloc, activity, name, arguments)
         }
-        _ => fault(alloc, activity, FaultKind::Kind),
+        Some(_) => fault(alloc, activity, FaultKind::Arity),
     }
 }
 
@@ -277,7 +302,7 @@ fn back_of(program: &Program, block: &BlockName, number: u16) -> Option<u16>
     ensures limits { IfSome result (λ b. IsBetween 1 b 999) }
 {
     match statement_of(program, block, number)?.kind() {
-        Kind::Apply(back) => Some(*back),
+        Kind::Apply(back, _) => Some(*back),
         _ => None,
     }
 }
@@ -353,15 +378,15 @@ pub(crate) fn given(
         → IsEndable program.now.blocks firing.now.activity.context }
     ensures { IfOk result
         (λ v. v.items
-        ≡ given program.now.blocks statement.now firing.now.activity firing.now.values
-        firing.now.write) }
+        ≡ given program.now.version program.now.blocks statement.now firing.now.activity
+        firing.now.values firing.now.write) }
 {
     let activity = &firing.activity;
     let values = firing.values.as_slice();
     match statement.kind() {
-        Kind::Apply(_) => called(alloc, program, activity, values),
+        Kind::Apply(..) => called(alloc, program, activity, values),
         Kind::End => ended(alloc, program, activity, values),
         Kind::Store => stored(alloc, activity, values),
-        _ => handed_on(alloc, statement, firing),
+        _ => handed_on(alloc, program.version(), statement, firing),
     }
 }

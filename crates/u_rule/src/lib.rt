@@ -16,6 +16,7 @@ mod firing_reading;
 mod fits;
 mod giving;
 mod initiations;
+mod parameters;
 mod parts;
 mod ports;
 mod reading;

@@ -71,8 +71,8 @@ fn is_firing_at(program: &Program, statement: &Statement, firing: &Firing) -> bo
 }
 
 /// Whether it is a firing of the job: an activity that fits, with one value for each port of its
-/// statement, and a write exactly where the statement is a `fetch` and its values name a cell. Each
-/// initiation in it is at most 4294967295, in its values and its write too.
+/// statement, and a write exactly where the statement is a `fetch` and its values name a cell. Where the
+/// program is of version 1, each initiation in it is at most 4294967295, in its values and its write too.
 #[tactic(auto, unfolding(crate::specs::Rule::is_firing_of))]
 pub fn is_firing(job: &Job, firing: &Firing) -> bool
     ensures { result ≡ is_firing_of job.now firing.now }
@@ -80,7 +80,8 @@ pub fn is_firing(job: &Job, firing: &Firing) -> bool
     let program = job.program();
     match executed(program, &firing.activity) {
         None => false,
-        Some(statement) => is_firing_at(program, statement, firing) && fires_in_turns(firing),
+        Some(statement) => is_firing_at(program, statement, firing)
+            && fires_in_turns(program, firing),
     }
 }
 
@@ -147,7 +148,7 @@ pub fn gives(alloc: Global, job: &Job, firing: &Firing) -> Result<Vec<Entry>, Ru
     if !is_firing_at(program, statement, firing) {
         return Err(RuleError::NotAFiring);
     }
-    if !fires_in_turns(firing) {
+    if !fires_in_turns(program, firing) {
         return Err(RuleError::NotAFiring);
     }
     // Brings in that the program lies within its limits.

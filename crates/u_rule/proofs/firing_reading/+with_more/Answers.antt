@@ -1,12 +1,12 @@
-use Rattle.std.proofs.Common.{◌≡◌, ◌<◌, ◌++◌, [], ◌∷◌, Ok, Err, length, refl, sym, ap, ◌∙◌, subst, rules, arith}
+use Rattle.std.proofs.Common.{◌≡◌, ◌<◌, ◌++◌, [], ◌∷◌, Ok, Err, length, sym, ap, subst, rules, arith}
 use Rattle.std.specs.Prelude.{MatchResult, IfOk}
 use Rattle.std.proofs.lemmas.Bool.Decides.{nat_tests}
 use Rattle.u_rule.specs.FiringReading.{next_at, firing_behind}
 use Rattle.u_rule.specs.Parts.{most_ports}
 use Rattle.u_rule.specs.declared.firing.Firing.{Firing}
-use Rattle.u_rule.specs.declared.firing_reading.Next.TheVariants.{End, Another}
+use Rattle.u_rule.specs.declared.firing_reading.Next.TheVariants.{Another}
 use Rattle.u_rule.proofs.FirstByteLaws.{ReadOf}
-use Rattle.u_rule.proofs.FiringPartLaws.{values_end, values_another, values_refused}
+use Rattle.u_rule.proofs.FiringPartLaws.{values_another, values_refused}
 use Rattle.u_rule.proofs.firing_reading.+with_more.Goals as goal
 
 pub returns-in-Err : goal.returns-in-Err

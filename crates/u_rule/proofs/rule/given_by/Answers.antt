@@ -1,5 +1,4 @@
 use Rattle.std.proofs.Common.{rules}
-use Rattle.u_rule.specs.Rule.{is_firing_of}
 use Rattle.u_rule.proofs.Follow.{ends_call, firing_fits}
 use Rattle.u_rule.proofs.rule.given_by.Goals as goal
 
