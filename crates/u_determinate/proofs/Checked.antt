@@ -12,16 +12,17 @@ use Rattle.u_name.specs.NameOrder.{name_cmp, name_cmp_total, name_cmp_ties}
 use Rattle.u_value.specs.declared.value.Value.{Value}
 use Rattle.u_value.specs.Values.{value_cmp}
 use Rattle.u_value.specs.ExactOrders.{value_cmp_total, value_cmp_ties}
-use Rattle.u_program.specs.declared.program.Kind.TheVariants.{Begin, Apply, Back}
+use Rattle.u_program.specs.declared.program.Kind.TheVariants.{Begin, Back}
 use Rattle.u_program.specs.declared.program.Destination.{Destination}
 use Rattle.u_program.specs.Parts.{StatementParts, BlockParts}
-use Rattle.u_check.specs.Kinds.{ports_of, comes_from_outside, is_last, is_leave, is_of_loop, is_end}
+use Rattle.u_check.specs.Kinds.{ports_of, comes_from_outside, is_last, is_leave, is_of_loop, is_end, back_named}
 use Rattle.u_check.specs.Rules.{main_name, statement_at, sends, IsChecked}
 use Rattle.u_check.specs.Jobs.{JobParts}
 use Rattle.u_check.proofs.Arcs.{has_number}
 use Rattle.u_check.proofs.Blocks.{named_member}
 use Rattle.u_check.proofs.KindTests.{begin_kind}
 use Rattle.u_check.proofs.Facts.{begin_first, region_exists, lies_in_loop, end_outside, apply_returned, target_exists, target_takes, leave_from_last}
+use Rattle.u_strict.proofs.KindFacts.{named_apply}
 use Rattle.u_rule.specs.Fits.{statement_of, fits, fits_at}
 use Rattle.u_rule.specs.Structures.{has_its_write}
 use Rattle.u_rule.specs.Rule.{is_firing_of, is_firing_at}
@@ -36,7 +37,7 @@ pub record Keeps (b : BlockParts) (n : ℕ) (s : StatementParts) : Type 0 where
   pub region_exists : s.region ≤ length b.loops
   pub lies_in_loop : is_of_loop s.kind ≡ true → 1 ≤ s.region
   pub end_outside : is_end s.kind ≡ true → s.region ≡ 0
-  pub apply_back : (m : ℕ) → s.kind ≡ Apply m → (t : StatementParts) × (statement_at b.statements m ≡ Some t) × (t.kind ≡ Back)
+  pub apply_back : (m : ℕ) → back_named s.kind ≡ Some m → (t : StatementParts) × (statement_at b.statements m ≡ Some t) × (t.kind ≡ Back)
   pub target : (d : Destination) → Contains (sends s) d → (t : StatementParts) × (statement_at b.statements d.statement ≡ Some t) × (comes_from_outside t.kind ≡ false) × (is_last s.kind ≡ is_leave t.kind)
 
 pub keeps : (job : JobParts) → IsChecked job.program.blocks → (name : List ℕ) (b : BlockParts) → named job name ≡ Some b → (n : ℕ) (s : StatementParts) → statement_at b.statements n ≡ Some s → Keeps b n s
@@ -49,7 +50,7 @@ keeps job c name b q n s e =
       region_exists = region_exists p c b m (n - 1) s i.1;
       lies_in_loop = lies_in_loop p c b m (n - 1) s i.1;
       end_outside = end_outside p c b m (n - 1) s i.1;
-      apply_back = λ j z. (let r = apply_returned p c b m (n - 1) s i.1 j z in (r.it, r.stands, r.is_a_back));
+      apply_back = λ j z. (let a = named_apply s.kind j z in let r = apply_returned p c b m (n - 1) s i.1 j a.0 a.1 in (r.it, r.stands, r.is_a_back));
       target = λ d x. (let g = target_exists p c b m (n - 1) s i.1 d x in (g.it, g.stands, target_takes p c b m (n - 1) s i.1 d x g.it g.stands, leave_from_last p c b m (n - 1) s i.1 d x g.it g.stands));
     }
 

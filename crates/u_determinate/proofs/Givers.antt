@@ -1,7 +1,7 @@
 -- Which firings give a token, and where from.
-use Rattle.std.proofs.Common.{◌≡◌, ℕ, suc, refl, ap, sym, ◌∙◌, arith, subst, Bool, true, false, List, [], ◌∷◌, Option, Some, None, Result, Ok, Err, cond, ◌==◌, inl, inr, ◌⊎◌, map}
-use Rattle.std.specs.Prelude.{Contains}
-use Rattle.std.proofs.lemmas.Bool.{false≢true}
+use Rattle.std.proofs.Common.{◌≡◌, ℕ, suc, ◌+◌, length, refl, ap, sym, ◌∙◌, arith, subst, Bool, true, false, List, [], ◌∷◌, Option, Some, None, Result, Ok, Err, cond, ◌==◌, inl, inr, ◌⊎◌, map}
+use Rattle.std.specs.Prelude.{Contains, slice_get}
+use Rattle.std.proofs.lemmas.Bool.{false≢true, eqb-true}
 use Rattle.u_system.proofs.Member.{Contains-nil, Contains-cons_cases}
 use Rattle.u_name.specs.Context.{Tree, Top, InLoop, InCall, depth}
 use Rattle.u_name.specs.Name.{Activity, activity, call_context, returned}
@@ -11,17 +11,18 @@ use Rattle.u_value.specs.declared.value.Value.TheVariants as values
 use Rattle.u_value.specs.declared.fault_kind.FaultKind.{FaultKind}
 use Rattle.u_value.specs.declared.fault_kind.FaultKind.TheVariants as faults
 use Rattle.u_program.specs.declared.program.Kind.{Kind}
-use Rattle.u_program.specs.declared.program.Kind.TheVariants.{Switch, Apply, End}
+use Rattle.u_program.specs.declared.program.Kind.TheVariants.{Switch, End}
 use Rattle.u_program.specs.declared.program.Destination.{Destination}
-use Rattle.u_program.specs.Parts.{StatementParts}
-use Rattle.u_check.specs.Kinds.{is_apply, is_end, is_store}
-use Rattle.u_check.specs.Rules.{names_block}
+use Rattle.u_program.specs.Parts.{StatementParts, BlockParts}
+use Rattle.u_check.specs.Kinds.{is_apply, is_end, is_store, back_named}
+use Rattle.u_check.specs.Rules.{block_named}
 use Rattle.u_check.specs.Rules as rules
 use Rattle.u_check.specs.Jobs.{JobParts}
 use Rattle.u_rule.specs.Parts.{TokenParts, token, ValueList}
 use Rattle.u_rule.specs.Fits.{statement_of}
+use Rattle.u_rule.specs.Parameters.{parameters_of}
 use Rattle.u_rule.specs.Structures.{cell_named, stored_in}
-use Rattle.u_rule.specs.Rule.{first_of, result_of, list_of, reached, refusal_of, sent, fault_of, delivered, handed_on, called, back_named, back_of, brought_back, finished, ended, given, given_at, gives_of}
+use Rattle.u_rule.specs.Rule.{first_of, result_of, list_of, reached, refusal_of, sent, fault_of, delivered, handed_on, beside, called_first, arguments_from, begun, called_on, called, back_of, brought_back, finished, ended, given, given_at, gives_of}
 use Rattle.u_rule.specs.declared.entry.Entry.{Entry}
 use Rattle.u_rule.specs.declared.entry.Entry.TheVariants as entries
 use Rattle.u_rule.specs.declared.firing.Firing.{Firing}
@@ -41,12 +42,17 @@ pub record ByArc (job : JobParts) (f : Firing) (t : TokenParts) : Type 0 where
   pub port : t.port ≡ to.port
   pub hands_on : (is_apply it.kind ≡ false) × (is_end it.kind ≡ false) × (is_store it.kind ≡ false)
 
--- a token that an `apply` gives
+-- a token that an `apply` gives: the argument at a place goes to the statement of that parameter
 pub record ByApply (job : JobParts) (f : Firing) (t : TokenParts) : Type 0 where
   pub block : List ℕ
   pub rest : ValueList
-  pub values : f.values ≡ values.Proc block ∷ t.value ∷ rest
-  pub activity : t.activity ≡ activity (call_context f.activity) block 1 1
+  pub values : f.values ≡ values.Proc block ∷ rest
+  pub callee : BlockParts
+  pub named : block_named job.program.blocks block ≡ Some callee
+  pub count : length rest ≡ parameters_of callee
+  pub place : ℕ
+  pub argument : slice_get rest place ≡ Some t.value
+  pub activity : t.activity ≡ activity (call_context f.activity) block (1 + place) 1
   pub port : t.port ≡ 1
 
 -- a token that an `end` gives
@@ -62,7 +68,7 @@ pub record ByEnd (job : JobParts) (f : Firing) (t : TokenParts) : Type 0 where
   pub by : StatementParts
   pub by_stands : statement_of job.program.blocks from caller ≡ Some by
   pub back : ℕ
-  pub by_kind : by.kind ≡ Apply back
+  pub names : back_named by.kind ≡ Some back
   pub result : first_of f.values ≡ Ok t.value
   pub activity : t.activity ≡ activity outer from back turn
   pub port : t.port ≡ 1
@@ -103,9 +109,9 @@ sides job a s Switch vs r v e = absurd (cc)
 sides job a s k vs r v e = record { on_false = false; list = refl; side = λ q. absurd (cc) }
 
 module _ (job : JobParts) (f : Firing) (t : TokenParts) (s : StatementParts) (e : statement_of job.program.blocks f.activity.block f.activity.statement ≡ Some s) where
-  along : (is_apply s.kind ≡ false) → (is_end s.kind ≡ false) → (is_store s.kind ≡ false) → (r : Result Value FaultKind) → result_of s.kind f.activity f.values f.write ≡ r → Contains (handed_on s.kind f.activity (list_of s.kind s f.values) r) (entries.Token t) → ByArc job f t
+  along : (is_apply s.kind ≡ false) → (is_end s.kind ≡ false) → (is_store s.kind ≡ false) → (r : Result Value FaultKind) → result_of s.kind f.activity f.values f.write ≡ r → Contains (handed_on job.program.version s.kind f.activity (list_of s.kind s f.values) r) (entries.Token t) → ByArc job f t
   along na ne ns (Err k) q m = absurd (no_fault f.activity k t m)
-  along na ne ns (Ok v) q m = by (refusal_of s.kind f.activity) m
+  along na ne ns (Ok v) q m = by (refusal_of job.program.version s.kind f.activity) m
     where
       by : (o : Option FaultKind) → Contains (delivered o s.kind f.activity (list_of s.kind s f.values) v) (entries.Token t) → ByArc job f t
       by (Some k) m = absurd (no_fault f.activity k t m)
@@ -127,21 +133,48 @@ module _ (job : JobParts) (f : Firing) (t : TokenParts) (s : StatementParts) (e 
             hands_on = (na, ne, ns);
           }
 
+  -- an argument among those from that one on
+  argument : (first : Activity) (k : ℕ) (vs : ValueList) → Contains (arguments_from first k vs) (entries.Token t) → (i : ℕ) × (slice_get vs i ≡ Some t.value) × (t.activity ≡ beside first (k + i)) × (t.port ≡ 1)
+  argument first k [] m = absurd (Contains-nil (entries.Token t) m)
+  argument first k (v ∷ vs) m =
+      elim (Contains-cons_cases (entries.Token (token (beside first k) 1 v)) (entries.Token t) (arguments_from first (k + 1) vs) m) [
+        | inl x ↦
+            let z : token (beside first k) 1 v ≡ t = tok_same _ t x in
+            let here : k ≡ k + 0 = omega arith in
+            (0, ap (λ (x : TokenParts). Some x.value) z, sym (ap (λ (x : TokenParts). x.activity) z) ∙ ap (beside first) here, sym (ap (λ (x : TokenParts). x.port) z))
+        | inr x ↦
+            let r = argument first (k + 1) vs x in
+            let there : k + 1 + r.0 ≡ k + suc r.0 = omega arith in
+            (suc r.0, r.1, r.2 ∙ ap (beside first) there, r.3)
+      ]
+
   applied : (vs : ValueList) → f.values ≡ vs → Contains (called job.program.blocks f.activity vs) (entries.Token t) → ByApply job f t
-  applied (values.Proc block ∷ v ∷ vs) q m = by (names_block job.program.blocks block) (depth f.activity.context == 64) m
+  applied (values.Proc block ∷ vs) q m = by_block (block_named job.program.blocks block) refl m
     where
-      by : (y z : Bool) → Contains (cond y (cond z (fault_of f.activity faults.Deep ∷ []) (entries.Token (token (activity (call_context f.activity) block 1 1) 1 v) ∷ [])) (fault_of f.activity faults.Kind ∷ [])) (entries.Token t) → ByApply job f t
-      by false z m = absurd (no_fault f.activity faults.Kind t m)
-      by true true m = absurd (no_fault f.activity faults.Deep t m)
-      by true false m =
-          let z = tok_same _ t (one _ (entries.Token t) m) in
+      begins : (b : BlockParts) → block_named job.program.blocks block ≡ Some b → length vs ≡ parameters_of b → (z : Bool) → Contains (cond z (fault_of f.activity faults.Deep ∷ []) (arguments_from (called_first f.activity block) 1 vs)) (entries.Token t) → ByApply job f t
+      begins b n c true m = absurd (no_fault f.activity faults.Deep t m)
+      begins b n c false m =
+          let a = argument (called_first f.activity block) 1 vs m in
           record {
             block = block;
             rest = vs;
-            values = q ∙ ap (λ (x : TokenParts). values.Proc block ∷ x.value ∷ vs) z;
-            activity = sym (ap (λ (x : TokenParts). x.activity) z);
-            port = sym (ap (λ (x : TokenParts). x.port) z);
+            values = q;
+            callee = b;
+            named = n;
+            count = c;
+            place = a.0;
+            argument = a.1;
+            activity = a.2;
+            port = a.3;
           }
+
+      counted : (b : BlockParts) → block_named job.program.blocks block ≡ Some b → (y : Bool) → (length vs == parameters_of b) ≡ y → Contains (cond y (begun f.activity block vs) (fault_of f.activity faults.Arity ∷ [])) (entries.Token t) → ByApply job f t
+      counted b n true c m = begins b n (eqb-true (length vs) (parameters_of b) c) (depth f.activity.context == 64) m
+      counted b n false c m = absurd (no_fault f.activity faults.Arity t m)
+
+      by_block : (o : Option BlockParts) → block_named job.program.blocks block ≡ o → Contains (called_on o f.activity block vs) (entries.Token t) → ByApply job f t
+      by_block None n m = absurd (no_fault f.activity faults.Kind t m)
+      by_block (Some b) n m = counted b n (length vs == parameters_of b) refl m
   applied vs q m = absurd (no_fault f.activity _ t m)
 
   ending : is_end s.kind ≡ true → (r : Result Value FaultKind) → first_of f.values ≡ r → Contains (ended job.program.blocks f.activity r) (entries.Token t) → ByEnd job f t
@@ -150,10 +183,11 @@ module _ (job : JobParts) (f : Firing) (t : TokenParts) (s : StatementParts) (e 
     where
       by_back : (outer : Tree) (from : List ℕ) (caller turn : ℕ) → f.activity.context ≡ InCall outer from caller turn → (o : Option StatementParts) → statement_of job.program.blocks from caller ≡ o → Contains (brought_back f.activity v (back_of o)) (entries.Token t) → ByEnd job f t
       by_back outer from caller turn c None z m = absurd (Contains-nil (entries.Token t) m)
-      by_back outer from caller turn c (Some by) z m = by_kind by.kind refl m
+      by_back outer from caller turn c (Some by) z m = by_name (back_named by.kind) refl m
         where
-          by_kind : (k : Kind) → by.kind ≡ k → Contains (brought_back f.activity v (back_named k)) (entries.Token t) → ByEnd job f t
-          by_kind (Apply b) g m =
+          by_name : (o : Option ℕ) → back_named by.kind ≡ o → Contains (brought_back f.activity v o) (entries.Token t) → ByEnd job f t
+          by_name None g m = absurd (Contains-nil (entries.Token t) m)
+          by_name (Some b) g m =
               let y = tok_same _ t (one _ (entries.Token t) m) in
               let l : returned f.activity b ≡ activity outer from b turn = rw c refl in
               record {
@@ -168,12 +202,11 @@ module _ (job : JobParts) (f : Firing) (t : TokenParts) (s : StatementParts) (e 
                 by = by;
                 by_stands = z;
                 back = b;
-                by_kind = g;
+                names = g;
                 result = h ∙ ap (λ (x : TokenParts). Ok x.value) y;
                 activity = sym (ap (λ (x : TokenParts). x.activity) y) ∙ l;
                 port = sym (ap (λ (x : TokenParts). x.port) y);
               }
-          by_kind k g m = absurd (Contains-nil (entries.Token t) m)
 
       by_context : (u : Tree) → f.activity.context ≡ u → Contains (finished job.program.blocks f.activity u v) (entries.Token t) → ByEnd job f t
       by_context Top c m = let z = one _ (entries.Token t) m in cc
@@ -185,10 +218,10 @@ module _ (job : JobParts) (f : Firing) (t : TokenParts) (s : StatementParts) (e 
   no_write (Ok c) vs m = no_fault f.activity _ t m
   no_write (Err k) vs m = no_fault f.activity k t m
 
-  given_by : Contains (given job.program.blocks s f.activity f.values f.write) (entries.Token t) → Giver job f t
+  given_by : Contains (given job.program.version job.program.blocks s f.activity f.values f.write) (entries.Token t) → Giver job f t
   given_by m = at (is_apply s.kind) (is_end s.kind) (is_store s.kind) refl refl refl m
     where
-      at : (x y z : Bool) → is_apply s.kind ≡ x → is_end s.kind ≡ y → is_store s.kind ≡ z → Contains (cond x (called job.program.blocks f.activity f.values) (cond y (ended job.program.blocks f.activity (first_of f.values)) (cond z (stored_in f.activity (cell_named f.values) f.values) (handed_on s.kind f.activity (list_of s.kind s f.values) (result_of s.kind f.activity f.values f.write))))) (entries.Token t) → Giver job f t
+      at : (x y z : Bool) → is_apply s.kind ≡ x → is_end s.kind ≡ y → is_store s.kind ≡ z → Contains (cond x (called job.program.blocks f.activity f.values) (cond y (ended job.program.blocks f.activity (first_of f.values)) (cond z (stored_in f.activity (cell_named f.values) f.values) (handed_on job.program.version s.kind f.activity (list_of s.kind s f.values) (result_of s.kind f.activity f.values f.write))))) (entries.Token t) → Giver job f t
       at true y z a b c m = inr (inl (applied f.values refl m))
       at false true z a b c m = inr (inr (ending b (first_of f.values) refl m))
       at false false true a b c m = absurd (no_write (cell_named f.values) f.values m)
@@ -199,6 +232,6 @@ pub giver : (job : JobParts) (f : Firing) (t : TokenParts) → Contains (gives_o
 unfolding gives_of
 giver job f t m = at (statement_of job.program.blocks f.activity.block f.activity.statement) refl m
   where
-    at : (o : Option StatementParts) → statement_of job.program.blocks f.activity.block f.activity.statement ≡ o → Contains (given_at job.program.blocks o f) (entries.Token t) → Giver job f t
+    at : (o : Option StatementParts) → statement_of job.program.blocks f.activity.block f.activity.statement ≡ o → Contains (given_at job.program.version job.program.blocks o f) (entries.Token t) → Giver job f t
     at None e m = absurd (Contains-nil (entries.Token t) m)
     at (Some s) e m = given_by job f t s e m

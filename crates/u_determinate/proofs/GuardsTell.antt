@@ -11,10 +11,10 @@ use Rattle.u_name.specs.Name.{Activity, activity, left}
 use Rattle.u_value.specs.declared.value.Value.{Value}
 use Rattle.u_value.specs.declared.value.Value.TheVariants as values
 use Rattle.u_program.specs.declared.program.Kind.{Kind}
-use Rattle.u_program.specs.declared.program.Kind.TheVariants.{Pass, Switch, Enter, Next, Last, Leave, Apply}
+use Rattle.u_program.specs.declared.program.Kind.TheVariants.{Pass, Switch, Enter, Next, Last, Leave}
 use Rattle.u_program.specs.declared.program.Destination.{Destination}
 use Rattle.u_program.specs.Parts.{StatementParts, BlockParts}
-use Rattle.u_check.specs.Kinds.{ports_of, comes_from_outside, is_last, is_leave, is_of_loop}
+use Rattle.u_check.specs.Kinds.{ports_of, comes_from_outside, is_back, is_last, is_leave, is_of_loop, back_named}
 use Rattle.u_check.specs.Rules.{statement_at, Arc, destination_of, IsChecked}
 use Rattle.u_check.specs.Jobs.{JobParts}
 use Rattle.u_rule.specs.Parts.{TokenParts, token, ValueList}
@@ -28,6 +28,7 @@ use Rattle.u_determinate.specs.Guards.{Stands, Rounds, PassedOn, stays, FromBesi
 use Rattle.u_determinate.proofs.Named.{named}
 use Rattle.u_determinate.proofs.Checked.{keeps, fires_of}
 use Rattle.u_determinate.proofs.Givers.{Giver, ByEnd}
+use Rattle.u_determinate.proofs.Parameters.{takes_argument}
 use Rattle.u_determinate.proofs.Same.{Trouble, same_activity}
 use Rattle.u_determinate.proofs.Rooted.{Rooted, Called, Entered, given_token, start_place, first_token, all_rooted, enabled_rooted}
 use Rattle.u_determinate.proofs.Senders.{Placed, placed, Sent, sent, sender, looped}
@@ -304,12 +305,12 @@ module _ (job : JobParts) (sound : IsChecked job.program.blocks) (fs : List Firi
           let number : k.firing.activity.statement ≡ r.caller = ap (λ (a : Activity). a.statement) k.activity in
           let from : named job r.from ≡ Some p = sym (ap (named job) (ap (λ (a : Activity). a.block) k.activity)) ∙ names in
           let there : statement_at p.statements k.firing.activity.statement ≡ Some r.by = ap (statement_at p.statements) number ∙ sym (ap (λ (o : Option BlockParts). statement_in o r.caller) from) ∙ r.by_stands in
-          let kind : r.by.kind ≡ Apply f.activity.statement = r.by_kind ∙ ap (λ (i : ℕ). Apply i) (sym (ap (λ (a : Activity). a.statement) r.activity)) in
+          let names_it : back_named r.by.kind ≡ Some f.activity.statement = r.names ∙ ap (λ (i : ℕ). Some i) (sym (ap (λ (a : Activity). a.statement) r.activity)) in
           moved job fs k.firing.activity f.activity c b
           (ap (λ (a : Activity). a.context) k.activity ∙ sym (ap (λ (a : Activity). a.context) r.activity))
           block
           (ap (λ (a : Activity). a.initiation) k.activity ∙ sym (ap (λ (a : Activity). a.initiation) r.activity))
-          (tells k.firing (member_enabled k.firing k.fired) names (h.all k.firing.activity.statement (record { it = r.by; stands = there; kind = kind })))
+          (tells k.firing (member_enabled k.firing k.fired) names (h.all k.firing.activity.statement (record { it = r.by; stands = there; names = names_it })))
 
       of : (v : Value) (g : Firing) → Contains fs g → Giver job g (token f.activity 1 v) → Gave job fs f.activity c b
       of v g m (inl r) =
@@ -317,7 +318,8 @@ module _ (job : JobParts) (sound : IsChecked job.program.blocks) (fs : List Firi
           let same : k.there.block ≡ p = (let i = k.there.named in let j = k.block in cc) in
           let target : k.target ≡ h.back.it = (let i = k.target_stands in let j = h.back.stands in let z = k.statement in cc) in
           absurd (false≢true (sym k.takes ∙ ap (λ (z : StatementParts). comes_from_outside z.kind) target ∙ ap comes_from_outside h.back.kind))
-      of v g m (inr (inl r)) = absurd (first (ap (λ (a : Activity). a.statement) r.activity))
+      of v g m (inr (inl r)) =
+          absurd (false≢true (sym (takes_argument job sound g (token f.activity 1 v) r f.activity.block p q f.activity.statement h.back.it h.back.stands refl refl).1 ∙ ap is_back h.back.kind))
       of v g m (inr (inr r)) =
           let q = all_rooted job sound fs d g m in
           let z : Rooted job fs (InCall r.outer r.from r.caller r.turn) g.activity.block g.activity.initiation = subst (λ (u : Tree). Rooted job fs u g.activity.block g.activity.initiation) r.context q in

@@ -9,6 +9,7 @@ pub mod GuardsTell
 pub mod Loops
 pub mod Sources
 pub mod OnlyWrites
+pub mod Parameters
 pub mod RootAnswers
 pub mod Stricter
 pub mod Rounds

@@ -5,7 +5,6 @@ use Rattle.u_system.specs.Firing.{Held, Enabled, Derivation, Both, Whole}
 use Rattle.u_system.proofs.Determinate.{Derivation-blames, Whole-blames}
 use Rattle.u_name.specs.Context.{Top}
 use Rattle.u_name.specs.Name.{Activity, activity}
-use Rattle.u_program.specs.declared.program.Kind.TheVariants.{Apply}
 use Rattle.u_check.specs.Rules.{main_name, statement_at, IsChecked}
 use Rattle.u_check.specs.Jobs.{JobParts}
 use Rattle.u_rule.specs.Parts.{TokenParts}
@@ -39,7 +38,7 @@ module _ (job : JobParts) (sound : IsChecked job.program.blocks) where
   elsewhere f x t (inr (inr b)) e =
       let q = placed job (activity b.outer b.from b.caller b.turn) b.by b.by_stands in
       let n : b.back ≡ 1 = ap (λ (a : Activity). a.statement) (sym b.activity ∙ e) in
-      back_not_first job sound b.from q.block b.caller b.by q.named q.stands (b.by_kind ∙ ap (λ (i : ℕ). Apply i) n)
+      back_not_first job sound b.from q.block b.caller b.by q.named q.stands (b.names ∙ ap (λ (i : ℕ). Some i) n)
 
   alone : (fs : List Firing) → Derivation (system_of job) fs → (f : Firing) → Enabled (system_of job) (Held (system_of job) fs) f → (e : Entry) → Contains (gives_of job f) e → Clash e (start_of job) → ⊥
   unfolding start_of

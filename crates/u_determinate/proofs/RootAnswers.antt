@@ -1,5 +1,5 @@
 -- A determinate job's derivation holds one answer at most, or two pairs of one cell.
-use Rattle.std.proofs.Common.{◌≡◌, ℕ, refl, ap, sym, ◌∙◌, Bool, true, false, List, [], ◌∷◌, ◌++◌, Option, Some, None, Result, Ok, Err, cond, ◌==◌, inl, inr, ◌⊎◌, map}
+use Rattle.std.proofs.Common.{◌≡◌, ℕ, ◌+◌, length, refl, ap, sym, ◌∙◌, Bool, true, false, List, [], ◌∷◌, ◌++◌, Option, Some, None, Result, Ok, Err, cond, ◌==◌, inl, inr, ◌⊎◌, map}
 use Rattle.std.specs.Prelude.{Contains}
 use Rattle.std.proofs.lemmas.Bool.{false≢true}
 use Rattle.u_system.specs.Firing.{Held, Enabled, Derivation, Both, Whole}
@@ -8,7 +8,7 @@ use Rattle.u_system.proofs.Held.{Held-append_left, Held-append_right}
 use Rattle.u_system.proofs.Closure.{Derivation-append}
 use Rattle.u_system.proofs.Determinate.{Derivation-enabled}
 use Rattle.u_name.specs.Context.{Tree, Top, InLoop, InCall, depth}
-use Rattle.u_name.specs.Name.{Activity, activity, call_context}
+use Rattle.u_name.specs.Name.{Activity}
 use Rattle.u_name.specs.Cell.{CellOf}
 use Rattle.u_value.specs.declared.value.Value.{Value}
 use Rattle.u_value.specs.declared.value.Value.TheVariants as values
@@ -19,12 +19,13 @@ use Rattle.u_program.specs.declared.program.Kind.TheVariants.{End}
 use Rattle.u_program.specs.declared.program.Destination.{Destination}
 use Rattle.u_program.specs.Parts.{StatementParts, BlockParts}
 use Rattle.u_check.specs.Kinds.{is_apply, is_end, is_store}
-use Rattle.u_check.specs.Rules.{names_block, main_name, statement_at, IsChecked}
+use Rattle.u_check.specs.Rules.{block_named, main_name, statement_at, IsChecked}
 use Rattle.u_check.specs.Jobs.{JobParts}
 use Rattle.u_rule.specs.Parts.{TokenParts, token, ValueList}
 use Rattle.u_rule.specs.Fits.{statement_of}
+use Rattle.u_rule.specs.Parameters.{parameters_of}
 use Rattle.u_rule.specs.Structures.{cell_named, stored_in}
-use Rattle.u_rule.specs.Rule.{is_firing_of, first_of, result_of, list_of, reached, refusal_of, sent, fault_of, delivered, handed_on, called, back_of, brought_back, finished, ended, given, given_at, gives_of, start_of, system_of}
+use Rattle.u_rule.specs.Rule.{is_firing_of, first_of, result_of, list_of, reached, refusal_of, sent, fault_of, delivered, handed_on, beside, called_first, arguments_from, begun, called_on, called, back_of, brought_back, finished, ended, given, given_at, gives_of, start_of, system_of}
 use Rattle.u_rule.specs.declared.entry.Entry.{Entry}
 use Rattle.u_rule.specs.declared.entry.Entry.TheVariants as entries
 use Rattle.u_rule.specs.declared.firing.Firing.{Firing}
@@ -67,21 +68,34 @@ end_kind End e = refl
 end_kind k e = absurd (false≢true e)
 
 module _ (job : JobParts) (f : Firing) (v : Value) (s : StatementParts) (e : statement_of job.program.blocks f.activity.block f.activity.statement ≡ Some s) where
-  no_handed : (to : List Destination) (r : Result Value FaultKind) → Contains (handed_on s.kind f.activity to r) (entries.Answer v) → ⊥
+  no_handed : (to : List Destination) (r : Result Value FaultKind) → Contains (handed_on job.program.version s.kind f.activity to r) (entries.Answer v) → ⊥
   no_handed to (Err k) m = no_fault f.activity k v m
-  no_handed to (Ok u) m = by (refusal_of s.kind f.activity) m
+  no_handed to (Ok u) m = by (refusal_of job.program.version s.kind f.activity) m
     where
       by : (o : Option FaultKind) → Contains (delivered o s.kind f.activity to u) (entries.Answer v) → ⊥
       by (Some k) m = no_fault f.activity k v m
       by None m = no_sent (reached s.kind f.activity) u v to m
 
+  no_argument : (first : Activity) (k : ℕ) (vs : ValueList) → Contains (arguments_from first k vs) (entries.Answer v) → ⊥
+  no_argument first k [] m = Contains-nil (entries.Answer v) m
+  no_argument first k (u ∷ vs) m =
+      elim (Contains-cons_cases (entries.Token (token (beside first k) 1 u)) (entries.Answer v) (arguments_from first (k + 1) vs) m)
+      [ inl x ↦ cc | inr x ↦ no_argument first (k + 1) vs x ]
+
   no_called : (vs : ValueList) → Contains (called job.program.blocks f.activity vs) (entries.Answer v) → ⊥
-  no_called (values.Proc block ∷ u ∷ vs) m = by (names_block job.program.blocks block) (depth f.activity.context == 64) m
+  no_called (values.Proc block ∷ vs) m = by (block_named job.program.blocks block) m
     where
-      by : (y z : Bool) → Contains (cond y (cond z (fault_of f.activity faults.Deep ∷ []) (entries.Token (token (activity (call_context f.activity) block 1 1) 1 u) ∷ [])) (fault_of f.activity faults.Kind ∷ [])) (entries.Answer v) → ⊥
-      by false z m = no_fault f.activity faults.Kind v m
-      by true true m = no_fault f.activity faults.Deep v m
-      by true false m = no_token _ v m
+      begins : (z : Bool) → Contains (cond z (fault_of f.activity faults.Deep ∷ []) (arguments_from (called_first f.activity block) 1 vs)) (entries.Answer v) → ⊥
+      begins true m = no_fault f.activity faults.Deep v m
+      begins false m = no_argument (called_first f.activity block) 1 vs m
+
+      counted : (y : Bool) → Contains (cond y (begun f.activity block vs) (fault_of f.activity faults.Arity ∷ [])) (entries.Answer v) → ⊥
+      counted true m = begins (depth f.activity.context == 64) m
+      counted false m = no_fault f.activity faults.Arity v m
+
+      by : (o : Option BlockParts) → Contains (called_on o f.activity block vs) (entries.Answer v) → ⊥
+      by None m = no_fault f.activity faults.Kind v m
+      by (Some b) m = counted (length vs == parameters_of b) m
   no_called vs m = no_fault f.activity _ v m
 
   no_stored : (r : Result CellOf FaultKind) (vs : ValueList) → Contains (stored_in f.activity r vs) (entries.Answer v) → ⊥
@@ -98,10 +112,10 @@ module _ (job : JobParts) (f : Firing) (v : Value) (s : StatementParts) (e : sta
       by (InLoop outer from number turn) c m = absurd (Contains-nil (entries.Answer v) m)
       by (InCall outer from caller turn) c m = absurd (no_back f.activity u v (back_of (statement_of job.program.blocks from caller)) m)
 
-  answered : Contains (given job.program.blocks s f.activity f.values f.write) (entries.Answer v) → ByRoot job f v
+  answered : Contains (given job.program.version job.program.blocks s f.activity f.values f.write) (entries.Answer v) → ByRoot job f v
   answered m = at (is_apply s.kind) (is_end s.kind) (is_store s.kind) refl m
     where
-      at : (x y z : Bool) → is_end s.kind ≡ y → Contains (cond x (called job.program.blocks f.activity f.values) (cond y (ended job.program.blocks f.activity (first_of f.values)) (cond z (stored_in f.activity (cell_named f.values) f.values) (handed_on s.kind f.activity (list_of s.kind s f.values) (result_of s.kind f.activity f.values f.write))))) (entries.Answer v) → ByRoot job f v
+      at : (x y z : Bool) → is_end s.kind ≡ y → Contains (cond x (called job.program.blocks f.activity f.values) (cond y (ended job.program.blocks f.activity (first_of f.values)) (cond z (stored_in f.activity (cell_named f.values) f.values) (handed_on job.program.version s.kind f.activity (list_of s.kind s f.values) (result_of s.kind f.activity f.values f.write))))) (entries.Answer v) → ByRoot job f v
       at true y z b m = absurd (no_called f.values m)
       at false true z b m = ending b (first_of f.values) refl m
       at false false true b m = absurd (no_stored (cell_named f.values) f.values m)
@@ -111,7 +125,7 @@ by_root : (job : JobParts) (f : Firing) (v : Value) → Contains (gives_of job f
 unfolding gives_of
 by_root job f v m = at (statement_of job.program.blocks f.activity.block f.activity.statement) refl m
   where
-    at : (o : Option StatementParts) → statement_of job.program.blocks f.activity.block f.activity.statement ≡ o → Contains (given_at job.program.blocks o f) (entries.Answer v) → ByRoot job f v
+    at : (o : Option StatementParts) → statement_of job.program.blocks f.activity.block f.activity.statement ≡ o → Contains (given_at job.program.version job.program.blocks o f) (entries.Answer v) → ByRoot job f v
     at None e m = absurd (Contains-nil (entries.Answer v) m)
     at (Some s) e m = answered job f v s e m
 

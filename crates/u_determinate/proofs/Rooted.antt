@@ -11,6 +11,7 @@ use Rattle.u_value.specs.declared.value.Value.{Value}
 use Rattle.u_value.specs.declared.value.Value.TheVariants as values
 use Rattle.u_program.specs.declared.program.Kind.{Kind}
 use Rattle.u_program.specs.declared.program.Kind.TheVariants.{Binary, Select, Switch, Enter, Next, Last, Leave, Apply, Store, Fetch}
+use Rattle.u_program.specs.declared.program.Arguments.TheVariants as arguments
 use Rattle.u_program.specs.Parts.{StatementParts}
 use Rattle.u_check.specs.Kinds.{ports_of}
 use Rattle.u_check.specs.Rules.{main_name, IsChecked}
@@ -98,7 +99,10 @@ some_port : (k : Kind) → 1 ≤ ports_of k
 some_port (Binary o) = omega arith
 some_port Select = omega arith
 some_port Switch = omega arith
-some_port (Apply n) = omega arith
+some_port (Apply b arguments.One) = omega arith
+some_port (Apply b arguments.Two) = omega arith
+some_port (Apply b arguments.Three) = omega arith
+some_port (Apply b arguments.Four) = omega arith
 some_port Store = omega arith
 some_port Fetch = omega arith
 some_port k = omega arith
@@ -143,7 +147,7 @@ module _ (job : JobParts) (fs : List Firing) (f : Firing) (m : Contains fs f) (r
   token_rooted : (t : TokenParts) → Giver job f t → RootedAt job fs t.activity
   token_rooted t (inl b) = rw b.activity (arc_rooted b.it.kind b.it b.stands refl b.to.statement)
   token_rooted t (inr (inl b)) =
-      rw b.activity (record { firing = f; fired = m; activity = refl; rest = t.value ∷ b.rest; values = b.values }, r)
+      rw b.activity (record { firing = f; fired = m; activity = refl; rest = b.rest; values = b.values }, r)
   token_rooted t (inr (inr b)) =
       let q = subst (λ (u : Tree). Rooted job fs u f.activity.block f.activity.initiation) b.context r in rw b.activity q.1
 

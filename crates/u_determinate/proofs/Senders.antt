@@ -8,10 +8,10 @@ use Rattle.u_system.specs.Firing.{Held}
 use Rattle.u_name.specs.Context.{Tree, InLoop}
 use Rattle.u_name.specs.Name.{Activity, activity, left}
 use Rattle.u_program.specs.declared.program.Kind.{Kind}
-use Rattle.u_program.specs.declared.program.Kind.TheVariants.{Begin, Enter, Next, Last, Leave, Apply, Back}
+use Rattle.u_program.specs.declared.program.Kind.TheVariants.{Begin, Enter, Next, Last, Leave, Back}
 use Rattle.u_program.specs.declared.program.Destination.{Destination}
 use Rattle.u_program.specs.Parts.{StatementParts, BlockParts}
-use Rattle.u_check.specs.Kinds.{comes_from_outside, is_last, is_leave, is_of_loop}
+use Rattle.u_check.specs.Kinds.{comes_from_outside, is_last, is_leave, is_of_loop, back_named}
 use Rattle.u_check.specs.Rules.{statement_at, Arc, arc, destination_in, destination_of, IsChecked}
 use Rattle.u_check.specs.Rules as rules
 use Rattle.u_check.specs.Jobs.{JobParts}
@@ -22,7 +22,8 @@ use Rattle.u_rule.specs.declared.entry.Entry.TheVariants as entries
 use Rattle.u_rule.specs.declared.firing.Firing.{Firing}
 use Rattle.u_determinate.proofs.Named.{named}
 use Rattle.u_determinate.proofs.Checked.{Fires, keeps, fires_of}
-use Rattle.u_determinate.proofs.Givers.{ByArc, ByEnd}
+use Rattle.u_determinate.proofs.Givers.{ByArc, ByApply, ByEnd}
+use Rattle.u_determinate.proofs.Parameters.{takes_argument}
 use Rattle.u_determinate.proofs.Rooted.{given_token, start_place}
 
 -- a statement in its block
@@ -130,14 +131,14 @@ module _ (job : JobParts) (sound : IsChecked job.program.blocks) where
       let k = (keeps job sound name b q 1 s e).begin_first refl in false≢true (sym o ∙ ap comes_from_outside k)
 
   -- nor does the `back` that an `apply` names
-  pub not_back : (name : List ℕ) (b : BlockParts) (c back : ℕ) (s t : StatementParts) → named job name ≡ Some b → statement_at b.statements c ≡ Some s → s.kind ≡ Apply back → statement_at b.statements back ≡ Some t → comes_from_outside t.kind ≡ false → ⊥
+  pub not_back : (name : List ℕ) (b : BlockParts) (c back : ℕ) (s t : StatementParts) → named job name ≡ Some b → statement_at b.statements c ≡ Some s → back_named s.kind ≡ Some back → statement_at b.statements back ≡ Some t → comes_from_outside t.kind ≡ false → ⊥
   not_back name b c back s t q e a g o =
       let k = (keeps job sound name b q c s e).apply_back back a in
       let z : k.0 ≡ t = (let m = k.1 in cc) in
       false≢true (sym o ∙ ap (λ (x : StatementParts). comes_from_outside x.kind) (sym z) ∙ ap comes_from_outside k.2)
 
   -- a block's statement 1 is no `back`
-  pub back_not_first : (name : List ℕ) (b : BlockParts) (c : ℕ) (s : StatementParts) → named job name ≡ Some b → statement_at b.statements c ≡ Some s → s.kind ≡ Apply 1 → ⊥
+  pub back_not_first : (name : List ℕ) (b : BlockParts) (c : ℕ) (s : StatementParts) → named job name ≡ Some b → statement_at b.statements c ≡ Some s → back_named s.kind ≡ Some 1 → ⊥
   back_not_first name b c s q e a =
       let k = (keeps job sound name b q c s e).apply_back 1 a in
       let z = (keeps job sound name b q 1 k.0 k.1).begin_first refl in
@@ -151,13 +152,18 @@ module _ (job : JobParts) (sound : IsChecked job.program.blocks) where
         | inl z ↦ absurd (first (ap (λ (x : Activity). x.statement) (start_place job t z).0))
         | inr (h, m, g) ↦ elim g [
           | inl b ↦ (h, m, sent h (each h m) t b)
-          | inr (inl b) ↦ absurd (first (ap (λ (x : Activity). x.statement) b.activity))
+          | inr (inl b) ↦ absurd (argument h b)
           | inr (inr b) ↦ absurd (behind h b)
         ]
       ]
     where
       first : t.activity.statement ≡ 1 → ⊥
       first z = (let p = placed job t.activity s e in not_first t.activity.block p.block s p.named (subst (λ (x : ℕ). statement_at p.block.statements x ≡ Some s) z p.stands) o)
+
+      argument : (h : Firing) → ByApply job h t → ⊥
+      argument h b =
+          let p = placed job t.activity s e in
+          false≢true (sym o ∙ (takes_argument job sound h t b t.activity.block p.block p.named t.activity.statement s p.stands refl refl).0)
 
       behind : (h : Firing) → ByEnd job h t → ⊥
       behind h b =
@@ -166,4 +172,4 @@ module _ (job : JobParts) (sound : IsChecked job.program.blocks) where
           let y : t.activity.statement ≡ b.back = ap (λ (y : Activity). y.statement) b.activity in
           let q = placed job (activity b.outer b.from b.caller b.turn) b.by b.by_stands in
           let z : p.block ≡ q.block = (let m = p.named in let n = q.named in cc) in
-          not_back b.from q.block b.caller b.back b.by s q.named q.stands b.by_kind (let m = p.stands in cc) o
+          not_back b.from q.block b.caller b.back b.by s q.named q.stands b.names (let m = p.stands in cc) o

@@ -1,13 +1,14 @@
 -- Two firings that give tokens for one port are of one activity, or there is trouble.
 use Rattle.std.proofs.Common.{◌≡◌, ℕ, zero, suc, ◌+◌, ◌<◌, refl, ap, sym, ◌∙◌, arith, subst, Bool, true, false, not, List, Some, inl, inr, ◌⊎◌}
+use Rattle.std.proofs.lemmas.Bool.{false≢true}
 use Rattle.u_system.specs.Firing.{Held, Enabled, Derivation}
 use Rattle.u_name.specs.Context.{Tree, InLoop, InCall}
 use Rattle.u_name.specs.Name.{Activity, activity, call_context}
 use Rattle.u_program.specs.declared.program.Kind.{Kind}
-use Rattle.u_program.specs.declared.program.Kind.TheVariants.{Enter, Next, Last, Apply}
+use Rattle.u_program.specs.declared.program.Kind.TheVariants.{Enter, Next, Last}
 use Rattle.u_program.specs.declared.program.Destination.{Destination}
 use Rattle.u_program.specs.Parts.{StatementParts, BlockParts}
-use Rattle.u_check.specs.Kinds.{is_last, is_of_loop, is_end}
+use Rattle.u_check.specs.Kinds.{is_back, is_last, is_of_loop, is_end}
 use Rattle.u_check.specs.Rules.{statement_at, Arc, destination_of, IsChecked}
 use Rattle.u_check.specs.Jobs.{JobParts}
 use Rattle.u_rule.specs.Parts.{TokenParts}
@@ -22,7 +23,8 @@ use Rattle.u_determinate.proofs.Checked.{keeps, fires_of}
 use Rattle.u_determinate.proofs.Givers.{Giver, ByArc, ByApply, ByEnd}
 use Rattle.u_determinate.proofs.Same.{Trouble, same_activity}
 use Rattle.u_determinate.proofs.Rooted.{Rooted, Called, all_rooted, enabled_rooted}
-use Rattle.u_determinate.proofs.Senders.{Placed, placed, Sent, sent, looped, not_first, not_back, back_not_first}
+use Rattle.u_determinate.proofs.Senders.{Placed, placed, Sent, sent, looped, not_back}
+use Rattle.u_determinate.proofs.Parameters.{takes_argument}
 use Rattle.u_determinate.proofs.Loops.{last_twice}
 
 compare : (m n : ℕ) → (m ≡ n) ⊎ ((m < n) ⊎ (n < m))
@@ -37,8 +39,7 @@ module _ (job : JobParts) (sound : IsChecked job.program.blocks) where
   pub arc_or_apply : (f g : Firing) (t u : TokenParts) → is_firing_of job f ≡ true → ByArc job f t → ByApply job g u → t.activity ≡ u.activity → ⊥
   arc_or_apply f g t u x b c e =
       let s = sent job sound f x t b in
-      let n : s.by.to.statement ≡ 1 = sym s.statement ∙ ap (λ (a : Activity). a.statement) (e ∙ c.activity) in
-      not_first job sound f.activity.block s.there.block s.target s.there.named (subst (λ (i : ℕ). statement_at s.there.block.statements i ≡ Some s.target) n s.target_stands) s.takes
+      false≢true (sym s.takes ∙ (takes_argument job sound g u c f.activity.block s.there.block s.there.named s.by.to.statement s.target s.target_stands (ap (λ (a : Activity). a.block) (sym e) ∙ s.block) (ap (λ (a : Activity). a.statement) (sym e) ∙ s.statement)).0)
 
   pub arc_or_end : (f g : Firing) (t u : TokenParts) → is_firing_of job f ≡ true → ByArc job f t → ByEnd job g u → t.activity ≡ u.activity → ⊥
   arc_or_end f g t u x b c e =
@@ -47,14 +48,25 @@ module _ (job : JobParts) (sound : IsChecked job.program.blocks) where
       let m : f.activity.block ≡ c.from = sym s.block ∙ ap (λ (a : Activity). a.block) (e ∙ c.activity) in
       let q = placed job (activity c.outer c.from c.caller c.turn) c.by c.by_stands in
       let z : s.there.block ≡ q.block = (let i = s.there.named in let j = q.named in cc) in
-      not_back job sound c.from q.block c.caller c.back c.by s.target q.named q.stands c.by_kind
+      not_back job sound c.from q.block c.caller c.back c.by s.target q.named q.stands c.names
       (ap (λ (y : BlockParts). statement_at y.statements c.back) (sym z) ∙ ap (statement_at s.there.block.statements) (sym n) ∙ s.target_stands) s.takes
 
   pub apply_or_end : (f g : Firing) (t u : TokenParts) → ByApply job f t → ByEnd job g u → t.activity ≡ u.activity → ⊥
   apply_or_end f g t u b c e =
       let q = placed job (activity c.outer c.from c.caller c.turn) c.by c.by_stands in
-      let n : c.back ≡ 1 = ap (λ (a : Activity). a.statement) (sym c.activity ∙ sym e ∙ b.activity) in
-      back_not_first job sound c.from q.block c.caller c.by q.named q.stands (c.by_kind ∙ ap (λ (i : ℕ). Apply i) n)
+      let k = (keeps job sound c.from q.block q.named c.caller c.by q.stands).apply_back c.back c.names in
+      let z : t.activity ≡ activity c.outer c.from c.back c.turn = e ∙ c.activity in
+      false≢true (sym (takes_argument job sound f t b c.from q.block q.named c.back k.0 k.1 (ap (λ (a : Activity). a.block) z) (ap (λ (a : Activity). a.statement) z)).1 ∙ ap is_back k.2)
+
+  -- one firing gives one argument to a statement
+  one_argument : (f : Firing) (t u : TokenParts) → ByApply job f t → ByApply job f u → t.activity ≡ u.activity → t.value ≡ u.value
+  one_argument f t u b c e =
+      let number : 1 + b.place ≡ 1 + c.place = ap (λ (a : Activity). a.statement) (sym b.activity ∙ e ∙ c.activity) in
+      let place : b.place ≡ c.place = omega (arith, number) in
+      let rest : b.rest ≡ c.rest = (let p = b.values in let q = c.values in cc) in
+      let p = b.argument in
+      let q = c.argument in
+      cc
 
   -- one firing gives one value to a port
   pub one_value : (f : Firing) → is_firing_of job f ≡ true → (t u : TokenParts) → Giver job f t → Giver job f u → t.activity ≡ u.activity → t.value ≡ u.value
@@ -65,7 +77,7 @@ module _ (job : JobParts) (sound : IsChecked job.program.blocks) where
   one_value f x t u (inl b) (inr (inl c)) e = absurd (arc_or_apply f f t u x b c e)
   one_value f x t u (inl b) (inr (inr c)) e = absurd (arc_or_end f f t u x b c e)
   one_value f x t u (inr (inl b)) (inl c) e = absurd (arc_or_apply f f u t x c b (sym e))
-  one_value f x t u (inr (inl b)) (inr (inl c)) e = (let p = b.values in let q = c.values in cc)
+  one_value f x t u (inr (inl b)) (inr (inl c)) e = one_argument f t u b c e
   one_value f x t u (inr (inl b)) (inr (inr c)) e = absurd (apply_or_end f f t u b c e)
   one_value f x t u (inr (inr b)) (inl c) e = absurd (arc_or_end f f u t x c b (sym e))
   one_value f x t u (inr (inr b)) (inr (inl c)) e = absurd (apply_or_end f f u t c b (sym e))
@@ -198,7 +210,7 @@ module _ (job : JobParts) (sound : IsChecked job.program.blocks) (determinate : 
       ended : b.outer ≡ c.outer → b.from ≡ c.from → b.back ≡ c.back → b.turn ≡ c.turn → Placed job (activity b.outer b.from b.caller b.turn) b.by → Placed job (activity c.outer c.from c.caller c.turn) c.by → (f.activity ≡ g.activity) ⊎ Troubled
       ended o n k i p q =
           let z : q.block ≡ p.block = (let j = p.named in let l = q.named in cc) in
-          let callers : b.caller ≡ c.caller = (block_of job determinate b.from p.block p.named).one_apply b.back b.caller c.caller (record { it = b.by; stands = p.stands; kind = b.by_kind }) (record { it = c.by; stands = ap (λ (v : BlockParts). statement_at v.statements c.caller) (sym z) ∙ q.stands; kind = c.by_kind ∙ ap (λ (j : ℕ). Apply j) (sym k) }) in
+          let callers : b.caller ≡ c.caller = (block_of job determinate b.from p.block p.named).one_apply b.back b.caller c.caller (record { it = b.by; stands = p.stands; names = b.names }) (record { it = c.by; stands = ap (λ (v : BlockParts). statement_at v.statements c.caller) (sym z) ∙ q.stands; names = c.names ∙ ap (λ (j : ℕ). Some j) (sym k) }) in
           let same : activity b.outer b.from b.caller b.turn ≡ activity c.outer c.from c.caller c.turn = same_place (activity b.outer b.from b.caller b.turn) (activity c.outer c.from c.caller c.turn) o n callers i in
           let context : f.activity.context ≡ g.activity.context = b.context ∙ ap call_context same ∙ sym c.context in
           let ours = call_of f x b.outer b.from b.caller b.turn b.context in
@@ -213,7 +225,7 @@ module _ (job : JobParts) (sound : IsChecked job.program.blocks) (determinate : 
   same_source f g x y t u (inl b) (inr (inr c)) e r = absurd (arc_or_end job sound f g t u x.0 b c e)
   same_source f g x y t u (inr (inl b)) (inl c) e r = absurd (arc_or_apply job sound g f u t y.0 c b (sym e))
   same_source f g x y t u (inr (inl b)) (inr (inl c)) e r =
-      let h : activity (call_context f.activity) b.block 1 1 ≡ activity (call_context g.activity) c.block 1 1 = sym b.activity ∙ e ∙ c.activity in
+      let h : activity (call_context f.activity) b.block (1 + b.place) 1 ≡ activity (call_context g.activity) c.block (1 + c.place) 1 = sym b.activity ∙ e ∙ c.activity in
       let z = calls_same f.activity.context g.activity.context f.activity.block g.activity.block f.activity.statement g.activity.statement f.activity.initiation g.activity.initiation (ap (λ (a : Activity). a.context) h) in
       inl (same_place f.activity g.activity z.0 z.1 z.2 z.3)
   same_source f g x y t u (inr (inl b)) (inr (inr c)) e r = absurd (apply_or_end job sound f g t u b c e)

@@ -1,7 +1,7 @@
 -- A checked program that is strict is determinate.
 use Rattle.std.proofs.Common.{◌≡◌, ℕ, ◌-◌, refl, ap, sym, ◌∙◌, arith, subst, Bool, true, false, not, List, Option, Some, None, inl, inr, ◌⊎◌}
 use Rattle.std.specs.Prelude.{Contains, slice_get}
-use Rattle.u_program.specs.declared.program.Kind.TheVariants.{Switch, Apply}
+use Rattle.u_program.specs.declared.program.Kind.TheVariants.{Switch}
 use Rattle.u_program.specs.declared.program.Destination.{Destination}
 use Rattle.u_program.specs.Parts.{StatementParts, BlockParts}
 use Rattle.u_check.specs.Kinds.{ports_of, comes_from_outside, is_of_loop}
@@ -12,8 +12,9 @@ use Rattle.u_check.proofs.Facts.{in_to, in_otherwise, target_exists, target_take
 use Rattle.u_strict.specs.Arcs.{OnlyArc, ArcFrom}
 use Rattle.u_strict.specs.Strict.{IsGuarded, IsTested, IsStrictBlock, IsStrict}
 use Rattle.u_strict.specs.Strict as strict
+use Rattle.u_strict.proofs.KindFacts.{named_apply}
 use Rattle.u_determinate.specs.Guards.{FromSwitch, HasGuard}
-use Rattle.u_determinate.specs.Determinate.{MayMeet, OneSource, OneOfKind, Exclude, TurnsOrEnds, IsDeterminate}
+use Rattle.u_determinate.specs.Determinate.{MayMeet, OneSource, OneApply, Exclude, TurnsOrEnds, IsDeterminate}
 
 -- the statement that an arc comes from, and that it sends to the arc's destination
 pub record FromStatement (ss : List StatementParts) (a : Arc) (d : Destination) : Type 0 where
@@ -65,12 +66,13 @@ module _ (p : List BlockParts) (c : IsChecked p) (b : BlockParts) (ours : Contai
           both (inl m) (inr k) = inr (inl ((p.loop, rw m p.from_enter), rw k p.from_next))
           both (inr m) (inl k) = inr (inr (inl ((p.loop, rw k p.from_enter), rw m p.from_next)))
 
-  applies : (n : ℕ) → OneOfKind b.statements (Apply n)
+  applies : (n : ℕ) → OneApply b.statements n
   applies n i j x y =
       let k = has_number b.statements i x.it x.stands in
-      let r = apply_returned p c b ours (i - 1) x.it k.1 n x.kind in
+      let a = named_apply x.it.kind n x.names in
+      let r = apply_returned p c b ours (i - 1) x.it k.1 n a.0 a.1 in
       let o = s.one_apply n r.it r.stands r.is_a_back in
-      o.only i x.it x.stands x.kind ∙ sym (o.only j y.it y.stands y.kind)
+      o.only i x.it x.stands x.names ∙ sym (o.only j y.it y.stands y.names)
 
   turns : TurnsOrEnds b.statements
   turns m n next last e =

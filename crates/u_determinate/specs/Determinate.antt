@@ -4,11 +4,11 @@
 -- sides of a conditional may meet in one port, and a loop may compute its next values on two sides.
 use Rattle.std.specs.Prelude.{◌≡◌, ℕ, Bool, not, List, Contains, ◌⊎◌}
 use Rattle.u_program.specs.declared.program.Kind.{Kind}
-use Rattle.u_program.specs.declared.program.Kind.TheVariants.{Enter, Next, Last, Apply, End}
+use Rattle.u_program.specs.declared.program.Kind.TheVariants.{Enter, Next, Last, End}
 use Rattle.u_program.specs.Parts.{StatementParts, BlockParts}
 use Rattle.u_check.specs.Rules.{Arc}
 use Rattle.u_strict.specs.Arcs.{Leads, ArcFrom}
-use Rattle.u_determinate.specs.Guards.{Stands, HasGuard, ArcHasGuard}
+use Rattle.u_determinate.specs.Guards.{Stands, Applies, HasGuard, ArcHasGuard}
 
 -- Both arcs have a guard of one control, and need the other truth value of it. Two arcs from one
 -- side need the same, and both deliver.
@@ -37,6 +37,10 @@ OneSource ss = (n port : ℕ) (a b : Arc) → Leads ss n port a → Leads ss n p
 abbrev pub OneOfKind : List StatementParts → Kind → Type 0
 OneOfKind ss k = (m n : ℕ) → Stands ss m k → Stands ss n k → m ≡ n
 
+-- at most one `apply` names that statement
+abbrev pub OneApply : List StatementParts → ℕ → Type 0
+OneApply ss n = (l m : ℕ) → Applies ss l n → Applies ss m n → l ≡ m
+
 -- Each `next` and each `last` of one loop exclude each other. Without this a loop goes on after it
 -- ended, and ends twice: a `leave` gives two values.
 abbrev pub TurnsOrEnds : List StatementParts → Type 0
@@ -49,7 +53,7 @@ TurnsOrEnds ss =
 pub record IsDeterminateBlock (b : BlockParts) : Type 0 where
   pub one_source : OneSource b.statements
   pub one_end : OneOfKind b.statements End
-  pub one_apply : (n : ℕ) → OneOfKind b.statements (Apply n)
+  pub one_apply : (n : ℕ) → OneApply b.statements n
   pub one_turn : TurnsOrEnds b.statements
 
 -- the blocks are those of a determinate program

@@ -8,9 +8,9 @@
 use Rattle.std.specs.Prelude.{◌≡◌, ℕ, zero, suc, Bool, true, false, not, List, Some, ◌⊎◌}
 use Rattle.u_name.specs.Context.{IsBetween}
 use Rattle.u_program.specs.declared.program.Kind.{Kind}
-use Rattle.u_program.specs.declared.program.Kind.TheVariants.{Pass, Switch, Enter, Next, Last, Leave, Apply, Back}
+use Rattle.u_program.specs.declared.program.Kind.TheVariants.{Pass, Switch, Enter, Next, Last, Leave, Back}
 use Rattle.u_program.specs.Parts.{StatementParts}
-use Rattle.u_check.specs.Kinds.{ports_of, comes_from_outside}
+use Rattle.u_check.specs.Kinds.{ports_of, comes_from_outside, back_named}
 use Rattle.u_check.specs.Rules.{statement_at, Arc}
 use Rattle.u_strict.specs.Arcs.{Leads, OnlyArc, ArcFrom}
 
@@ -19,6 +19,12 @@ pub record Stands (ss : List StatementParts) (n : ℕ) (k : Kind) : Type 0 where
   pub it : StatementParts
   pub stands : statement_at ss n ≡ Some it
   pub kind : it.kind ≡ k
+
+-- statement m is an `apply` that names statement n, on however many arguments
+pub record Applies (ss : List StatementParts) (m n : ℕ) : Type 0 where
+  pub it : StatementParts
+  pub stands : statement_at ss m ≡ Some it
+  pub names : back_named it.kind ≡ Some n
 
 -- Found in k rounds: in none nothing, and in each round what follows from what the one before it
 -- found.
@@ -98,7 +104,7 @@ pub record AtPort (ss : List StatementParts) (Q : Arc → Type 0) (n : ℕ) : Ty
 -- place of the call.
 pub record AtBack (ss : List StatementParts) (P : ℕ → Type 0) (n : ℕ) : Type 0 where
   pub back : Stands ss n Back
-  pub all : (m : ℕ) → Stands ss m (Apply n) → P m
+  pub all : (m : ℕ) → Applies ss m n → P m
 
 -- statement n has the guard, where the statements of which P is known have it
 abbrev pub StatementOf : List StatementParts → ℕ → Bool → (ℕ → Type 0) → ℕ → Type 0

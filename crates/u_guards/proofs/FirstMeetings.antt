@@ -9,6 +9,7 @@ use Rattle.u_check.proofs.Arcs.{has_number}
 use Rattle.u_check.proofs.Blocks.{place_of_member, member_at}
 use Rattle.u_check.proofs.Facts.{target_exists, apply_returned}
 use Rattle.u_strict.specs.Breaches.{IsFirstFailing}
+use Rattle.u_strict.proofs.KindFacts.{named_apply}
 use Rattle.u_determinate.specs.Determinate.{IsDeterminate}
 use Rattle.u_guards.specs.declared.verdict.Meeting.{Meeting}
 use Rattle.u_guards.specs.declared.verdict.Meeting.TheVariants.{Arcs, Ends, Calls, Turns}
@@ -181,7 +182,8 @@ module _ (p : List BlockParts) where
     ];
     one_apply = λ n i j x y.
         let k = has_number b.statements i x.it x.stands in
-        let r = apply_returned p c b m (i - 1) x.it k.1 n x.kind in
+        let a = named_apply x.it.kind n x.names in
+        let r = apply_returned p c b m (i - 1) x.it k.1 n a.0 a.1 in
         each Calls n (record { it = r.it; stands = r.stands; kind = r.is_a_back }) i j x y;
     one_turn = λ i j next last e. each Turns i next j (last, sym e);
   }

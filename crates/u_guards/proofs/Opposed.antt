@@ -5,10 +5,11 @@ use Rattle.std.proofs.lemmas.Bool.{false≢true, eqb-true, cases_order}
 use Rattle.u_program.specs.declared.program.Kind.{Kind}
 use Rattle.u_program.specs.declared.program.Kind.TheVariants.{Next, Last, Apply, Back}
 use Rattle.u_program.specs.Parts.{StatementParts}
+use Rattle.u_check.specs.Kinds.{back_named}
 use Rattle.u_check.specs.Rules.{statement_at, Arc}
 use Rattle.u_strict.specs.Arcs.{Leads}
-use Rattle.u_determinate.specs.Guards.{Stands, Rounds, PassedOn, ArcOf, StatementOf, HasGuard, ArcHasGuard}
-use Rattle.u_determinate.specs.Determinate.{OneOfKind}
+use Rattle.u_determinate.specs.Guards.{Stands, Applies, Rounds, PassedOn, ArcOf, StatementOf, HasGuard, ArcHasGuard}
+use Rattle.u_determinate.specs.Determinate.{OneApply}
 use Rattle.u_guards.specs.Meetings.{IsLastOf, LastsExclude, NextExcludes}
 use Rattle.u_guards.specs.declared.incoming.Link.{Link}
 use Rattle.u_guards.specs.declared.sides.ControlMarks.{ControlMarks}
@@ -72,24 +73,28 @@ side_of ss c value marks h a b e =
 pub own_marks : (ss : List StatementParts) (c : ℕ) (m : ControlMarks) → AreMarks ss c m → AreMarks ss m.control m
 own_marks ss c m h = subst (λ (i : ℕ). AreMarks ss i m) (sym h.control) h
 
-called : (n : ℕ) (s : StatementParts) (k j : Kind) → k ≡ Back → is_behind n s k j ≡ true → j ≡ Apply n
-called n s Back (Apply m) q e = ap (λ (i : ℕ). Apply i) (eqb-true m n e)
+called : (n : ℕ) (s : StatementParts) (k j : Kind) → k ≡ Back → is_behind n s k j ≡ true → back_named j ≡ Some n
+called n s Back (Apply m c) q e = ap (λ (i : ℕ). Some i) (eqb-true m n e)
 called n s Back j q e = absurd (false≢true e)
 called n s k j q e = absurd (cc)
 
+calling : (n : ℕ) (s : StatementParts) (j : Kind) → back_named j ≡ Some n → is_behind n s Back j ≡ true
+calling n s (Apply m c) e = eq-eqb m n (cc)
+calling n s j e = absurd (cc)
+
 -- what stands behind a `back` is each `apply` that names it
-pub calls_one : (ss : List StatementParts) (n : ℕ) → Stands ss n Back → (ms : List ℕ) → ((m : ℕ) → Contains ms m ↔ StandsBehind ss n m) → (b : Bool) → (IsTrue b ↔ ((i j : ℕ) → Contains ms i → Contains ms j → i ≡ j)) → IsTrue b ↔ OneOfKind ss (Apply n)
+pub calls_one : (ss : List StatementParts) (n : ℕ) → Stands ss n Back → (ms : List ℕ) → ((m : ℕ) → Contains ms m ↔ StandsBehind ss n m) → (b : Bool) → (IsTrue b ↔ ((i j : ℕ) → Contains ms i → Contains ms j → i ≡ j)) → IsTrue b ↔ OneApply ss n
 calls_one ss n back ms h b e =
     ((λ t i j x y. e.0 t i j ((h i).1 (to i x)) ((h j).1 (to j y))), λ o. e.1 (λ i j x y. o i j (of i ((h i).0 x)) (of j ((h j).0 y))))
   where
-    to : (m : ℕ) → Stands ss m (Apply n) → StandsBehind ss n m
-    to m t = (back.it, back.stands, record { it = t.it; stands = t.stands; names = rw back.kind (rw t.kind (eq-eqb n n refl)) })
+    to : (m : ℕ) → Applies ss m n → StandsBehind ss n m
+    to m t = (back.it, back.stands, record { it = t.it; stands = t.stands; names = rw back.kind (calling n back.it t.it.kind t.names) })
 
-    of : (m : ℕ) → StandsBehind ss n m → Stands ss m (Apply n)
+    of : (m : ℕ) → StandsBehind ss n m → Applies ss m n
     of m x =
         let z : Some x.0 ≡ Some back.it = sym x.1 ∙ back.stands in
         let q : x.0 ≡ back.it = cc in
-        record { it = x.2.it; stands = x.2.stands; kind = called n x.0 x.0.kind x.2.it.kind (ap (λ (s : StatementParts). s.kind) q ∙ back.kind) x.2.names }
+        record { it = x.2.it; stands = x.2.stands; names = called n x.0 x.0.kind x.2.it.kind (ap (λ (s : StatementParts). s.kind) q ∙ back.kind) x.2.names }
 
 -- what holds of the links to a statement holds of the arcs to it
 pub arcs_of : (ss : List StatementParts) (n : ℕ) (links : List Link) → AreLinks ss n links → (M : Arc → Arc → Type 0) → (b : Bool) → (IsTrue b ↔ ((j k : Link) → Contains links j → Contains links k → k.port ≡ j.port → M (arc_of j) (arc_of k))) → IsTrue b ↔ ((port : ℕ) (x y : Arc) → Leads ss n port x → Leads ss n port y → M x y)

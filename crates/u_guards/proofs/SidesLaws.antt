@@ -1,9 +1,10 @@
 -- Which arcs have a guard, by the kind of statement that they come from.
-use Rattle.std.proofs.Common.{◌≡◌, ℕ, zero, suc, ◌+◌, ◌<◌, ◌≤◌, lit≤, arith, length, refl, ap, sym, ◌∙◌, subst, Bool, true, false, eq-eqb, List, Some, None, inl, inr, ◌⊎◌}
+use Rattle.std.proofs.Common.{◌≡◌, ℕ, ◌+◌, ◌<◌, ◌≤◌, arith, length, refl, ap, sym, ◌∙◌, subst, Bool, true, false, eq-eqb, List, Some, None, inl, inr, ◌⊎◌}
 use Rattle.std.specs.Prelude.{◌↔◌, IsTrue}
 use Rattle.std.proofs.lemmas.Bool.{false≢true, eqb-true}
 use Rattle.u_program.specs.declared.program.Kind.{Kind}
-use Rattle.u_program.specs.declared.program.Kind.TheVariants.{Begin, Const, Pass, Unary, Binary, Select, Switch, Enter, Next, Last, Leave, Apply, Back, Alloc, Store, Fetch, End}
+use Rattle.u_program.specs.declared.program.Kind.TheVariants.{Begin, Param, Switch, Enter, Leave, Back}
+use Rattle.u_program.specs.declared.program.Parameter.{Parameter}
 use Rattle.u_program.specs.Parts.{StatementParts}
 use Rattle.u_name.specs.Context.{IsBetween}
 use Rattle.u_check.specs.Kinds.{ports_of, comes_from_outside}
@@ -11,7 +12,7 @@ use Rattle.u_check.specs.Rules.{statement_at, Arc}
 use Rattle.u_strict.specs.Arcs.{Leads}
 use Rattle.u_determinate.specs.Guards.{Stands, stays, IsPassed, ArcOf, StatementOf, FromLeave}
 use Rattle.u_guards.specs.Flow.{is_behind, StandsBehind, AllBehind, IsSide, SomePort}
-use Rattle.u_guards.proofs.Links.{number_within}
+use Rattle.u_guards.proofs.Links.{split, number_within}
 
 one_at : (ss : List StatementParts) (n : ℕ) (s t : StatementParts) → statement_at ss n ≡ Some s → statement_at ss n ≡ Some t → s ≡ t
 one_at ss n s t e q = let z : Some s ≡ Some t = sym e ∙ q in cc
@@ -78,51 +79,37 @@ module _ (ss : List StatementParts) (c : ℕ) (value : Bool) (P : ℕ → Type 0
 pub side_more : (ss : List StatementParts) (P Q : ℕ → Type 0) (value : Bool) (a : Arc) → ((n : ℕ) → P n → Q n) → IsSide ss P value a → IsSide ss Q value a
 side_more ss P Q value a f h = (h.0, (h.1.0, h.1.1, f h.1.0.statement h.1.2))
 
-pub few_ports : (k : Kind) → (1 ≤ ports_of k) × (ports_of k ≤ 3)
-few_ports Begin = (lit≤ tt, lit≤ tt)
-few_ports (Const v) = (lit≤ tt, lit≤ tt)
-few_ports Pass = (lit≤ tt, lit≤ tt)
-few_ports (Unary o) = (lit≤ tt, lit≤ tt)
-few_ports (Binary o) = (lit≤ tt, lit≤ tt)
-few_ports Select = (lit≤ tt, lit≤ tt)
-few_ports Switch = (lit≤ tt, lit≤ tt)
-few_ports (Enter l) = (lit≤ tt, lit≤ tt)
-few_ports Next = (lit≤ tt, lit≤ tt)
-few_ports Last = (lit≤ tt, lit≤ tt)
-few_ports Leave = (lit≤ tt, lit≤ tt)
-few_ports (Apply n) = (lit≤ tt, lit≤ tt)
-few_ports Back = (lit≤ tt, lit≤ tt)
-few_ports Alloc = (lit≤ tt, lit≤ tt)
-few_ports Store = (lit≤ tt, lit≤ tt)
-few_ports Fetch = (lit≤ tt, lit≤ tt)
-few_ports End = (lit≤ tt, lit≤ tt)
+-- of no ports one has it
+pub no_port : (ss : List StatementParts) (Q : Arc → Type 0) (n : ℕ) → SomePort ss Q n 0 → ⊥
+no_port ss Q n (p, b, f) = omega (arith, b.0, b.1)
 
--- of a kind's ports it is the third, if it is neither of the first two
-pub third : (ss : List StatementParts) (Q : Arc → Type 0) (n ports : ℕ) → ports ≤ 3 → (((a : Arc) → Leads ss n 1 a → Q a) → ⊥) → (2 ≤ ports → ((a : Arc) → Leads ss n 2 a → Q a) → ⊥) → SomePort ss Q n ports → (3 ≤ ports) × ((a : Arc) → Leads ss n 3 a → Q a)
-third ss Q n ports few x y (p, b, f) = at p b f
-  where
-    at : (p : ℕ) → IsBetween 1 p ports → ((a : Arc) → Leads ss n p a → Q a) → (3 ≤ ports) × ((a : Arc) → Leads ss n 3 a → Q a)
-    at zero b f = absurd (omega (arith, b.0))
-    at (suc zero) b f = absurd (x f)
-    at (suc (suc zero)) b f = absurd (y b.1 f)
-    at (suc (suc (suc zero))) b f = (b.1, f)
-    at (suc (suc (suc (suc p)))) b f = absurd (omega (arith, b.1, few))
+-- nor of one more, if that has it not
+pub no_next_port : (ss : List StatementParts) (Q : Arc → Type 0) (n k : ℕ) → (SomePort ss Q n k → ⊥) → (((a : Arc) → Leads ss n (k + 1) a → Q a) → ⊥) → SomePort ss Q n (k + 1) → ⊥
+no_next_port ss Q n k before here (p, b, f) =
+    elim (split p (k + 1) (omega (arith, b.1))) [
+      | inl l ↦ before (p, (b.0, omega (arith, l)), f)
+      | inr e ↦ here (subst (λ (i : ℕ). (a : Arc) → Leads ss n i a → Q a) e f)
+    ]
+
+pub fewer_ports : (ss : List StatementParts) (Q : Arc → Type 0) (n m k : ℕ) → m ≤ k → SomePort ss Q n m → SomePort ss Q n k
+fewer_ports ss Q n m k l (p, b, f) = (p, (b.0, omega (arith, b.1, l)), f)
 
 pub guards_within : (ss : List StatementParts) (c : ℕ) (value : Bool) (P : ℕ → Type 0) (n : ℕ) → StatementOf ss c value P n → n < length ss + 1
 guards_within ss c value P n (inl h) = (let w = number_within ss n h.it h.stands in omega (arith, w.1))
 guards_within ss c value P n (inr h) = (let w = number_within ss n h.back.it h.back.stands in omega (arith, w.1))
 
-inside : (k : Kind) → (k ≡ Begin → ⊥) → (k ≡ Back → ⊥) → comes_from_outside k ≡ false
-inside Begin x y = absurd (x refl)
-inside Back x y = absurd (y refl)
-inside k x y = refl
+inside : (k : Kind) → (k ≡ Begin → ⊥) → ((q : Parameter) → k ≡ Param q → ⊥) → (k ≡ Back → ⊥) → comes_from_outside k ≡ false
+inside Begin x z y = absurd (x refl)
+inside (Param q) x z y = absurd (z q refl)
+inside Back x z y = absurd (y refl)
+inside k x z y = refl
 
 -- a statement that takes values has the guard by its ports
-pub by_ports : (ss : List StatementParts) (c : ℕ) (value : Bool) (P : ℕ → Type 0) (n : ℕ) (s : StatementParts) → statement_at ss n ≡ Some s → (s.kind ≡ Begin → ⊥) → (s.kind ≡ Back → ⊥) → (b : Bool) → (IsTrue b ↔ SomePort ss (ArcOf ss c value P) n (ports_of s.kind)) → IsTrue b ↔ StatementOf ss c value P n
-by_ports ss c value P n s e x y b h = (to, back)
+pub by_ports : (ss : List StatementParts) (c : ℕ) (value : Bool) (P : ℕ → Type 0) (n : ℕ) (s : StatementParts) → statement_at ss n ≡ Some s → (s.kind ≡ Begin → ⊥) → ((q : Parameter) → s.kind ≡ Param q → ⊥) → (s.kind ≡ Back → ⊥) → (b : Bool) → (IsTrue b ↔ SomePort ss (ArcOf ss c value P) n (ports_of s.kind)) → IsTrue b ↔ StatementOf ss c value P n
+by_ports ss c value P n s e x z y b h = (to, back)
   where
     to : IsTrue b → StatementOf ss c value P n
-    to t = (let p = h.0 t in inl (record { it = s; stands = e; takes = inside s.kind x y; port = p.0; exists = p.1; all = p.2 }))
+    to t = (let p = h.0 t in inl (record { it = s; stands = e; takes = inside s.kind x z y; port = p.0; exists = p.1; all = p.2 }))
 
     back : StatementOf ss c value P n → IsTrue b
     back (inl a) = h.1 (a.port, subst (λ (t : StatementParts). IsBetween 1 a.port (ports_of t.kind)) (sym (one_at ss n s a.it e a.stands)) a.exists, a.all)

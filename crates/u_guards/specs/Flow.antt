@@ -34,7 +34,7 @@ AreLinks ss n links = (l : Link) → Contains links l ↔ Leads ss n l.port (arc
 -- a `back`
 abbrev pub is_behind : ℕ → StatementParts → Kind → Kind → Bool
 is_behind n s Leave (Enter l) = l == s.region
-is_behind n s Back (Apply m) = m == n
+is_behind n s Back (Apply m c) = m == n
 is_behind n s k other = false
 
 -- statement m stands so behind statement n, which is s

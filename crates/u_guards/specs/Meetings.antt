@@ -1,11 +1,11 @@
 -- What each statement of a determinate program keeps, and the first one that does not.
 use Rattle.std.specs.Prelude.{◌≡◌, ℕ, ◌-◌, ◌<◌, ◌≤◌, ◌↔◌, ◌⊎◌, true, false, List, Some, slice_get}
-use Rattle.u_program.specs.declared.program.Kind.TheVariants.{Next, Last, Apply, Back, End}
+use Rattle.u_program.specs.declared.program.Kind.TheVariants.{Next, Last, Back, End}
 use Rattle.u_program.specs.Parts.{StatementParts, BlockParts}
 use Rattle.u_check.specs.Rules.{statement_at, Arc, IsEarlier}
 use Rattle.u_strict.specs.Arcs.{Leads}
 use Rattle.u_determinate.specs.Guards.{Stands, HasGuard, ArcHasGuard}
-use Rattle.u_determinate.specs.Determinate.{Exclude, MayMeet, OneOfKind, IsDeterminate}
+use Rattle.u_determinate.specs.Determinate.{Exclude, MayMeet, OneApply, IsDeterminate}
 use Rattle.u_guards.specs.declared.verdict.Meeting.{Meeting}
 use Rattle.u_guards.specs.declared.verdict.Meeting.TheVariants.{Arcs, Ends, Calls, Turns}
 use Rattle.u_guards.specs.declared.verdict.Determinacy.{Determinacy}
@@ -36,7 +36,7 @@ IsNoLaterEnd ss n = Stands ss n End → NoEndBefore ss n
 
 -- statement n is no `back`, or at most one `apply` names it
 abbrev pub ReturnsOneCall : List StatementParts → ℕ → Type 0
-ReturnsOneCall ss n = Stands ss n Back → OneOfKind ss (Apply n)
+ReturnsOneCall ss n = Stands ss n Back → OneApply ss n
 
 -- statement n is a `last` of that loop
 abbrev pub IsLastOf : List StatementParts → ℕ → ℕ → Type 0

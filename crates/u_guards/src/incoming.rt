@@ -85,7 +85,7 @@ fn is_behind(number: usize, statement: &Statement, other: &Statement) -> bool
 {
     match (statement.kind(), other.kind()) {
         (Kind::Leave, Kind::Enter(entered)) => *entered == statement.region(),
-        (Kind::Back, Kind::Apply(named)) => usize::from(*named) == number,
+        (Kind::Back, Kind::Apply(named, _)) => usize::from(*named) == number,
         _ => false,
     }
 }

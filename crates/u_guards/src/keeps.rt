@@ -1,9 +1,9 @@
 //! What each statement of a determinate block keeps.
 ghost use Rattle.std.specs.Prelude.{◌≡◌, ◌+◌, ◌≤◌, ◌<◌, ◌↔◌, ◌⊎◌, ℕ, Bool, true, false, IsTrue, length, Contains};
-ghost use Rattle.u_program.specs.declared.program.Kind.TheVariants.{Enter, Next, Last, Apply, Back, End};
+ghost use Rattle.u_program.specs.declared.program.Kind.TheVariants.{Enter, Next, Last, Back, End};
 ghost use Rattle.u_strict.specs.Arcs.{ArcFrom};
 ghost use Rattle.u_determinate.specs.Guards.{Stands, HasGuard, ArcHasGuard};
-ghost use Rattle.u_determinate.specs.Determinate.{Exclude, ArcsExclude, EnterAndNext, MayMeet, OneOfKind};
+ghost use Rattle.u_determinate.specs.Determinate.{Exclude, ArcsExclude, EnterAndNext, MayMeet, OneApply};
 ghost use Rattle.u_guards.specs.declared.incoming.Link.{Link};
 ghost use Rattle.u_guards.specs.Flow.{AreSources, AreMarks, AreAllMarks, IsMarked, arc_of};
 ghost use Rattle.u_guards.specs.Meetings.{Asks, ArcsMeet, ArcsMayMeet, ArcsOpposed, Opposed};
@@ -285,7 +285,7 @@ impl Guarded<'_> {
         requires sources { AreSources self.now.flow.statements.now self.now.flow.sources.now }
         requires back { Stands self.now.flow.statements.now number Back }
         requires within { number ≤ length self.now.flow.statements.now }
-        ensures { IsTrue result ↔ OneOfKind self.now.flow.statements.now (Apply number) }
+        ensures { IsTrue result ↔ OneApply self.now.flow.statements.now number }
     {
         match self.flow.sources.get(number) {
             Some(sources) => are_one(&sources.behind),

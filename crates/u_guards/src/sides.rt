@@ -104,7 +104,7 @@ impl Side<'_, '_> {
     }
 
     /// Whether each of the links that leads to that port has it.
-    fn links_have(&self, marks: &[bool], links: &[Link], port: u8) -> bool
+    fn links_have(&self, marks: &[bool], links: &[Link], port: usize) -> bool
         requires sources { AreSources self.now.flow.statements.now self.now.flow.sources.now }
         requires passed { (n : ℕ) → IsMarked self.now.passed.now n
             ↔ IsPassed self.now.flow.statements.now self.now.control n }
@@ -113,7 +113,7 @@ impl Side<'_, '_> {
             (IsMarked marks.now) (arc_of k)) }
     {
         for link in links {
-            if link.port == port && !self.arc_has(marks, link) {
+            if usize::from(link.port) == port && !self.arc_has(marks, link) {
                 return false;
             }
         }
@@ -121,7 +121,7 @@ impl Side<'_, '_> {
     }
 
     /// Whether each arc to that port of statement `number` has it.
-    fn port_has(&self, marks: &[bool], number: usize, port: u8) -> bool
+    fn port_has(&self, marks: &[bool], number: usize, port: usize) -> bool
         requires sources { AreSources self.now.flow.statements.now self.now.flow.sources.now }
         requires passed { (n : ℕ) → IsMarked self.now.passed.now n
             ↔ IsPassed self.now.flow.statements.now self.now.control n }
@@ -146,10 +146,12 @@ impl Side<'_, '_> {
             (ArcOf self.now.flow.statements.now self.now.control self.now.value
             (IsMarked marks.now)) number (ports_of kind.now) }
     {
-        let ports = ports_of(kind);
-        self.port_has(marks, number, 1)
-            || (ports >= 2 && self.port_has(marks, number, 2))
-            || (ports >= 3 && self.port_has(marks, number, 3))
+        for place in 0..ports_of(kind) {
+            if self.port_has(marks, number, place + 1) {
+                return true;
+            }
+        }
+        false
     }
 
     /// Whether statement `number` has it.
@@ -163,6 +165,7 @@ impl Side<'_, '_> {
         match statement_of(self.flow.statements, number) {
             Some(statement) => match statement.kind() {
                 Kind::Begin => false,
+                Kind::Param(_) => false,
                 Kind::Back => self.all_behind(marks, number),
                 kind => self.some_port_has(marks, number, kind),
             },

@@ -14,7 +14,7 @@ pub(crate) struct Ahead {
     behind: Vec<Vec<usize>>,
     /// Of each loop the first `leave`.
     leaves: Vec<Option<usize>>,
-    /// How many arcs lead to each port: four counts for each statement, the first of what stands behind it.
+    /// How many arcs lead to each port: six counts for each statement, the first of what stands behind it.
     counts: Vec<u32>,
     /// Of a `switch` the statement from which the only arc to its control comes.
     controls: Vec<Option<usize>>,
@@ -31,9 +31,14 @@ pub(crate) struct Trail {
     numbers: Vec<usize>,
 }
 
+/// How many counts there are for each statement: of what stands behind it, and of five ports.
+const COUNTS: usize = 6;
+
 /// The place of the count of that port.
 fn place_of(number: usize, port: u8) -> usize {
-    number.saturating_mul(4).saturating_add(usize::from(port))
+    number
+        .saturating_mul(COUNTS)
+        .saturating_add(usize::from(port))
 }
 
 /// Counts one more.
@@ -180,7 +185,7 @@ pub(crate) fn ahead_of(
     let mut ahead = Ahead {
         behind: empty_lists(alloc, sources.len())?,
         leaves: first_leaves(alloc, statements)?,
-        counts: vec![in alloc; 0; sources.len().saturating_mul(4)]?,
+        counts: vec![in alloc; 0; sources.len().saturating_mul(COUNTS)]?,
         controls: Vec::new(alloc),
         passes: empty_lists(alloc, sources.len())?,
     };
@@ -315,7 +320,7 @@ impl Course<'_> {
         };
         match statement.kind() {
             Kind::Next | Kind::Last => Ok(()),
-            Kind::Enter(_) | Kind::Apply(_) => trail.follow_behind(self.behind(number)),
+            Kind::Enter(_) | Kind::Apply(_, _) => trail.follow_behind(self.behind(number)),
             Kind::Leave => {
                 trail.follow_behind(self.behind(number))?;
                 trail.follow_lists(statement)

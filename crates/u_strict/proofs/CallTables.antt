@@ -3,9 +3,8 @@ use Rattle.std.proofs.Common.{◌≡◌, ℕ, ◌+◌, ◌-◌, ◌≤◌, inl, 
 use Rattle.std.specs.Prelude.{slice_get, if◌then◌else◌}
 use Rattle.std.proofs.lemmas.Bool.{false≢true, eqb-true, cases_lt, cases_Bool}
 use Rattle.std.proofs.lemmas.List.{length-replicate, get_or-replicate}
-use Rattle.u_program.specs.declared.program.Kind.TheVariants.{Apply}
 use Rattle.u_program.specs.Parts.{StatementParts}
-use Rattle.u_check.specs.Kinds.{is_back}
+use Rattle.u_check.specs.Kinds.{is_back, back_named}
 use Rattle.u_check.specs.Rules.{statement_at}
 use Rattle.u_check.proofs.KindTests.{back_kind}
 use Rattle.u_strict.specs.declared.calls.Calls.{Calls}
@@ -24,20 +23,20 @@ module _ (ss : List StatementParts) (i : ℕ) (s : StatementParts) (at : slice_g
   same m t e q = one_statement ss (i + 1) s t (place_number ss i s at) (subst (λ (m : ℕ). statement_at ss m ≡ Some t) e q)
 
   module _ (n : ℕ) where
-    kept : (c : Calls) → (s.kind ≡ Apply n → ⊥) → AreCalls ss n i c → AreCalls ss n (i + 1) c
+    kept : (c : Calls) → (back_named s.kind ≡ Some n → ⊥) → AreCalls ss n i c → AreCalls ss n (i + 1) c
     kept Nothing away w = λ m t h q k.
-        elim (below_more_number m i h) [ inl l ↦ w m t l q k | inr e ↦ away (ap (λ (x : StatementParts). x.kind) (same m t e q) ∙ k) ]
+        elim (below_more_number m i h) [ inl l ↦ w m t l q k | inr e ↦ away (ap (λ (x : StatementParts). back_named x.kind) (same m t e q) ∙ k) ]
     kept One away w = record {
       apply = w.apply;
       it = w.it;
       before = omega (arith, w.before);
       stands = w.stands;
       names = w.names;
-      only = λ m t h q k. elim (below_more_number m i h) [ inl l ↦ w.only m t l q k | inr e ↦ absurd (away (ap (λ (x : StatementParts). x.kind) (same m t e q) ∙ k)) ];
+      only = λ m t h q k. elim (below_more_number m i h) [ inl l ↦ w.only m t l q k | inr e ↦ absurd (away (ap (λ (x : StatementParts). back_named x.kind) (same m t e q) ∙ k)) ];
     }
     kept Many away w = w
 
-    called : (c : Calls) → s.kind ≡ Apply n → AreCalls ss n i c → AreCalls ss n (i + 1) (with_call c)
+    called : (c : Calls) → back_named s.kind ≡ Some n → AreCalls ss n i c → AreCalls ss n (i + 1) (with_call c)
     called Nothing e w = record {
       apply = i + 1;
       it = s;
@@ -54,12 +53,12 @@ module _ (ss : List StatementParts) (i : ℕ) (s : StatementParts) (at : slice_g
     called Many e w = w
 
   module _ (t : List Calls) (w : CallsBefore ss i t) where
-    -- a statement that is no `apply`
-    pub no_call : ((n : ℕ) → s.kind ≡ Apply n → ⊥) → CallsBefore ss (i + 1) t
+    -- a statement that names no `back`
+    pub no_call : ((n : ℕ) → back_named s.kind ≡ Some n → ⊥) → CallsBefore ss (i + 1) t
     no_call away = record { as_long = w.as_long; each = λ n h. kept n (get_or t (n - 1) Nothing) (away n) (w.each n h) }
 
-    -- an `apply`, which is added where it names
-    pub call : (number : ℕ) (t' : List Calls) → s.kind ≡ Apply number → length t' ≡ length t → ((n : ℕ) → 1 ≤ n → n ≤ length t → get_or t' (n - 1) Nothing ≡ (if n == number then with_call (get_or t (n - 1) Nothing) else get_or t (n - 1) Nothing)) → CallsBefore ss (i + 1) t'
+    -- one that names a `back`, where it is added
+    pub call : (number : ℕ) (t' : List Calls) → back_named s.kind ≡ Some number → length t' ≡ length t → ((n : ℕ) → 1 ≤ n → n ≤ length t → get_or t' (n - 1) Nothing ≡ (if n == number then with_call (get_or t (n - 1) Nothing) else get_or t (n - 1) Nothing)) → CallsBefore ss (i + 1) t'
     call number t' e long new = record {
       as_long = long ∙ w.as_long;
       each = λ n h. by n h (n == number) refl (new n h.0 (let k = w.as_long in omega (arith, h.1)));
@@ -69,10 +68,10 @@ module _ (ss : List StatementParts) (i : ℕ) (s : StatementParts) (at : slice_g
         by n h true z q =
             let r : get_or t' (n - 1) Nothing ≡ with_call (get_or t (n - 1) Nothing) = rw z at q in
             let k : n ≡ number = eqb-true n number z in
-            subst (λ (x : Calls). AreCalls ss n (i + 1) x) (sym r) (called n (get_or t (n - 1) Nothing) (e ∙ ap (λ (j : ℕ). Apply j) (sym k)) (w.each n h))
+            subst (λ (x : Calls). AreCalls ss n (i + 1) x) (sym r) (called n (get_or t (n - 1) Nothing) (e ∙ ap (λ (j : ℕ). Some j) (sym k)) (w.each n h))
         by n h false z q =
             let r : get_or t' (n - 1) Nothing ≡ get_or t (n - 1) Nothing = rw z at q in
-            let away : s.kind ≡ Apply n → ⊥ = λ k. false≢true (sym z ∙ eq-eqb n number (let x = sym k ∙ e in cc)) in
+            let away : back_named s.kind ≡ Some n → ⊥ = λ k. false≢true (sym z ∙ eq-eqb n number (let x = sym k ∙ e in cc)) in
             subst (λ (x : Calls). AreCalls ss n (i + 1) x) (sym r) (kept n (get_or t (n - 1) Nothing) away (w.each n h))
 
 -- before the first statement there is none

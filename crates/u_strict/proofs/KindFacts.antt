@@ -1,8 +1,10 @@
 -- What the tests on a statement's kind say.
-use Rattle.std.proofs.Common.{◌≡◌, ℕ, refl, true, false, Bool, inl, inr, ◌⊎◌, Some}
+use Rattle.std.proofs.Common.{◌≡◌, ℕ, refl, ap, true, false, Bool, inl, inr, ◌⊎◌, Some}
 use Rattle.std.proofs.lemmas.Bool.{false≢true}
 use Rattle.u_program.specs.declared.program.Kind.{Kind}
 use Rattle.u_program.specs.declared.program.Kind.TheVariants as kinds
+use Rattle.u_program.specs.declared.program.Arguments.{Arguments}
+use Rattle.u_check.specs.Kinds.{back_named}
 use Rattle.u_strict.specs.declared.sources.Way.{Way}
 use Rattle.u_strict.specs.declared.sources.Way.TheVariants.{Enter, Next, Other}
 use Rattle.u_strict.specs.Tables.{way_of, side_of, are_enter_and_next, is_switch}
@@ -18,6 +20,11 @@ next_kind k e = absurd (cc)
 pub switch_kind : (k : Kind) → is_switch k ≡ true → k ≡ kinds.Switch
 switch_kind kinds.Switch e = refl
 switch_kind k e = absurd (false≢true e)
+
+-- only an `apply` names a `back`
+pub named_apply : (k : Kind) (n : ℕ) → back_named k ≡ Some n → (a : Arguments) × (k ≡ kinds.Apply n a)
+named_apply (kinds.Apply b a) n e = let q : b ≡ n = cc in (a, ap (λ (i : ℕ). kinds.Apply i a) q)
+named_apply k n e = absurd (cc)
 
 pub next_or_last : (k : Kind) (f : Bool) → side_of k ≡ Some f → ((k ≡ kinds.Next) × (f ≡ false)) ⊎ ((k ≡ kinds.Last) × (f ≡ true))
 next_or_last kinds.Next f e = inl (refl, (cc))

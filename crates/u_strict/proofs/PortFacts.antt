@@ -1,89 +1,88 @@
--- What three tables say of the ports of a statement.
-use Rattle.std.proofs.Common.{◌≡◌, ℕ, ◌+◌, ◌-◌, ◌*◌, ◌≤◌, inl, inr, ◌⊎◌, refl, sym, ap, ◌∙◌, subst, arith, Bool, true, false, ◌||◌, ◌&&◌, List, length, get_or, Some, lit≤}
-use Rattle.std.specs.Prelude.{slice_get, nat_lt}
-use Rattle.std.proofs.lemmas.Bool.{false≢true, and_parts, or_cases, ltb-true, ltb-false, cases_lt}
+-- What a table says of one port of a statement, and what the first breaches of all ports say.
+use Rattle.std.proofs.Common.{◌≡◌, ℕ, ◌+◌, ◌-◌, ◌*◌, ◌≤◌, inl, inr, refl, sym, ap, subst, arith, Bool, true, false, ◌||◌, List, length, get_or, Option, Some, None, below_more}
+use Rattle.std.specs.Prelude.{slice_get, nat_lt, if◌then◌else◌}
+use Rattle.std.proofs.lemmas.Bool.{false≢true, or_cases, ltb-true, ltb-false}
 use Rattle.u_program.specs.declared.program.Kind.{Kind}
-use Rattle.u_program.specs.declared.program.Kind.TheVariants as kinds
 use Rattle.u_program.specs.Parts.{StatementParts}
 use Rattle.u_check.specs.Kinds.{ports_of, comes_from_outside}
 use Rattle.u_check.specs.Rules.{statement_at}
+use Rattle.u_check.proofs.KindTests.{few_ports}
 use Rattle.u_strict.specs.declared.sources.Sources.{Sources}
 use Rattle.u_strict.specs.declared.sources.Sources.TheVariants.{Nothing}
-use Rattle.u_strict.specs.Breaches.{PortsHaveOneSource}
-use Rattle.u_strict.specs.Tables.{is_one_source, have_one_source, PortHasOneSource, AreFrom, AreSources}
+use Rattle.u_strict.specs.Breaches.{PortsHaveOneSource, IsFirstFailing}
+use Rattle.u_strict.specs.Tables.{is_one_source, has_one_source, first_of_both, AreFrom, AreSources, PortIsFed, PortsBelowAreFed}
 use Rattle.u_strict.proofs.NumberFacts.{one_statement, number_within, place_number}
 use Rattle.u_strict.proofs.SourceTables.{one_source, no_one_source}
-
--- a statement has one to three ports
-three : (k : Kind) → (1 ≤ ports_of k) × (ports_of k ≤ 3)
-three kinds.Select = (lit≤ tt, lit≤ tt)
-three k = (lit≤ tt, lit≤ tt)
 
 or_false : (a b : Bool) → (a || b) ≡ false → (a ≡ false) × (b ≡ false)
 or_false true b e = absurd (false≢true (sym e))
 or_false false b e = (refl, e)
 
-and_false : (a b : Bool) → (a && b) ≡ false → (a ≡ false) ⊎ (b ≡ false)
-and_false true b e = inr e
-and_false false b e = inl refl
-
-module _ (ss : List StatementParts) (i : ℕ) (s : StatementParts) (at : slice_get ss i ≡ Some s) where
-  -- what a table says of this statement
-  here : (port : ℕ) (t : List Sources) → AreSources ss port t → AreFrom ss (i + 1) port (2 * (length ss + 1)) 0 (get_or t i Nothing)
-  here port t w =
+module _ (ss : List StatementParts) (i : ℕ) (s : StatementParts) (at : slice_get ss i ≡ Some s) (port : ℕ) (t : List Sources) (w : AreSources ss port t) where
+  -- what the table says of this statement
+  here : AreFrom ss (i + 1) port (2 * (length ss + 1)) 0 (get_or t i Nothing)
+  here =
       let n = number_within ss (i + 1) s (place_number ss i s at) in
       let e : i + 1 - 1 ≡ i = omega arith in
       subst (λ (k : ℕ). AreFrom ss (i + 1) port (2 * (length ss + 1)) 0 (get_or t k Nothing)) e (w.each (i + 1) n)
 
-  kind_of : (u : StatementParts) → statement_at ss (i + 1) ≡ Some u → s.kind ≡ u.kind
-  kind_of u q = ap (λ (x : StatementParts). x.kind) (one_statement ss (i + 1) s u (place_number ss i s at) q)
+  kind_of : (u : StatementParts) → statement_at ss (i + 1) ≡ Some u → u.kind ≡ s.kind
+  kind_of u q = ap (λ (x : StatementParts). x.kind) (one_statement ss (i + 1) u s q (place_number ss i s at))
 
-  module _ (t1 t2 t3 : List Sources) (w1 : AreSources ss 1 t1) (w2 : AreSources ss 2 t2) (w3 : AreSources ss 3 t3) where
-    each_port : (is_one_source (get_or t1 i Nothing) ≡ true) → ((nat_lt (ports_of s.kind) 2 || is_one_source (get_or t2 i Nothing)) ≡ true) → ((nat_lt (ports_of s.kind) 3 || is_one_source (get_or t3 i Nothing)) ≡ true) → (port : ℕ) → 1 ≤ port → port ≤ ports_of s.kind → PortHasOneSource ss (i + 1) port
-    each_port a b c port from to =
-        elim (cases_lt port 2) [
-          | inl l ↦
-              let e : 1 ≡ port = omega (arith, from, l) in
-              subst (λ (p : ℕ). PortHasOneSource ss (i + 1) p) e (one_source ss (i + 1) 1 (get_or t1 i Nothing) (here 1 t1 w1) a)
-          | inr l ↦ elim (cases_lt port 3) [
-            | inl m ↦
-                let e : 2 ≡ port = omega (arith, l, m) in
-                let k : is_one_source (get_or t2 i Nothing) ≡ true = elim (or_cases (nat_lt (ports_of s.kind) 2) (is_one_source (get_or t2 i Nothing)) b) [ inl x ↦ (let y = ltb-true (ports_of s.kind) 2 x in absurd (omega (arith, y, to, l))) | inr x ↦ x ] in
-                subst (λ (p : ℕ). PortHasOneSource ss (i + 1) p) e (one_source ss (i + 1) 2 (get_or t2 i Nothing) (here 2 t2 w2) k)
-            | inr m ↦
-                let h = (three s.kind).1 in
-                let e : 3 ≡ port = omega (arith, m, to, h) in
-                let k : is_one_source (get_or t3 i Nothing) ≡ true = elim (or_cases (nat_lt (ports_of s.kind) 3) (is_one_source (get_or t3 i Nothing)) c) [ inl x ↦ (let y = ltb-true (ports_of s.kind) 3 x in absurd (omega (arith, y, to, m))) | inr x ↦ x ] in
-                subst (λ (p : ℕ). PortHasOneSource ss (i + 1) p) e (one_source ss (i + 1) 3 (get_or t3 i Nothing) (here 3 t3 w3) k)
-          ]
+  pub fed : has_one_source s.kind port (get_or t i Nothing) ≡ true → PortIsFed ss port (i + 1)
+  fed e u q o h =
+      let k = kind_of u q in
+      let o' : comes_from_outside s.kind ≡ false = subst (λ (z : Kind). comes_from_outside z ≡ false) k o in
+      let h' : port ≤ ports_of s.kind = subst (λ (z : Kind). port ≤ ports_of z) k h in
+      elim (or_cases (comes_from_outside s.kind) (nat_lt (ports_of s.kind) port || is_one_source (get_or t i Nothing)) e) [
+        | inl x ↦ (let a : false ≡ true = rw o' at x in absurd (false≢true a))
+        | inr x ↦ elim (or_cases (nat_lt (ports_of s.kind) port) (is_one_source (get_or t i Nothing)) x) [
+          | inl y ↦ (let l = ltb-true (ports_of s.kind) port y in absurd (omega (arith, l, h')))
+          | inr y ↦ one_source ss (i + 1) port (get_or t i Nothing) here y
         ]
+      ]
 
-    pub fed : have_one_source s.kind (get_or t1 i Nothing) (get_or t2 i Nothing) (get_or t3 i Nothing) ≡ true → PortsHaveOneSource ss (i + 1)
-    fed e u q o =
-        let k = kind_of u q in
-        elim (or_cases (comes_from_outside s.kind) _ e) [
-          | inl x ↦ absurd (false≢true (sym o ∙ ap comes_from_outside (sym k) ∙ x))
-          | inr x ↦
-              let p = and_parts (is_one_source (get_or t1 i Nothing) && (nat_lt (ports_of s.kind) 2 || is_one_source (get_or t2 i Nothing))) (nat_lt (ports_of s.kind) 3 || is_one_source (get_or t3 i Nothing)) x in
-              let r = and_parts (is_one_source (get_or t1 i Nothing)) (nat_lt (ports_of s.kind) 2 || is_one_source (get_or t2 i Nothing)) p.0 in
-              λ port h. each_port r.0 r.1 p.1 port h.0 (subst (λ (z : Kind). port ≤ ports_of z) (sym k) h.1)
-        ]
+  pub not_fed : has_one_source s.kind port (get_or t i Nothing) ≡ false → PortIsFed ss port (i + 1) → ⊥
+  not_fed e asks =
+      let o = or_false (comes_from_outside s.kind) (nat_lt (ports_of s.kind) port || is_one_source (get_or t i Nothing)) e in
+      let p = or_false (nat_lt (ports_of s.kind) port) (is_one_source (get_or t i Nothing)) o.1 in
+      no_one_source ss (i + 1) port (get_or t i Nothing) here p.1
+      (asks s (place_number ss i s at) o.0 (ltb-false (ports_of s.kind) port p.0))
 
-    asked : (port : ℕ) → PortsHaveOneSource ss (i + 1) → comes_from_outside s.kind ≡ false → 1 ≤ port → port ≤ ports_of s.kind → PortHasOneSource ss (i + 1) port
-    asked port asks o from to = asks s (place_number ss i s at) o port (from, to)
+-- the first number of which one of two does not hold
+both_first : (P Q : ℕ → Type 0) (a b : Option ℕ) → IsFirstFailing P a → IsFirstFailing Q b → IsFirstFailing (λ (n : ℕ). P n × Q n) (first_of_both a b)
+both_first P Q None None p q = λ n. (p n, q n)
+both_first P Q None (Some n) p q = (λ k. q.0 k.1, λ m h. (p m, q.1 m h))
+both_first P Q (Some m) None p q = (λ k. p.0 k.0, λ j h. (p.1 j h, q j))
+both_first P Q (Some m) (Some n) p q = by (nat_lt n m) refl
+  where
+    by : (z : Bool) → nat_lt n m ≡ z → IsFirstFailing (λ (n : ℕ). P n × Q n) (if z then Some n else Some m)
+    by true e =
+        let l = ltb-true n m e in
+        (λ k. q.0 k.1, λ j h. (p.1 j (omega (arith, h, l)), q.1 j h))
+    by false e =
+        let l = ltb-false n m e in
+        (λ k. p.0 k.0, λ j h. (p.1 j h, q.1 j (omega (arith, h, l))))
 
-    pub not_fed : have_one_source s.kind (get_or t1 i Nothing) (get_or t2 i Nothing) (get_or t3 i Nothing) ≡ false → PortsHaveOneSource ss (i + 1) → ⊥
-    not_fed e asks =
-        let h = (three s.kind).0 in
-        let o = or_false (comes_from_outside s.kind) _ e in
-        elim (and_false (is_one_source (get_or t1 i Nothing) && (nat_lt (ports_of s.kind) 2 || is_one_source (get_or t2 i Nothing))) (nat_lt (ports_of s.kind) 3 || is_one_source (get_or t3 i Nothing)) o.1) [
-          | inl x ↦ elim (and_false (is_one_source (get_or t1 i Nothing)) (nat_lt (ports_of s.kind) 2 || is_one_source (get_or t2 i Nothing)) x) [
-            | inl y ↦ no_one_source ss (i + 1) 1 (get_or t1 i Nothing) (here 1 t1 w1) y (asked 1 asks o.0 (lit≤ tt) h)
-            | inr y ↦
-                let z = or_false (nat_lt (ports_of s.kind) 2) (is_one_source (get_or t2 i Nothing)) y in
-                no_one_source ss (i + 1) 2 (get_or t2 i Nothing) (here 2 t2 w2) z.1 (asked 2 asks o.0 (lit≤ tt) (ltb-false (ports_of s.kind) 2 z.0))
-          ]
-          | inr x ↦
-              let z = or_false (nat_lt (ports_of s.kind) 3) (is_one_source (get_or t3 i Nothing)) x in
-              no_one_source ss (i + 1) 3 (get_or t3 i Nothing) (here 3 t3 w3) z.1 (asked 3 asks o.0 (lit≤ tt) (ltb-false (ports_of s.kind) 3 z.0))
-        ]
+-- what says the same has the same first number
+alike_first : (P Q : ℕ → Type 0) → ((n : ℕ) → P n → Q n) → ((n : ℕ) → Q n → P n) → (o : Option ℕ) → IsFirstFailing P o → IsFirstFailing Q o
+alike_first P Q to back None w = λ n. to n (w n)
+alike_first P Q to back (Some n) w = (λ k. w.0 (back n k), λ m h. to m (w.1 m h))
+
+module _ (ss : List StatementParts) where
+  pub no_port : IsFirstFailing (PortsBelowAreFed ss 1) None
+  no_port = λ n p a b. absurd (omega (arith, a, b))
+
+  -- one port more
+  pub next_port : (port : ℕ) → 1 ≤ port → (a b : Option ℕ) → IsFirstFailing (PortsBelowAreFed ss port) a → IsFirstFailing (PortIsFed ss port) b → IsFirstFailing (PortsBelowAreFed ss (port + 1)) (first_of_both a b)
+  next_port port from a b v w =
+      alike_first (λ (n : ℕ). PortsBelowAreFed ss port n × PortIsFed ss port n) (PortsBelowAreFed ss (port + 1))
+      (λ n k p f l. below_more (λ (p : ℕ). 1 ≤ p → PortIsFed ss p n) port (λ p l f. k.0 p f l) (λ f. k.1) p l f)
+      (λ n k. (λ p f l. k p f (omega (arith, l)), k port from (omega arith)))
+      (first_of_both a b) (both_first (PortsBelowAreFed ss port) (PortIsFed ss port) a b v w)
+
+  pub all_ports : (a : Option ℕ) → IsFirstFailing (PortsBelowAreFed ss 6) a → IsFirstFailing (PortsHaveOneSource ss) a
+  all_ports a w =
+      alike_first (PortsBelowAreFed ss 6) (PortsHaveOneSource ss)
+      (λ n k s e o port h. k port h.0 (let m = few_ports s.kind in omega (arith, m, h.1)) s e o h.1)
+      (λ n k p f l s e o h. k s e o p (f, h)) a w

@@ -1,9 +1,9 @@
 -- Arcs of a block, by where they lead and what they come from.
 use Rattle.std.specs.Prelude.{◌≡◌, ℕ, List, Some}
 use Rattle.u_program.specs.declared.program.Kind.{Kind}
-use Rattle.u_program.specs.declared.program.Kind.TheVariants.{Apply}
 use Rattle.u_program.specs.declared.program.Destination.{Destination}
 use Rattle.u_program.specs.Parts.{StatementParts}
+use Rattle.u_check.specs.Kinds.{back_named}
 use Rattle.u_check.specs.Rules.{statement_at, Arc, destination_of}
 
 abbrev pub destination : ℕ → ℕ → Destination
@@ -29,8 +29,8 @@ pub record IsAppliedOnce (ss : List StatementParts) (n : ℕ) : Type 0 where
   pub apply : ℕ
   pub it : StatementParts
   pub stands : statement_at ss apply ≡ Some it
-  pub names : it.kind ≡ Apply n
+  pub names : back_named it.kind ≡ Some n
   pub only : (m : ℕ) (s : StatementParts)
       → statement_at ss m ≡ Some s
-      → s.kind ≡ Apply n
+      → back_named s.kind ≡ Some n
       → m ≡ apply

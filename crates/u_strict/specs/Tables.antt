@@ -2,7 +2,7 @@
 use Rattle.std.specs.Prelude.{◌≡◌, ℕ, ◌+◌, ◌-◌, ◌*◌, ◌<◌, ◌≤◌, ◌⊎◌, ◌↔◌, IsTrue, nat_lt}
 use Rattle.std.specs.Prelude.{Bool, true, false, ◌||◌, ◌&&◌, ◌==◌, if◌then◌else◌}
 use Rattle.std.specs.Prelude.{List, length, slice_index_or, Option, Some, None}
-use Rattle.u_check.specs.Kinds.{ports_of, comes_from_outside}
+use Rattle.u_check.specs.Kinds.{ports_of, comes_from_outside, back_named}
 use Rattle.u_name.specs.Context.{IsBetween}
 use Rattle.u_program.specs.declared.program.Kind.{Kind}
 use Rattle.u_program.specs.declared.program.Kind.TheVariants as kinds
@@ -52,13 +52,16 @@ is_one_source (sources.One a) = true
 is_one_source sources.EnterAndNext = true
 is_one_source sources.Many = false
 
--- whether each port of a statement of that kind has one source, by what its ports have
-abbrev pub have_one_source : Kind → Sources → Sources → Sources → Bool
-have_one_source k a b c =
-    comes_from_outside k
-    || (is_one_source a
-    && (nat_lt (ports_of k) 2 || is_one_source b)
-    && (nat_lt (ports_of k) 3 || is_one_source c))
+-- whether that port of a statement of the kind has one source, by what the arcs to it come from; a
+-- port that the statement lacks, and one whose value comes from outside, needs none
+abbrev pub has_one_source : Kind → ℕ → Sources → Bool
+has_one_source k port s = comes_from_outside k || (nat_lt (ports_of k) port || is_one_source s)
+
+-- the earlier of two numbers, where there are any
+abbrev pub first_of_both : Option ℕ → Option ℕ → Option ℕ
+first_of_both None b = b
+first_of_both (Some m) None = Some m
+first_of_both (Some m) (Some n) = if nat_lt n m then Some n else Some m
 
 -- where the only arc comes from
 abbrev pub only_source : Sources → Option Source
@@ -115,6 +118,19 @@ pub record TwoBefore (ss : List StatementParts) (n port list places : ℕ) : Typ
 abbrev pub PortHasOneSource : List StatementParts → ℕ → ℕ → Type 0
 PortHasOneSource ss n port = ((a : Arc) × OnlyArc ss n port a) ⊎ EnterAndNext ss n port
 
+-- that port of statement n has one source, if the statement has the port and takes it from arcs
+abbrev pub PortIsFed : List StatementParts → ℕ → ℕ → Type 0
+PortIsFed ss port n =
+    (s : StatementParts)
+    → statement_at ss n ≡ Some s
+    → comes_from_outside s.kind ≡ false
+    → port ≤ ports_of s.kind
+    → PortHasOneSource ss n port
+
+-- and so has each port below that one
+abbrev pub PortsBelowAreFed : List StatementParts → ℕ → ℕ → Type 0
+PortsBelowAreFed ss port n = (p : ℕ) → 1 ≤ p → p < port → PortIsFed ss p n
+
 -- what the arcs before a place that lead to that port of statement n come from
 abbrev pub AreFrom : List StatementParts → ℕ → ℕ → ℕ → ℕ → Sources → Type 0
 AreFrom ss n port list places sources.Nothing =
@@ -152,11 +168,11 @@ pub record OneCallBefore (ss : List StatementParts) (n count : ℕ) : Type 0 whe
   pub it : StatementParts
   pub before : apply ≤ count
   pub stands : statement_at ss apply ≡ Some it
-  pub names : it.kind ≡ kinds.Apply n
+  pub names : back_named it.kind ≡ Some n
   pub only : (m : ℕ) (s : StatementParts)
       → m ≤ count
       → statement_at ss m ≡ Some s
-      → s.kind ≡ kinds.Apply n
+      → back_named s.kind ≡ Some n
       → m ≡ apply
 
 -- how many of the first statements are an `apply` that names statement n
@@ -165,7 +181,7 @@ AreCalls ss n count calls.Nothing =
     (m : ℕ) (s : StatementParts)
     → m ≤ count
     → statement_at ss m ≡ Some s
-    → s.kind ≡ kinds.Apply n
+    → back_named s.kind ≡ Some n
     → ⊥
 AreCalls ss n count calls.One = OneCallBefore ss n count
 AreCalls ss n count calls.Many = IsAppliedOnce ss n → ⊥

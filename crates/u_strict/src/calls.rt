@@ -63,7 +63,7 @@ fn add_calls(table: &mut [Calls], statements: &[Statement])
     ensures { CallsBefore statements.now (length statements.now) table.new }
 {
     for statement in statements {
-        if let Kind::Apply(number) = statement.kind() {
+        if let Kind::Apply(number, _) = statement.kind() {
             add_call(table, usize::from(*number));
         }
     }

@@ -7,11 +7,11 @@ ghost use Rattle.u_strict.specs.Tables.{way_of, side_of};
 use crate::sources::Way;
 use u_program::Kind;
 
-/// Whether its value comes from outside: of a `begin` or a `back`.
+/// Whether its value comes from outside: of a `begin`, a `param` or a `back`.
 pub fn comes_from_outside(kind: &Kind) -> bool
     ensures { result ≡ comes_from_outside kind.now }
 {
-    matches!(kind, Kind::Begin | Kind::Back)
+    matches!(kind, Kind::Begin | Kind::Param(_) | Kind::Back)
 }
 
 /// Whether it is `end`.
@@ -62,7 +62,7 @@ pub fn is_test(kind: &Kind) -> bool
             | Kind::Last
             | Kind::Leave
             | Kind::Switch
-            | Kind::Apply(_)
+            | Kind::Apply(_, _)
             | Kind::Store
             | Kind::End
     )

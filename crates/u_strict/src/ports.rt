@@ -1,7 +1,7 @@
 //! The first statement with a port that lacks one source.
 ghost use Rattle.std.specs.Prelude.{◌≡◌, ℕ, ◌+◌, ◌-◌, ◌<◌, ◌≤◌, ◌↔◌, IsTrue, IfOk, length, slice_index_or};
 ghost use Rattle.u_strict.specs.Breaches.{PortsHaveOneSource, Asks, IsFirstFailing};
-ghost use Rattle.u_strict.specs.Tables.{is_one_source, have_one_source, AreSources};
+ghost use Rattle.u_strict.specs.Tables.{is_one_source, has_one_source, first_of_both, AreSources, PortIsFed};
 
 use crate::kinds::comes_from_outside;
 use crate::rule::StrictRule;
@@ -10,6 +10,9 @@ use std::alloc::{AllocError, Global};
 use u_check::ports_of;
 use u_program::{Block, Kind, Statement};
 
+/// The first number behind those of ports: a statement has five ports at most.
+const BEHIND_PORTS: u8 = 6;
+
 /// Whether the arcs to a port are one, or one from an `enter` and one from a `next`.
 fn is_one_source(sources: Sources) -> bool
     ensures { result ≡ is_one_source sources }
@@ -17,37 +20,36 @@ fn is_one_source(sources: Sources) -> bool
     matches!(sources, Sources::One(_) | Sources::EnterAndNext)
 }
 
-/// Whether each port of a statement of that kind has one source, where these are the sources of
-/// its first, its second and its third port.
-fn have_one_source(kind: &Kind, first: Sources, second: Sources, third: Sources) -> bool
-    ensures { result ≡ have_one_source kind.now first second third }
+/// Whether that port of a statement of the kind has one source, where these are its sources. A port
+/// that the statement lacks, and one whose value comes from outside, needs none.
+fn has_one_source(kind: &Kind, port: u8, sources: Sources) -> bool
+    ensures { result ≡ has_one_source kind.now port sources }
 {
-    let ports = ports_of(kind);
-    comes_from_outside(kind)
-        || is_one_source(first)
-            && (ports < 2 || is_one_source(second))
-            && (ports < 3 || is_one_source(third))
+    comes_from_outside(kind) || ports_of(kind) < usize::from(port) || is_one_source(sources)
 }
 
-/// The number of the first statement with a port that lacks one source.
-fn first_port(
-    first: &[Sources],
-    second: &[Sources],
-    third: &[Sources],
-    statements: &[Statement],
-) -> Option<usize>
-    requires first { AreSources statements.now 1 first.now }
-    requires second { AreSources statements.now 2 second.now }
-    requires third { AreSources statements.now 3 third.now }
-    ensures { IsFirstFailing (PortsHaveOneSource statements.now) result }
+/// The number of the first statement that has that port and lacks one source there.
+fn first_at(port: u8, sources: &[Sources], statements: &[Statement]) -> Option<usize>
+    requires { AreSources statements.now port sources.now }
+    ensures { IsFirstFailing (PortIsFed statements.now port) result }
 {
     for place in 0..statements.len() {
-        let kind = statements[place].kind();
-        if !have_one_source(kind, first[place], second[place], third[place]) {
+        if !has_one_source(statements[place].kind(), port, sources[place]) {
             return Some(place + 1);
         }
     }
     None
+}
+
+/// The earlier of two numbers, where there are any.
+fn first_of_both(first: Option<usize>, second: Option<usize>) -> Option<usize>
+    ensures { result ≡ first_of_both first second }
+{
+    match (first, second) {
+        (None, _) => second,
+        (Some(one), Some(other)) if other < one => second,
+        _ => first,
+    }
 }
 
 /// The number of the first statement of the block with a port that lacks one source.
@@ -58,8 +60,10 @@ pub fn first_fed_amiss(alloc: Global, block: &Block) -> Result<Option<usize>, Al
     ensures { IfOk result (IsFirstFailing (Asks StrictRule.OneSource block.now)) }
 {
     let statements = block.statements();
-    let first = sources_of(alloc, statements, 1)?;
-    let second = sources_of(alloc, statements, 2)?;
-    let third = sources_of(alloc, statements, 3)?;
-    Ok(first_port(&first, &second, &third, statements))
+    let mut first = None;
+    for port in 1..BEHIND_PORTS {
+        let sources = sources_of(alloc, statements, port)?;
+        first = first_of_both(first, first_at(port, &sources, statements));
+    }
+    Ok(first)
 }

@@ -7,8 +7,8 @@ use std::fmt;
 /// What a strict program keeps beyond the rules of the checker.
 #[derive(Clone, Copy, Debug, PartialEq, Eq)]
 pub enum StrictRule {
-    /// Each port of a statement but `begin` and `back` has one arc, or one from an `enter` and one
-    /// from a `next`. Broken by the statement of the port.
+    /// Each port of a statement but `begin`, `param` and `back` has one arc, or one from an `enter`
+    /// and one from a `next`. Broken by the statement of the port.
     OneSource,
     /// A block has one `end` at most. Broken by the second.
     OneEnd,

@@ -1,10 +1,12 @@
 use Rattle.std.proofs.Common.{◌≡◌, ℕ, ◌+◌, ◌-◌, ◌==◌, refl, sym, ap, ◌∙◌, arith, List, length, get_or, Some, subst}
 use Rattle.std.specs.Prelude.{slice_get, if◌then◌else◌}
 use Rattle.std.proofs.lemmas.Option.{slice_get_read}
+use Rattle.u_check.specs.Kinds.{back_named}
 use Rattle.u_strict.specs.declared.calls.Calls.{Calls}
 use Rattle.u_strict.specs.declared.calls.Calls.TheVariants.{Nothing}
 use Rattle.u_strict.specs.Tables.{with_call, CallsBefore}
 use Rattle.u_strict.proofs.CallTables.{no_call, call}
+use Rattle.u_strict.proofs.KindFacts.{named_apply}
 use Rattle.u_strict.proofs.calls.add_calls.Goals as goal
 use Rattle.u_strict.proofs.calls.add_calls.Goals.{in-Apply, in_default}
 
@@ -18,9 +20,9 @@ loop-statement-preserved c =
       | in-Apply w ↦
           let long : length w.add_call.new.table ≡ length c.loop-statement.table = sym (ap length w.table-is) ∙ c.match-kind.auto.table in
           subst (λ (t : List Calls). CallsBefore ss (i + 1) t) (sym w.table-is)
-          (call ss i s at c.loop-statement.table c.loop-statement.invariant w.in-Apply.number w.add_call.new.table (sym c.kind.ensures ∙ w.in-Apply.is) long
+          (call ss i s at c.loop-statement.table c.loop-statement.invariant w.in-Apply.number w.add_call.new.table (ap back_named (sym c.kind.ensures ∙ w.in-Apply.is)) long
           (λ m a b. subst (λ (k : ℕ). get_or w.add_call.new.table (m - 1) Nothing ≡ (if m == k then with_call (get_or c.loop-statement.table (m - 1) Nothing) else get_or c.loop-statement.table (m - 1) Nothing)) w.from.ensures (w.add_call.ensures m a b)))
       | in_default w ↦
           subst (λ (t : List Calls). CallsBefore ss (i + 1) t) (sym w.table-is)
-          (no_call ss i s at c.loop-statement.table c.loop-statement.invariant (λ n e. w.in_default.not-Apply n (c.kind.ensures ∙ e)))
+          (no_call ss i s at c.loop-statement.table c.loop-statement.invariant (λ n e. let a = named_apply s.kind n e in w.in_default.not-Apply n a.0 (c.kind.ensures ∙ a.1)))
     ]

@@ -18,4 +18,4 @@ some_port_has-requires c = record {
 pub returns-in_default : goal.returns-in_default
 returns-in_default c =
     by_ports c.args.self.now.flow.statements.now c.args.self.now.control c.args.self.now.value (IsMarked c.args.marks.now) c.args.number c.in-Some.statement.now (sym c.in-Some.ensures)
-    (λ e. c.in_default.not-Begin (c.kind.ensures ∙ e)) (λ e. c.in_default.not-Back (c.kind.ensures ∙ e)) c.some_port_has.result (rw (← c.kind.ensures) c.some_port_has.ensures)
+    (λ e. c.in_default.not-Begin (c.kind.ensures ∙ e)) (λ q e. c.in_default.not-Param q (c.kind.ensures ∙ e)) (λ e. c.in_default.not-Back (c.kind.ensures ∙ e)) c.some_port_has.result (rw (← c.kind.ensures) c.some_port_has.ensures)
