@@ -3,8 +3,6 @@ use Rattle.std.proofs.Common.{◌≡◌, ◌≤◌, arith, true, IsTrue, List, [
 use Rattle.std.specs.Prelude.{Contains, ◌==◌}
 use Rattle.std.proofs.lemmas.Bool.{and_parts, eqb-true}
 use Rattle.u_name.specs.Name.{Activity}
-use Rattle.u_program.specs.declared.program.Kind.{Kind}
-use Rattle.u_program.specs.declared.program.Kind.TheVariants.{Begin}
 use Rattle.u_program.specs.Parts.{StatementParts, BlockParts}
 use Rattle.u_check.specs.Jobs.{JobParts}
 use Rattle.u_check.specs.Kinds.{ports_of}
@@ -16,18 +14,15 @@ use Rattle.u_rule.specs.declared.entry.Entry.{Entry}
 use Rattle.u_rule.specs.declared.entry.Entry.TheVariants as entries
 use Rattle.u_rule.specs.declared.firing.Firing.{Firing}
 use Rattle.u_system.proofs.Member.{Contains-head}
+use Rattle.u_rule.proofs.FiringShapes.{few_ports}
 use Rattle.u_rule.proofs.Firings.{at_statement}
-
-some_port : (k : Kind) → 1 ≤ ports_of k
-some_port Begin = omega arith
-some_port k = omega arith
 
 some_value : (p : List BlockParts) (s : Option StatementParts) (f : Firing) → is_firing_at p s f ≡ true → 1 ≤ length f.values
 some_value p None f h = cc
 some_value p (Some s) f h =
     let r = (and_parts (fits_at p s.region f.activity) _ h).1 in
     let n = eqb-true (length f.values) (ports_of s.kind) (and_parts (length f.values == ports_of s.kind) (has_its_write s.kind f.values f.write) r).0 in
-    let l = some_port s.kind in
+    let l = (few_ports s.kind).0 in
     omega (arith, n)
 
 first_token : (a : Activity) (vs : ValueList) (more : List Entry) → 1 ≤ length vs → (e : Entry) × Contains (tokens_from a 1 vs ++ more) e

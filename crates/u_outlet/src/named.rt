@@ -14,6 +14,7 @@ impl Named for Brand {
     ghost use Rattle.std.specs.Prelude.{[], pos};
     ghost use Rattle.u_check.specs.Jobs.{job};
     ghost use Rattle.u_program.specs.Parts.{program};
+    ghost use Rattle.u_program.specs.declared.program.Version.TheVariants as versions;
 
-    ghost job = { job (program []) (pos 0) };
+    ghost job = { job (program versions.One []) (pos 0) };
 }

@@ -8,8 +8,6 @@ use Rattle.std.proofs.lemmas.Bool.{eqb-true}
 use Rattle.std.proofs.lemmas.Bool.Decides.{nat_tests}
 use Rattle.std.proofs.lemmas.Nat.Bits.{bit_at_lowest, bit_at-suc, bit_at-zero, bit_at-lt, bit_at_and, bit_at_or, bit_at_xor, bit_at-pow_same, bit_at-pow_other, bit_at_mask_inside, bit_at_mask_below, bit_at_mask_above, bit_at_above, same_from_bits}
 use Rattle.u_name.specs.Context.{IsBetween}
-use Rattle.u_program.specs.declared.program.Kind.{Kind}
-use Rattle.u_check.specs.Kinds.{ports_of}
 use Rattle.u_rule.specs.Parts.{most_ports}
 use Rattle.u_waits.specs.Ports.{has_port}
 use Rattle.u_waits.specs.declared.ports.Ports.{Ports}
@@ -153,10 +151,6 @@ ports_same p q same = ap ports (same_from_bits p.bits q.bits alike)
         let to : bit_at p.bits k ≡ 1 → bit_at q.bits k ≡ 1 = λ x. (has_bit q k).0 ((same k).0 ((has_bit p k).1 x)) in
         let back : bit_at q.bits k ≡ 1 → bit_at p.bits k ≡ 1 = λ x. (has_bit p k).0 ((same k).1 ((has_bit q k).1 x)) in
         bits_same (bit_at p.bits k) (bit_at q.bits k) l m to back
-
--- so many ports a statement has at most
-pub few_ports : (k : Kind) → ports_of k ≤ most_ports
-few_ports k = grind arith
 
 -- the ports below a number that have T, as they are gathered
 module _ (p : Ports) (T : ℕ → Type 0) where

@@ -9,7 +9,8 @@ use Rattle.u_waits.specs.Ports.{has_port}
 use Rattle.u_waits.specs.Waiting.{HasToken, IsPortOf, IsWaiting}
 use Rattle.u_waits.specs.declared.ports.Ports.{Ports}
 use Rattle.u_waits.specs.declared.activities.WaitingActivity.{WaitingActivity}
-use Rattle.u_waits.proofs.PortLaws.{ports_same, few_ports}
+use Rattle.u_check.proofs.KindTests.{few_ports}
+use Rattle.u_waits.proofs.PortLaws.{ports_same}
 
 abbrev pub waiting : Activity → Ports → Ports → WaitingActivity
 waiting activity has lacks = record { activity = activity; has = has; lacks = lacks }
