@@ -1,11 +1,5 @@
 pub mod Entries
 pub mod Names
-pub mod JoinLaws
-pub mod ReadLaws
-pub mod Neighbours
-pub mod ScanLaws
-pub mod ReadScan
-pub mod Found
+pub mod Growing
 pub mod Lists
 pub mod Fired
-pub mod Thirds

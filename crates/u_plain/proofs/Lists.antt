@@ -1,24 +1,11 @@
 -- Parts of a list, and going over it: what holds of each member so far, and what a list of firings
 -- holds so far.
-use Rattle.std.proofs.Common.{◌≡◌, ◌↔◌, inl, inr, ℕ, ◌<◌, ◌≤◌, ◌+◌, List, [], ◌∷◌, ◌++◌, sym, subst, take, drop, length, get_or, Contains, true, false}
-use Rattle.std.proofs.lemmas.List.{take_more, take_all, take-append-drop}
-use Rattle.std.proofs.lemmas.List.Elements.{Contains-get_or, Contains-append_cases, Contains-append_left, Contains-append_right}
+use Rattle.std.proofs.Common.{◌≡◌, ◌↔◌, inl, inr, ℕ, ◌<◌, ◌≤◌, ◌+◌, List, [], ◌∷◌, ◌++◌, sym, subst, take, length, get_or, Contains, true, false}
+use Rattle.std.proofs.lemmas.List.{take_more, take_all}
+use Rattle.std.proofs.lemmas.List.Elements.{Contains-append_cases, Contains-append_left, Contains-append_right}
 use Rattle.u_system.specs.Firing.{System, Held}
 use Rattle.u_system.proofs.Held.{Held-push, Held-nil}
 use Rattle.u_system.proofs.Member.{Contains-nil, Contains-head, Contains-cons_cases}
-
-pub Contains-taken : {X : Type 0} (i : ℕ) (xs : List X) (x : X) → Contains (take i xs) x → Contains xs x
-Contains-taken i xs x m = rw take-append-drop at (Contains-append_left (take i xs) (drop i xs) x m)
-
-pub Contains-dropped : {X : Type 0} (i : ℕ) (xs : List X) (x : X) → Contains (drop i xs) x → Contains xs x
-Contains-dropped i xs x m = rw take-append-drop at (Contains-append_right (take i xs) (drop i xs) x m)
-
--- where none of the first has P, those that have it stand behind
-pub behind_those : {X : Type 0} (P : X → Type 0) (xs : List X) (i : ℕ) → ((x : X) → Contains (take i xs) x → P x → ⊥) → (x : X) → Contains xs x → P x → Contains (drop i xs) x
-behind_those P xs i none x m p = elim (Contains-append_cases (take i xs) (drop i xs) x (rw take-append-drop m)) [ inl a ↦ absurd (none x a p) | inr b ↦ b ]
-
-pub at_place : {X : Type 0} (xs : List X) (i : ℕ) (d : X) → i < length xs → d ≡ get_or xs i d → Contains xs d
-at_place {X} xs i d l e = subst (λ (x : X). Contains xs x) (sym e) (Contains-get_or xs i d l)
 
 pub each_all : {X : Type 0} (P : X → Type 0) (xs : List X) (i : ℕ) → length xs ≤ i → ((x : X) → Contains (take i xs) x → P x) → (x : X) → Contains xs x → P x
 each_all P xs i h all x m = all x (rw (take_all i xs h) m)

@@ -1,58 +1,45 @@
--- The records of one, two or three values, or of a read, that a list of entries may make.
-use Rattle.std.specs.Prelude.{◌≡◌, List, [], ◌∷◌, ◌⊎◌, Some, None, Contains}
+-- The firings that a list of entries makes: each grows from its first token.
+use Rattle.std.specs.Prelude.{◌≡◌, ◌+◌, List, [], ◌∷◌, ◌++◌, length, Some, None, Contains}
+use Rattle.u_value.specs.declared.value.Value.{Value}
 use Rattle.u_check.specs.Jobs.{JobParts}
-use Rattle.u_rule.specs.Parts.{TokenParts}
+use Rattle.u_rule.specs.Parts.{TokenParts, ValueList}
 use Rattle.u_rule.specs.Rule.{system_of}
 use Rattle.u_rule.specs.EntryOrder.{firing, written}
 use Rattle.u_rule.specs.declared.parts.Write.{Write}
 use Rattle.u_rule.specs.declared.entry.Entry.{Entry}
 use Rattle.u_rule.specs.declared.entry.Entry.TheVariants as entries
 use Rattle.u_rule.specs.declared.firing.Firing.{Firing}
-use Rattle.u_sets.specs.Members.{SomeOf}
 use Rattle.u_system.specs.Firing.{Enabled}
-
--- the token's activity with its value
-abbrev pub IsOfOne : Entry → Firing → Type 0
-IsOfOne left f = (t : TokenParts) × (left ≡ entries.Token t) × (f ≡ firing t.activity (t.value ∷ []) None)
-
--- the first token's activity with the values of both
-abbrev pub IsOfTwo : Entry → Entry → Firing → Type 0
-IsOfTwo left right f =
-    (t : TokenParts) × (u : TokenParts) × (left ≡ entries.Token t) × (right ≡ entries.Token u) × (f ≡ firing t.activity (t.value ∷ u.value ∷ []) None)
-
--- the first token's activity with the values of all three
-abbrev pub IsOfThree : Entry → Entry → Entry → Firing → Type 0
-IsOfThree left middle right f =
-    (t : TokenParts) × (u : TokenParts) × (w : TokenParts) × (left ≡ entries.Token t) × (middle ≡ entries.Token u) × (right ≡ entries.Token w)
-    × (f ≡ firing t.activity (t.value ∷ u.value ∷ w.value ∷ []) None)
-
--- the first token's activity with the values of both, and the write
-abbrev pub IsOfRead : Entry → Entry → Entry → Firing → Type 0
-IsOfRead left middle right f =
-    (t : TokenParts) × (u : TokenParts) × (w : Write) × (left ≡ entries.Token t) × (middle ≡ entries.Token u) × (right ≡ entries.Write w)
-    × (f ≡ firing t.activity (t.value ∷ u.value ∷ []) (Some (written w.writer w.value)))
-
--- made of three entries: of three tokens, or of two tokens and a write
-abbrev pub IsOfThird : Entry → Entry → Entry → Firing → Type 0
-IsOfThird left middle right f = IsOfThree left middle right f ⊎ IsOfRead left middle right f
 
 -- what is enabled over the list
 abbrev pub EnabledOver : JobParts → List Entry → Firing → Type 0
 EnabledOver job held f = Enabled (system_of job) (Contains held) f
 
--- enabled, and made of these two entries
-abbrev pub FitsTwo : JobParts → List Entry → Entry → Entry → Firing → Type 0
-FitsTwo job held left right f = IsOfTwo left right f × EnabledOver job held f
+-- of the same activity, with the same values and perhaps more behind them
+abbrev pub Extends : Firing → Firing → Type 0
+Extends made f = (f.activity ≡ made.activity) × ((rest : ValueList) × (f.values ≡ made.values ++ rest))
 
--- enabled, and made of these three entries
-abbrev pub FitsThree : JobParts → List Entry → Entry → Entry → Entry → Firing → Type 0
-FitsThree job held left middle right f = IsOfThird left middle right f × EnabledOver job held f
+-- the record with the write
+abbrev pub with_write : Firing → Write → Firing
+with_write made w = firing made.activity made.values (Some (written w.writer w.value))
 
--- enabled, and made of this entry and two others of the list
-abbrev pub FitsTriple : JobParts → List Entry → Entry → Firing → Type 0
-FitsTriple job held left f = SomeOf held (λ middle. SomeOf held (FitsThree job held left middle)) f
+-- the record with one more value
+abbrev pub longer : Firing → Value → Firing
+longer made v = firing made.activity (made.values ++ (v ∷ [])) None
 
--- enabled, and made of this entry, or of this one and one or two others of the list
+-- enabled, and the record with the entry as its write
+abbrev pub FitsRead : JobParts → List Entry → Firing → Entry → Firing → Type 0
+FitsRead job held made e f =
+    (w : Write) × (e ≡ entries.Write w) × (with_write made w ≡ f) × EnabledOver job held f
+
+-- enabled, and the entry is its token at the port behind the record's
+abbrev pub FitsLonger : JobParts → List Entry → Firing → Entry → Firing → Type 0
+FitsLonger job held made e f =
+    (t : TokenParts) × (e ≡ entries.Token t) × (t.activity ≡ made.activity)
+    × (t.port ≡ length made.values + 1) × Extends (longer made t.value) f × EnabledOver job held f
+
+-- enabled, and the entry is its first token
 abbrev pub FitsFirst : JobParts → List Entry → Entry → Firing → Type 0
-FitsFirst job held left f =
-    (IsOfOne left f × EnabledOver job held f) ⊎ (SomeOf held (FitsTwo job held left) f ⊎ FitsTriple job held left f)
+FitsFirst job held e f =
+    (t : TokenParts) × (e ≡ entries.Token t) × (t.port ≡ 1)
+    × Extends (firing t.activity (t.value ∷ []) None) f × EnabledOver job held f

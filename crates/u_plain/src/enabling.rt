@@ -1,16 +1,23 @@
 //! The firings that are enabled over a list of entries, in any order.
-ghost use Rattle.std.specs.Prelude.{◌≡◌, ◌↔◌, ◌⊎◌, [], ◌∷◌, Contains, IfOk, OnOk, IsTrue, Some, None};
-ghost use Rattle.u_rule.specs.Rule.{system_of, needs_of, is_firing_of};
+//!
+//! Each is found at its first token: what has that value alone, and then what has one more value, as
+//! long as there are tokens of the same activity at the next port.
+ghost use Rattle.std.specs.Prelude.{◌≡◌, ◌↔◌, ◌⊎◌, ◌+◌, ◌<◌, [], ◌∷◌, length, Contains, IfOk, OnOk, IsTrue, None, MatchOption};
+ghost use Rattle.u_rule.specs.Rule.{system_of, needs_of};
+ghost use Rattle.u_rule.specs.EntryOrder.{firing};
+ghost use Rattle.u_rule.specs.Parts.{TokenParts, most_ports};
+ghost use Rattle.u_rule.specs.declared.entry.Entry.TheVariants as entries;
 ghost use Rattle.u_rule.specs.declared.entry.Entry.{Entry};
 ghost use Rattle.u_rule.specs.declared.firing.Firing.{Firing};
 ghost use Rattle.u_sets.specs.Members.{SomeOf};
 ghost use Rattle.u_system.specs.Firing.{Enabled};
-ghost use Rattle.u_plain.specs.Tries.{IsOfOne, IsOfTwo, IsOfThree, IsOfRead, IsOfThird, EnabledOver, FitsTwo, FitsThree, FitsTriple, FitsFirst};
+ghost use Rattle.u_plain.specs.Tries.{EnabledOver, Extends, with_write, longer, FitsRead, FitsLonger, FitsFirst};
 
 use crate::among::add_new;
 use std::alloc::{AllocError, Global};
 use u_check::Job;
-use u_rule::{Entry, Firing, RuleError, Token, Values, Written, needs};
+use u_rule::{Entry, Firing, MOST_PORTS, RuleError, Token, Values, Write, Written, needs};
+use u_value::Value;
 
 /// Whether the two entries are equal.
 #[tactic(auto, using(crate::proofs::Entries::entry_tied_exact))]
@@ -64,206 +71,171 @@ pub fn is_enabled(
     }
 }
 
-/// The record of the token's activity with its value, if the entry is a token.
-fn record_of_one(alloc: Global, left: &Entry) -> Result<Option<Firing>, AllocError>
-    ensures { IfOk result (λ o. (f : Firing) → (o ≡ Some f) ↔ IsOfOne left.now f) }
+/// The record of the token's activity with its value.
+fn record_of(alloc: Global, token: &Token) -> Result<Firing, AllocError>
+    ensures { IfOk result (λ f. f ≡ firing token.now.activity (token.now.value ∷ []) None) }
 {
-    let Entry::Token(token) = left else {
-        return Ok(None);
-    };
-    Ok(Some(Firing {
+    Ok(Firing {
         activity: token.activity().copy()?,
         values: Values::one(alloc, token.value().copy()?)?,
         write: None,
-    }))
+    })
 }
 
-/// The record of the first token's activity with the values of both, if the entries are tokens.
-fn record_of_two(alloc: Global, left: &Entry, right: &Entry) -> Result<Option<Firing>, AllocError>
-    ensures { IfOk result (λ o. (f : Firing) → (o ≡ Some f) ↔ IsOfTwo left.now right.now f) }
+/// The record with one more value behind its own, and without a write.
+fn longer(alloc: Global, made: &Firing, value: &Value) -> Result<Firing, AllocError>
+    requires { length made.now.values < most_ports }
+    ensures { IfOk result (λ f. f ≡ longer made.now value.now) }
 {
-    let (Entry::Token(first), Entry::Token(second)) = (left, right) else {
-        return Ok(None);
-    };
-    Ok(Some(Firing {
-        activity: first.activity().copy()?,
-        values: Values::two(alloc, first.value().copy()?, second.value().copy()?)?,
+    let mut values = Vec::new(alloc);
+    for known in made.values.as_slice() {
+        values.push(known.copy()?)?;
+    }
+    values.push(value.copy()?)?;
+    Ok(Firing {
+        activity: made.activity.copy()?,
+        values: Values::of(alloc, &values)?,
         write: None,
-    }))
+    })
 }
 
-/// The record of the first token's activity with the values of all three, if the entries are tokens.
-fn record_of_three(
-    alloc: Global,
-    left: &Entry,
-    middle: &Entry,
-    right: &Entry,
-) -> Result<Option<Firing>, AllocError>
-    ensures { IfOk result
-        (λ o. (f : Firing) → (o ≡ Some f) ↔ IsOfThree left.now middle.now right.now f) }
+/// The record with that write.
+fn with_write(alloc: Global, made: &Firing, write: &Write) -> Result<Firing, AllocError>
+    ensures { IfOk result (λ f. f ≡ with_write made.now write.now) }
 {
-    let (Entry::Token(first), Entry::Token(second), Entry::Token(third)) = (left, middle, right)
-    else {
-        return Ok(None);
-    };
-    let value = first.value().copy()?;
-    let other = second.value().copy()?;
-    let last = third.value().copy()?;
-    Ok(Some(Firing {
-        activity: first.activity().copy()?,
-        values: Values::of(alloc, &[value, other, last])?,
-        write: None,
-    }))
-}
-
-/// The record of the first token's activity with the values of both and the write, if the entries are
-/// two tokens and a write.
-fn record_of_read(
-    alloc: Global,
-    left: &Entry,
-    middle: &Entry,
-    right: &Entry,
-) -> Result<Option<Firing>, AllocError>
-    ensures { IfOk result
-        (λ o. (f : Firing) → (o ≡ Some f) ↔ IsOfRead left.now middle.now right.now f) }
-{
-    let (Entry::Token(first), Entry::Token(second), Entry::Write(write)) = (left, middle, right)
-    else {
-        return Ok(None);
-    };
     let by = Written {
         writer: write.writer.copy()?,
         value: write.value.copy()?,
     };
-    Ok(Some(Firing {
-        activity: first.activity().copy()?,
-        values: Values::two(alloc, first.value().copy()?, second.value().copy()?)?,
+    Ok(Firing {
+        activity: made.activity.copy()?,
+        values: made.values.copy(alloc)?,
         write: Some(by),
-    }))
+    })
 }
 
-/// The record that the three entries make: of three tokens, or of two tokens and a write.
-fn record_of_third(
-    alloc: Global,
-    left: &Entry,
-    middle: &Entry,
-    right: &Entry,
-) -> Result<Option<Firing>, AllocError>
-    ensures { IfOk result
-        (λ o. (f : Firing) → (o ≡ Some f) ↔ IsOfThird left.now middle.now right.now f) }
+/// Adds the record, if it is an enabled firing, unless it is there.
+fn add(job: &Job, held: &[Entry], made: Firing, found: &mut Vec<Firing>) -> Result<(), AllocError>
+    ensures { OnOk result
+        ((f : Firing)
+        → Contains found.new.items f
+        ↔ (Contains found.old.items f ⊎ ((made ≡ f) × EnabledOver job.now held.now f))) }
 {
-    match right {
-        Entry::Write(_) => record_of_read(alloc, left, middle, right),
-        _ => record_of_three(alloc, left, middle, right),
+    let enabled = is_enabled(*found.allocator(), job, held, &made)?;
+    if enabled {
+        add_new(found, made)?;
     }
+    Ok(())
 }
 
-/// Adds the record, if there is one and it is an enabled firing, unless it is there.
-fn add(
-    alloc: Global,
+/// Adds the record with the entry as its write, if it is one and that is an enabled firing.
+fn add_read(
     job: &Job,
     held: &[Entry],
-    made: Option<Firing>,
+    made: &Firing,
+    entry: &Entry,
     found: &mut Vec<Firing>,
 ) -> Result<(), AllocError>
     ensures { OnOk result
         ((f : Firing)
         → Contains found.new.items f
-        ↔ (Contains found.old.items f ⊎ ((made ≡ Some f) × EnabledOver job.now held.now f))) }
+        ↔ (Contains found.old.items f ⊎ FitsRead job.now held.now made.now entry.now f)) }
 {
-    let Some(firing) = made else {
+    let Entry::Write(write) = entry else {
         return Ok(());
     };
-    let enabled = is_enabled(alloc, job, held, &firing)?;
-    if enabled {
-        add_new(found, firing)?;
-    }
+    let reading = with_write(*found.allocator(), made, write)?;
+    add(job, held, reading, found)?;
     Ok(())
 }
 
-/// Adds the enabled firings of two values that have this entry first.
-fn add_pairs(
-    alloc: Global,
+/// Adds the enabled firings that are the record with a write.
+fn add_reads(
     job: &Job,
     held: &[Entry],
-    left: &Entry,
+    made: &Firing,
     found: &mut Vec<Firing>,
 ) -> Result<(), AllocError>
     ensures { OnOk result
         ((f : Firing)
         → Contains found.new.items f
-        ↔ (Contains found.old.items f ⊎ SomeOf held.now (FitsTwo job.now held.now left.now) f)) }
+        ↔ (Contains found.old.items f ⊎ SomeOf held.now (FitsRead job.now held.now made.now) f)) }
 {
-    for right in held {
-        let made = record_of_two(alloc, left, right)?;
-        add(alloc, job, held, made, found)?;
+    for entry in held {
+        add_read(job, held, made, entry, found)?;
     }
     Ok(())
 }
 
-/// Adds the enabled firings that have these two entries first, and a third one.
-fn add_thirds(
-    alloc: Global,
-    job: &Job,
-    held: &[Entry],
-    left: &Entry,
-    middle: &Entry,
-    found: &mut Vec<Firing>,
-) -> Result<(), AllocError>
-    ensures { OnOk result
-        ((f : Firing)
-        → Contains found.new.items f
-        ↔ (Contains found.old.items f
-        ⊎ SomeOf held.now (FitsThree job.now held.now left.now middle.now) f)) }
+/// The token, if the entry is one of the record's activity at the port behind its values.
+#[tactic(auto, using(crate::proofs::Names::name_eq_exact))]
+fn next_token<'a>(made: &Firing, entry: &'a Entry) -> Option<&'a Token>
+    ensures { MatchOption result
+        ((t : TokenParts) → entry.now ≡ entries.Token t → t.activity ≡ made.now.activity
+        → t.port ≡ length made.now.values + 1 → ⊥)
+        (λ t. (entry.now ≡ entries.Token t.now) × (t.now.activity ≡ made.now.activity)
+        × (t.now.port ≡ length made.now.values + 1)) }
 {
-    for right in held {
-        let made = record_of_third(alloc, left, middle, right)?;
-        add(alloc, job, held, made, found)?;
+    let Entry::Token(token) = entry else {
+        return None;
+    };
+    let next = made.values.as_slice().len() + 1;
+    if usize::from(token.port()) == next && *token.activity() == made.activity {
+        return Some(token);
     }
-    Ok(())
+    None
 }
 
-/// Adds the enabled firings of three entries that have this one first.
-fn add_triples(
-    alloc: Global,
-    job: &Job,
-    held: &[Entry],
-    left: &Entry,
-    found: &mut Vec<Firing>,
-) -> Result<(), AllocError>
+/// Adds the enabled firings that the record grows into: itself, itself with a write, and those with more
+/// values.
+fn grow(job: &Job, held: &[Entry], made: &Firing, found: &mut Vec<Firing>) -> Result<(), AllocError>
+    requires { made.now.write ≡ None }
     ensures { OnOk result
         ((f : Firing)
         → Contains found.new.items f
-        ↔ (Contains found.old.items f ⊎ FitsTriple job.now held.now left.now f)) }
+        ↔ (Contains found.old.items f ⊎ (Extends made.now f × EnabledOver job.now held.now f))) }
 {
-    for middle in held {
-        add_thirds(alloc, job, held, left, middle, found)?;
+    let alloc = *found.allocator();
+    let alone = made.copy(alloc)?;
+    add(job, held, alone, found)?;
+    add_reads(job, held, made, found)?;
+    if made.values.as_slice().len() == MOST_PORTS {
+        return Ok(());
+    }
+    for entry in held {
+        if let Some(token) = next_token(made, entry) {
+            let more = longer(alloc, made, token.value())?;
+            grow(job, held, &more, found)?;
+        }
     }
     Ok(())
 }
 
 /// Adds the enabled firings that have this entry first.
 fn add_firings(
-    alloc: Global,
     job: &Job,
     held: &[Entry],
-    left: &Entry,
+    entry: &Entry,
     found: &mut Vec<Firing>,
 ) -> Result<(), AllocError>
     ensures { OnOk result
         ((f : Firing)
         → Contains found.new.items f
-        ↔ (Contains found.old.items f ⊎ FitsFirst job.now held.now left.now f)) }
+        ↔ (Contains found.old.items f ⊎ FitsFirst job.now held.now entry.now f)) }
 {
-    let alone = record_of_one(alloc, left)?;
-    add(alloc, job, held, alone, found)?;
-    add_pairs(alloc, job, held, left, found)?;
-    add_triples(alloc, job, held, left, found)?;
+    let Entry::Token(token) = entry else {
+        return Ok(());
+    };
+    if token.port() != 1 {
+        return Ok(());
+    }
+    let made = record_of(*found.allocator(), token)?;
+    grow(job, held, &made, found)?;
     Ok(())
 }
 
-/// All firings of the job that are enabled over the entries, which may stand in any order: of each
-/// entry, of each two and of each three, the record that they make, where it is enabled. None comes twice.
+/// All firings of the job that are enabled over the entries, which may stand in any order. None comes
+/// twice.
 ///
 /// # Errors
 /// `AllocError` where there is no memory.
@@ -274,7 +246,7 @@ pub fn enabled(alloc: Global, job: &Job, held: &[Entry]) -> Result<Vec<Firing>, 
 {
     let mut found = Vec::new(alloc);
     for left in held {
-        add_firings(alloc, job, held, left, &mut found)?;
+        add_firings(job, held, left, &mut found)?;
     }
     Ok(found)
 }

@@ -9,14 +9,13 @@ mod enabling;
 pub mod examples;
 mod holding;
 mod jobs;
-mod reads;
+mod ready;
 mod rounds;
-mod scan;
 pub mod shuffling;
 pub mod worked;
 
 pub use among::are_among;
 pub use enabling::{are_in, enabled, is_enabled};
 pub use holding::{are_firings, held};
+pub use ready::ready_firings;
 pub use rounds::whole;
-pub use scan::{enabled_firings, ready_firings};

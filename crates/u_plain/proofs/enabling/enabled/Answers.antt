@@ -4,7 +4,7 @@ use Rattle.u_rule.specs.declared.firing.Firing.{Firing}
 use Rattle.u_sets.proofs.Gathering.{scan_more, scan_all}
 use Rattle.u_system.proofs.Member.{Contains-nil}
 use Rattle.u_plain.specs.Tries.{FitsFirst}
-use Rattle.u_plain.proofs.Found.{enabled_fits}
+use Rattle.u_plain.proofs.Growing.{first_enabled}
 use Rattle.u_plain.proofs.enabling.enabled.Goals as goal
 
 pub loop-left-preserved : goal.loop-left-preserved
@@ -15,6 +15,6 @@ loop-left-preserved c =
 pub returns : goal.returns
 returns c f =
     let all = scan_all (FitsFirst c.args.job.now c.args.held.now) [] c.args.held.now c.loop-left.left-index c.loop-left.found.items c.loop-left-test.false c.loop-left.invariant f in (
-      (λ m. elim (all.0 m) [ inl n ↦ absurd (Contains-nil f n) | inr s ↦ (enabled_fits c.args.job.now c.args.held.now f).0 s ]),
-      (λ en. all.1 (inr ((enabled_fits c.args.job.now c.args.held.now f).1 en))),
+      (λ m. elim (all.0 m) [ inl n ↦ absurd (Contains-nil f n) | inr s ↦ (first_enabled c.args.job.now c.args.held.now f).0 s ]),
+      (λ en. all.1 (inr ((first_enabled c.args.job.now c.args.held.now f).1 en))),
     )
