@@ -5,6 +5,8 @@ use Rattle.std.specs.Prelude.{cond, ◌==◌, ◌&&◌, not, nat_le, if◌then�
 use Rattle.std.specs.Cmp.Derive.{both_true}
 use Rattle.std.proofs.lemmas.Bool.{false≢true, and_parts, cases_Bool, cases_lt, leb-true, eqb-true, eq-eqb}
 use Rattle.u_program.specs.declared.program.Kind.TheVariants.{Apply}
+use Rattle.u_program.specs.declared.program.Version.{Version}
+use Rattle.u_program.specs.declared.program.Arguments.{Arguments}
 use Rattle.u_program.specs.declared.program.Destination.{Destination}
 use Rattle.u_program.specs.Parts.{StatementParts, BlockParts}
 use Rattle.u_program.specs.Limits.{has_otherwise}
@@ -56,7 +58,7 @@ times_yes to s ss h = sum_by-cons (λ t. cond (has_list to t) 1 0) s ss ∙ ap (
 times_no : (to : List Destination) (s : StatementParts) (ss : List StatementParts) → has_list to s ≡ false → times to (s ∷ ss) ≡ times to ss
 times_no to s ss h = sum_by-cons (λ t. cond (has_list to t) 1 0) s ss ∙ ap (λ c. cond c 1 0 + times to ss) h ∙ omega arith
 
-module _ (b : BlockParts) where
+module _ (version : Version) (b : BlockParts) where
   -- the arcs of a statement stand among those of the block
   record Found (k : ℕ) (ss : List StatementParts) (n : ℕ) (s : StatementParts) : Type 0 where
     behind : List StatementParts
@@ -73,23 +75,23 @@ module _ (b : BlockParts) where
   found k (t ∷ ts) n s (inl h) = subst (λ m. Found k (t ∷ ts) m s) (sym h.0) (subst (λ u. Found k (t ∷ ts) k u) (sym h.1) (here k t ts))
   found k (t ∷ ts) n s (inr h) = later k t ts n s (found (suc k) ts n s h)
 
-  in_block : (x : Shown) → Among x (the_arcs b 1 b.statements) → Among x (block_picture b)
+  in_block : (x : Shown) → Among x (the_arcs b 1 b.statements) → Among x (block_picture version b)
   unfolding block_picture
-  in_block x h = inr (among_right x (numbered (the_loop b) 1 b.loops) (numbered (the_node b) 1 b.statements ++ the_arcs b 1 b.statements) (among_right x (numbered (the_node b) 1 b.statements) (the_arcs b 1 b.statements) h))
+  in_block x h = inr (among_right x (numbered (the_loop b) 1 b.loops) (numbered (the_node version b) 1 b.statements ++ the_arcs b 1 b.statements) (among_right x (numbered (the_node version b) 1 b.statements) (the_arcs b 1 b.statements) h))
 
   module _ (n : ℕ) (s : StatementParts) (at : IsNumbered 1 b.statements n s) where
     abbrev from : List ℕ
     from = statement_name b.name n
 
-    of_statement : (x : Shown) → ((behind : List StatementParts) → Among x (statement_arcs b n s behind)) → Among x (block_picture b)
+    of_statement : (x : Shown) → ((behind : List StatementParts) → Among x (statement_arcs b n s behind)) → Among x (block_picture version b)
     of_statement x h = let f = found 1 b.statements n s at in in_block x (f.there x (h f.behind))
 
-    of_list : (x : Shown) → ((behind : List StatementParts) → Among x (list_arcs b from s behind)) → Among x (block_picture b)
+    of_list : (x : Shown) → ((behind : List StatementParts) → Among x (list_arcs b from s behind)) → Among x (block_picture version b)
     unfolding statement_arcs
     of_list x h = of_statement x (λ behind. among_left x (list_arcs b from s behind) (arcs_to b.name from OnFalse s.otherwise ++ result_arcs b.name from s.kind) (h behind))
 
     -- a value that a `switch` sends on false
-    pub otherwise_leads : (d : Destination) → Among d s.otherwise → Leads (block_picture b) from (statement_name b.name d.statement) d.port
+    pub otherwise_leads : (d : Destination) → Among d s.otherwise → Leads (block_picture version b) from (statement_name b.name d.statement) d.port
     unfolding statement_arcs
     otherwise_leads d h =
         let x = arc_to b.name from OnFalse d in
@@ -97,15 +99,15 @@ module _ (b : BlockParts) where
         (among_left x (arcs_to b.name from OnFalse s.otherwise) (result_arcs b.name from s.kind) (among_map (arc_to b.name from OnFalse) d s.otherwise h))))
 
     -- the result of a call
-    pub result_shown : (back : ℕ) → s.kind ≡ Apply back → Among (Arc from (statement_name b.name back) result_arc) (block_picture b)
+    pub result_shown : (back : ℕ) (c : Arguments) → s.kind ≡ Apply back c → Among (Arc from (statement_name b.name back) result_arc) (block_picture version b)
     unfolding statement_arcs result_arcs
-    result_shown back k =
+    result_shown back c k =
         let x = Arc from (statement_name b.name back) result_arc in
         of_statement x (λ behind. among_right x (list_arcs b from s behind) (arcs_to b.name from OnFalse s.otherwise ++ result_arcs b.name from s.kind)
         (among_right x (arcs_to b.name from OnFalse s.otherwise) (result_arcs b.name from s.kind) (subst (λ kind. Among x (result_arcs b.name from kind)) (sym k) (inl refl))))
 
     -- A statement that shares no list: the arc to a destination.
-    alone : (d : Destination) → shares b.statements s ≡ false → Among d s.to → Leads (block_picture b) from (statement_name b.name d.statement) d.port
+    alone : (d : Destination) → shares b.statements s ≡ false → Among d s.to → Leads (block_picture version b) from (statement_name b.name d.statement) d.port
     unfolding list_arcs
     alone d alone_so h =
         let x = arc_to b.name from (exit_of s.kind) d in
@@ -114,7 +116,7 @@ module _ (b : BlockParts) where
         (among_map (arc_to b.name from (exit_of s.kind)) d s.to h)))
 
     -- a statement that shares its list: the arc to the point
-    joins : shares b.statements s ≡ true → Among (join_arc b.name from s) (block_picture b)
+    joins : shares b.statements s ≡ true → Among (join_arc b.name from s) (block_picture version b)
     unfolding list_arcs
     joins shared_so =
         let x = join_arc b.name from s in
@@ -147,7 +149,7 @@ module _ (b : BlockParts) where
       ]
 
   -- that statement shows the point's arcs
-  point_shown : (s : StatementParts) (d : Destination) → shares b.statements s ≡ true → Among d s.to → Among (arc_to b.name (point_name b.name s.to) FromPoint d) (block_picture b)
+  point_shown : (s : StatementParts) (d : Destination) → shares b.statements s ≡ true → Among d s.to → Among (arc_to b.name (point_name b.name s.to) FromPoint d) (block_picture version b)
   unfolding statement_arcs list_arcs the_point
   point_shown s d shared_so h =
       let p = and_parts (not (has_otherwise s.kind) && nat_le 2 (length s.to)) (nat_le 2 (times s.to b.statements)) shared_so in
@@ -166,7 +168,7 @@ module _ (b : BlockParts) where
       in_block x (f.there x (among_left x (list_arcs b from t f.behind) (arcs_to b.name from OnFalse t.otherwise ++ result_arcs b.name from t.kind) list))
 
   -- a value that a statement sends on
-  pub list_leads : (n : ℕ) (s : StatementParts) (d : Destination) → IsNumbered 1 b.statements n s → Among d s.to → Leads (block_picture b) (statement_name b.name n) (statement_name b.name d.statement) d.port
+  pub list_leads : (n : ℕ) (s : StatementParts) (d : Destination) → IsNumbered 1 b.statements n s → Among d s.to → Leads (block_picture version b) (statement_name b.name n) (statement_name b.name d.statement) d.port
   list_leads n s d at h =
       elim (cases_Bool (shares b.statements s)) [
         | inl y ↦ Through (point_name b.name s.to) (join s.kind) (joins n s at y) (point_shown s d y h)

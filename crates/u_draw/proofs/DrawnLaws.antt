@@ -3,8 +3,9 @@ use Rattle.std.proofs.Common.{◌≡◌, ℕ, suc, Bool, true, false, List, [], 
 use Rattle.std.specs.Prelude.{◌==◌, if◌then◌else◌}
 use Rattle.std.specs.List.{AllByRecursion}
 use Rattle.u_program.specs.declared.program.Kind.{Kind}
-use Rattle.u_program.specs.declared.program.Kind.TheVariants.{Begin, Const, Pass, Unary, Binary, Select, Switch, Enter, Next}
+use Rattle.u_program.specs.declared.program.Kind.TheVariants.{Begin, Const, Pass, Unary, Binary, Select, Switch, Enter, Next, Param}
 use Rattle.u_program.specs.declared.program.Kind.TheVariants.{Last, Leave, Apply, Back, Alloc, Store, Fetch, End}
+use Rattle.u_program.specs.declared.program.Version.{Version}
 use Rattle.u_program.specs.Parts.{StatementParts, BlockParts}
 use Rattle.u_draw.specs.declared.styles.Exit.TheVariants.{OnFalse, FromPoint}
 use Rattle.u_draw.specs.Names.{statement_name, point_name}
@@ -57,7 +58,8 @@ module _ (b : BlockParts) where
     result_is Next e = tt
     result_is Last e = tt
     result_is Leave e = tt
-    result_is (Apply back) e = (ResultArc n back s at e, tt)
+    result_is (Apply back c) e = (ResultArc n back c s at e, tt)
+    result_is (Param p) e = tt
     result_is Back e = tt
     result_is Alloc e = tt
     result_is Store e = tt
@@ -83,14 +85,14 @@ module _ (b : BlockParts) where
   pub arcs_are : AllByRecursion (IsOf b) (the_arcs b 1 b.statements)
   arcs_are = statements_are 1 b.statements (λ n s a. a)
 
-draws_block : (b : BlockParts) → DrawsBlock b
-draws_block b = record {
-  lists = list_leads b;
-  for_false = λ n s d at a. otherwise_leads b n s at d a;
-  results = λ n back s at k. result_shown b n s at back k;
+draws_block : (version : Version) (b : BlockParts) → DrawsBlock version b
+draws_block version b = record {
+  lists = list_leads version b;
+  for_false = λ n s d at a. otherwise_leads version b n s at d a;
+  results = λ n back c s at k. result_shown version b n s at back c k;
   only = arcs_are b;
 }
 
-pub draws_blocks : (p : List BlockParts) → AllByRecursion DrawsBlock p
-draws_blocks [] = tt
-draws_blocks (b ∷ bs) = (draws_block b, draws_blocks bs)
+pub draws_blocks : (version : Version) (p : List BlockParts) → AllByRecursion (DrawsBlock version) p
+draws_blocks version [] = tt
+draws_blocks version (b ∷ bs) = (draws_block version b, draws_blocks version bs)

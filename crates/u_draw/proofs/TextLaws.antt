@@ -4,9 +4,10 @@ use Rattle.std.proofs.lemmas.List.{append-nil}
 use Rattle.std.specs.Prelude.{◌==◌, if◌then◌else◌}
 use Rattle.u_text.specs.Spaced.{ended}
 use Rattle.u_program.specs.declared.program.Kind.{Kind}
-use Rattle.u_program.specs.declared.program.Kind.TheVariants.{Begin, Const, Pass, Unary, Binary, Select, Switch, Enter, Next}
+use Rattle.u_program.specs.declared.program.Kind.TheVariants.{Begin, Const, Pass, Unary, Binary, Select, Switch, Enter, Next, Param}
 use Rattle.u_program.specs.declared.program.Kind.TheVariants.{Last, Leave, Apply, Back, Alloc, Store, Fetch, End}
 use Rattle.u_program.specs.declared.program.Destination.{Destination}
+use Rattle.u_program.specs.declared.program.Version.{Version}
 use Rattle.u_program.specs.Parts.{StatementParts, BlockParts}
 use Rattle.u_program.specs.Text.{header, loop_line, loop_lines, statement_line, statement_lines, block_line, block_lines, blocks_lines, program_lines, program_text}
 use Rattle.u_draw.specs.declared.styles.Exit.{Exit}
@@ -62,7 +63,8 @@ module _ (b : BlockParts) where
   result_silent from Next = refl
   result_silent from Last = refl
   result_silent from Leave = refl
-  result_silent from (Apply n) = refl
+  result_silent from (Apply n c) = refl
+  result_silent from (Param p) = refl
   result_silent from Back = refl
   result_silent from Alloc = refl
   result_silent from Store = refl
@@ -84,30 +86,33 @@ module _ (b : BlockParts) where
   loops_told n [] = refl
   loops_told n (h ∷ hs) = ap (λ t. loop_line n h ∷ t) (loops_told (suc n) hs)
 
-  nodes_told : (n : ℕ) (ss : List StatementParts) → told (numbered (the_node b) n ss) ≡ statement_lines n ss
-  nodes_told n [] = refl
-  nodes_told n (s ∷ ss) = ap (λ t. statement_line n s ∷ t) (nodes_told (suc n) ss)
+  nodes_told : (version : Version) (n : ℕ) (ss : List StatementParts) → told (numbered (the_node version b) n ss) ≡ statement_lines version n ss
+  nodes_told version n [] = refl
+  nodes_told version n (s ∷ ss) = ap (λ t. statement_line version n s ∷ t) (nodes_told version (suc n) ss)
 
-  block_told : told (block_picture b) ≡ block_lines b
+  block_told : (version : Version) → told (block_picture version b) ≡ block_lines version b
   unfolding block_picture
-  block_told =
+  block_told version =
       let loops = numbered (the_loop b) 1 b.loops in
-      let nodes = numbered (the_node b) 1 b.statements in
+      let nodes = numbered (the_node version b) 1 b.statements in
       let arcs = the_arcs b 1 b.statements in
       ap (λ t. block_line b.name ∷ t)
       (told-append loops (nodes ++ arcs)
-      ∙ ap (λ t. told loops ++ t) (told-append nodes arcs ∙ ap (λ t. told nodes ++ t) (all_silent 1 b.statements) ∙ append-nil (told nodes) ∙ nodes_told 1 b.statements)
-      ∙ ap (λ t. t ++ statement_lines 1 b.statements) (loops_told 1 b.loops))
+      ∙ ap (λ t. told loops ++ t) (told-append nodes arcs ∙ ap (λ t. told nodes ++ t) (all_silent 1 b.statements) ∙ append-nil (told nodes) ∙ nodes_told version 1 b.statements)
+      ∙ ap (λ t. t ++ statement_lines version 1 b.statements) (loops_told 1 b.loops))
 
-blocks_told : (p : List BlockParts) → told (picture p) ≡ blocks_lines p
-blocks_told [] = refl
-blocks_told (b ∷ bs) = told-append (block_picture b) (picture bs) ∙ ap (λ t. t ++ told (picture bs)) (block_told b) ∙ ap (λ t. block_lines b ++ t) (blocks_told bs)
+blocks_told : (version : Version) (p : List BlockParts) → told (picture version p) ≡ blocks_lines version p
+blocks_told version [] = refl
+blocks_told version (b ∷ bs) =
+    told-append (block_picture version b) (picture version bs)
+    ∙ ap (λ t. t ++ told (picture version bs)) (block_told b version)
+    ∙ ap (λ t. block_lines version b ++ t) (blocks_told version bs)
 
 -- what the tooltips say are the lines of the program
-pub lines_told : (p : List BlockParts) → header ∷ told (picture p) ≡ program_lines p
-lines_told p = ap (λ t. header ∷ t) (blocks_told p)
+pub lines_told : (version : Version) (p : List BlockParts) → header version ∷ told (picture version p) ≡ program_lines version p
+lines_told version p = ap (λ t. header version ∷ t) (blocks_told version p)
 
--- two programs with the same picture have the same text
-pub same_picture_same_text : (p q : List BlockParts) → picture p ≡ picture q → program_text p ≡ program_text q
+-- two programs of one version with the same picture have the same text
+pub same_picture_same_text : (version : Version) (p q : List BlockParts) → picture version p ≡ picture version q → program_text version p ≡ program_text version q
 unfolding program_text
-same_picture_same_text p q h = ap ended (sym (lines_told p) ∙ ap (λ t. header ∷ told t) h ∙ lines_told q)
+same_picture_same_text version p q h = ap ended (sym (lines_told version p) ∙ ap (λ t. header version ∷ told t) h ∙ lines_told version q)

@@ -52,7 +52,7 @@ list_arcs b from s behind =
 
 -- from an `apply` to its `back`
 unfoldable pub result_arcs : List ℕ → List ℕ → Kind → List Shown
-result_arcs block from (Apply back) = Arc from (statement_name block back) result_arc ∷ []
+result_arcs block from (Apply back n) = Arc from (statement_name block back) result_arc ∷ []
 result_arcs block from k = []
 
 -- the arcs of a statement, behind which these stand

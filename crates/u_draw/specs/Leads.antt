@@ -2,6 +2,8 @@
 use Rattle.std.specs.Prelude.{◌≡◌, ◌⊎◌, ℕ, suc, List, [], ◌∷◌, ◌++◌}
 use Rattle.std.specs.List.{AllByRecursion}
 use Rattle.u_program.specs.declared.program.Kind.TheVariants.{Apply}
+use Rattle.u_program.specs.declared.program.Version.{Version}
+use Rattle.u_program.specs.declared.program.Arguments.{Arguments}
 use Rattle.u_program.specs.declared.program.Destination.{Destination}
 use Rattle.u_program.specs.Parts.{StatementParts, BlockParts}
 use Rattle.u_draw.specs.declared.styles.Exit.{Exit}
@@ -53,27 +55,28 @@ pub data IsOf (b : BlockParts) : Shown → Type 0 where
       → IsNumbered 1 b.statements n s → Among d s.to
       → IsOf b (arc_to b.name (point_name b.name s.to) FromPoint d)
   ResultArc :
-      (n back : ℕ) (s : StatementParts)
-      → IsNumbered 1 b.statements n s → s.kind ≡ Apply back
+      (n back : ℕ) (arguments : Arguments) (s : StatementParts)
+      → IsNumbered 1 b.statements n s → s.kind ≡ Apply back arguments
       → IsOf b (Arc (statement_name b.name n) (statement_name b.name back) result_arc)
   Point : (n : ℕ) (s : StatementParts) → IsNumbered 1 b.statements n s → IsOf b (point_node b s)
 
 -- the block's picture leads from the statement of that number to the destination
-abbrev pub LeadsTo : BlockParts → ℕ → Destination → Type 0
-LeadsTo b n d =
-    Leads (block_picture b) (statement_name b.name n) (statement_name b.name d.statement) d.port
+abbrev pub LeadsTo : Version → BlockParts → ℕ → Destination → Type 0
+LeadsTo version b n d =
+    Leads (block_picture version b) (statement_name b.name n) (statement_name b.name d.statement) d.port
 
 -- A block's picture leads where its statements send values, a `switch` on true and on false, and shows
 -- which `back` takes the result of each `apply`; of arcs and points it shows nothing else.
-pub record DrawsBlock (b : BlockParts) : Type 0 where
+pub record DrawsBlock (version : Version) (b : BlockParts) : Type 0 where
   pub lists :
       (n : ℕ) (s : StatementParts) (d : Destination)
-      → IsNumbered 1 b.statements n s → Among d s.to → LeadsTo b n d
+      → IsNumbered 1 b.statements n s → Among d s.to → LeadsTo version b n d
   pub for_false :
       (n : ℕ) (s : StatementParts) (d : Destination)
-      → IsNumbered 1 b.statements n s → Among d s.otherwise → LeadsTo b n d
+      → IsNumbered 1 b.statements n s → Among d s.otherwise → LeadsTo version b n d
   pub results :
-      (n back : ℕ) (s : StatementParts)
-      → IsNumbered 1 b.statements n s → s.kind ≡ Apply back
-      → Among (Arc (statement_name b.name n) (statement_name b.name back) result_arc) (block_picture b)
+      (n back : ℕ) (arguments : Arguments) (s : StatementParts)
+      → IsNumbered 1 b.statements n s → s.kind ≡ Apply back arguments
+      → Among (Arc (statement_name b.name n) (statement_name b.name back) result_arc)
+      (block_picture version b)
   pub only : AllByRecursion (IsOf b) (the_arcs b 1 b.statements)

@@ -4,7 +4,10 @@ use Rattle.std.specs.Fmt.{decimal}
 use Rattle.u_text.specs.Spaced.{spaced}
 use Rattle.u_program.specs.Text.{kind_word, argument_words}
 use Rattle.u_program.specs.declared.program.Kind.{Kind}
-use Rattle.u_program.specs.declared.program.Kind.TheVariants.{Begin, Binary, Select, Switch, Enter, Next}
+use Rattle.u_program.specs.declared.program.Kind.TheVariants.{Begin, Binary, Select, Switch, Enter, Next, Param}
+use Rattle.u_program.specs.declared.program.Version.{Version}
+use Rattle.u_program.specs.declared.program.Arguments.{Arguments}
+use Rattle.u_program.specs.declared.program.Arguments.TheVariants as arguments
 use Rattle.u_program.specs.declared.program.Kind.TheVariants.{Last, Leave, Apply, Back, Alloc, Store, Fetch, End}
 use Rattle.u_draw.specs.declared.styles.Exit.{Exit}
 use Rattle.u_draw.specs.declared.styles.Exit.TheVariants.{Plain, OnTrue, OnFalse, Turning, FromPoint}
@@ -13,6 +16,7 @@ use Rattle.u_draw.specs.Dot.{Attribute, attribute}
 -- the edges of a block, loops, choices, calls, structures, and all others
 abbrev pub fill : Kind → List ℕ
 fill Begin = codes "#d9ead3"
+fill (Param k) = codes "#d9ead3"
 fill End = codes "#d9ead3"
 fill (Enter l) = codes "#dbe7f6"
 fill Next = codes "#dbe7f6"
@@ -20,18 +24,25 @@ fill Last = codes "#dbe7f6"
 fill Leave = codes "#dbe7f6"
 fill Select = codes "#fff2cc"
 fill Switch = codes "#fff2cc"
-fill (Apply b) = codes "#eadcf4"
+fill (Apply b n) = codes "#eadcf4"
 fill Back = codes "#eadcf4"
 fill Alloc = codes "#fce5cd"
 fill Store = codes "#fce5cd"
 fill Fetch = codes "#fce5cd"
 fill k = codes "#ffffff"
 
+-- the ports of an `apply`: the procedure, and its arguments
+abbrev pub ports_of_call : Arguments → List ℕ
+ports_of_call arguments.One = codes "{{<i1>1|<i2>2}|"
+ports_of_call arguments.Two = codes "{{<i1>1|<i2>2|<i3>3}|"
+ports_of_call arguments.Three = codes "{{<i1>1|<i2>2|<i3>3|<i4>4}|"
+ports_of_call arguments.Four = codes "{{<i1>1|<i2>2|<i3>3|<i4>4|<i5>5}|"
+
 -- the ports of a statement, above its number, where there are two or more
 abbrev pub label_above : Kind → List ℕ
 label_above (Binary o) = codes "{{<i1>1|<i2>2}|"
 label_above Switch = codes "{{<i1>1|<i2>2}|"
-label_above (Apply b) = codes "{{<i1>1|<i2>2}|"
+label_above (Apply b n) = ports_of_call n
 label_above Fetch = codes "{{<i1>1|<i2>2}|"
 label_above Select = codes "{{<i1>1|<i2>2|<i3>3}|"
 label_above Store = codes "{{<i1>1|<i2>2|<i3>3}|"
@@ -41,17 +52,17 @@ label_above k = codes "<i1>"
 abbrev pub label_below : Kind → List ℕ
 label_below Switch = codes "|{<t>T|<f>F}}"
 label_below (Binary o) = codes "}"
-label_below (Apply b) = codes "}"
+label_below (Apply b n) = codes "}"
 label_below Fetch = codes "}"
 label_below Select = codes "}"
 label_below Store = codes "}"
 label_below k = []
 
 -- the ports, the number, the kind, and the two ways out of a `switch`
-unfoldable pub label : ℕ → Kind → List ℕ
-label n kind =
+unfoldable pub label : Version → ℕ → Kind → List ℕ
+label version n kind =
     label_above kind
-    ++ (decimal n ++ (spaced (kind_word kind ∷ argument_words kind) ++ label_below kind))
+    ++ (decimal n ++ (spaced (kind_word kind ∷ argument_words version kind) ++ label_below kind))
 
 -- blue, and without a say in what stands above what
 abbrev pub turning : List Attribute
@@ -85,7 +96,11 @@ join k = attribute (codes "tailport") (codes "s") ∷ attribute (codes "arrowhea
 abbrev pub entry : ℕ → Attribute
 entry port =
     attribute (codes "headport")
-    (if port == 1 then codes "i1:n" else if port == 2 then codes "i2:n" else codes "i3:n")
+    (if port == 1 then codes "i1:n"
+    else if port == 2 then codes "i2:n"
+    else if port == 3 then codes "i3:n"
+    else if port == 4 then codes "i4:n"
+    else codes "i5:n")
 
 -- the arc from an `apply` to its `back`
 abbrev pub result_arc : List Attribute

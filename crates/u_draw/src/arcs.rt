@@ -188,7 +188,7 @@ fn push_result(out: &mut Vec<u8>, block: &[u8], from: &[u8], kind: &Kind) -> Res
     ensures err { OnErr result (Extends out.old.items out.new.items) }
 {
     match kind {
-        Kind::Apply(back) => {
+        Kind::Apply(back, _) => {
             let name = statement_name(*out.allocator(), block, u64::from(*back))?;
             push_arc(out, from, &name, result_arc())
         }

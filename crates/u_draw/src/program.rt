@@ -12,7 +12,7 @@ use crate::arcs::push_arcs;
 use crate::clusters::push_clusters;
 use crate::nodes::push_nodes;
 use std::alloc::AllocError;
-use u_program::{Block, Program};
+use u_program::{Block, Program, Version};
 use u_text::cut_back;
 
 /// What begins the text: how a picture is laid out, and how nodes and arcs look that do not say so.
@@ -24,24 +24,24 @@ const OPENING: &[u8] = b"digraph u {
 
 /// Appends the lines of the block. On an error a part of them may stand there.
 #[tactic(auto, unfolding(crate::specs::Picture::block_picture), using(u_text::proofs::AppendingLaws::extends_behind, crate::proofs::Shows::text_three))]
-fn push_block(out: &mut Vec<u8>, block: &Block) -> Result<(), AllocError>
-    ensures ok { OnOk result (out.new.items ≡ out.old.items ++ text (block_picture block.now)) }
+fn push_block(out: &mut Vec<u8>, version: Version, block: &Block) -> Result<(), AllocError>
+    ensures ok { OnOk result (out.new.items ≡ out.old.items ++ text (block_picture version block.now)) }
     ensures err { OnErr result (Extends out.old.items out.new.items) }
 {
     push_clusters(out, block)?;
-    push_nodes(out, block)?;
+    push_nodes(out, version, block)?;
     push_arcs(out, block)?;
     Ok(())
 }
 
 /// Appends the lines of the blocks. On an error a part of them may stand there.
 #[tactic(auto, using(u_text::proofs::AppendingLaws::extends_by, u_text::proofs::AppendingLaws::extends_behind))]
-fn push_blocks(out: &mut Vec<u8>, blocks: &[Block]) -> Result<(), AllocError>
-    ensures ok { OnOk result (out.new.items ≡ out.old.items ++ text (picture blocks.now)) }
+fn push_blocks(out: &mut Vec<u8>, version: Version, blocks: &[Block]) -> Result<(), AllocError>
+    ensures ok { OnOk result (out.new.items ≡ out.old.items ++ text (picture version blocks.now)) }
     ensures err { OnErr result (Extends out.old.items out.new.items) }
 {
     for block in blocks {
-        push_block(out, block)?;
+        push_block(out, version, block)?;
     }
     Ok(())
 }
@@ -50,11 +50,12 @@ fn push_blocks(out: &mut Vec<u8>, blocks: &[Block]) -> Result<(), AllocError>
 #[tactic(auto, unfolding(crate::specs::Dot::picture_text), using(u_text::proofs::AppendingLaws::extends_same, u_text::proofs::AppendingLaws::extends_behind, crate::proofs::Texts::join3))]
 fn push_picture(out: &mut Vec<u8>, program: &Program) -> Result<(), AllocError>
     ensures ok { OnOk result
-        (out.new.items ≡ out.old.items ++ picture_text (picture program.now.blocks)) }
+        (out.new.items
+        ≡ out.old.items ++ picture_text (picture program.now.version program.now.blocks)) }
     ensures err { OnErr result (Extends out.old.items out.new.items) }
 {
     out.extend_from_slice(OPENING)?;
-    push_blocks(out, program.blocks())?;
+    push_blocks(out, program.version(), program.blocks())?;
     out.extend_from_slice(b"}\n")?;
     Ok(())
 }
@@ -68,10 +69,13 @@ fn push_picture(out: &mut Vec<u8>, program: &Program) -> Result<(), AllocError>
 #[tactic(auto, using(u_text::proofs::AppendingLaws::extends_cut, crate::proofs::TextLaws::lines_told, crate::proofs::DrawnLaws::draws_blocks))]
 pub fn write_picture(out: &mut Vec<u8>, program: &Program) -> Result<(), AllocError>
     ensures ok { OnOk result
-        (out.new.items ≡ out.old.items ++ picture_text (picture program.now.blocks)) }
+        (out.new.items
+        ≡ out.old.items ++ picture_text (picture program.now.version program.now.blocks)) }
     ensures err { OnErr result (out.new.items ≡ out.old.items) }
-    ensures blocks { AllByRecursion DrawsBlock program.now.blocks }
-    ensures lines { header ∷ told (picture program.now.blocks) ≡ program_lines program.now.blocks }
+    ensures blocks { AllByRecursion (DrawsBlock program.now.version) program.now.blocks }
+    ensures lines { header program.now.version
+        ∷ told (picture program.now.version program.now.blocks)
+        ≡ program_lines program.now.version program.now.blocks }
 {
     let len = out.len();
     let written = push_picture(out, program);

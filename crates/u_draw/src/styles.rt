@@ -1,10 +1,10 @@
 //! How statements and arcs look, by what they do.
 ghost use Rattle.std.specs.Prelude.{◌≡◌, ◌∷◌, []};
 ghost use Rattle.u_draw.specs.Dot.{attributes_text};
-ghost use Rattle.u_draw.specs.Styles.{fill, label_above, label_below, exit_of, exit_attributes, join, entry};
+ghost use Rattle.u_draw.specs.Styles.{fill, ports_of_call, label_above, label_below, exit_of, exit_attributes, join, entry};
 ghost use Rattle.u_draw.specs.Styles.{result_arc, point, block_style, loop_style};
 
-use u_program::Kind;
+use u_program::{Arguments, Kind};
 
 /// The fill of a statement's node, by its family: the edges of a block, loops, choices, calls,
 /// structures, and all others.
@@ -12,12 +12,24 @@ pub fn fill_of(kind: &Kind) -> &'static [u8]
     ensures { result.now ≡ fill kind.now }
 {
     match kind {
-        Kind::Begin | Kind::End => b"#d9ead3".as_slice(),
+        Kind::Begin | Kind::Param(_) | Kind::End => b"#d9ead3".as_slice(),
         Kind::Enter(_) | Kind::Next | Kind::Last | Kind::Leave => b"#dbe7f6".as_slice(),
         Kind::Select | Kind::Switch => b"#fff2cc".as_slice(),
-        Kind::Apply(_) | Kind::Back => b"#eadcf4".as_slice(),
+        Kind::Apply(_, _) | Kind::Back => b"#eadcf4".as_slice(),
         Kind::Alloc | Kind::Store | Kind::Fetch => b"#fce5cd".as_slice(),
         _ => b"#ffffff".as_slice(),
+    }
+}
+
+/// The ports of an `apply`: the procedure, and its arguments.
+fn ports_of_call(arguments: Arguments) -> &'static [u8]
+    ensures { result.now ≡ ports_of_call arguments }
+{
+    match arguments {
+        Arguments::One => b"{{<i1>1|<i2>2}|".as_slice(),
+        Arguments::Two => b"{{<i1>1|<i2>2|<i3>3}|".as_slice(),
+        Arguments::Three => b"{{<i1>1|<i2>2|<i3>3|<i4>4}|".as_slice(),
+        Arguments::Four => b"{{<i1>1|<i2>2|<i3>3|<i4>4|<i5>5}|".as_slice(),
     }
 }
 
@@ -27,9 +39,8 @@ pub fn label_above(kind: &Kind) -> &'static [u8]
 {
     match kind {
         Kind::Select | Kind::Store => b"{{<i1>1|<i2>2|<i3>3}|".as_slice(),
-        Kind::Binary(_) | Kind::Switch | Kind::Apply(_) | Kind::Fetch => {
-            b"{{<i1>1|<i2>2}|".as_slice()
-        }
+        Kind::Binary(_) | Kind::Switch | Kind::Fetch => b"{{<i1>1|<i2>2}|".as_slice(),
+        Kind::Apply(_, arguments) => ports_of_call(*arguments),
         _ => b"<i1>".as_slice(),
     }
 }
@@ -40,7 +51,7 @@ pub fn label_below(kind: &Kind) -> &'static [u8]
 {
     match kind {
         Kind::Switch => b"|{<t>T|<f>F}}".as_slice(),
-        Kind::Select | Kind::Store | Kind::Binary(_) | Kind::Apply(_) | Kind::Fetch => {
+        Kind::Select | Kind::Store | Kind::Binary(_) | Kind::Apply(_, _) | Kind::Fetch => {
             b"}".as_slice()
         }
         _ => b"".as_slice(),
@@ -106,7 +117,9 @@ pub fn entry_of(port: u8) -> &'static [u8]
     match port {
         1 => b" headport=\"i1:n\"".as_slice(),
         2 => b" headport=\"i2:n\"".as_slice(),
-        _ => b" headport=\"i3:n\"".as_slice(),
+        3 => b" headport=\"i3:n\"".as_slice(),
+        4 => b" headport=\"i4:n\"".as_slice(),
+        _ => b" headport=\"i5:n\"".as_slice(),
     }
 }
 

@@ -2,14 +2,18 @@
 ghost use Rattle.std.specs.Prelude.{◌≡◌, ◌++◌, ◌∷◌, map, IfOk, OnOk, OnErr};
 ghost use Rattle.u_text.specs.Appending.{Extends};
 ghost use Rattle.u_text.specs.Spaced.{spaced};
+ghost use Rattle.std.specs.Fmt.{decimal};
 ghost use Rattle.u_program.specs.Limits.{has_otherwise};
-ghost use Rattle.u_program.specs.Text.{kind_word, constant_word, argument_words, destination_word, otherwise_words, tail_words, block_line, loop_line, statement_line};
+ghost use Rattle.u_program.specs.Text.{kind_word, constant_word, count_words, argument_words, destination_word, otherwise_words, tail_words, block_line, loop_line, statement_line};
 ghost use Rattle.u_draw.specs.Clusters.{loop_label};
 ghost use Rattle.u_draw.specs.Styles.{label};
 
 use crate::styles::{label_above, label_below};
 use std::alloc::{AllocError, Global};
-use u_program::{Constant, Destination, Kind, Statement, has_otherwise, kind_word};
+use u_program::{
+    Arguments, Constant, Destination, Kind, Statement, Version, count_word, has_otherwise,
+    kind_word, place_word,
+};
 use u_text::{push_behind, push_long, push_signed, push_spaced};
 
 /// Appends a space and the constant. On an error a part of it may stand there.
@@ -32,18 +36,39 @@ fn push_constant(out: &mut Vec<u8>, constant: &Constant) -> Result<(), AllocErro
     }
 }
 
+/// Appends the `back` of an `apply`, and in version 2 how many arguments it has. On an error a part of
+/// them may stand there.
+#[tactic(auto, using(u_text::proofs::AppendingLaws::extends_same, u_text::proofs::AppendingLaws::extends_behind, std::proofs::Common::append_assoc))]
+fn push_call(
+    out: &mut Vec<u8>,
+    version: Version,
+    number: u16,
+    arguments: Arguments,
+) -> Result<(), AllocError>
+    ensures ok { OnOk result
+        (out.new.items ≡ out.old.items ++ spaced (decimal number ∷ count_words version arguments)) }
+    ensures err { OnErr result (Extends out.old.items out.new.items) }
+{
+    push_behind(out, b' ', u32::from(number))?;
+    match version {
+        Version::One => Ok(()),
+        Version::Two => push_spaced(out, count_word(arguments)),
+    }
+}
+
 /// Appends the kind's words, each behind a space. On an error a part of them may stand there.
 #[tactic(auto, using(u_text::proofs::AppendingLaws::extends_same, u_text::proofs::AppendingLaws::extends_behind, std::proofs::Common::append_assoc))]
-pub fn push_kind(out: &mut Vec<u8>, kind: &Kind) -> Result<(), AllocError>
+pub fn push_kind(out: &mut Vec<u8>, version: Version, kind: &Kind) -> Result<(), AllocError>
     ensures ok { OnOk result
-        (out.new.items ≡ out.old.items ++ spaced (kind_word kind.now ∷ argument_words kind.now)) }
+        (out.new.items ≡ out.old.items ++ spaced (kind_word kind.now ∷ argument_words version kind.now)) }
     ensures err { OnErr result (Extends out.old.items out.new.items) }
 {
     push_spaced(out, kind_word(kind))?;
     match kind {
         Kind::Const(constant) => push_constant(out, constant),
         Kind::Enter(number) => push_behind(out, b' ', u32::from(*number)),
-        Kind::Apply(number) => push_behind(out, b' ', u32::from(*number)),
+        Kind::Apply(number, arguments) => push_call(out, version, *number, *arguments),
+        Kind::Param(parameter) => push_spaced(out, place_word(*parameter)),
         _ => Ok(()),
     }
 }
@@ -91,15 +116,16 @@ fn push_otherwise(out: &mut Vec<u8>, kind: &Kind, to: &[Destination]) -> Result<
 #[tactic(auto, using(u_text::proofs::AppendingLaws::extends_behind, u_program::proofs::Written::tail_text))]
 fn push_tail(
     out: &mut Vec<u8>,
+    version: Version,
     kind: &Kind,
     to: &[Destination],
     otherwise: &[Destination],
 ) -> Result<(), AllocError>
     ensures ok { OnOk result
-        (out.new.items ≡ out.old.items ++ spaced (tail_words kind.now to.now otherwise.now)) }
+        (out.new.items ≡ out.old.items ++ spaced (tail_words version kind.now to.now otherwise.now)) }
     ensures err { OnErr result (Extends out.old.items out.new.items) }
 {
-    push_kind(out, kind)?;
+    push_kind(out, version, kind)?;
     push_spaced(out, b"->")?;
     push_list(out, to)?;
     push_otherwise(out, kind, otherwise)?;
@@ -108,14 +134,20 @@ fn push_tail(
 
 /// The statement's line in the text of its program, without the newline.
 #[tactic(auto, unfolding(u_program::specs::Text::statement_line), using(crate::proofs::Texts::join2))]
-pub fn line_of(alloc: Global, number: u64, statement: &Statement) -> Result<Vec<u8>, AllocError>
-    ensures { IfOk result (λ v. v.items ≡ statement_line number statement.now) }
+pub fn line_of(
+    alloc: Global,
+    version: Version,
+    number: u64,
+    statement: &Statement,
+) -> Result<Vec<u8>, AllocError>
+    ensures { IfOk result (λ v. v.items ≡ statement_line version number statement.now) }
 {
     let mut line = Vec::new(alloc);
     push_long(&mut line, number)?;
     push_behind(&mut line, b' ', u32::from(statement.region()))?;
     push_tail(
         &mut line,
+        version,
         statement.kind(),
         statement.destinations(),
         statement.otherwise(),
@@ -125,13 +157,18 @@ pub fn line_of(alloc: Global, number: u64, statement: &Statement) -> Result<Vec<
 
 /// The label of a statement's node: its ports, its number and kind, and the two ways out of a `switch`.
 #[tactic(auto, unfolding(crate::specs::Styles::label), using(crate::proofs::Texts::join3))]
-pub fn label_of(alloc: Global, number: u64, kind: &Kind) -> Result<Vec<u8>, AllocError>
-    ensures { IfOk result (λ v. v.items ≡ label number kind.now) }
+pub fn label_of(
+    alloc: Global,
+    version: Version,
+    number: u64,
+    kind: &Kind,
+) -> Result<Vec<u8>, AllocError>
+    ensures { IfOk result (λ v. v.items ≡ label version number kind.now) }
 {
     let mut label = Vec::new(alloc);
     label.extend_from_slice(label_above(kind))?;
     push_long(&mut label, number)?;
-    push_kind(&mut label, kind)?;
+    push_kind(&mut label, version, kind)?;
     label.extend_from_slice(label_below(kind))?;
     Ok(label)
 }

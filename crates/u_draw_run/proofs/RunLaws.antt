@@ -2,7 +2,7 @@
 use Rattle.std.proofs.Common.{◌≡◌, ℕ, Bool, true, false, List, [], ◌∷◌, ◌++◌, refl, sym, ap, ◌∙◌, append_assoc, map, if◌then◌else◌}
 use Rattle.std.specs.List.{flat_map}
 use Rattle.u_name.specs.Context.{Tree, Top, InLoop, InCall}
-use Rattle.u_program.specs.Parts.{BlockParts}
+use Rattle.u_program.specs.Parts.{BlockParts, ProgramParts}
 use Rattle.u_rule.specs.Fits.{statement_of}
 use Rattle.u_rule.specs.FiringText.{firing_text}
 use Rattle.u_rule.specs.declared.firing.Firing.{Firing}
@@ -39,11 +39,11 @@ clusters_silent p f = told-append (of_context f.activity.context) _ ∙ ap (λ t
     silent true = refl
     silent false = turn_silent f.activity.context f.activity.initiation
 
-one_told : (p : List BlockParts) (f : Firing) → told (firing_lines p f) ≡ firing_text f ∷ []
+one_told : (p : ProgramParts) (f : Firing) → told (firing_lines p f) ≡ firing_text f ∷ []
 unfolding firing_lines
-one_told p f = told-append (clusters_of p f.activity) (firing_node p f ∷ []) ∙ ap (λ t. t ++ (firing_text f ∷ [])) (clusters_silent p f)
+one_told p f = told-append (clusters_of p.blocks f.activity) (firing_node p f ∷ []) ∙ ap (λ t. t ++ (firing_text f ∷ [])) (clusters_silent p.blocks f)
 
-pub firings_told : (p : List BlockParts) (fs : List Firing) → told (flat_map (firing_lines p) fs) ≡ map firing_text fs
+pub firings_told : (p : ProgramParts) (fs : List Firing) → told (flat_map (firing_lines p) fs) ≡ map firing_text fs
 firings_told p [] = refl
 firings_told p (f ∷ fs) =
     told-append (firing_lines p f) (flat_map (firing_lines p) fs)

@@ -9,6 +9,7 @@ use Rattle.u_value.specs.Values.{value_text}
 use Rattle.u_value.specs.declared.value.Value.{Value}
 use Rattle.u_value.specs.FaultKinds.{fault_kind_text}
 use Rattle.u_program.specs.Text.{kind_word, argument_words}
+use Rattle.u_program.specs.declared.program.Version.{Version}
 use Rattle.u_program.specs.declared.program.Kind.{Kind}
 use Rattle.u_program.specs.declared.program.Kind.TheVariants.{Next}
 use Rattle.u_program.specs.Parts.{StatementParts}
@@ -28,25 +29,25 @@ cells before port (v ∷ vs) =
     (before ∷ (codes "<i" ++ (decimal port ++ (62 ∷ value_text v)))) ++ cells 124 (suc port) vs
 
 -- the kind's words behind spaces, and its fill; where the program lacks the statement, none, and white
-abbrev pub kind_words : Option StatementParts → List ℕ
-kind_words None = []
-kind_words (Some s) = spaced (kind_word s.kind ∷ argument_words s.kind)
+abbrev pub kind_words : Version → Option StatementParts → List ℕ
+kind_words version None = []
+kind_words version (Some s) = spaced (kind_word s.kind ∷ argument_words version s.kind)
 
 abbrev pub fill_at : Option StatementParts → List ℕ
 fill_at None = codes "#ffffff"
 fill_at (Some s) = fill s.kind
 
 -- `{{<i1>VALUE|<i2>VALUE}|NUMBER KIND}`
-unfoldable pub firing_label : Option StatementParts → Firing → List ℕ
-firing_label s f =
+unfoldable pub firing_label : Version → Option StatementParts → Firing → List ℕ
+firing_label version s f =
     codes "{" ++ (cells 123 1 f.values
-    ++ (codes "}|" ++ (decimal f.activity.statement ++ (kind_words s ++ codes "}"))))
+    ++ (codes "}|" ++ (decimal f.activity.statement ++ (kind_words version s ++ codes "}"))))
 
 -- its text as a tooltip
-abbrev pub firing_look : Option StatementParts → Firing → List Attribute
-firing_look s f =
+abbrev pub firing_look : Version → Option StatementParts → Firing → List Attribute
+firing_look version s f =
     attribute (codes "tooltip") (firing_text f)
-    ∷ attribute (codes "label") (firing_label s f)
+    ∷ attribute (codes "label") (firing_label version s f)
     ∷ attribute (codes "fillcolor") (fill_at s) ∷ []
 
 -- a point: of a token that another value meets at its port, red and larger

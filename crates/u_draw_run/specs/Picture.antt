@@ -3,7 +3,7 @@ use Rattle.std.specs.Prelude.{ℕ, Bool, true, false, not, ◌||◌, if◌then�
 use Rattle.std.specs.List.{flat_map}
 use Rattle.std.specs.Ordering.{eq_by_cmp}
 use Rattle.u_name.specs.Name.{Activity}
-use Rattle.u_program.specs.Parts.{StatementParts, BlockParts}
+use Rattle.u_program.specs.Parts.{StatementParts, BlockParts, ProgramParts}
 use Rattle.u_check.specs.Jobs.{JobParts}
 use Rattle.u_rule.specs.Fits.{statement_of}
 use Rattle.u_rule.specs.EntryOrder.{entry_cmp}
@@ -23,12 +23,14 @@ abbrev pub executed : List BlockParts → Activity → Option StatementParts
 executed p a = statement_of p a.block a.statement
 
 -- the node of a firing
-abbrev pub firing_node : List BlockParts → Firing → Shown
-firing_node p f = Node (around p f.activity) (firing_text f) (firing_look (executed p f.activity) f)
+abbrev pub firing_node : ProgramParts → Firing → Shown
+firing_node p f =
+    Node (around p.blocks f.activity) (firing_text f)
+    (firing_look p.version (executed p.blocks f.activity) f)
 
 -- before it the clusters that it lies in
-unfoldable pub firing_lines : List BlockParts → Firing → List Shown
-firing_lines p f = clusters_of p f.activity ++ (firing_node p f ∷ [])
+unfoldable pub firing_lines : ProgramParts → Firing → List Shown
+firing_lines p f = clusters_of p.blocks f.activity ++ (firing_node p f ∷ [])
 
 -- a token lies where its activity does, and a cell where its structure was made
 unfoldable pub entry_place : List BlockParts → Entry → List (List ℕ)
@@ -93,7 +95,7 @@ firing_arcs job f = map (need_arc f) (needs_of f) ++ map (give_arc job.program.b
 -- the firings of a run, the entries that they hold, in order, and the arcs between both
 unfoldable pub picture : JobParts → List Firing → List Entry → List Shown
 picture job fs es =
-    flat_map (firing_lines job.program.blocks) fs
+    flat_map (firing_lines job.program) fs
     ++ (nodes_from job None es ++ flat_map (firing_arcs job) fs)
 
 -- how a run's picture is laid out, and how nodes and arcs look that do not say so

@@ -17,13 +17,14 @@ use u_rule::Firing;
 #[tactic(auto, unfolding(u_draw::specs::Dot::shown_line), using(u_text::proofs::AppendingLaws::extends_same, u_text::proofs::AppendingLaws::extends_behind, u_draw::proofs::Nests::framed))]
 fn push_firing_node(out: &mut Vec<u8>, program: &Program, firing: &Firing) -> Result<(), AllocError>
     ensures ok { OnOk result (out.new.items
-        ≡ out.old.items ++ shown_line (firing_node program.now.blocks firing.now)) }
+        ≡ out.old.items ++ shown_line (firing_node program.now firing.now)) }
     ensures err { OnErr result (Extends out.old.items out.new.items) }
 {
     let alloc = *out.allocator();
     let activity = &firing.activity;
     let name = firing_name(alloc, firing)?;
-    let attributes = firing_look(alloc, executed(program, activity), firing, &name)?;
+    let statement = executed(program, activity);
+    let attributes = firing_look(alloc, program.version(), statement, firing, &name)?;
     let place = place_of(program, activity);
     begin_line(out, place)?;
     push_node(out, &name, &attributes)?;
@@ -35,7 +36,7 @@ fn push_firing_node(out: &mut Vec<u8>, program: &Program, firing: &Firing) -> Re
 #[tactic(auto, unfolding(crate::specs::Picture::firing_lines), using(u_text::proofs::AppendingLaws::extends_behind, u_draw::proofs::Shows::text_more))]
 fn push_firing(out: &mut Vec<u8>, program: &Program, firing: &Firing) -> Result<(), AllocError>
     ensures ok { OnOk result (out.new.items
-        ≡ out.old.items ++ text (firing_lines program.now.blocks firing.now)) }
+        ≡ out.old.items ++ text (firing_lines program.now firing.now)) }
     ensures err { OnErr result (Extends out.old.items out.new.items) }
 {
     push_clusters(out, program, &firing.activity)?;
@@ -50,7 +51,7 @@ pub fn push_firings(
     firings: &[Firing],
 ) -> Result<(), AllocError>
     ensures ok { OnOk result (out.new.items ≡ out.old.items
-        ++ text (flat_map (firing_lines program.now.blocks) firings.now)) }
+        ++ text (flat_map (firing_lines program.now) firings.now)) }
     ensures err { OnErr result (Extends out.old.items out.new.items) }
 {
     for firing in firings {

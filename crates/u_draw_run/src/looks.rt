@@ -11,7 +11,7 @@ ghost use Rattle.u_draw_run.specs.Looks.{fault_look, entry_look, meet, need_look
 
 use std::alloc::{AllocError, Global};
 use u_draw::{entry_of, fill_of, push_attribute, push_kind};
-use u_program::{Kind, Statement};
+use u_program::{Kind, Statement, Version};
 use u_rule::{Entry, Firing};
 use u_text::{push_long, push_number};
 use u_value::Value;
@@ -35,12 +35,16 @@ fn push_cells(out: &mut Vec<u8>, before: u8, port: u64, values: &[Value]) -> Res
 }
 
 /// Appends the words of the statement's kind, if there is one.
-fn push_words(out: &mut Vec<u8>, statement: Option<&Statement>) -> Result<(), AllocError>
+fn push_words(
+    out: &mut Vec<u8>,
+    version: Version,
+    statement: Option<&Statement>,
+) -> Result<(), AllocError>
     ensures { OnOk result
-        (out.new.items ≡ out.old.items ++ kind_words (option_copied statement.entry)) }
+        (out.new.items ≡ out.old.items ++ kind_words version (option_copied statement.entry)) }
 {
     match statement {
-        Some(statement) => push_kind(out, statement.kind()),
+        Some(statement) => push_kind(out, version, statement.kind()),
         None => Ok(()),
     }
 }
@@ -59,18 +63,19 @@ fn fill_at(statement: Option<&Statement>) -> &'static [u8]
 #[tactic(auto, unfolding(crate::specs::Looks::firing_label))]
 fn firing_label(
     alloc: Global,
+    version: Version,
     statement: Option<&Statement>,
     firing: &Firing,
 ) -> Result<Vec<u8>, AllocError>
     ensures { IfOk result
-        (λ v. v.items ≡ firing_label (option_copied statement.entry) firing.now) }
+        (λ v. v.items ≡ firing_label version (option_copied statement.entry) firing.now) }
 {
     let mut label = Vec::new(alloc);
     label.extend_from_slice(b"{")?;
     push_cells(&mut label, b'{', 1, firing.values.as_slice())?;
     label.extend_from_slice(b"}|")?;
     push_number(&mut label, u32::from(firing.activity.statement()))?;
-    push_words(&mut label, statement)?;
+    push_words(&mut label, version, statement)?;
     label.extend_from_slice(b"}")?;
     Ok(label)
 }
@@ -78,15 +83,17 @@ fn firing_label(
 /// The attributes of a firing's node, whose name this is.
 pub fn firing_look(
     alloc: Global,
+    version: Version,
     statement: Option<&Statement>,
     firing: &Firing,
     name: &[u8],
 ) -> Result<Vec<u8>, AllocError>
     requires { name.now ≡ firing_text firing.now }
     ensures { IfOk result
-        (λ v. v.items ≡ attributes_text (firing_look (option_copied statement.entry) firing.now)) }
+        (λ v. v.items
+        ≡ attributes_text (firing_look version (option_copied statement.entry) firing.now)) }
 {
-    let label = firing_label(alloc, statement, firing)?;
+    let label = firing_label(alloc, version, statement, firing)?;
     let mut attributes = Vec::new(alloc);
     push_attribute(&mut attributes, b"tooltip", name)?;
     push_attribute(&mut attributes, b"label", &label)?;

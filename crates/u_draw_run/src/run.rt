@@ -79,7 +79,7 @@ pub fn write_run(
     ensures ok { OnOk result
         (out.new.items ≡ out.old.items ++ picture_text job.now firings.now entries.now) }
     ensures err { OnErr result (out.new.items ≡ out.old.items) }
-    ensures firings { told (flat_map (firing_lines job.now.program.blocks) firings.now)
+    ensures firings { told (flat_map (firing_lines job.now.program) firings.now)
         ≡ map firing_text firings.now }
 {
     let len = out.len();

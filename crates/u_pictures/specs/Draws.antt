@@ -14,7 +14,7 @@ use Rattle.u_draw.specs.Picture.{picture}
 pub record Draws (bytes text : List ℕ) : Type 0 where
   pub program : ProgramParts
   pub is : IsCheckedOf bytes program
-  pub drawn : text ≡ picture_text (picture program.blocks)
+  pub drawn : text ≡ picture_text (picture program.version program.blocks)
 
 -- what stands before and after, for each answer
 abbrev pub DrawTextAnswer : List ℕ → Option (List ℕ) → Result ℕ CommandError → Option (List ℕ) → Type 0

@@ -10,6 +10,6 @@ loop-i-preserved c =
     let s = c.statement-item.result in
     let e = c.statements-statement-items.ensures in
     let h : i < length b.statements = omega (arith, c.loop-i-test.true, ap length e) in
-    numbered_more (the_node b) b.statements i s c.args.out.now.items c.loop-i.out.items c.push_statement.new.out.items h
+    numbered_more (the_node c.args.version b) b.statements i s c.args.out.now.items c.loop-i.out.items c.push_statement.new.out.items h
     (lent_more b.statements i s h (c.statement-item.is ∙ ap (λ xs. get_or xs i s) e))
     c.loop-i.invariant c.in_ok-push_statement.ensures.ok

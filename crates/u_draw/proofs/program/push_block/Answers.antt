@@ -10,6 +10,6 @@ pub returns-clause-ok : goal.returns-clause-ok
 unfolding block_picture
 returns-clause-ok c =
     let b = c.args.block.now in
-    text_three (the_block b ∷ numbered (the_loop b) 1 b.loops) (numbered (the_node b) 1 b.statements) (the_arcs b 1 b.statements)
+    text_three (the_block b ∷ numbered (the_loop b) 1 b.loops) (numbered (the_node c.args.version b) 1 b.statements) (the_arcs b 1 b.statements)
     c.args.out.now.items c.push_clusters.new.out.items c.push_nodes.new.out.items c.push_arcs.new.out.items
     c.in_ok-push_clusters.ensures.ok c.in_ok-push_nodes.ensures.ok c.in_ok-push_arcs.ensures.ok

@@ -7,6 +7,6 @@ loop-block-preserved c =
     let bs = c.args.blocks.now in
     let i = c.loop-block.block-index in
     let b = c.block-item.result in
-    flat_more block_picture bs i b c.args.out.now.items c.loop-block.out.items c.push_block.new.out.items
+    flat_more (block_picture c.args.version) bs i b c.args.out.now.items c.loop-block.out.items c.push_block.new.out.items
     (lent_more bs i b c.loop-block-test.true c.block-item.is)
     c.loop-block.invariant c.in_ok-push_block.ensures.ok

@@ -4,4 +4,4 @@ use Rattle.u_draw.specs.Picture.{picture}
 use Rattle.u_draw.proofs.program.push_blocks.Given as goal
 
 abbrev pub invariant-loop-block : goal.invariant-loop-block
-invariant-loop-block l = l.out.items ≡ l.initial.out.items ++ text (picture (take l.block-index l.blocks))
+invariant-loop-block l = l.out.items ≡ l.initial.out.items ++ text (picture l.version (take l.block-index l.blocks))

@@ -8,8 +8,8 @@ use Rattle.u_draw.proofs.program.push_picture.Goals as goal
 pub returns-clause-ok : goal.returns-clause-ok
 unfolding picture_text
 returns-clause-ok c =
-    join3 c.args.out.now.items opening (text (picture c.args.program.now.blocks)) (codes "}\n")
+    join3 c.args.out.now.items opening (text (picture c.args.program.now.version c.args.program.now.blocks)) (codes "}\n")
     c.extend_from_slice.new.self.items c.push_blocks.new.out.items c.extend_from_slice-2.new.self.items
     c.in_ok-extend_from_slice.ensures.items
-    (c.in_ok-push_blocks.ensures.ok ∙ ap (λ p. c.extend_from_slice.new.self.items ++ text (picture p)) c.blocks-2.ensures.blocks)
+    (c.in_ok-push_blocks.ensures.ok ∙ ap (λ p. c.extend_from_slice.new.self.items ++ text (picture c.version.result p)) c.blocks-2.ensures.blocks ∙ ap (λ v. c.extend_from_slice.new.self.items ++ text (picture v c.args.program.now.blocks)) c.version.ensures.version)
     c.in_ok-extend_from_slice-2.ensures.items
