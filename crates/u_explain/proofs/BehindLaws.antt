@@ -1,12 +1,13 @@
 -- The place behind one more line.
-use Rattle.std.specs.Prelude.{◌≡◌, ℕ, suc, ◌+◌, ◌≤◌, ◌==◌, Bool, true, false, if◌then◌else◌, List, [], ◌∷◌, ◌++◌, length, refl}
+use Rattle.std.specs.Prelude.{◌≡◌, ℕ, suc, ◌+◌, ◌≤◌, ◌==◌, Bool, true, false, if◌then◌else◌, List, [], ◌∷◌, ◌++◌, length, IsTrue, refl}
 use Rattle.std.proofs.Common.{sym, ◌∙◌, ap, subst, arith, length-append}
 use Rattle.std.proofs.lemmas.Bool.Decides.{nat_tests}
 use Rattle.u_text.specs.Spaced.{spaced}
 use Rattle.std.specs.Fmt.{decimal}
 use Rattle.u_text.proofs.NumberLaws.{decimal_first}
+use Rattle.u_program.specs.declared.program.Version.{Version}
 use Rattle.u_program.specs.Parts.{StatementParts, BlockParts, block}
-use Rattle.u_program.specs.Limits.{the_limits}
+use Rattle.u_program.specs.Limits.{limits_of, is_known}
 use Rattle.u_program.specs.Text.{header, block_line, loop_line, statement_line, statement_words}
 use Rattle.u_program.specs.Begun.{part_lines}
 use Rattle.u_program.specs.FirstBad.{Begins}
@@ -21,19 +22,24 @@ use Rattle.u_explain.specs.declared.text_place.TextPlace.TheVariants as places
 use Rattle.u_explain.specs.Places.{IsAllowed, IsInside, IsPlace, sort_of}
 use Rattle.u_explain.proofs.PlaceLaws.{next_of, first_back}
 
-pub behind_header : (before : List (List ℕ)) (t : List ℕ) → before ≡ [] → IsAllowed before t → before ++ (t ∷ []) ≡ header ∷ []
-behind_header before t e b =
-    let f : Begins the_limits (t ∷ []) = subst (λ ls. Begins the_limits (ls ++ (t ∷ []))) e b in
-    ap (λ ls. ls ++ (t ∷ [])) e ∙ ap (λ l. l ∷ []) (sym (heads f.there))
+-- what the place behind a first line is, which says that version
+pub behind_header : (before : List (List ℕ)) (t : List ℕ) (new : Version) → ((v : Version) → t ≡ header v → new ≡ v) → before ≡ [] → IsAllowed before t → IsPlace (before ++ (t ∷ [])) (places.FirstBlock new)
+behind_header before t new says e b =
+    let f : Begins limits_of (t ∷ []) = subst (λ ls. Begins limits_of (ls ++ (t ∷ []))) e b in
+    let h = sym (heads f.there) in
+    let n = says f.version h in (
+      subst (λ (v : Version). IsTrue (is_known v)) (sym n) f.known,
+      ap (λ ls. ls ++ (t ∷ [])) e ∙ ap (λ l. l ∷ []) (h ∙ ap header (sym n)),
+    )
 
-pub behind_first : (before : List (List ℕ)) (t : List ℕ) → before ≡ header ∷ [] → IsAllowed before t → IsInside (before ++ (t ∷ [])) 1 0 0
-behind_first before t e b =
-    let m = first_back t (subst (λ ls. Begins the_limits (ls ++ (t ∷ []))) e b) in
+pub behind_first : (version : Version) (before : List (List ℕ)) (t : List ℕ) → IsTrue (is_known version) × (before ≡ header version ∷ []) → IsAllowed before t → IsInside (before ++ (t ∷ [])) version 1 0 0
+behind_first version before t e b =
+    let m = first_back version t (subst (λ ls. Begins limits_of (ls ++ (t ∷ []))) e.1 b) in
     record {
       done = [];
       last = block m.0 [] [];
-      part = first_part m.0 m.1;
-      lines = ap (λ ls. ls ++ (t ∷ [])) e ∙ ap (λ l. header ∷ (l ∷ [])) m.2;
+      part = first_part version e.0 m.0 m.1;
+      lines = ap (λ ls. ls ++ (t ∷ [])) e.1 ∙ ap (λ l. header version ∷ (l ∷ [])) m.2;
       blocks_are = refl;
       loops_are = refl;
       statements_are = refl;
@@ -65,52 +71,52 @@ of_low (c ∷ v) h =
     let q : (c == 108) ≡ false = grind (arith, nat_tests) in
     neither (c == 98) (c == 108) p q
 
-of_statement : (n : ℕ) (s : StatementParts) → n ≤ 1000 → sort_of (statement_line n s) ≡ sorts.Statement
+of_statement : (version : Version) (n : ℕ) (s : StatementParts) → n ≤ 1000 → sort_of (statement_line version n s) ≡ sorts.Statement
 unfolding statement_line
-of_statement n s h = of_low (decimal n ++ spaced (statement_words s)) (λ c v e. (decimal_first n (omega arith) c (spaced (statement_words s)) v e).1)
+of_statement version n s h = of_low (decimal n ++ spaced (statement_words version s)) (λ c v e. (decimal_first n (omega arith) c (spaced (statement_words version s)) v e).1)
 
 -- what one more line makes of a place inside of a program
-pub data Step (before : List (List ℕ)) (blocks loops statements : ℕ) (t : List ℕ) : Type 0 where
-  begins_block : sort_of t ≡ sorts.Block → IsInside (before ++ (t ∷ [])) (blocks + 1) 0 0 → Step before blocks loops statements t
-  adds_loop : sort_of t ≡ sorts.Loop → IsInside (before ++ (t ∷ [])) blocks (loops + 1) statements → Step before blocks loops statements t
-  adds_statement : sort_of t ≡ sorts.Statement → IsInside (before ++ (t ∷ [])) blocks loops (statements + 1) → Step before blocks loops statements t
+pub data Step (before : List (List ℕ)) (version : Version) (blocks loops statements : ℕ) (t : List ℕ) : Type 0 where
+  begins_block : sort_of t ≡ sorts.Block → IsInside (before ++ (t ∷ [])) version (blocks + 1) 0 0 → Step before version blocks loops statements t
+  adds_loop : sort_of t ≡ sorts.Loop → IsInside (before ++ (t ∷ [])) version blocks (loops + 1) statements → Step before version blocks loops statements t
+  adds_statement : sort_of t ≡ sorts.Statement → IsInside (before ++ (t ∷ [])) version blocks loops (statements + 1) → Step before version blocks loops statements t
 
-module _ (before : List (List ℕ)) (blocks loops statements : ℕ) (v : IsInside before blocks loops statements) (t : List ℕ) where
-  grown : (done : List BlockParts) (last : BlockParts) → part_lines done last ≡ part_lines v.done v.last ++ (t ∷ []) → before ++ (t ∷ []) ≡ header ∷ part_lines done last
-  grown done last e = ap (λ ls. ls ++ (t ∷ [])) v.lines ∙ ap (λ ls. header ∷ ls) (sym e)
+module _ (before : List (List ℕ)) (version : Version) (blocks loops statements : ℕ) (v : IsInside before version blocks loops statements) (t : List ℕ) where
+  grown : (done : List BlockParts) (last : BlockParts) → part_lines version done last ≡ part_lines version v.done v.last ++ (t ∷ []) → before ++ (t ∷ []) ≡ header version ∷ part_lines version done last
+  grown done last e = ap (λ ls. ls ++ (t ∷ [])) v.lines ∙ ap (λ ls. header version ∷ ls) (sym e)
 
-  pub step : IsAllowed before t → Step before blocks loops statements t
+  pub step : IsAllowed before t → Step before version blocks loops statements t
   step b =
-      elim (next_of v.done v.last t v.part (subst (λ ls. Begins the_limits (ls ++ (t ∷ []))) v.lines b)) [
+      elim (next_of version v.done v.last t v.part (subst (λ ls. Begins limits_of (ls ++ (t ∷ []))) v.lines b)) [
         | new_block name w e f g ↦
-            let new = block_taken v.done v.last name v.part w f (omega arith) in
+            let new = block_taken version v.done v.last name v.part w f (omega arith) in
             begins_block (ap sort_of e ∙ of_block name) (record {
               done = v.done ++ (v.last ∷ []);
               last = block name [] [];
               part = new.0;
-              lines = grown (v.done ++ (v.last ∷ [])) (block name [] []) (new.1 ∙ ap (λ l. part_lines v.done v.last ++ (l ∷ [])) (sym e));
+              lines = grown (v.done ++ (v.last ∷ [])) (block name [] []) (new.1 ∙ ap (λ l. part_lines version v.done v.last ++ (l ∷ [])) (sym e));
               blocks_are = omega (arith, v.blocks_are, length-append v.done (v.last ∷ []));
               loops_are = refl;
               statements_are = refl;
             })
         | new_loop h u w z e f ↦
-            let new = loop_taken v.done v.last (suc (length v.last.loops)) h v.part ((omega arith, omega (arith, f)), w) z (omega arith) (omega (arith, u)) (omega (arith, f)) in
+            let new = loop_taken version v.done v.last (suc (length v.last.loops)) h v.part ((omega arith, omega (arith, f)), w) z (omega arith) (omega (arith, u)) (omega (arith, f)) in
             adds_loop (ap sort_of e ∙ of_loop (suc (length v.last.loops)) h) (record {
               done = v.done;
               last = block v.last.name (v.last.loops ++ (h ∷ [])) v.last.statements;
               part = new.0;
-              lines = grown v.done (block v.last.name (v.last.loops ++ (h ∷ [])) v.last.statements) (new.1 ∙ ap (λ l. part_lines v.done v.last ++ (l ∷ [])) (sym e));
+              lines = grown v.done (block v.last.name (v.last.loops ++ (h ∷ [])) v.last.statements) (new.1 ∙ ap (λ l. part_lines version v.done v.last ++ (l ∷ [])) (sym e));
               blocks_are = v.blocks_are;
               loops_are = omega (arith, v.loops_are, length-append v.last.loops (h ∷ []));
               statements_are = v.statements_are;
             })
         | new_statement s w e f ↦
-            let new = statement_taken v.done v.last (suc (length v.last.statements)) s v.part ((omega arith, omega (arith, f)), lifted the_limits s w) (omega arith) (omega (arith, f)) w.few w.few_otherwise in
-            adds_statement (ap sort_of e ∙ of_statement (suc (length v.last.statements)) s (omega (arith, f))) (record {
+            let new = statement_taken version v.done v.last (suc (length v.last.statements)) s v.part ((omega arith, omega (arith, f)), lifted version s w) (omega arith) (omega (arith, f)) w.few w.few_otherwise in
+            adds_statement (ap sort_of e ∙ of_statement version (suc (length v.last.statements)) s (omega (arith, f))) (record {
               done = v.done;
               last = block v.last.name v.last.loops (v.last.statements ++ (s ∷ []));
               part = new.0;
-              lines = grown v.done (block v.last.name v.last.loops (v.last.statements ++ (s ∷ []))) (new.1 ∙ ap (λ l. part_lines v.done v.last ++ (l ∷ [])) (sym e));
+              lines = grown v.done (block v.last.name v.last.loops (v.last.statements ++ (s ∷ []))) (new.1 ∙ ap (λ l. part_lines version v.done v.last ++ (l ∷ [])) (sym e));
               blocks_are = v.blocks_are;
               loops_are = v.loops_are;
               statements_are = omega (arith, v.statements_are, length-append v.last.statements (s ∷ []));
@@ -126,33 +132,30 @@ module _ (before : List (List ℕ)) (blocks loops statements : ℕ) (v : IsInsid
   few_statements : statements ≤ 999
   few_statements = let f : length v.last.statements ≤ 999 = v.part.few in omega (arith, v.statements_are, f)
 
-  pub behind_block : IsAllowed before t → sort_of t ≡ sorts.Block → (n : ℕ) → (blocks ≤ 999 → n ≡ blocks + 1) → IsPlace (before ++ (t ∷ [])) (places.Inside n 0 0)
+  pub behind_block : IsAllowed before t → sort_of t ≡ sorts.Block → (n : ℕ) → (blocks ≤ 999 → n ≡ blocks + 1) → IsPlace (before ++ (t ∷ [])) (places.Inside version n 0 0)
   behind_block b e n h =
       elim (step b) [
-        | begins_block f w ↦ subst (λ i. IsInside (before ++ (t ∷ [])) i 0 0) (sym (h few_blocks)) w
+        | begins_block f w ↦ subst (λ i. IsInside (before ++ (t ∷ [])) version i 0 0) (sym (h few_blocks)) w
         | adds_loop f w ↦ absurd (cc)
         | adds_statement f w ↦ absurd (cc)
       ]
 
-  pub behind_loop : IsAllowed before t → sort_of t ≡ sorts.Loop → (n : ℕ) → (loops ≤ 999 → n ≡ loops + 1) → IsPlace (before ++ (t ∷ [])) (places.Inside blocks n statements)
+  pub behind_loop : IsAllowed before t → sort_of t ≡ sorts.Loop → (n : ℕ) → (loops ≤ 999 → n ≡ loops + 1) → IsPlace (before ++ (t ∷ [])) (places.Inside version blocks n statements)
   behind_loop b e n h =
       elim (step b) [
         | begins_block f w ↦ absurd (cc)
-        | adds_loop f w ↦ subst (λ i. IsInside (before ++ (t ∷ [])) blocks i statements) (sym (h few_loops)) w
+        | adds_loop f w ↦ subst (λ i. IsInside (before ++ (t ∷ [])) version blocks i statements) (sym (h few_loops)) w
         | adds_statement f w ↦ absurd (cc)
       ]
 
-  pub behind_statement : IsAllowed before t → sort_of t ≡ sorts.Statement → (n : ℕ) → (statements ≤ 999 → n ≡ statements + 1) → IsPlace (before ++ (t ∷ [])) (places.Inside blocks loops n)
+  pub behind_statement : IsAllowed before t → sort_of t ≡ sorts.Statement → (n : ℕ) → (statements ≤ 999 → n ≡ statements + 1) → IsPlace (before ++ (t ∷ [])) (places.Inside version blocks loops n)
   behind_statement b e n h =
       elim (step b) [
         | begins_block f w ↦ absurd (cc)
         | adds_loop f w ↦ absurd (cc)
-        | adds_statement f w ↦ subst (λ i. IsInside (before ++ (t ∷ [])) blocks loops i) (sym (h few_statements)) w
+        | adds_statement f w ↦ subst (λ i. IsInside (before ++ (t ∷ [])) version blocks loops i) (sym (h few_statements)) w
       ]
 
 -- the place behind a line, of any place
-pub inside_too : (before : List (List ℕ)) (place : TextPlace) (blocks loops statements : ℕ) → place ≡ places.Inside blocks loops statements → IsPlace before place → IsInside before blocks loops statements
-inside_too before place blocks loops statements e v = subst (IsPlace before) e v
-
-pub first_too : (before : List (List ℕ)) (place : TextPlace) → place ≡ places.FirstBlock → IsPlace before place → before ≡ header ∷ []
-first_too before place e v = subst (IsPlace before) e v
+pub first_too : (before : List (List ℕ)) (place : TextPlace) (version : Version) → place ≡ places.FirstBlock version → IsPlace before place → IsTrue (is_known version) × (before ≡ header version ∷ [])
+first_too before place version e v = subst (IsPlace before) e v

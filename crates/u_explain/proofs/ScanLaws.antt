@@ -4,7 +4,7 @@ use Rattle.std.proofs.Common.{sym, ◌∙◌, ap, subst, arith, inl, inr, append
 use Rattle.std.proofs.lemmas.List.{append-nil, take-append-drop}
 use Rattle.std.proofs.Math.Seq.{take-append_seam}
 use Rattle.u_text.specs.Pieces.{pieces, lines, IsCutInto}
-use Rattle.u_program.specs.Limits.{the_limits}
+use Rattle.u_program.specs.Limits.{limits_of}
 use Rattle.u_program.specs.Begun.{IsRead}
 use Rattle.u_program.specs.FirstBad.{Begins}
 use Rattle.u_program.proofs.Lists.{heads, tails}
@@ -19,13 +19,13 @@ pub record Scanned (bytes : List ℕ) (count : ℕ) (rest : List ℕ) (place : T
   pub gone : List (List ℕ)
   pub read : IsRead bytes gone rest
   pub many : count ≡ length gone
-  pub stands : Begins the_limits gone → IsPlace gone place
+  pub stands : Begins limits_of gone → IsPlace gone place
 
 pub scanned_none : (bytes : List ℕ) → Scanned bytes 0 bytes places.Header
 scanned_none bytes = record { gone = []; read = read_none bytes; many = refl; stands = λ b. refl }
 
-fewer : (ls : List (List ℕ)) (t : List ℕ) → Begins the_limits (ls ++ (t ∷ [])) → Begins the_limits ls
-fewer ls t b = record { program = b.program; more = t ∷ b.more; valid = b.valid; there = b.there ∙ append_assoc ls (t ∷ []) b.more }
+fewer : (ls : List (List ℕ)) (t : List ℕ) → Begins limits_of (ls ++ (t ∷ [])) → Begins limits_of ls
+fewer ls t b = record { version = b.version; known = b.known; program = b.program; more = t ∷ b.more; valid = b.valid; there = b.there ∙ append_assoc ls (t ∷ []) b.more }
 
 pub scanned_next : (bytes : List ℕ) (count : ℕ) (rest : List ℕ) (place : TextPlace) (line others : List ℕ) (new : TextPlace) → Scanned bytes count rest place → IsCutInto 10 rest line others → ((before : List (List ℕ)) → IsPlace before place → IsAllowed before line → IsPlace (before ++ (line ∷ [])) new) → Scanned bytes (count + 1) others new
 scanned_next bytes count rest place line others new s c h = record {
@@ -45,12 +45,12 @@ same_cut (x ∷ a) b (y ∷ c) d l e =
     let h : x ≡ y = heads e in
     (ap (λ z. z ∷ a) h ∙ ap (λ z. y ∷ z) i.0, i.1)
 
-pub scanned_all : (bytes : List ℕ) (count : ℕ) (rest : List ℕ) (place : TextPlace) → Scanned bytes count rest place → (before others : List (List ℕ)) → lines bytes ≡ before ++ others → length before ≡ count → Begins the_limits before → IsPlace before place × (pieces 10 rest ≡ (others, (pieces 10 bytes).1))
+pub scanned_all : (bytes : List ℕ) (count : ℕ) (rest : List ℕ) (place : TextPlace) → Scanned bytes count rest place → (before others : List (List ℕ)) → lines bytes ≡ before ++ others → length before ≡ count → Begins limits_of before → IsPlace before place × (pieces 10 rest ≡ (others, (pieces 10 bytes).1))
 scanned_all bytes count rest place s before others e l b =
     let first : lines bytes ≡ s.gone ++ (pieces 10 rest).0 = ap (λ (p : List (List ℕ) × List ℕ). p.0) s.read.all in
     let last : (pieces 10 bytes).1 ≡ (pieces 10 rest).1 = ap (λ (p : List (List ℕ) × List ℕ). p.1) s.read.all in
     let c = same_cut s.gone (pieces 10 rest).0 before others (omega (arith, s.many, l)) (sym first ∙ e) in (
-      subst (λ ls. IsPlace ls place) c.0 (s.stands (subst (Begins the_limits) (sym c.0) b)),
+      subst (λ ls. IsPlace ls place) c.0 (s.stands (subst (Begins limits_of) (sym c.0) b)),
       ap (λ ls. (ls, (pieces 10 rest).1)) c.1 ∙ ap (λ t. (others, t)) (sym last),
     )
 

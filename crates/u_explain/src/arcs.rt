@@ -125,7 +125,7 @@ pub fn are_many(block: &Block, sources: &[Source]) -> bool {
 pub fn calls_of(alloc: Global, block: &Block, number: usize) -> Result<Vec<usize>, AllocError> {
     let mut calls = Vec::new(alloc);
     for (i, statement) in block.statements().iter().enumerate() {
-        if let Kind::Apply(named) = statement.kind() {
+        if let Kind::Apply(named, _) = statement.kind() {
             if usize::from(*named) == number {
                 calls.push(i + 1)?;
             }

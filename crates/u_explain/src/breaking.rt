@@ -41,7 +41,10 @@ fn breaks(rule: Rule, block: &Block, statement: &Statement, destination: &Destin
         return false;
     };
     match rule {
-        Rule::BeginAndBackTakeNothing => matches!(target.kind(), Kind::Begin | Kind::Back),
+        Rule::BeginAndBackTakeNothing => matches!(
+            target.kind(),
+            Kind::Begin | Kind::Param(_) | Kind::Back
+        ),
         Rule::LastSendsToLeave => {
             matches!(statement.kind(), Kind::Last) != matches!(target.kind(), Kind::Leave)
         }
@@ -116,7 +119,7 @@ fn is_fed(block: &Block, number: usize, port: usize) -> bool {
 
 /// The first port of the statement of that number, of that kind, to which nothing sends.
 pub fn unfed_port(block: &Block, number: usize, kind: &Kind) -> Option<usize> {
-    for port in 1..4 {
+    for port in 1..6 {
         if port <= ports_of(kind) && !is_fed(block, number, port) {
             return Some(port);
         }

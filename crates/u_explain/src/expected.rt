@@ -1,5 +1,7 @@
 //! What may stand behind the front of a line.
+use crate::text_place::{TextPlace, header_of};
 use crate::words::{destination_of, spaces_of, word_of};
+use u_program::Version;
 
 /// A destination: a statement's number and a port.
 pub type To = (u32, u32);
@@ -7,7 +9,7 @@ pub type To = (u32, u32);
 /// What may stand behind a front that begins some allowed line.
 #[derive(Clone, Copy)]
 pub enum Expected<'a> {
-    /// More of the line `u-program 1`.
+    /// More of the first line.
     Header,
     /// The end of that line.
     HeaderEnd,
@@ -37,6 +39,10 @@ pub enum Expected<'a> {
     Entered(&'a [u8]),
     /// The number of the `back` of an `apply`, of which these bytes stand there.
     Back(&'a [u8]),
+    /// The number of arguments of an `apply`, of which these bytes stand there; version 1 has none.
+    Count(&'a [u8]),
+    /// The place of a `param`, of which these bytes stand there.
+    Parameter(&'a [u8]),
     /// The arrow, or more of it.
     Arrow,
     /// The end of the line, behind the arrow of this kind.
@@ -139,12 +145,37 @@ fn arrow_expected<'a>(front: &'a [u8], arrow: usize, at: usize, kind: &'a [u8]) 
     list_expected(front, arrow, at, kind)
 }
 
+/// Whether a number of arguments stands behind the argument of the kind: it does behind that of an
+/// `apply`, but for version 1.
+fn is_counted(version: Version, kind: &[u8]) -> bool {
+    version != Version::One && kind == b"apply".as_slice()
+}
+
+/// What may stand in the number of arguments of an `apply`, or behind it.
+fn count_expected<'a>(front: &'a [u8], at: usize, kind: &'a [u8]) -> Expected<'a> {
+    if at > 4 {
+        return arrow_expected(front, 5, at, kind);
+    }
+    match word_of(front, 4) {
+        Some(word) => Expected::Count(word),
+        None => Expected::Count(b""),
+    }
+}
+
 /// What may stand in the argument of the kind, or behind it.
-fn argument_expected<'a>(front: &'a [u8], at: usize, kind: &'a [u8]) -> Expected<'a> {
+fn argument_expected<'a>(
+    version: Version,
+    front: &'a [u8],
+    at: usize,
+    kind: &'a [u8],
+) -> Expected<'a> {
     let word = match word_of(front, 3) {
         Some(word) => word,
         None => b"",
     };
+    if at > 3 && is_counted(version, kind) {
+        return count_expected(front, at, kind);
+    }
     if at > 3 {
         return arrow_expected(front, 4, at, kind);
     }
@@ -154,14 +185,25 @@ fn argument_expected<'a>(front: &'a [u8], at: usize, kind: &'a [u8]) -> Expected
     if kind == b"apply".as_slice() {
         return Expected::Back(word);
     }
+    if kind == b"param".as_slice() {
+        return Expected::Parameter(word);
+    }
     match word.split_first() {
         Some((b'@', name)) => name_expected(name, false),
         _ => Expected::Constant(word),
     }
 }
 
+/// Whether a statement of the kind has an argument.
+fn has_argument(kind: &[u8]) -> bool {
+    kind == b"const".as_slice()
+        || kind == b"enter".as_slice()
+        || kind == b"apply".as_slice()
+        || kind == b"param".as_slice()
+}
+
 /// What may stand in a statement's line behind this front, which has a number at least.
-fn statement_expected(front: &[u8]) -> Expected<'_> {
+fn statement_expected(version: Version, front: &[u8]) -> Expected<'_> {
     let at = spaces_of(front);
     if at == 0 {
         return Expected::LineStart;
@@ -179,8 +221,8 @@ fn statement_expected(front: &[u8]) -> Expected<'_> {
     if at == 2 {
         return Expected::Kind(kind);
     }
-    if kind == b"const".as_slice() || kind == b"enter".as_slice() || kind == b"apply".as_slice() {
-        return argument_expected(front, at, kind);
+    if has_argument(kind) {
+        return argument_expected(version, front, at, kind);
     }
     arrow_expected(front, 3, at, kind)
 }
@@ -208,19 +250,24 @@ fn block_expected(front: &[u8]) -> Expected<'_> {
     }
 }
 
-/// What may stand behind the front of a line: of the first line of a program where `is_first`, else
-/// of a line behind it. The front begins some allowed line.
-pub fn expected_behind(is_first: bool, front: &[u8]) -> Expected<'_> {
-    if is_first && front == b"u-program 1".as_slice() {
+/// What may stand behind the front of the first line.
+fn header_expected(front: &[u8]) -> Expected<'_> {
+    if front == header_of(Version::One) || front == header_of(Version::Two) {
         return Expected::HeaderEnd;
     }
-    if is_first {
-        return Expected::Header;
+    Expected::Header
+}
+
+/// What may stand behind the front of a line at that place. The front begins some line that is
+/// allowed there.
+pub fn expected_behind(place: TextPlace, front: &[u8]) -> Expected<'_> {
+    if place == TextPlace::Header {
+        return header_expected(front);
     }
     match front.split_first() {
         None => Expected::LineStart,
         Some((b'b', _)) => block_expected(front),
         Some((b'l', _)) => loop_expected(front),
-        Some(_) => statement_expected(front),
+        Some(_) => statement_expected(place.version(), front),
     }
 }

@@ -13,7 +13,7 @@ use u_program::{Program, ReadError, read};
 /// What is told of a program that breaks a rule.
 fn rule_text(alloc: Global, bytes: &[u8], refused: &Refused) -> Result<Vec<u8>, AllocError> {
     let mut out = Vec::new(alloc);
-    tell_rule(&mut out, bytes, refused.program.blocks(), &refused.breach)?;
+    tell_rule(&mut out, bytes, &refused.program, &refused.breach)?;
     Ok(out)
 }
 

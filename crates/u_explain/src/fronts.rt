@@ -2,12 +2,13 @@
 ghost use Rattle.std.specs.Prelude.{◌≡◌, ◌≤◌, ◌<◌, ◌⊎◌, ◌++◌, ◌∷◌, [], false, List, ℕ, length, codes};
 ghost use Rattle.u_program.specs.Reading.{plain_kinds};
 ghost use Rattle.u_explain.specs.Left.{IsLeft, Among, Behind, Numbered};
-ghost use Rattle.u_explain.specs.Lines.{NameOn, IntOn, ConstantOn, PlainOn, KindOn, FollowOn, ArrowOn, EndOn, BlockOn, LoopOn, StatementOn, RegionOn};
+ghost use Rattle.u_explain.specs.Lines.{NameOn, IntOn, ConstantOn, CountOn, PlainOn, ParamOn, KindOn, FollowOn, ArrowOn, EndOn, BlockOn, LoopOn, StatementOn, RegionOn, follows_back};
+ghost use Rattle.u_program.specs.declared.program.Version.TheVariants as versions;
 ghost use Rattle.u_explain.specs.declared.fronts.Follows.TheVariants as variants;
 
 use crate::lists::{after_number, arrow_left, room_of, shorter};
 use u_name::front_block;
-use u_program::{Kind, has_otherwise, kind_word, plain_kinds};
+use u_program::{Kind, Version, has_otherwise, kind_word, plain_kinds};
 use u_text::{after, after_all, signed_at};
 
 /// What follows a number.
@@ -15,61 +16,112 @@ use u_text::{after, after_all, signed_at};
 pub enum Follows {
     /// The end of the line: the number is the region that holds a loop.
     End,
-    /// An arrow and a list: the number is the loop of an `enter`.
-    List,
-    /// An arrow, and the end of the line: the number is the `back` of an `apply`.
-    Arrow,
+    /// An arrow and a list, in a text of that version: the number is the loop of an `enter`, or the
+    /// place of a `param`.
+    List(Version),
+    /// An arrow, and the end of the line: the number is the `back` of an `apply` of version 1.
+    Arrow(Version),
+    /// A number of arguments, and an arrow: the number is the `back` of an `apply` of version 2.
+    Count,
+}
+
+/// What follows the `back` of an `apply`.
+fn follows_back(version: Version) -> Follows
+    ensures { result ≡ follows_back version }
+{
+    match version {
+        Version::One => Follows::Arrow(Version::One),
+        Version::Two => Follows::Count,
+    }
 }
 
 /// What is left where the name of a block stands, and an arrow and a list behind it.
-fn procedure_left(bytes: &[u8]) -> &[u8]
-    ensures { IsLeft (NameOn (ArrowOn false 16)) bytes.now result.now }
+fn procedure_left(bytes: &[u8], version: Version) -> &[u8]
+    ensures { IsLeft (NameOn (ArrowOn version false 16)) bytes.now result.now }
 {
     match front_block(bytes) {
-        Ok((_, rest)) => arrow_left(rest, false, 16),
+        Ok((_, rest)) => arrow_left(rest, version, false, 16),
         Err(rest) => rest,
     }
 }
 
 /// What is left where a number of 64 bits stands, and an arrow and a list behind it.
-fn int_left(bytes: &[u8]) -> &[u8]
-    ensures { IsLeft (IntOn (ArrowOn false 16)) bytes.now result.now }
+fn int_left(bytes: &[u8], version: Version) -> &[u8]
+    ensures { IsLeft (IntOn (ArrowOn version false 16)) bytes.now result.now }
 {
     match signed_at(bytes) {
-        Ok((_, rest)) => arrow_left(rest, false, 16),
+        Ok((_, rest)) => arrow_left(rest, version, false, 16),
         Err(rest) => rest,
     }
 }
 
 /// What is left where that word stands, and an arrow and one list or two behind it.
-fn word_left<'a>(bytes: &'a [u8], word: &[u8], slashed: bool, room: u32) -> &'a [u8]
-    ensures { IsLeft (Behind word.now (ArrowOn slashed room)) bytes.now result.now }
+fn word_left<'a>(
+    bytes: &'a [u8],
+    version: Version,
+    word: &[u8],
+    slashed: bool,
+    room: u32,
+) -> &'a [u8]
+    ensures { IsLeft (Behind word.now (ArrowOn version slashed room)) bytes.now result.now }
 {
     match after_all(bytes, word) {
-        Ok(rest) => arrow_left(rest, slashed, room),
+        Ok(rest) => arrow_left(rest, version, slashed, room),
         Err(rest) => rest,
     }
 }
 
 /// What is left where `@` and the name of a block stand, and an arrow and a list behind them.
-fn at_left(bytes: &[u8]) -> &[u8]
-    ensures { IsLeft (Behind (codes "@") (NameOn (ArrowOn false 16))) bytes.now result.now }
+fn at_left(bytes: &[u8], version: Version) -> &[u8]
+    ensures { IsLeft (Behind (codes "@") (NameOn (ArrowOn version false 16)))
+        bytes.now result.now }
 {
     match after_all(bytes, b"@") {
-        Ok(rest) => procedure_left(rest),
+        Ok(rest) => procedure_left(rest, version),
         Err(rest) => rest,
     }
 }
 
 /// What is left where a constant stands, and an arrow and a list behind it.
-fn constant_left(bytes: &[u8]) -> &[u8]
-    ensures { IsLeft ConstantOn bytes.now result.now }
+fn constant_left(bytes: &[u8], version: Version) -> &[u8]
+    ensures { IsLeft (ConstantOn version) bytes.now result.now }
 {
-    let on_true = word_left(bytes, b"true", false, 16);
-    let on_false = word_left(bytes, b"false", false, 16);
-    let other = shorter(at_left(bytes), int_left(bytes));
+    let on_true = word_left(bytes, version, b"true", false, 16);
+    let on_false = word_left(bytes, version, b"false", false, 16);
+    let other = shorter(at_left(bytes, version), int_left(bytes, version));
     let others = shorter(on_false, other);
     shorter(on_true, others)
+}
+
+/// What is left where that number of arguments stands, and an arrow without a list behind it.
+fn count_left(bytes: &[u8], number: u32) -> &[u8]
+    ensures { IsLeft (Numbered (ArrowOn versions.Two false 0) number) bytes.now result.now }
+{
+    match after_number(bytes, number) {
+        Ok(rest) => arrow_left(rest, Version::Two, false, 0),
+        Err(rest) => rest,
+    }
+}
+
+/// What is left where a number of arguments stands, from 1 to 4, and an arrow without a list.
+fn counts_left(bytes: &[u8]) -> &[u8]
+    ensures { IsLeft CountOn bytes.now result.now }
+{
+    let mut best = bytes;
+    for number in 1..5 {
+        best = shorter(best, count_left(bytes, number));
+    }
+    best
+}
+
+/// What is left where a space stands, and behind it a number of arguments and an arrow.
+fn spaced_counts_left(bytes: &[u8]) -> &[u8]
+    ensures { IsLeft (Behind (codes " ") CountOn) bytes.now result.now }
+{
+    match after_all(bytes, b" ") {
+        Ok(rest) => counts_left(rest),
+        Err(rest) => rest,
+    }
 }
 
 /// What is left where that may follow a number.
@@ -78,8 +130,9 @@ fn follow_left(bytes: &[u8], follows: Follows) -> &[u8]
 {
     match follows {
         Follows::End => bytes,
-        Follows::List => arrow_left(bytes, false, 16),
-        Follows::Arrow => arrow_left(bytes, false, 0),
+        Follows::List(version) => arrow_left(bytes, version, false, 16),
+        Follows::Arrow(version) => arrow_left(bytes, version, false, 0),
+        Follows::Count => spaced_counts_left(bytes),
     }
 }
 
@@ -107,24 +160,30 @@ fn numbers_left(bytes: &[u8], low: u32, high: u32, follows: Follows) -> &[u8]
 }
 
 /// What is left where a kind without an argument stands, and its lists behind it.
-fn plain_left<'a>(bytes: &'a [u8], kinds: &[Kind]) -> &'a [u8]
-    ensures { IsLeft (PlainOn kinds.now) bytes.now result.now }
+fn plain_left<'a>(bytes: &'a [u8], version: Version, kinds: &[Kind]) -> &'a [u8]
+    ensures { IsLeft (PlainOn version kinds.now) bytes.now result.now }
 {
     match kinds.split_first() {
         None => bytes,
         Some((kind, others)) => {
-            let first = word_left(bytes, kind_word(kind), has_otherwise(kind), room_of(kind));
-            shorter(first, plain_left(bytes, others))
+            let first = word_left(
+                bytes,
+                version,
+                kind_word(kind),
+                has_otherwise(kind),
+                room_of(kind),
+            );
+            shorter(first, plain_left(bytes, version, others))
         }
     }
 }
 
 /// What is left where a `const` stands with its constant.
-fn const_left(bytes: &[u8]) -> &[u8]
-    ensures { IsLeft (Behind (codes "const ") ConstantOn) bytes.now result.now }
+fn const_left(bytes: &[u8], version: Version) -> &[u8]
+    ensures { IsLeft (Behind (codes "const ") (ConstantOn version)) bytes.now result.now }
 {
     match after_all(bytes, b"const ") {
-        Ok(rest) => constant_left(rest),
+        Ok(rest) => constant_left(rest, version),
         Err(rest) => rest,
     }
 }
@@ -141,56 +200,78 @@ fn numbered_left<'a>(bytes: &'a [u8], word: &[u8], high: u32, follows: Follows) 
     }
 }
 
-/// What is left where a kind stands with what follows it in its statement's line.
-fn kind_left(bytes: &[u8]) -> &[u8]
-    ensures { IsLeft KindOn bytes.now result.now }
+/// What is left where a `param` stands with its place, from 2 to 4, and its list.
+fn place_left(bytes: &[u8]) -> &[u8]
+    ensures { IsLeft (ParamOn versions.Two) bytes.now result.now }
 {
-    let plain = plain_left(bytes, &plain_kinds());
-    let constant = const_left(bytes);
-    let enter = numbered_left(bytes, b"enter ", 100, Follows::List);
-    let apply = numbered_left(bytes, b"apply ", 1000, Follows::Arrow);
-    let numbered = shorter(enter, apply);
+    match after_all(bytes, b"param ") {
+        Ok(rest) => numbers_left(rest, 2, 5, Follows::List(Version::Two)),
+        Err(rest) => rest,
+    }
+}
+
+/// What is left where a `param` stands, which version 1 has not.
+fn param_left(bytes: &[u8], version: Version) -> &[u8]
+    ensures { IsLeft (ParamOn version) bytes.now result.now }
+{
+    match version {
+        Version::One => bytes,
+        Version::Two => place_left(bytes),
+    }
+}
+
+/// What is left where a kind stands with what follows it in its statement's line.
+fn kind_left(bytes: &[u8], version: Version) -> &[u8]
+    ensures { IsLeft (KindOn version) bytes.now result.now }
+{
+    let plain = plain_left(bytes, version, &plain_kinds());
+    let constant = const_left(bytes, version);
+    let enter = numbered_left(bytes, b"enter ", 100, Follows::List(version));
+    let apply = numbered_left(bytes, b"apply ", 1000, follows_back(version));
+    let called = shorter(apply, param_left(bytes, version));
+    let numbered = shorter(enter, called);
     let argued = shorter(constant, numbered);
     shorter(plain, argued)
 }
 
 /// What is left where a space stands, and a kind behind it.
-fn spaced_kind_left(bytes: &[u8]) -> &[u8]
-    ensures { IsLeft (Behind (codes " ") KindOn) bytes.now result.now }
+fn spaced_kind_left(bytes: &[u8], version: Version) -> &[u8]
+    ensures { IsLeft (Behind (codes " ") (KindOn version)) bytes.now result.now }
 {
     match after_all(bytes, b" ") {
-        Ok(rest) => kind_left(rest),
+        Ok(rest) => kind_left(rest, version),
         Err(rest) => rest,
     }
 }
 
 /// What is left where that region stands, and a kind behind it.
-fn region_left(bytes: &[u8], region: u32) -> &[u8]
-    ensures { IsLeft (Numbered (Behind (codes " ") KindOn) region) bytes.now result.now }
+fn region_left(bytes: &[u8], version: Version, region: u32) -> &[u8]
+    ensures { IsLeft (Numbered (Behind (codes " ") (KindOn version)) region)
+        bytes.now result.now }
 {
     match after_number(bytes, region) {
-        Ok(rest) => spaced_kind_left(rest),
+        Ok(rest) => spaced_kind_left(rest, version),
         Err(rest) => rest,
     }
 }
 
 /// What is left where a region stands, from 0 to 99, and a kind behind it.
-fn regions_left(bytes: &[u8]) -> &[u8]
-    ensures { IsLeft RegionOn bytes.now result.now }
+fn regions_left(bytes: &[u8], version: Version) -> &[u8]
+    ensures { IsLeft (RegionOn version) bytes.now result.now }
 {
     let mut best = bytes;
     for region in 0..100 {
-        best = shorter(best, region_left(bytes, region));
+        best = shorter(best, region_left(bytes, version, region));
     }
     best
 }
 
 /// What is left where a space stands, and behind it a region and a kind.
-fn spaced_regions_left(bytes: &[u8]) -> &[u8]
-    ensures { IsLeft (Behind (codes " ") RegionOn) bytes.now result.now }
+fn spaced_regions_left(bytes: &[u8], version: Version) -> &[u8]
+    ensures { IsLeft (Behind (codes " ") (RegionOn version)) bytes.now result.now }
 {
     match after_all(bytes, b" ") {
-        Ok(rest) => regions_left(rest),
+        Ok(rest) => regions_left(rest, version),
         Err(rest) => rest,
     }
 }
@@ -252,12 +333,12 @@ pub fn loop_left(line: &[u8], number: u32) -> &[u8]
 }
 
 /// What is left of the line of the statement of that number: `NUMBER REGION KIND [ARGUMENT] ->
-/// LIST`.
-pub fn statement_left(line: &[u8], number: u32) -> &[u8]
-    ensures { IsLeft (StatementOn number) line.now result.now }
+/// LIST`, in a text of the version.
+pub fn statement_left(line: &[u8], version: Version, number: u32) -> &[u8]
+    ensures { IsLeft (StatementOn version number) line.now result.now }
 {
     match after_number(line, number) {
-        Ok(rest) => spaced_regions_left(rest),
+        Ok(rest) => spaced_regions_left(rest, version),
         Err(rest) => rest,
     }
 }

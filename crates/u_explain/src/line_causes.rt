@@ -1,16 +1,22 @@
 //! Why a line is refused from a byte on, in a sentence.
 use crate::accidents::{accident_at, tell_accident};
 use crate::expected::{Expected, List};
+use crate::lists::greatest_port;
 use crate::telling::{Piece, say, tell};
-use crate::telling_expected::tell_kinds;
+use crate::telling_expected::{HEADERS, tell_kinds};
 use crate::text_place::TextPlace;
 use crate::words::{destination_of, dotted, word_around, word_of};
 use std::alloc::AllocError;
+use u_program::Version;
 use u_text::number_word;
 
 /// The cause where a statement has no arrow.
 const MISSING_ARROW: &str =
     "the arrow `->` is missing; each statement has one, also where no destination follows";
+
+/// The cause where the first line says a version that there is not.
+const OTHER_VERSION: &str =
+    "the first line says another version than 1 and 2, which are the only ones";
 
 /// A line that is refused, or the bytes behind the last newline of a file.
 #[derive(Clone, Copy)]
@@ -187,18 +193,25 @@ fn tell_second(out: &mut Vec<u8>, refused: &Refused<'_>) -> Result<(), AllocErro
 
 /// The cause where the first line is wrong.
 fn tell_header(out: &mut Vec<u8>, line: &[u8], offset: usize) -> Result<(), AllocError> {
-    if offset == 11 {
-        return say(out, "the first line has more than `u-program 1`");
-    }
-    if first_word(line) == b"u-program".as_slice() {
-        return say(
+    if offset == 11 && offset <= line.len() {
+        return tell(
             out,
-            "the first line says another version than 1, which is the only one",
+            &[
+                Piece::Words("the first line has more than "),
+                Piece::Quoted(&line[..offset]),
+            ],
         );
     }
-    say(
+    if first_word(line) == b"u-program".as_slice() {
+        return say(out, OTHER_VERSION);
+    }
+    tell(
         out,
-        "the first line is not `u-program 1`, by which a program is known",
+        &[
+            Piece::Words("the first line is not "),
+            Piece::Words(HEADERS),
+            Piece::Words(", by which a program is known"),
+        ],
     )
 }
 
@@ -206,7 +219,7 @@ fn tell_header(out: &mut Vec<u8>, line: &[u8], offset: usize) -> Result<(), Allo
 fn tell_start(out: &mut Vec<u8>, refused: &Refused<'_>) -> Result<(), AllocError> {
     match refused.place {
         TextPlace::Header => tell_header(out, refused.line, refused.offset),
-        TextPlace::FirstBlock => tell_second(out, refused),
+        TextPlace::FirstBlock(_) => tell_second(out, refused),
         TextPlace::Inside { statements, .. } => tell_inside(out, refused, statements),
     }
 }
@@ -299,7 +312,7 @@ fn tell_kind(out: &mut Vec<u8>, refused: &Refused<'_>, begun: &[u8]) -> Result<(
         return Ok(());
     }
     say(out, "; the kinds are")?;
-    tell_kinds(out, b"")
+    tell_kinds(out, refused.place.version(), b"")
 }
 
 /// The cause where a constant is wrong.
@@ -354,6 +367,7 @@ fn tell_number<'a>(
     out: &mut Vec<u8>,
     refused: &Refused<'a>,
     what: &'a str,
+    least: usize,
     most: usize,
 ) -> Result<(), AllocError> {
     let word = word_around(refused.line, refused.offset);
@@ -374,12 +388,57 @@ fn tell_number<'a>(
         out,
         &[
             Piece::Words(what),
-            Piece::Words(" is a number from 1 to "),
+            Piece::Words(" is a number from "),
+            Piece::Number(least),
+            Piece::Words(" to "),
             Piece::Number(most),
             Piece::Words(" without leading zeros, and not "),
             Piece::Quoted(word),
         ],
     )
+}
+
+/// The cause where the `back` of an `apply` is wrong. Behind it the number of arguments stands; in
+/// version 1 it does not.
+fn tell_back(out: &mut Vec<u8>, refused: &Refused<'_>) -> Result<(), AllocError> {
+    let word = word_around(refused.line, refused.offset);
+    let is_counted = refused.place.version() != Version::One;
+    if is_counted && !word.is_empty() && refused.offset >= refused.line.len() {
+        return tell(
+            out,
+            &[
+                Piece::Words("the line ends behind "),
+                Piece::Quoted(word),
+                Piece::Words("; the number of arguments is missing"),
+            ],
+        );
+    }
+    tell_number(out, refused, "the `back` of an `apply`", 1, 999)
+}
+
+/// The cause where the number of arguments of an `apply` is wrong.
+fn tell_count(out: &mut Vec<u8>, refused: &Refused<'_>) -> Result<(), AllocError> {
+    let word = word_around(refused.line, refused.offset);
+    if word.is_empty() || word == b"->".as_slice() {
+        return say(
+            out,
+            "the number of arguments is missing: in version 2 an `apply` has it behind its `back`, \
+                from 1 to 4",
+        );
+    }
+    tell_number(out, refused, "the number of arguments of an `apply`", 1, 4)
+}
+
+/// Which words stand before the arrow, in a sentence.
+fn words_before_arrow(version: Version) -> &'static str {
+    match version {
+        Version::One =>
+            " stands before the arrow; `const`, `enter` and `apply` alone have a word there, and \
+                one",
+        Version::Two =>
+            " stands before the arrow; `const`, `enter` and `param` alone have a word there, and \
+                one, and `apply` has two",
+    }
 }
 
 /// The cause where the arrow is wrong.
@@ -390,10 +449,7 @@ fn tell_arrow(out: &mut Vec<u8>, refused: &Refused<'_>) -> Result<(), AllocError
             out,
             &[
                 Piece::Quoted(word),
-                Piece::Words(
-                    " stands before the arrow; `const`, `enter` and `apply` alone have a word \
-                        there, and one",
-                ),
+                Piece::Words(words_before_arrow(refused.place.version())),
             ],
         );
     }
@@ -477,9 +533,26 @@ fn tell_order(
     )
 }
 
+/// The ports that there are, behind a verb.
+fn all_ports(version: Version) -> &'static str {
+    match version {
+        Version::One => "1, 2 and 3",
+        Version::Two => "1 to 5",
+    }
+}
+
+/// The ports that there are, where one of them is meant.
+fn some_port(version: Version) -> &'static str {
+    match version {
+        Version::One => "1, 2 or 3",
+        Version::Two => "a port from 1 to 5",
+    }
+}
+
 /// The cause where a destination's word is wrong in itself.
 fn tell_form(out: &mut Vec<u8>, refused: &Refused<'_>, has_dot: bool) -> Result<(), AllocError> {
     let word = word_around(refused.line, refused.offset);
+    let version = refused.place.version();
     if refused.line.get(refused.offset) == Some(&b',') {
         return say(
             out,
@@ -491,7 +564,8 @@ fn tell_form(out: &mut Vec<u8>, refused: &Refused<'_>, has_dot: bool) -> Result<
             out,
             &[
                 Piece::Quoted(word),
-                Piece::Words(" names a port that no statement has; ports are 1, 2 and 3"),
+                Piece::Words(" names a port that no statement has; ports are "),
+                Piece::Words(all_ports(version)),
             ],
         );
     }
@@ -501,7 +575,9 @@ fn tell_form(out: &mut Vec<u8>, refused: &Refused<'_>, has_dot: bool) -> Result<
             &[
                 Piece::Words("the destination "),
                 Piece::Quoted(word),
-                Piece::Words(" lacks its port: a dot and 1, 2 or 3, as in `3.1`"),
+                Piece::Words(" lacks its port: a dot and "),
+                Piece::Words(some_port(version)),
+                Piece::Words(", as in `3.1`"),
             ],
         );
     }
@@ -510,9 +586,10 @@ fn tell_form(out: &mut Vec<u8>, refused: &Refused<'_>, has_dot: bool) -> Result<
         &[
             Piece::Quoted(word),
             Piece::Words(
-                " is no destination; one is a statement from 1 to 999, a dot and a port from 1 to \
-                    3, as `3.1`",
+                " is no destination; one is a statement from 1 to 999, a dot and a port from 1 to ",
             ),
+            Piece::Number(greatest_port(version) as usize),
+            Piece::Words(", as `3.1`"),
         ],
     )
 }
@@ -556,7 +633,14 @@ fn tell_more(out: &mut Vec<u8>, refused: &Refused<'_>, list: &List<'_>) -> Resul
         );
     }
     if is_space {
-        return say(out, "no destination is above `999.3`, so none follows it");
+        return tell(
+            out,
+            &[
+                Piece::Words("no destination is above `999."),
+                Piece::Number(greatest_port(refused.place.version()) as usize),
+                Piece::Words("`, so none follows it"),
+            ],
+        );
     }
     if list.last.is_none() {
         return say(
@@ -604,8 +688,10 @@ pub fn tell_cause(
         ),
         Expected::Kind(begun) => tell_kind(out, refused, begun),
         Expected::Constant(begun) => tell_constant(out, refused, begun),
-        Expected::Entered(_) => tell_number(out, refused, "the loop of an `enter`", 99),
-        Expected::Back(_) => tell_number(out, refused, "the `back` of an `apply`", 999),
+        Expected::Entered(_) => tell_number(out, refused, "the loop of an `enter`", 1, 99),
+        Expected::Back(_) => tell_back(out, refused),
+        Expected::Count(_) => tell_count(out, refused),
+        Expected::Parameter(_) => tell_number(out, refused, "the place of a `param`", 2, 4),
         Expected::Arrow => tell_arrow(out, refused),
         Expected::NoList(kind) => tell_no_list(out, kind),
         Expected::Destination(list) => tell_destination(out, refused, list),

@@ -2,7 +2,7 @@
 ghost use Rattle.std.specs.Prelude.{◌≡◌, ◌≤◌, ◌++◌, ◌∷◌, List, ℕ, suc, length};
 ghost use Rattle.u_text.specs.Pieces.{lines};
 ghost use Rattle.u_program.specs.FirstBad.{Begins};
-ghost use Rattle.u_program.specs.Limits.{the_limits};
+ghost use Rattle.u_program.specs.Limits.{limits_of};
 ghost use Rattle.u_explain.specs.Left.{IsLongestFront};
 ghost use Rattle.u_explain.specs.Places.{IsPlace, IsAllowed};
 
@@ -39,7 +39,7 @@ pub fn refused_at(bytes: &[u8], number: usize) -> Refused<'_>
     requires some { 1 ≤ number }
     ensures { (before : List (List ℕ)) (line : List ℕ) (others : List (List ℕ))
         → lines bytes.now ≡ before ++ (line ∷ others) → number ≡ suc (length before)
-        → Begins the_limits before → (result.line.now ≡ line) × (result.number ≡ number)
+        → Begins limits_of before → (result.line.now ≡ line) × (result.number ≡ number)
         × IsLongestFront (IsAllowed before) line result.offset }
 {
     let behind = behind_lines(bytes, number - 1);
@@ -95,7 +95,7 @@ fn tell_refused(out: &mut Vec<u8>, refused: &Refused<'_>) -> Result<(), AllocErr
         Some(front) => front,
         None => refused.line,
     };
-    let expected = expected_behind(refused.place == TextPlace::Header, front);
+    let expected = expected_behind(refused.place, front);
     say(out, "expected: ")?;
     tell_expected(out, refused.place, &expected)?;
     say(out, "\n")?;
@@ -124,7 +124,7 @@ pub fn tell_line(out: &mut Vec<u8>, bytes: &[u8], number: usize) -> Result<(), A
 fn lack_of(place: TextPlace) -> &'static str {
     match place {
         TextPlace::Header => "the file is empty",
-        TextPlace::FirstBlock =>
+        TextPlace::FirstBlock(_) =>
             "the file ends behind its first line; a program has one block at least",
         TextPlace::Inside { .. } =>
             "the file ends behind a block that has no statement yet; each block has one at least",
@@ -134,7 +134,7 @@ fn lack_of(place: TextPlace) -> &'static str {
 /// The line that is missing, where each line that is there is allowed.
 fn tell_missing(out: &mut Vec<u8>, missing: &Refused<'_>) -> Result<(), AllocError> {
     show_marked(out, missing.number, b"", 0)?;
-    let expected = expected_behind(missing.place == TextPlace::Header, b"");
+    let expected = expected_behind(missing.place, b"");
     say(out, "expected: ")?;
     tell_expected(out, missing.place, &expected)?;
     tell(

@@ -2,11 +2,12 @@
 ghost use Rattle.std.specs.Prelude.{◌≡◌, ◌≤◌, ◌<◌, ◌⊎◌, ◌++◌, ◌∷◌, ◌*◌, ◌+◌, Ok, Err, MatchResult, length, codes};
 ghost use Rattle.std.specs.Fmt.{decimal};
 ghost use Rattle.u_text.specs.Fixed.{fixed};
+ghost use Rattle.u_program.specs.Limits.{greatest_port};
 ghost use Rattle.u_explain.specs.Left.{IsLeft};
 ghost use Rattle.u_explain.specs.Lines.{ListEnd, DestinationOn, ListOn, ArrowOn, port_text, room_of};
 
 use itoa::Buffer;
-use u_program::Kind;
+use u_program::{Kind, Version};
 use u_text::after_all;
 
 /// How many destinations a list of the kind has at most: 16, or 0 where the kind lists none.
@@ -14,8 +15,18 @@ pub fn room_of(kind: &Kind) -> u32
     ensures { result ≡ room_of kind.now }
 {
     match kind {
-        Kind::Apply(_) | Kind::Store | Kind::End => 0,
+        Kind::Apply(_, _) | Kind::Store | Kind::End => 0,
         _ => 16,
+    }
+}
+
+/// The greatest port that a destination of a program of the version names.
+pub fn greatest_port(version: Version) -> u32
+    ensures { result ≡ greatest_port version }
+{
+    match version {
+        Version::One => 3,
+        Version::Two => 5,
     }
 }
 
@@ -81,61 +92,61 @@ fn after_destination(bytes: &[u8], statement: u32, port: u32) -> Result<&[u8], &
     }
 }
 
-/// What is left where a destination of that rank stands first, which is 4 times the statement's
+/// What is left where a destination of that rank stands first, which is 8 times the statement's
 /// number and the port, and behind it so many more at most, less this one.
 #[cycle(lists)]
-fn destination_left(bytes: &[u8], slashed: bool, rank: u32, room: u32) -> &[u8]
+fn destination_left(bytes: &[u8], version: Version, slashed: bool, rank: u32, room: u32) -> &[u8]
     requires there { 1 ≤ room }
-    requires small { rank < 4000 }
-    ensures { IsLeft (DestinationOn slashed room rank) bytes.now result.now }
+    requires small { rank < 8000 }
+    ensures { IsLeft (DestinationOn version slashed room rank) bytes.now result.now }
 {
-    let statement = rank / 4;
-    let port = rank % 4;
-    if statement == 0 || port == 0 {
+    let statement = rank / 8;
+    let port = rank % 8;
+    if statement == 0 || port == 0 || port > greatest_port(version) {
         return bytes;
     }
     match after_destination(bytes, statement, port) {
-        Ok(rest) => list_left(rest, slashed, rank, room - 1),
+        Ok(rest) => list_left(rest, version, slashed, rank, room - 1),
         Err(rest) => rest,
     }
 }
 
 /// What is left where the list has ended: of a line, or at the slash before the list for false.
 #[cycle(lists)]
-fn end_left(bytes: &[u8], slashed: bool) -> &[u8]
-    ensures { IsLeft (ListEnd slashed) bytes.now result.now }
+fn end_left(bytes: &[u8], version: Version, slashed: bool) -> &[u8]
+    ensures { IsLeft (ListEnd version slashed) bytes.now result.now }
 {
     if !slashed {
         return bytes;
     }
     match after_all(bytes, b" /") {
-        Ok(rest) => list_left(rest, false, 0, 16),
+        Ok(rest) => list_left(rest, version, false, 0, 16),
         Err(rest) => rest,
     }
 }
 
 /// What is left where so many destinations may stand at most, which ascend from above that rank.
 #[cycle(lists)]
-fn list_left(bytes: &[u8], slashed: bool, below: u32, room: u32) -> &[u8]
-    requires { below < 4000 }
-    ensures { IsLeft (ListOn slashed below room) bytes.now result.now }
+fn list_left(bytes: &[u8], version: Version, slashed: bool, below: u32, room: u32) -> &[u8]
+    requires { below < 8000 }
+    ensures { IsLeft (ListOn version slashed below room) bytes.now result.now }
 {
-    let mut best = end_left(bytes, slashed);
+    let mut best = end_left(bytes, version, slashed);
     if room == 0 {
         return best;
     }
-    for rank in below + 1..4000 {
-        best = shorter(best, destination_left(bytes, slashed, rank, room));
+    for rank in below + 1..8000 {
+        best = shorter(best, destination_left(bytes, version, slashed, rank, room));
     }
     best
 }
 
 /// What is left where an arrow stands, and behind it one list or two.
-pub fn arrow_left(bytes: &[u8], slashed: bool, room: u32) -> &[u8]
-    ensures { IsLeft (ArrowOn slashed room) bytes.now result.now }
+pub fn arrow_left(bytes: &[u8], version: Version, slashed: bool, room: u32) -> &[u8]
+    ensures { IsLeft (ArrowOn version slashed room) bytes.now result.now }
 {
     match after_all(bytes, b" ->") {
-        Ok(rest) => list_left(rest, slashed, 0, room),
+        Ok(rest) => list_left(rest, version, slashed, 0, room),
         Err(rest) => rest,
     }
 }

@@ -56,7 +56,7 @@ fn mark_behind(marks: &mut [bool], statement: &Statement) -> bool {
     let on_true = mark_list(marks, statement.destinations());
     let on_false = mark_list(marks, statement.otherwise());
     let back = match statement.kind() {
-        Kind::Apply(named) => mark(marks, usize::from(*named)),
+        Kind::Apply(named, _) => mark(marks, usize::from(*named)),
         _ => false,
     };
     on_true || on_false || back

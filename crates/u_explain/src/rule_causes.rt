@@ -220,7 +220,7 @@ fn tell_entered(out: &mut Vec<u8>, it: &Breaking<'_>, sent: &Sent) -> Result<(),
 /// Rule 8.
 fn tell_apply(out: &mut Vec<u8>, it: &Breaking<'_>) -> Result<(), AllocError> {
     let number = match it.statement.kind() {
-        Kind::Apply(number) => *number,
+        Kind::Apply(number, _) => *number,
         _ => 0,
     };
     tell(
@@ -321,6 +321,86 @@ fn tell_crossing(out: &mut Vec<u8>, it: &Breaking<'_>, sent: &Sent) -> Result<()
     push_region(out, it.statement.region())
 }
 
+/// The place among the parameters of its block that a `param` says; of other kinds, 0.
+fn place_of(kind: &Kind) -> usize {
+    match kind {
+        Kind::Param(parameter) => usize::from(parameter.place()),
+        _ => 0,
+    }
+}
+
+/// The first statement between the `begin` and the statement that is no `param`, if there is one.
+fn first_between(it: &Breaking<'_>) -> Option<usize> {
+    for (i, statement) in it.block.statements().iter().enumerate() {
+        let number = i + 1;
+        if number >= it.number {
+            return None;
+        }
+        if number > 1 && !matches!(statement.kind(), Kind::Param(_)) {
+            return Some(number);
+        }
+    }
+    None
+}
+
+/// The statement for which a `param` breaks rule 17, where it is not for its own place.
+fn ahead_of(it: &Breaking<'_>) -> Option<usize> {
+    if it.statement.region() != 0 || place_of(it.statement.kind()) != it.number {
+        return None;
+    }
+    first_between(it)
+}
+
+/// Rule 17.
+fn tell_param(out: &mut Vec<u8>, it: &Breaking<'_>) -> Result<(), AllocError> {
+    let place = place_of(it.statement.kind());
+    if place != it.number {
+        return tell(
+            out,
+            &[
+                Piece::Words("this `param "),
+                Piece::Number(place),
+                Piece::Words("` is statement "),
+                Piece::Number(it.number),
+                Piece::Words("; it belongs at statement "),
+                Piece::Number(place),
+            ],
+        );
+    }
+    if it.statement.region() != 0 {
+        return tell(
+            out,
+            &[
+                Piece::Words("the `param` stands in region "),
+                Piece::Number(usize::from(it.statement.region())),
+                Piece::Words("; it belongs in region 0"),
+            ],
+        );
+    }
+    let Some(number) = ahead_of(it) else {
+        return Ok(());
+    };
+    let Some(other) = it.block.statements().get(number.wrapping_sub(1)) else {
+        return Ok(());
+    };
+    push_statement(out, number, other)?;
+    say(out, ", stands before it, and is no `param`")
+}
+
+/// Rule 18.
+fn tell_main_param(out: &mut Vec<u8>, it: &Breaking<'_>) -> Result<(), AllocError> {
+    tell(
+        out,
+        &[
+            Piece::Words(
+                "the argument of the program comes to the `begin` of `main`, and this `param ",
+            ),
+            Piece::Number(place_of(it.statement.kind())),
+            Piece::Words("` asks for another one"),
+        ],
+    )
+}
+
 /// Rule 16.
 fn tell_unfed(out: &mut Vec<u8>, it: &Breaking<'_>) -> Result<(), AllocError> {
     let port = match unfed_port(it.block, it.number, it.statement.kind()) {
@@ -390,6 +470,8 @@ fn tell_itself(out: &mut Vec<u8>, rule: Rule, it: &Breaking<'_>) -> Result<(), A
                 Piece::Number(usize::from(it.statement.region())),
             ],
         ),
+        Rule::ParamsComeInOrder => tell_param(out, it),
+        Rule::MainTakesOne => tell_main_param(out, it),
         _ => tell_unfed(out, it),
     }
 }
@@ -442,13 +524,17 @@ pub fn other_place(rule: Rule, it: &Breaking<'_>) -> Option<Part> {
                 None => None,
             }
         }
-        (Rule::ApplyNamesBack, Kind::Apply(number)) => {
+        (Rule::ApplyNamesBack, Kind::Apply(number, _)) => {
             match statement_at(it.block.statements(), *number) {
                 Some(_) => Some(Part::Statement(usize::from(*number))),
                 None => None,
             }
         }
         (Rule::BeginComesFirst, _) if it.number != 1 => Some(Part::Statement(1)),
+        (Rule::ParamsComeInOrder, _) => match ahead_of(it) {
+            Some(number) => Some(Part::Statement(number)),
+            None => None,
+        },
         _ => None,
     }
 }

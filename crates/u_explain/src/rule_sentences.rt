@@ -1,8 +1,22 @@
 //! The rules of the checker, each in one sentence.
 use u_check::Rule;
+use u_program::Version;
 
-/// What the rule demands, in one sentence without a full stop.
-pub fn sentence_of_rule(rule: Rule) -> &'static str {
+/// What the rule demands of programs of the version, in one sentence without a full stop.
+pub fn sentence_of_rule(version: Version, rule: Rule) -> &'static str {
+    match (version, rule) {
+        (Version::Two, Rule::BeginAndBackTakeNothing) =>
+            "no destination is a `begin`, a `param` or a `back`: their values come from calls",
+        (Version::Two, Rule::PortsAreFed) =>
+            "to each port of each statement some destination of its block leads, but for `begin`, \
+                `param` and `back`",
+        _ => sentence_of_both(rule),
+    }
+}
+
+/// What the rule demands of programs of either version; of the two rules that treat a `param` as a
+/// `begin`, what it demands where there is none.
+fn sentence_of_both(rule: Rule) -> &'static str {
     match rule {
         Rule::BlockNamesDiffer => "the names of the blocks differ",
         Rule::MainExists => "one block is called `main`: there the program begins",
@@ -27,5 +41,9 @@ pub fn sentence_of_rule(rule: Rule) -> &'static str {
         Rule::PortsAreFed =>
             "to each port of each statement some destination of its block leads, but for `begin` \
                 and `back`",
+        Rule::ParamsComeInOrder =>
+            "a `param K` is statement K of its block, in region 0, and each statement between the \
+                `begin` and it is a `param`",
+        Rule::MainTakesOne => "`main` has no `param`: a program takes one argument",
     }
 }

@@ -2,7 +2,7 @@
 ghost use Rattle.std.specs.Prelude.{◌≡◌, ◌<◌, ◌++◌, List, ℕ, suc, length};
 ghost use Rattle.u_text.specs.Pieces.{lines, pieces};
 ghost use Rattle.u_program.specs.FirstBad.{Begins};
-ghost use Rattle.u_program.specs.Limits.{the_limits};
+ghost use Rattle.u_program.specs.Limits.{limits_of};
 ghost use Rattle.u_explain.specs.Places.{IsPlace};
 
 use crate::text_place::TextPlace;
@@ -23,7 +23,7 @@ pub struct Behind<'a> {
 pub fn behind_lines(bytes: &[u8], count: usize) -> Behind<'_>
     requires { count < 18446744073709551615 }
     ensures { (before others : List (List ℕ)) → lines bytes.now ≡ before ++ others
-        → length before ≡ count → Begins the_limits before
+        → length before ≡ count → Begins limits_of before
         → IsPlace before result.place × (result.number ≡ suc (length before))
         × (pieces 10 result.rest.now ≡ (others, (pieces 10 bytes.now).1)) }
 {
@@ -66,6 +66,7 @@ fn is_behind(place: TextPlace, block: usize, part: Part) -> bool {
                 blocks,
                 loops,
                 statements,
+                ..
             },
             Part::Block,
         ) => blocks as usize == block && loops == 0 && statements == 0,
@@ -74,6 +75,7 @@ fn is_behind(place: TextPlace, block: usize, part: Part) -> bool {
                 blocks,
                 loops,
                 statements,
+                ..
             },
             Part::Loop(number),
         ) => blocks as usize == block && loops as usize == number && statements == 0,

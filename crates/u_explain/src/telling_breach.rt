@@ -9,7 +9,7 @@ use crate::words::start_of;
 use std::alloc::AllocError;
 use u_check::{Breach, Rule};
 use u_name::BlockName;
-use u_program::Block;
+use u_program::{Block, Program};
 
 /// How many names of blocks are listed.
 const LISTED: usize = 8;
@@ -140,25 +140,25 @@ fn tell_statement(
     }
 }
 
-/// Appends what is told of a program that breaks a rule: `blocks` are those that the text `bytes`
-/// has.
+/// Appends what is told of a program that breaks a rule, whose text is `bytes`.
 ///
 /// # Errors
 /// `AllocError` where there is no memory.
 pub fn tell_rule(
     out: &mut Vec<u8>,
     bytes: &[u8],
-    blocks: &[Block],
+    program: &Program,
     breach: &Breach,
 ) -> Result<(), AllocError> {
     let rule = breach.rule;
+    let blocks = program.blocks();
     tell(
         out,
         &[
             Piece::Words("rule "),
             Piece::Number(usize::from(rule.number())),
             Piece::Words(": "),
-            Piece::Words(sentence_of_rule(rule)),
+            Piece::Words(sentence_of_rule(program.version(), rule)),
             Piece::Words("\n"),
         ],
     )?;

@@ -1,11 +1,15 @@
 //! What was expected at a place of a line, in words and ranges.
 use crate::expected::{Expected, List};
+use crate::lists::greatest_port;
 use crate::telling::{Piece, say, tell};
 use crate::text_place::TextPlace;
 use crate::words::dotted;
 use std::alloc::AllocError;
-use u_program::{kind_word, plain_kinds};
+use u_program::{Version, kind_word, plain_kinds};
 use u_text::number_at;
+
+/// The first lines of programs.
+pub const HEADERS: &str = "`u-program 1` or `u-program 2`";
 
 const NAME: &str = "1 to 16 of `a` to `z`, `0` to `9` and `_`, the first a letter";
 
@@ -72,12 +76,19 @@ fn tell_inside(
 /// What a line at the place may be.
 fn tell_start(out: &mut Vec<u8>, place: TextPlace) -> Result<(), AllocError> {
     match place {
-        TextPlace::Header => say(out, "`u-program 1`, the first line of every program"),
-        TextPlace::FirstBlock => say(out, "the first block, as `block main`"),
+        TextPlace::Header => tell(
+            out,
+            &[
+                Piece::Words(HEADERS),
+                Piece::Words(", the first line of every program"),
+            ],
+        ),
+        TextPlace::FirstBlock(_) => say(out, "the first block, as `block main`"),
         TextPlace::Inside {
             blocks,
             loops,
             statements,
+            ..
         } => tell_inside(out, blocks, loops, statements),
     }
 }
@@ -111,19 +122,23 @@ fn begins(word: &[u8], front: &[u8]) -> bool {
     word.starts_with(front)
 }
 
-/// The kinds that begin with these bytes.
-pub fn tell_kinds(out: &mut Vec<u8>, begun: &[u8]) -> Result<(), AllocError> {
+/// The kinds with an argument that a text of the version has.
+fn argued_kinds(version: Version) -> &'static [&'static [u8]] {
+    match version {
+        Version::One => &[b"const", b"enter", b"apply"],
+        Version::Two => &[b"const", b"enter", b"apply", b"param"],
+    }
+}
+
+/// The kinds of the version that begin with these bytes.
+pub fn tell_kinds(out: &mut Vec<u8>, version: Version, begun: &[u8]) -> Result<(), AllocError> {
     for kind in plain_kinds() {
         let word = kind_word(&kind);
         if begins(word, begun) {
             tell(out, &[Piece::Words(" "), Piece::Quoted(word)])?;
         }
     }
-    for word in [
-        b"const".as_slice(),
-        b"enter".as_slice(),
-        b"apply".as_slice(),
-    ] {
+    for word in argued_kinds(version) {
         if begins(word, begun) {
             tell(out, &[Piece::Words(" "), Piece::Quoted(word)])?;
         }
@@ -142,7 +157,7 @@ fn is_plain_kind(begun: &[u8]) -> bool {
 }
 
 /// What may stand behind these bytes of a kind.
-fn tell_kind(out: &mut Vec<u8>, begun: &[u8]) -> Result<(), AllocError> {
+fn tell_kind(out: &mut Vec<u8>, version: Version, begun: &[u8]) -> Result<(), AllocError> {
     if begun == b"const".as_slice() {
         return say(out, "a space and the constant");
     }
@@ -152,6 +167,9 @@ fn tell_kind(out: &mut Vec<u8>, begun: &[u8]) -> Result<(), AllocError> {
     if begun == b"apply".as_slice() {
         return say(out, "a space and the number of a `back`, from 1 to 999");
     }
+    if begun == b"param".as_slice() {
+        return say(out, "a space and the place of the parameter, from 2 to 4");
+    }
     if is_plain_kind(begun) {
         return say(out, "a space and the arrow `->`");
     }
@@ -160,7 +178,7 @@ fn tell_kind(out: &mut Vec<u8>, begun: &[u8]) -> Result<(), AllocError> {
     } else {
         say(out, "more of a kind:")?;
     }
-    tell_kinds(out, begun)
+    tell_kinds(out, version, begun)
 }
 
 /// What may stand behind these bytes of a constant.
@@ -208,14 +226,45 @@ fn tell_number(out: &mut Vec<u8>, what: &str, most: usize, begun: &[u8]) -> Resu
     )
 }
 
-/// The least destination behind the last one, and above: without the last one of all.
-fn tell_above(out: &mut Vec<u8>, last: Option<(u32, u32)>) -> Result<(), AllocError> {
-    let (statement, port) = match last {
-        None => return say(
+/// What may stand where the `back` of an `apply` stands, or behind it.
+fn tell_back(out: &mut Vec<u8>, version: Version, begun: &[u8]) -> Result<(), AllocError> {
+    if version != Version::One && !begun.is_empty() {
+        return say(
             out,
-            "a destination, a statement from 1 to 999, a dot and a port from 1 to 3, as `3.1`",
+            "a space and the number of arguments, or more digits up to 999",
+        );
+    }
+    tell_number(
+        out,
+        "the number of the `back` to which the result comes",
+        999,
+        begun,
+    )
+}
+
+/// What may stand where a number of one digit stands before the arrow, or behind it.
+fn tell_digit(out: &mut Vec<u8>, what: &str, begun: &[u8]) -> Result<(), AllocError> {
+    if begun.is_empty() {
+        return say(out, what);
+    }
+    say(out, "a space and the arrow `->`")
+}
+
+/// The least destination behind the last one, and above, where no port is above `most`: without the last
+/// one of all.
+fn tell_above(out: &mut Vec<u8>, most: u32, last: Option<(u32, u32)>) -> Result<(), AllocError> {
+    let (statement, port) = match last {
+        None => return tell(
+            out,
+            &[
+                Piece::Words(
+                    "a destination, a statement from 1 to 999, a dot and a port from 1 to ",
+                ),
+                Piece::Number(most as usize),
+                Piece::Words(", as `3.1`"),
+            ],
         ),
-        Some((statement, port)) if port < 3 => (statement as usize, port as usize + 1),
+        Some((statement, port)) if port < most => (statement as usize, port as usize + 1),
         Some((statement, _)) => (statement as usize + 1, 1),
     };
     tell(
@@ -231,16 +280,20 @@ fn tell_above(out: &mut Vec<u8>, last: Option<(u32, u32)>) -> Result<(), AllocEr
 }
 
 /// The ports that may follow the dot of a destination that begins with these bytes.
-fn tell_port(out: &mut Vec<u8>, least: u32) -> Result<(), AllocError> {
-    if least >= 3 {
-        return say(out, "the port 3");
+fn tell_port(out: &mut Vec<u8>, most: u32, least: u32) -> Result<(), AllocError> {
+    if least >= most {
+        return tell(
+            out,
+            &[Piece::Words("the port "), Piece::Number(most as usize)],
+        );
     }
     tell(
         out,
         &[
             Piece::Words("a port from "),
             Piece::Number(least as usize),
-            Piece::Words(" to 3"),
+            Piece::Words(" to "),
+            Piece::Number(most as usize),
         ],
     )
 }
@@ -254,24 +307,30 @@ fn least_port(list: &List<'_>) -> Option<u32> {
     }
 }
 
-/// Whether a destination of that statement comes after the last one.
-fn can_follow(statement: u32, last: Option<(u32, u32)>) -> bool {
+/// Whether a destination of that statement comes after the last one, where no port is above `most`.
+fn can_follow(statement: u32, most: u32, last: Option<(u32, u32)>) -> bool {
     match last {
         None => true,
-        Some((other, port)) => statement > other || (statement == other && port < 3),
+        Some((other, port)) => statement > other || (statement == other && port < most),
     }
 }
 
 /// What may stand in or behind a destination's statement.
-fn tell_digits(out: &mut Vec<u8>, list: &List<'_>) -> Result<(), AllocError> {
+fn tell_digits(out: &mut Vec<u8>, most: u32, list: &List<'_>) -> Result<(), AllocError> {
     let Ok((statement, _)) = number_at(list.begun, 999) else {
-        return tell_above(out, list.last);
+        return tell_above(out, most, list.last);
     };
-    if !can_follow(statement, list.last) {
+    if !can_follow(statement, most, list.last) {
         say(out, "more digits of the statement's number: ")?;
-        return tell_above(out, list.last);
+        return tell_above(out, most, list.last);
     }
-    say(out, "a dot and a port from 1 to 3")?;
+    tell(
+        out,
+        &[
+            Piece::Words("a dot and a port from 1 to "),
+            Piece::Number(most as usize),
+        ],
+    )?;
     if statement < 100 {
         say(out, ", or more digits of the statement's number, up to 999")?;
     }
@@ -279,14 +338,14 @@ fn tell_digits(out: &mut Vec<u8>, list: &List<'_>) -> Result<(), AllocError> {
 }
 
 /// What may stand in a destination.
-fn tell_destination(out: &mut Vec<u8>, list: &List<'_>) -> Result<(), AllocError> {
+fn tell_destination(out: &mut Vec<u8>, most: u32, list: &List<'_>) -> Result<(), AllocError> {
     if let Some(least) = least_port(list) {
-        return tell_port(out, least);
+        return tell_port(out, most, least);
     }
     if !list.begun.is_empty() {
-        return tell_digits(out, list);
+        return tell_digits(out, most, list);
     }
-    tell_above(out, list.last)?;
+    tell_above(out, most, list.last)?;
     if list.wants_slash {
         say(out, ", or the slash `/` before the list for false")?;
     }
@@ -294,11 +353,11 @@ fn tell_destination(out: &mut Vec<u8>, list: &List<'_>) -> Result<(), AllocError
 }
 
 /// What may stand behind a whole destination, the arrow or the slash.
-fn tell_more(out: &mut Vec<u8>, list: &List<'_>) -> Result<(), AllocError> {
-    let is_full = list.count >= 16 || list.last == Some((999, 3));
+fn tell_more(out: &mut Vec<u8>, most: u32, list: &List<'_>) -> Result<(), AllocError> {
+    let is_full = list.count >= 16 || list.last == Some((999, most));
     if !is_full {
         say(out, "a space and ")?;
-        tell_above(out, list.last)?;
+        tell_above(out, most, list.last)?;
         say(out, ", or ")?;
     }
     if list.wants_slash {
@@ -332,6 +391,32 @@ fn loops_at(place: TextPlace) -> u32 {
     }
 }
 
+/// What may stand behind the word of a kind, but for a name or a constant.
+fn tell_behind_kind(
+    out: &mut Vec<u8>,
+    version: Version,
+    expected: &Expected<'_>,
+) -> Result<(), AllocError> {
+    let most = greatest_port(version);
+    match expected {
+        Expected::Entered(begun) => tell_number(
+            out,
+            "the number of the loop that is entered",
+            99,
+            begun,
+        ),
+        Expected::Back(begun) => tell_back(out, version, begun),
+        Expected::Count(begun) => tell_digit(out, "the number of arguments, from 1 to 4", begun),
+        Expected::Parameter(begun) => {
+            tell_digit(out, "the place of the parameter, from 2 to 4", begun)
+        }
+        Expected::Destination(list) => tell_destination(out, most, list),
+        Expected::More(list) => tell_more(out, most, list),
+        Expected::Arrow => say(out, "the arrow `->`"),
+        _ => say(out, "the end of the line"),
+    }
+}
+
 /// Appends what was expected in a line at that place, without a line's end.
 ///
 /// # Errors
@@ -344,7 +429,6 @@ pub fn tell_expected(
     let loops = loops_at(place);
     match expected {
         Expected::Header => tell_start(out, TextPlace::Header),
-        Expected::HeaderEnd => say(out, "the end of the line"),
         Expected::LineStart => tell_start(out, place),
         Expected::Name { used, is_last } => tell_name(out, *used, *is_last),
         Expected::LoopNumber => tell(
@@ -361,23 +445,8 @@ pub fn tell_expected(
             out,
             "a space and a kind, or more digits of a region from 0 to 99",
         ),
-        Expected::Kind(begun) => tell_kind(out, begun),
+        Expected::Kind(begun) => tell_kind(out, place.version(), begun),
         Expected::Constant(begun) => tell_constant(out, begun),
-        Expected::Entered(begun) => tell_number(
-            out,
-            "the number of the loop that is entered",
-            99,
-            begun,
-        ),
-        Expected::Back(begun) => tell_number(
-            out,
-            "the number of the `back` to which the result comes",
-            999,
-            begun,
-        ),
-        Expected::Arrow => say(out, "the arrow `->`"),
-        Expected::NoList(_) => say(out, "the end of the line"),
-        Expected::Destination(list) => tell_destination(out, list),
-        Expected::More(list) => tell_more(out, list),
+        _ => tell_behind_kind(out, place.version(), expected),
     }
 }

@@ -32,7 +32,7 @@ impl Why {
 /// one of a `next`.
 fn many_ports(alloc: Global, spot: &Spot<'_>) -> Result<Vec<usize>, AllocError> {
     let mut ports = Vec::new(alloc);
-    for port in 1..4 {
+    for port in 1..6 {
         let sources = sources_of(alloc, spot.block, spot.port(port))?;
         if port <= port_count(spot.block, spot.number) && are_many(spot.block, &sources) {
             ports.push(port)?;

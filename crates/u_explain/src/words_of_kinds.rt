@@ -11,10 +11,11 @@ pub fn article_of(kind: &Kind) -> &'static str {
     }
 }
 
-/// The index of the first word behind the arrow in the line of a statement of that kind.
+/// The index of the first word behind the arrow in the line of a statement of that kind, which lists
+/// destinations.
 pub fn behind_arrow(kind: &Kind) -> usize {
     match kind {
-        Kind::Const(_) | Kind::Enter(_) | Kind::Apply(_) => 5,
+        Kind::Const(_) | Kind::Enter(_) | Kind::Param(_) => 5,
         _ => 4,
     }
 }

@@ -2,7 +2,7 @@ use Rattle.u_explain.proofs.LineLaws.{int_on, int_stuck}
 use Rattle.u_explain.proofs.fronts.int_left.Goals as goal
 
 pub returns-in-Ok : goal.returns-in-Ok
-returns-in-Ok c = int_on c.args.bytes.now _ c.in-Ok.rest.now c.arrow_left.result.now c.in-Ok.ensures c.arrow_left.ensures
+returns-in-Ok c = int_on c.args.version c.args.bytes.now _ c.in-Ok.rest.now c.arrow_left.result.now c.in-Ok.ensures c.arrow_left.ensures
 
 pub returns-in-Err : goal.returns-in-Err
-returns-in-Err c = int_stuck c.args.bytes.now c.in-Err.rest.now c.in-Err.ensures
+returns-in-Err c = int_stuck c.args.version c.args.bytes.now c.in-Err.rest.now c.in-Err.ensures

@@ -7,7 +7,7 @@ use Rattle.u_explain.proofs.LineLaws.{some_behind, some_kind}
 use Rattle.u_explain.proofs.fronts.region_left.Goals as goal
 
 pub returns-in-Ok : goal.returns-in-Ok
-returns-in-Ok c = word_on (decimal c.args.region) (Behind (codes " ") KindOn) (some_behind (codes " ") KindOn some_kind) c.args.bytes.now c.in-Ok.rest.now c.spaced_kind_left.result.now c.in-Ok.ensures c.spaced_kind_left.ensures
+returns-in-Ok c = word_on (decimal c.args.region) (Behind (codes " ") (KindOn c.args.version)) (some_behind (codes " ") (KindOn c.args.version) (some_kind c.args.version)) c.args.bytes.now c.in-Ok.rest.now c.spaced_kind_left.result.now c.in-Ok.ensures c.spaced_kind_left.ensures
 
 pub returns-in-Err : goal.returns-in-Err
-returns-in-Err c = word_stuck (decimal c.args.region) (Behind (codes " ") KindOn) (some_behind (codes " ") KindOn some_kind) c.args.bytes.now c.in-Err.rest.now c.in-Err.ensures
+returns-in-Err c = word_stuck (decimal c.args.region) (Behind (codes " ") (KindOn c.args.version)) (some_behind (codes " ") (KindOn c.args.version) (some_kind c.args.version)) c.args.bytes.now c.in-Err.rest.now c.in-Err.ensures

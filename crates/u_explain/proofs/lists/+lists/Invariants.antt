@@ -13,4 +13,4 @@ abbrev pub decreases-list_left : goal.decreases-list_left
 decreases-list_left l = 2 * length l.bytes.now + 1
 
 abbrev pub invariant-list_left-loop-rank : goal.invariant-list_left-loop-rank
-invariant-list_left-loop-rank l = IsLeft (SoFar l.slashed l.below l.room l.rank) l.bytes l.best
+invariant-list_left-loop-rank l = IsLeft (SoFar l.version l.slashed l.below l.room l.rank) l.bytes l.best

@@ -1,11 +1,7 @@
-use Rattle.u_program.specs.Text.{header}
-use Rattle.u_explain.specs.Lines.{EndOn}
-use Rattle.u_explain.proofs.LeftLaws.{ended, word_on, word_stuck}
-use Rattle.u_explain.proofs.ListLaws.{some_end}
+use Rattle.u_program.specs.declared.program.Version.TheVariants as versions
+use Rattle.u_explain.specs.Places.{VersionOn}
+use Rattle.u_explain.proofs.LeftLaws.{either}
 use Rattle.u_explain.proofs.text_place.header_left.Goals as goal
 
-pub returns-in-Ok : goal.returns-in-Ok
-returns-in-Ok c = word_on header EndOn some_end c.args.line.now c.in-Ok.rest.now c.in-Ok.rest.now c.in-Ok.ensures (ended c.in-Ok.rest.now)
-
-pub returns-in-Err : goal.returns-in-Err
-returns-in-Err c = word_stuck header EndOn some_end c.args.line.now c.in-Err.rest.now c.in-Err.ensures
+pub returns : goal.returns
+returns c = either (VersionOn versions.One) (VersionOn versions.Two) c.args.line.now c.version_left-one.result.now c.version_left-two.result.now c.shorter.result.now c.version_left-one.ensures c.version_left-two.ensures c.shorter.ensures.one c.shorter.ensures.first c.shorter.ensures.second
