@@ -13,6 +13,7 @@ use Rattle.u_system.proofs.Closure.{Derivation-append, Derivation-nil, Quiet-who
 use Rattle.u_system.proofs.Member.{Contains-nil}
 use Rattle.u_check.specs.Jobs.{JobParts}
 use Rattle.u_rule.specs.Rule.{system_of}
+use Rattle.u_program.specs.declared.program.Version.{Version}
 use Rattle.u_rule.specs.declared.firing.Firing.{Firing}
 use Rattle.u_machine.specs.State.{State, Taken, IsMachine, IsSettled, NothingReady}
 use Rattle.u_machine.specs.Calls.{Fires, RunAnswer}
@@ -24,6 +25,7 @@ use Rattle.u_machine.specs.declared.answer.Refusal.TheVariants as refusals
 use Rattle.u_machine.proofs.States.{settled_is_Cl, quiet_whole}
 use Rattle.u_replica.specs.ReplicaState.{ReplicaState, fresh}
 use Rattle.u_replica.specs.CheckpointText.{checkpoint_text}
+use Rattle.u_replica.proofs.CheckpointLaws.{reads_own}
 use Rattle.u_replica.specs.Checkpoints as ranges
 use Rattle.u_replica.specs.Merging.{all_of}
 use Rattle.u_replica.specs.Restoring.{blank, MayWrite, IsNoRoomFor, RestoresWritten}
@@ -156,7 +158,7 @@ ended_full life r budget end answer paused same =
     subst (λ (x : ReplicaState). x.machine.limit ≤ budget → MayBeFull x.machine) (sym same) last
 
 -- a text is saved of all that the machine took
-pub text_lives : (job : JobParts) (life : Life) (published : List Firing) (bytes : Vec ℕ Global) → bytes.items ≡ checkpoint_text (all_of life.replica.machine) → ranges.AreFirings (all_of life.replica.machine)
+pub text_lives : (job : JobParts) (life : Life) (published : List Firing) (bytes : Vec ℕ Global) → bytes.items ≡ checkpoint_text life.replica.machine.job.program.version (all_of life.replica.machine) → ranges.AreFirings (all_of life.replica.machine)
     → Lives job life published → Lives job (record { replica = life.replica; sent = life.sent; saved = Text bytes }) published
 text_lives job life published bytes text valid lives = record {
   job_is = lives.job_is;
@@ -167,7 +169,7 @@ text_lives job life published bytes text valid lives = record {
   within = lives.within;
   saved = record {
     firings = all_of life.replica.machine;
-    text = text;
+    text = subst (λ j. bytes.items ≡ checkpoint_text j.program.version (all_of life.replica.machine)) lives.job_is text;
     valid = valid;
     sound = λ f m. subst (λ j. IsSound j f) lives.job_is (lives.sound f m);
   };
@@ -199,10 +201,10 @@ too_long_text m job limit fs job_is limit_is all (news, new, more) took =
     subst (λ j. MoreThan j m.limit) (sym job_is) (subst (λ n. MoreThan job n) (sym limit_is) (news, new.once, (λ f c. all f (new.found.new f c).0), omega (arith, more)))
 
 -- a front of the log is saved
-pub front_saved : (job : JobParts) (m : State) (count : ℕ) (bytes : List ℕ) → m.job ≡ job → TookSound m → bytes ≡ checkpoint_text (take count m.log) → ranges.AreFirings (take count m.log) → IsSoundText job bytes
+pub front_saved : (job : JobParts) (m : State) (count : ℕ) (bytes : List ℕ) → m.job ≡ job → TookSound m → bytes ≡ checkpoint_text m.job.program.version (take count m.log) → ranges.AreFirings (take count m.log) → IsSoundText job bytes
 front_saved job m count bytes job_is took text valid = record {
   firings = take count m.log;
-  text = text;
+  text = subst (λ j. bytes ≡ checkpoint_text j.program.version (take count m.log)) job_is text;
   valid = valid;
   sound = λ f c. subst (λ j. IsSound j f) job_is (took f (Contains-append_left m.log m.parked f (subst (λ xs. Contains xs f) (take-append-drop count m.log) (Contains-append_left (take count m.log) (drop count m.log) f c))));
 }
@@ -211,11 +213,11 @@ front_saved job m count bytes job_is took text valid = record {
 pub may_write : (job : JobParts) (bytes : List ℕ) (text : IsSoundText job bytes) → MayWrite job text.firings
 may_write job bytes text = (text.valid, λ f c. (text.sound f c).0)
 
-pub front_text_saved : (job : JobParts) (m : State) (log : List Firing) (count : ℕ) (r : Result (Vec ℕ Global) AllocError) → m.job ≡ job → TookSound m → log ≡ m.log
-    → IfOk r (λ bytes. bytes.items ≡ checkpoint_text (take count log)) → IfOk r (λ _. ranges.AreFirings (take count log)) → IfOk r (λ bytes. IsSoundText job bytes.items)
-front_text_saved job m log count (Ok bytes) job_is took same text valid =
-    front_saved job m count bytes.items job_is took (text ∙ ap (λ fs. checkpoint_text (take count fs)) same) (subst (λ fs. ranges.AreFirings (take count fs)) same valid)
-front_text_saved job m log count (Err e) job_is took same text valid = tt
+pub front_text_saved : (job : JobParts) (m : State) (version : Version) (log : List Firing) (count : ℕ) (r : Result (Vec ℕ Global) AllocError) → m.job ≡ job → TookSound m → version ≡ m.job.program.version → log ≡ m.log
+    → IfOk r (λ bytes. bytes.items ≡ checkpoint_text version (take count log)) → IfOk r (λ _. ranges.AreFirings (take count log)) → IfOk r (λ bytes. IsSoundText job bytes.items)
+front_text_saved job m version log count (Ok bytes) job_is took version_is same text valid =
+    front_saved job m count bytes.items job_is took (text ∙ ap (λ fs. checkpoint_text version (take count fs)) same ∙ ap (λ v. checkpoint_text v (take count m.log)) version_is) (subst (λ fs. ranges.AreFirings (take count fs)) same valid)
+front_text_saved job m version log count (Err e) job_is took version_is same text valid = tt
 
 -- what a worker leaves after its last run
 pub last_worked : (may : ℕ → ℕ → Turn → Type 0) (job : JobParts) (limit rounds worker : ℕ) (m : State) (published : List Firing) (end : End) → Derivation (system_of job) published
@@ -231,7 +233,7 @@ last_worked may job limit rounds worker m published NoMemory run job_is limit_is
 -- what a worker has that starts again from the text of its last save
 module _ (J job : JobParts) (limit : ℕ) (life : Life) (bytes : Vec ℕ Global) (slice : List ℕ) (job_is : job ≡ J) (same : slice ≡ bytes.items) (of : life.replica.machine.job ≡ J) (text : IsSoundText J bytes.items) where
   wrote : (r : Result (ReplicaState × Ending) RestoreError) → RestoresWritten job limit slice r → MatchResult r (λ p. (p.1 ≡ Whole) × TakesAll (blank J limit) text.firings p.0.machine) (IsNoRoomFor J limit text.firings)
-  wrote r written = subst (λ j. RestoresWritten j limit slice r) job_is written text.firings (may_write J bytes.items text) (same ∙ text.text)
+  wrote r written = subst (λ j. RestoresWritten j limit slice r) job_is written J.program.version text.firings (reads_own J.program.version) (may_write J bytes.items text) (same ∙ text.text)
 
   pub restored_lives : (r kept : ReplicaState) (ending : Ending) (saved : Saved) → IsMachine life.replica.machine → RestoresWritten job limit slice (Ok (r, ending)) → kept ≡ r → saved ≡ Text bytes
       → LivesOn life (record { replica = kept; sent = 0; saved = saved })
@@ -244,6 +246,13 @@ module _ (J job : JobParts) (limit : ℕ) (life : Life) (bytes : Vec ℕ Global)
   restored_full e is limit_is written =
       ⊎_elim (λ (other : e ≡ restores.NoMemory). let bad : restores.Full ≡ restores.NoMemory = sym is ∙ other in absurd (cc))
       (λ (t : (e ≡ restores.Full) × IsTooLong (blank J limit) text.firings). too_long_text life.replica.machine J limit text.firings of limit_is text.sound t.1)
+      (wrote (Err e) written)
+
+  -- it is refused for no other reason
+  pub restored_other : (e : RestoreError) → RestoresWritten job limit slice (Err e) → (e ≡ restores.Full → ⊥) → (e ≡ restores.NoMemory → ⊥) → ⊥
+  restored_other e written full memory =
+      ⊎_elim memory
+      (λ (t : (e ≡ restores.Full) × IsTooLong (blank J limit) text.firings). full t.0)
       (wrote (Err e) written)
 
 -- a worker's first life

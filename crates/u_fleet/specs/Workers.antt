@@ -33,7 +33,7 @@ pub record IsWholeList (job : JobParts) (fs : List Firing) : Type 0 where
 -- the text is a checkpoint of sound firings
 pub record IsSoundText (job : JobParts) (bytes : List ℕ) : Type 0 where
   pub firings : List Firing
-  pub text : bytes ≡ checkpoint_text firings
+  pub text : bytes ≡ checkpoint_text job.program.version firings
   pub valid : ranges.AreFirings firings
   pub sound : AreSound job firings
 

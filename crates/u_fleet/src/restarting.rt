@@ -13,6 +13,7 @@ use crate::worker::{Life, Saved, Setting, Worker};
 use core::mem::replace;
 use std::alloc::{AllocError, Global};
 use u_outlet::Named;
+use u_program::Version;
 use u_replica::{Replica, RestoreError, write_checkpoint};
 use u_rule::Firing;
 use u_sets::OrderedSet;
@@ -39,13 +40,13 @@ pub fn save(life: &mut Life<'_>) -> Result<(), End>
     }
 }
 
-/// The checkpoint of the firings, with nothing parked.
-fn front_text(alloc: Global, firings: &[Firing]) -> Result<Vec<u8>, AllocError>
-    ensures text { IfOk result (λ bytes. bytes.items ≡ checkpoint_text firings.now) }
+/// The checkpoint of the firings, with nothing parked, for a job whose program has the version.
+fn front_text(alloc: Global, version: Version, firings: &[Firing]) -> Result<Vec<u8>, AllocError>
+    ensures text { IfOk result (λ bytes. bytes.items ≡ checkpoint_text version firings.now) }
     ensures valid { IfOk result (λ _. AreFirings firings.now) }
 {
     let mut bytes = Vec::new(alloc);
-    write_checkpoint(firings, &OrderedSet::new(alloc), &mut bytes)?;
+    write_checkpoint(version, firings, &OrderedSet::new(alloc), &mut bytes)?;
     Ok(bytes)
 }
 
@@ -57,7 +58,11 @@ fn take_text<J: Named>(alloc: Global, life: &mut Life<'_>) -> Result<Vec<u8>, Al
     ensures replica { life.new.replica ≡ life.old.replica }
 {
     match replace(&mut life.saved, Saved::Front(0)) {
-        Saved::Front(count) => front_text(alloc, &life.replica.machine().applied()[..count]),
+        Saved::Front(count) => {
+            let machine = life.replica.machine();
+            let version = machine.job().program().version();
+            front_text(alloc, version, &machine.applied()[..count])
+        }
         Saved::Text(bytes) => Ok(bytes),
     }
 }

@@ -8,6 +8,7 @@ use Rattle.u_text.specs.Spaced.{ended}
 use Rattle.u_text.proofs.PiecesLaws.{Free, glued, pieces_cut, pieces_free}
 use Rattle.u_text.proofs.SpacedLaws.{AllFree}
 use Rattle.u_text.proofs.WholeWordsLaws.{le_cases}
+use Rattle.u_program.specs.declared.program.Version.{Version}
 use Rattle.u_rule.specs.declared.firing.Firing.{Firing}
 use Rattle.u_rule.specs.FiringText.{firing_text}
 use Rattle.u_rule.specs.FiringReading.{IsFiring}
@@ -20,7 +21,7 @@ use Rattle.u_replica.specs.declared.checkpoint.Checkpoint.{Checkpoint}
 use Rattle.u_replica.specs.declared.checkpoint.CheckpointError.{CheckpointError}
 use Rattle.u_replica.specs.declared.checkpoint.CheckpointError.TheVariants as errors
 use Rattle.u_replica.specs.CheckpointText.{first_line, count_line, checkpoint_lines, checkpoint_text}
-use Rattle.u_replica.specs.Checkpoints.{AreFirings, IsCheckpointLines, SayFirings, IsTornIn, IsFrontOf}
+use Rattle.u_replica.specs.Checkpoints.{AreFirings, MayRead, IsCheckpointLines, SayFirings, IsTornIn, IsFrontOf}
 use Rattle.u_replica.specs.CheckpointReading.{IsAnswer}
 use Rattle.u_replica.proofs.CheckpointLaws.{not_empty, begins_begun, begins_nothing, not_nothing, not_whole}
 use Rattle.u_replica.proofs.CheckpointSame.{first_free, count_free, first_short, count_short, one_reading, no_error}
@@ -114,36 +115,37 @@ all_taken zero fs v = tt
 all_taken (suc k) [] v = tt
 all_taken (suc k) (f ∷ fs) v = (v.0, all_taken k fs v.1)
 
-module _ (fs : List Firing) (v : AreFirings fs) where
-  said_free : (ls : List (List ℕ)) → SayFirings ls fs → AllFree 10 ls
-  said_free ls (inl e) = subst (AllFree 10) (sym e) (first_free, firings_free fs v)
+module _ (version : Version) (fs : List Firing) (v : AreFirings fs) where
+  said_free : (ls : List (List ℕ)) → SayFirings version ls fs → AllFree 10 ls
+  said_free ls (inl e) = subst (AllFree 10) (sym e.lines) (first_free e.head, firings_free fs v)
   said_free ls (inr e) = subst (AllFree 10) (sym e.0) tt
 
-  said_allowed : (ls : List (List ℕ)) → SayFirings ls fs → AreAllowed IsCheckpointLines ls
-  said_allowed ls (inl e) = subst (AreAllowed IsCheckpointLines) (sym e) (record { short = (first_short, firings_short fs v); begins = begins_begun fs v })
-  said_allowed ls (inr e) = subst (AreAllowed IsCheckpointLines) (sym e.0) (record { short = tt; begins = begins_nothing })
+  said_allowed : (ls : List (List ℕ)) → SayFirings version ls fs → AreAllowed (IsCheckpointLines version) ls
+  said_allowed ls (inl e) = subst (AreAllowed (IsCheckpointLines version)) (sym e.lines) (record { short = (first_short e.head, firings_short fs v); begins = begins_begun version e.head e.may fs v })
+  said_allowed ls (inr e) = subst (AreAllowed (IsCheckpointLines version)) (sym e.0) (record { short = tt; begins = begins_nothing version })
 
-  said_incomplete : (ls : List (List ℕ)) → SayFirings ls fs → IsCheckpointLines ls → ⊥
-  said_incomplete ls (inl e) d = not_whole fs (subst IsCheckpointLines e d)
-  said_incomplete ls (inr e) d = not_nothing (subst IsCheckpointLines e.0 d)
+  said_incomplete : (ls : List (List ℕ)) → SayFirings version ls fs → IsCheckpointLines version ls → ⊥
+  said_incomplete ls (inl e) d = not_whole version e.head fs (subst (IsCheckpointLines version) e.lines d)
+  said_incomplete ls (inr e) d = not_nothing version (subst (IsCheckpointLines version) e.0 d)
 
 -- the place where a checkpoint's text is cut
 
-record IsStop (fs : List Firing) (before : List (List ℕ)) (line : List ℕ) : Type 0 where
-  count : ℕ
-  said : SayFirings before (take count fs)
-  part : length before < 2 ^ 64 → IsPart line
+module _ (version head : Version) (may : MayRead version head) where
+  record IsStop (fs : List Firing) (before : List (List ℕ)) (line : List ℕ) : Type 0 where
+    count : ℕ
+    said : SayFirings version before (take count fs)
+    part : length before < 2 ^ 64 → IsPart line
 
-stop_behind : (fs : List Firing) (l : List ℕ) (before : List (List ℕ)) (line : List ℕ) → l ≡ first_line → IsPlace (length fs) fs before line → IsStop fs (l ∷ before) line
-stop_behind fs l before line e p = record {
-  count = p.count;
-  said = inl (ap (λ t. t ∷ before) e ∙ ap (λ t. first_line ∷ t) p.first);
-  part = λ h. line_part fs before line (omega arith) p.next;
-}
+  stop_behind : (fs : List Firing) (l : List ℕ) (before : List (List ℕ)) (line : List ℕ) → l ≡ first_line head → IsPlace (length fs) fs before line → IsStop fs (l ∷ before) line
+  stop_behind fs l before line e p = record {
+    count = p.count;
+    said = inl (record { head = head; may = may; lines = ap (λ t. t ∷ before) e ∙ ap (λ t. first_line head ∷ t) p.first });
+    part = λ h. line_part fs before line (omega arith) p.next;
+  }
 
-is_stop : (fs : List Firing) (before : List (List ℕ)) (line : List ℕ) (others : List (List ℕ)) → AreFirings fs → before ++ (line ∷ others) ≡ checkpoint_lines fs → IsStop fs before line
-is_stop fs [] line others v e = record { count = 0; said = inr (refl, refl); part = λ h. subst IsPart (sym (heads_are e)) (first_free, first_short) }
-is_stop fs (l ∷ before) line others v e = stop_behind fs l before line (heads_are e) (is_place (length fs) fs before line others v (tails_are e))
+  is_stop : (fs : List Firing) (before : List (List ℕ)) (line : List ℕ) (others : List (List ℕ)) → AreFirings fs → before ++ (line ∷ others) ≡ checkpoint_lines head fs → IsStop fs before line
+  is_stop fs [] line others v e = record { count = 0; said = inr (refl, refl); part = λ h. subst IsPart (sym (heads_are e)) (first_free head, first_short head) }
+  is_stop fs (l ∷ before) line others v e = stop_behind fs l before line (heads_are e) (is_place (length fs) fs before line others v (tails_are e))
 
 -- the pieces of the front of a text
 
@@ -159,34 +161,35 @@ glued_few : (ls : List (List ℕ)) (part : List ℕ) → length ls ≤ length (g
 glued_few [] part = omega arith
 glued_few (l ∷ ls) part = omega (arith, glued_few ls part, length-append l (10 ∷ glued 10 ls part))
 
-torn_at : (fs : List Firing) (bytes : List ℕ) (c : IsCut (checkpoint_lines fs) bytes) → length bytes < 2 ^ 64 → AreFirings fs → IsStop fs c.before c.line → (i : ℕ) × IsTornIn (pieces 10 bytes) (take i fs)
-torn_at fs bytes c h v s =
-    let few : length c.before < 2 ^ 64 = omega (arith, glued_few c.before c.part, ap (λ (b : List ℕ). length b) c.there) in
-    let line : IsPart c.line = s.part few in
-    let free : Free 10 c.part = free_front c.part c.behind (subst (Free 10) (sym c.parts) line.0) in
-    let short : IsShort c.part = omega (arith, line.1, length-append c.part c.behind, ap (λ (b : List ℕ). length b) c.parts) in
-    let w = all_taken s.count fs v in
-    let p : pieces 10 bytes ≡ (c.before, c.part) = ap (pieces 10) c.there ∙ pieces_glued c.before c.part (said_free (take s.count fs) w c.before s.said) free in
-    let torn : IsTruncated IsCheckpointLines (c.before, c.part) = record { allowed = said_allowed (take s.count fs) w c.before s.said; short = short; incomplete = said_incomplete (take s.count fs) w c.before s.said } in
-    let all : IsTornIn (c.before, c.part) (take s.count fs) = record { valid = w; torn = torn; lines = s.said } in
-    (s.count, subst (λ t. IsTornIn t (take s.count fs)) (sym p) all)
+module _ (version head : Version) (may : MayRead version head) where
+  torn_at : (fs : List Firing) (bytes : List ℕ) (c : IsCut (checkpoint_lines head fs) bytes) → length bytes < 2 ^ 64 → AreFirings fs → IsStop version head may fs c.before c.line → (i : ℕ) × IsTornIn version (pieces 10 bytes) (take i fs)
+  torn_at fs bytes c h v s =
+      let few : length c.before < 2 ^ 64 = omega (arith, glued_few c.before c.part, ap (λ (b : List ℕ). length b) c.there) in
+      let line : IsPart c.line = s.part few in
+      let free : Free 10 c.part = free_front c.part c.behind (subst (Free 10) (sym c.parts) line.0) in
+      let short : IsShort c.part = omega (arith, line.1, length-append c.part c.behind, ap (λ (b : List ℕ). length b) c.parts) in
+      let w = all_taken s.count fs v in
+      let p : pieces 10 bytes ≡ (c.before, c.part) = ap (pieces 10) c.there ∙ pieces_glued c.before c.part (said_free version (take s.count fs) w c.before s.said) free in
+      let torn : IsTruncated (IsCheckpointLines version) (c.before, c.part) = record { allowed = said_allowed version (take s.count fs) w c.before s.said; short = short; incomplete = said_incomplete version (take s.count fs) w c.before s.said } in
+      let all : IsTornIn version (c.before, c.part) (take s.count fs) = record { valid = w; torn = torn; lines = s.said } in
+      (s.count, subst (λ t. IsTornIn version t (take s.count fs)) (sym p) all)
 
--- the firings whose lines are there
-pub cut_torn : (fs : List Firing) (k : ℕ) (bytes : List ℕ) → length bytes < 2 ^ 64 → AreFirings fs → k < length (checkpoint_text fs) → bytes ≡ take k (checkpoint_text fs) → (i : ℕ) × IsTornIn (pieces 10 bytes) (take i fs)
-unfolding checkpoint_text
-cut_torn fs k bytes h v l e =
-    let c : IsCut (checkpoint_lines fs) bytes = subst (IsCut (checkpoint_lines fs)) (sym e) (is_cut (checkpoint_lines fs) k l) in
-    torn_at fs bytes c h v (is_stop fs c.before c.line c.others v c.lines)
+  -- the firings whose lines are there
+  pub cut_torn : (fs : List Firing) (k : ℕ) (bytes : List ℕ) → length bytes < 2 ^ 64 → AreFirings fs → k < length (checkpoint_text head fs) → bytes ≡ take k (checkpoint_text head fs) → (i : ℕ) × IsTornIn version (pieces 10 bytes) (take i fs)
+  unfolding checkpoint_text
+  cut_torn fs k bytes h v l e =
+      let c : IsCut (checkpoint_lines head fs) bytes = subst (IsCut (checkpoint_lines head fs)) (sym e) (is_cut (checkpoint_lines head fs) k l) in
+      torn_at fs bytes c h v (is_stop version head may fs c.before c.line c.others v c.lines)
 
-front_read : (fs gs : List Firing) (bytes : List ℕ) (i : ℕ) → IsTornIn (pieces 10 bytes) (take i fs) → gs ≡ take i fs → IsFrontOf bytes gs fs
-front_read fs gs bytes i t e = record { count = i; first = e; said = subst (λ gs. SayFirings (pieces 10 bytes).0 gs) (sym e) t.lines }
+front_read : (version : Version) (fs gs : List Firing) (bytes : List ℕ) (i : ℕ) → IsTornIn version (pieces 10 bytes) (take i fs) → gs ≡ take i fs → IsFrontOf version bytes gs fs
+front_read version fs gs bytes i t e = record { count = i; first = e; said = subst (λ gs. SayFirings version (pieces 10 bytes).0 gs) (sym e) t.lines }
 
 -- what is returned for the front of a text
-pub read_cut : (fs : List Firing) (k : ℕ) (bytes : List ℕ) (result : Result Checkpoint CheckpointError) → length bytes < 2 ^ 64 → AreFirings fs → k < length (checkpoint_text fs) → bytes ≡ take k (checkpoint_text fs) → IsAnswer (pieces 10 bytes) result → MatchResult result (λ c. (c.ending ≡ Torn) × IsFrontOf bytes c.firings fs) (λ error. error ≡ errors.NoMemory)
-read_cut fs k bytes (Ok c) h v l e r =
-    let t = cut_torn fs k bytes h v l e in
-    let s = one_reading bytes h c.ending Torn c.firings (take t.0 fs) r t.1 in
-    (s.0, front_read fs c.firings bytes t.0 t.1 s.1)
-read_cut fs k bytes (Err error) h v l e r =
-    let t = cut_torn fs k bytes h v l e in
-    no_error bytes h Torn (take t.0 fs) error t.1 r
+pub read_cut : (version head : Version) (fs : List Firing) (k : ℕ) (bytes : List ℕ) (result : Result Checkpoint CheckpointError) → length bytes < 2 ^ 64 → MayRead version head → AreFirings fs → k < length (checkpoint_text head fs) → bytes ≡ take k (checkpoint_text head fs) → IsAnswer version (pieces 10 bytes) result → MatchResult result (λ c. (c.ending ≡ Torn) × IsFrontOf version bytes c.firings fs) (λ error. error ≡ errors.NoMemory)
+read_cut version head fs k bytes (Ok c) h may v l e r =
+    let t = cut_torn version head may fs k bytes h v l e in
+    let s = one_reading version bytes h c.ending Torn c.firings (take t.0 fs) r t.1 in
+    (s.0, front_read version fs c.firings bytes t.0 t.1 s.1)
+read_cut version head fs k bytes (Err error) h may v l e r =
+    let t = cut_torn version head may fs k bytes h v l e in
+    no_error version bytes h Torn (take t.0 fs) error t.1 r

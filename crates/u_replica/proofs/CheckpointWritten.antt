@@ -7,10 +7,11 @@ use Rattle.std.specs.Fmt.{decimal}
 use Rattle.std.specs.Map.Iter.{deref}
 use Rattle.u_text.specs.Spaced.{ended}
 use Rattle.u_text.proofs.SpacedLaws.{ended-append}
+use Rattle.u_program.specs.declared.program.Version.{Version}
 use Rattle.u_rule.specs.declared.firing.Firing.{Firing}
 use Rattle.u_rule.specs.FiringText.{firing_text}
 use Rattle.u_rule.specs.FiringReading.{IsFiring}
-use Rattle.u_replica.specs.CheckpointText.{count_line, checkpoint_lines}
+use Rattle.u_replica.specs.CheckpointText.{first_line, count_line, checkpoint_lines}
 use Rattle.u_replica.specs.Checkpoints.{AreFirings}
 
 -- the firings of a set, one after another
@@ -53,8 +54,9 @@ pub counted : (n1 n2 n3 : List ℕ) (fs gs : List Firing) → n2 ≡ n1 ++ ended
 counted n1 n2 n3 fs gs p q =
     omega (arith, ap (λ (b : List ℕ). length b) p, ap (λ (b : List ℕ). length b) q, length-append n1 (ended (map firing_text fs)), length-append n2 (ended (map firing_text gs)), ended_few fs, ended_few gs)
 
-lines_written : (o n1 n2 n3 n4 : List ℕ) (fs gs : List Firing) (count : ℕ) → n1 ≡ o ++ codes "u-history 1\n" → n2 ≡ n1 ++ ended (map firing_text fs) → n3 ≡ n2 ++ ended (map firing_text gs) → count ≡ length fs + length gs → n4 ≡ n3 ++ (count_line count ++ (10 ∷ [])) → n4 ≡ o ++ ended (checkpoint_lines (fs ++ gs))
-lines_written o n1 n2 n3 n4 fs gs count p q r k s =
+lines_written : (version : Version) (o n1 n2 n3 n4 : List ℕ) (fs gs : List Firing) (count : ℕ) → n1 ≡ o ++ (first_line version ++ (10 ∷ [])) → n2 ≡ n1 ++ ended (map firing_text fs) → n3 ≡ n2 ++ ended (map firing_text gs) → count ≡ length fs + length gs → n4 ≡ n3 ++ (count_line count ++ (10 ∷ [])) → n4 ≡ o ++ ended (checkpoint_lines version (fs ++ gs))
+lines_written version o n1 n2 n3 n4 fs gs count p q r k s =
+    let h = first_line version ++ (10 ∷ []) in
     let f = ended (map firing_text fs) in
     let g = ended (map firing_text gs) in
     let e : count ≡ length (fs ++ gs) = k ∙ sym (length-append fs gs) in
@@ -63,12 +65,13 @@ lines_written o n1 n2 n3 n4 fs gs count p q r k s =
     ∙ sym (ended-append (map firing_text (fs ++ gs)) (count_line (length (fs ++ gs)) ∷ [])) in
     s
     ∙ ap (λ b. b ++ (count_line count ++ (10 ∷ []))) (r ∙ ap (λ b. b ++ g) (q ∙ ap (λ b. b ++ f) p))
-    ∙ ap (λ n. (((o ++ codes "u-history 1\n") ++ f) ++ g) ++ (count_line n ++ (10 ∷ []))) e
-    ∙ ap (λ b. b ++ (count_line (length (fs ++ gs)) ++ (10 ∷ []))) (append_assoc (o ++ codes "u-history 1\n") f g)
-    ∙ append_assoc (o ++ codes "u-history 1\n") (f ++ g) (count_line (length (fs ++ gs)) ++ (10 ∷ []))
-    ∙ ap (λ b. (o ++ codes "u-history 1\n") ++ b) t
-    ∙ append_assoc o (codes "u-history 1\n") (ended (map firing_text (fs ++ gs) ++ (count_line (length (fs ++ gs)) ∷ [])))
+    ∙ ap (λ n. (((o ++ h) ++ f) ++ g) ++ (count_line n ++ (10 ∷ []))) e
+    ∙ ap (λ b. b ++ (count_line (length (fs ++ gs)) ++ (10 ∷ []))) (append_assoc (o ++ h) f g)
+    ∙ append_assoc (o ++ h) (f ++ g) (count_line (length (fs ++ gs)) ++ (10 ∷ []))
+    ∙ ap (λ b. (o ++ h) ++ b) t
+    ∙ append_assoc o h (ended (map firing_text (fs ++ gs) ++ (count_line (length (fs ++ gs)) ∷ [])))
+    ∙ ap (λ b. o ++ b) (append_assoc (first_line version) (10 ∷ []) (ended (map firing_text (fs ++ gs) ++ (count_line (length (fs ++ gs)) ∷ []))))
 
-pub all_written : {A E : Type 0} (o n1 n2 n3 n4 : List ℕ) (fs gs : List Firing) (count : ℕ) (result : Result A E) → n1 ≡ o ++ codes "u-history 1\n" → n2 ≡ n1 ++ ended (map firing_text fs) → n3 ≡ n2 ++ ended (map firing_text gs) → count ≡ length fs + length gs → OnOk result (n4 ≡ n3 ++ (count_line count ++ (10 ∷ []))) → OnOk result (n4 ≡ o ++ ended (checkpoint_lines (fs ++ gs)))
-all_written o n1 n2 n3 n4 fs gs count (Ok a) p q r k s = lines_written o n1 n2 n3 n4 fs gs count p q r k s
-all_written o n1 n2 n3 n4 fs gs count (Err e) p q r k s = s
+pub all_written : {A E : Type 0} (version : Version) (o n1 n2 n3 n4 : List ℕ) (fs gs : List Firing) (count : ℕ) (result : Result A E) → n1 ≡ o ++ (first_line version ++ (10 ∷ [])) → n2 ≡ n1 ++ ended (map firing_text fs) → n3 ≡ n2 ++ ended (map firing_text gs) → count ≡ length fs + length gs → OnOk result (n4 ≡ n3 ++ (count_line count ++ (10 ∷ []))) → OnOk result (n4 ≡ o ++ ended (checkpoint_lines version (fs ++ gs)))
+all_written version o n1 n2 n3 n4 fs gs count (Ok a) p q r k s = lines_written version o n1 n2 n3 n4 fs gs count p q r k s
+all_written version o n1 n2 n3 n4 fs gs count (Err e) p q r k s = s

@@ -1,6 +1,6 @@
 -- Taking all that another machine took makes the least upper bound of the two.
 use Rattle.std.proofs.Common.{inl, inr, subst, sym, ◌∙◌, ℕ, append-nil, List, [], ◌++◌, ◌⊎◌, ◌≡◌}
-use Rattle.std.specs.Prelude.{Contains, Result, Ok, Err, IsTrue, true, false, refl}
+use Rattle.std.specs.Prelude.{Contains, Result, Ok, Err, IsTrue, true, false}
 use Rattle.u_rule.specs.declared.entry.Entry.{Entry}
 use Rattle.u_rule.specs.declared.firing.Firing.{Firing}
 use Rattle.u_rule.specs.Rule.{system_of}

@@ -8,6 +8,7 @@ use Rattle.u_system.specs.Firing.{Same}
 use Rattle.u_system.proofs.Member.{Contains-nil}
 use Rattle.u_check.specs.Jobs.{JobParts}
 use Rattle.u_rule.specs.Rule.{system_of}
+use Rattle.u_program.specs.declared.program.Version.{Version}
 use Rattle.u_rule.specs.declared.firing.Firing.{Firing}
 use Rattle.u_machine.specs.State.{State, Taken, count_of}
 use Rattle.u_machine.specs.Taking.{AreFirings, IsFirstOther, IsTooLong, TakesAll, TakeAllAnswer}
@@ -27,15 +28,16 @@ use Rattle.u_replica.specs.Merging.{all_of}
 use Rattle.u_replica.specs.ReplicaState.{ReplicaState, replica}
 use Rattle.u_replica.specs.CheckpointText.{checkpoint_text}
 use Rattle.u_replica.specs.Checkpoints as ranges
-use Rattle.u_replica.specs.Checkpoints.{IsCheckpointOf, IsCheckpointErrorOf, IsFrontOf}
+use Rattle.u_replica.specs.Checkpoints.{MayRead, IsCheckpointOf, IsCheckpointErrorOf, IsFrontOf}
+use Rattle.u_replica.proofs.CheckpointLaws.{reads_own}
 use Rattle.u_replica.specs.Restoring.{blank, IsRestored, IsRestoreError, RestoreAnswer, error_of_reading, error_of_taking, IsNoRoom, IsNoRoomFor, MaySave, MayWrite, RestoresWritten, RestoresWhole, RestoresFront}
 
 -- what reading a checkpoint says of a text that was written, and of a front of it
-abbrev pub ReadsWhole : List ℕ → Result Checkpoint CheckpointError → Type 0
-ReadsWhole bytes r = (fs : List Firing) → ranges.AreFirings fs → bytes ≡ checkpoint_text fs → MatchResult r (λ c. (c.ending ≡ Whole) × (c.firings ≡ fs)) (λ error. error ≡ checkpoints.NoMemory)
+abbrev pub ReadsWhole : Version → List ℕ → Result Checkpoint CheckpointError → Type 0
+ReadsWhole version bytes r = (head : Version) (fs : List Firing) → MayRead version head → ranges.AreFirings fs → bytes ≡ checkpoint_text head fs → MatchResult r (λ c. (c.ending ≡ Whole) × (c.firings ≡ fs)) (λ error. error ≡ checkpoints.NoMemory)
 
-abbrev pub ReadsFront : List ℕ → Result Checkpoint CheckpointError → Type 0
-ReadsFront bytes r = (fs : List Firing) (k : ℕ) → ranges.AreFirings fs → k < length (checkpoint_text fs) → bytes ≡ take k (checkpoint_text fs) → MatchResult r (λ c. (c.ending ≡ Torn) × IsFrontOf bytes c.firings fs) (λ error. error ≡ checkpoints.NoMemory)
+abbrev pub ReadsFront : Version → List ℕ → Result Checkpoint CheckpointError → Type 0
+ReadsFront version bytes r = (head : Version) (fs : List Firing) (k : ℕ) → MayRead version head → ranges.AreFirings fs → k < length (checkpoint_text head fs) → bytes ≡ take k (checkpoint_text head fs) → MatchResult r (λ c. (c.ending ≡ Torn) × IsFrontOf version bytes c.firings fs) (λ error. error ≡ checkpoints.NoMemory)
 
 -- a machine took these, and nothing else
 took : (job : JobParts) (limit : ℕ) (fs : List Firing) (new : State) → TakesAll (blank job limit) fs new → Same (Taken new) (Contains fs)
@@ -66,26 +68,26 @@ module _ (job : JobParts) (limit number life : ℕ) (bytes : List ℕ) where
   -- what was saved was written
   pub whole_of_written : (r : Result (ReplicaState × Ending) RestoreError) → RestoresWritten job limit bytes r → RestoresWhole job limit bytes r
   whole_of_written (Ok p) h saved m text =
-      let w = h (all_of saved) (may_write job saved m) text in
+      let w = h job.program.version (all_of saved) (reads_own job.program.version) (may_write job saved m) text in
       (w.0, took job limit (all_of saved) p.0.machine w.1)
   whole_of_written (Err e) h saved m text =
-      no_room_saved job saved m limit (all_of saved) e (omega (arith, same_length saved)) (h (all_of saved) (may_write job saved m) text)
+      no_room_saved job saved m limit (all_of saved) e (omega (arith, same_length saved)) (h job.program.version (all_of saved) (reads_own job.program.version) (may_write job saved m) text)
 
   -- the bytes were not read
 
-  pub unread_error : (e : CheckpointError) → IsCheckpointErrorOf bytes e → IsRestoreError job limit bytes (error_of_reading e)
+  pub unread_error : (e : CheckpointError) → IsCheckpointErrorOf job.program.version bytes e → IsRestoreError job limit bytes (error_of_reading e)
   unread_error (checkpoints.BadLine n) h = h
   unread_error (checkpoints.TooLong n) h = h
   unread_error checkpoints.NoMemory h = tt
 
-  pub unread_written : (e : CheckpointError) → ReadsWhole bytes (Err e) → RestoresWritten job limit bytes (Err (error_of_reading e))
-  unread_written e h fs m t = inl (ap error_of_reading (h fs m.0 t))
+  pub unread_written : (e : CheckpointError) → ReadsWhole job.program.version bytes (Err e) → RestoresWritten job limit bytes (Err (error_of_reading e))
+  unread_written e h head fs may m t = inl (ap error_of_reading (h head fs may m.0 t))
 
-  pub unread_whole : (e : CheckpointError) → ReadsWhole bytes (Err e) → RestoresWhole job limit bytes (Err (error_of_reading e))
+  pub unread_whole : (e : CheckpointError) → ReadsWhole job.program.version bytes (Err e) → RestoresWhole job limit bytes (Err (error_of_reading e))
   unread_whole e h = whole_of_written (Err (error_of_reading e)) (unread_written e h)
 
-  pub unread_front : (e : CheckpointError) → ReadsFront bytes (Err e) → RestoresFront job limit bytes (Err (error_of_reading e))
-  unread_front e h saved k m l t = inl (ap error_of_reading (h (all_of saved) k m.2 l t))
+  pub unread_front : (e : CheckpointError) → ReadsFront job.program.version bytes (Err e) → RestoresFront job limit bytes (Err (error_of_reading e))
+  unread_front e h head saved k may m l t = inl (ap error_of_reading (h head (all_of saved) k may m.2 l t))
 
   -- there was no memory for a machine
 
@@ -94,20 +96,20 @@ module _ (job : JobParts) (limit number life : ℕ) (bytes : List ℕ) where
   no_machine (Err e) h = subst (λ e. IsRestoreError job limit bytes e) (sym h) tt
 
   pub no_machine_written : (r : Result (ReplicaState × Ending) RestoreError) → IsErrAnd r (λ e. e ≡ restores.NoMemory) → RestoresWritten job limit bytes r
-  no_machine_written (Ok u) h fs m t = absurd h
-  no_machine_written (Err e) h fs m t = inl h
+  no_machine_written (Ok u) h head fs may m t = absurd h
+  no_machine_written (Err e) h head fs may m t = inl h
 
   pub no_machine_whole : (r : Result (ReplicaState × Ending) RestoreError) → IsErrAnd r (λ e. e ≡ restores.NoMemory) → RestoresWhole job limit bytes r
   no_machine_whole r h = whole_of_written r (no_machine_written r h)
 
   pub no_machine_front : (r : Result (ReplicaState × Ending) RestoreError) → IsErrAnd r (λ e. e ≡ restores.NoMemory) → RestoresFront job limit bytes r
-  no_machine_front (Ok u) h saved k m l t = absurd h
-  no_machine_front (Err e) h saved k m l t = inl h
+  no_machine_front (Ok u) h head saved k may m l t = absurd h
+  no_machine_front (Err e) h head saved k may m l t = inl h
 
   -- the firings that were read were not taken
 
   module _ (c : Checkpoint) (fs : List Firing) (is : fs ≡ c.firings) (new : State) where
-    pub untaken_error : (r : ListRefusal) → IsCheckpointOf bytes c.ending c.firings → TakeAllAnswer (blank job limit) fs (Err r) new → IsRestoreError job limit bytes (error_of_taking r)
+    pub untaken_error : (r : ListRefusal) → IsCheckpointOf job.program.version bytes c.ending c.firings → TakeAllAnswer (blank job limit) fs (Err r) new → IsRestoreError job limit bytes (error_of_taking r)
     untaken_error (lists.NotAFiring place) h t = record { firings = c.firings; ending = c.ending; read = h; so = subst (λ (fs : List Firing). IsFirstOther job fs place) is t.0 }
     untaken_error lists.Full h t = record { firings = c.firings; ending = c.ending; read = h; so = subst (λ (fs : List Firing). AreFirings job fs × IsTooLong (blank job limit) fs) is (t.0, t.1) }
     untaken_error lists.NoMemory h t = tt
@@ -121,15 +123,15 @@ module _ (job : JobParts) (limit number life : ℕ) (bytes : List ℕ) where
     no_room lists.Full own t = inr (refl, subst (λ (fs : List Firing). IsTooLong (blank job limit) fs) is t.1)
     no_room lists.NoMemory own t = inl refl
 
-    pub untaken_written : (r : ListRefusal) → ReadsWhole bytes (Ok c) → TakeAllAnswer (blank job limit) fs (Err r) new → RestoresWritten job limit bytes (Err (error_of_taking r))
-    untaken_written r h t gs m text =
-        let e = (h gs m.0 text).1 in
+    pub untaken_written : (r : ListRefusal) → ReadsWhole job.program.version bytes (Ok c) → TakeAllAnswer (blank job limit) fs (Err r) new → RestoresWritten job limit bytes (Err (error_of_taking r))
+    untaken_written r h t head gs may m text =
+        let e = (h head gs may m.0 text).1 in
         let own : AreFirings job c.firings = subst (λ (fs : List Firing). AreFirings job fs) (sym e) m.1 in
         subst (λ (fs : List Firing). IsNoRoomFor job limit fs (error_of_taking r)) e (no_room r own t)
 
-    pub untaken_front : (r : ListRefusal) → ReadsFront bytes (Ok c) → TakeAllAnswer (blank job limit) fs (Err r) new → RestoresFront job limit bytes (Err (error_of_taking r))
-    untaken_front r h t saved k m l text =
-        let e = (h (all_of saved) k m.2 l text).1 in
+    pub untaken_front : (r : ListRefusal) → ReadsFront job.program.version bytes (Ok c) → TakeAllAnswer (blank job limit) fs (Err r) new → RestoresFront job limit bytes (Err (error_of_taking r))
+    untaken_front r h t head saved k may m l text =
+        let e = (h head (all_of saved) k may m.2 l text).1 in
         let own : AreFirings job c.firings = λ f k. (may_write job saved m).1 f (Contains-taken e.count (all_of saved) f (subst (λ (fs : List Firing). Contains fs f) e.first k)) in
         let few : length c.firings ≤ count_of saved = omega (arith, ap (λ (fs : List Firing). length fs) e.first, length-take e.count (all_of saved), same_length saved) in
         no_room_saved job saved m limit c.firings (error_of_taking r) few (no_room r own t)
@@ -142,17 +144,17 @@ module _ (job : JobParts) (limit number life : ℕ) (bytes : List ℕ) where
     taken_read : (u : Unit {0}) → TakeAllAnswer (blank job limit) fs (Ok u) new → TakesAll (blank job limit) c.firings new
     taken_read u t = subst (λ (fs : List Firing). TakesAll (blank job limit) fs new) is t.2
 
-    pub restored : (u : Unit {0}) → IsCheckpointOf bytes c.ending c.firings → TakeAllAnswer (blank job limit) fs (Ok u) new → IsRestored job limit number life bytes c.ending Restored
+    pub restored : (u : Unit {0}) → IsCheckpointOf job.program.version bytes c.ending c.firings → TakeAllAnswer (blank job limit) fs (Ok u) new → IsRestored job limit number life bytes c.ending Restored
     restored u h t =
         let own = subst (λ (fs : List Firing). AreFirings job fs) is t.0 in
         record { firings = c.firings; read = h; of_job = own; takes = taken_read u t; settled = t.3; beside = refl }
 
-    pub restored_written : (u : Unit {0}) → ReadsWhole bytes (Ok c) → TakeAllAnswer (blank job limit) fs (Ok u) new → RestoresWritten job limit bytes (Ok (Restored, c.ending))
-    restored_written u h t gs m text =
-        let e = h gs m.0 text in
+    pub restored_written : (u : Unit {0}) → ReadsWhole job.program.version bytes (Ok c) → TakeAllAnswer (blank job limit) fs (Ok u) new → RestoresWritten job limit bytes (Ok (Restored, c.ending))
+    restored_written u h t head gs may m text =
+        let e = h head gs may m.0 text in
         (e.0, subst (λ (fs : List Firing). TakesAll (blank job limit) fs new) e.1 (taken_read u t))
 
-    pub restored_front : (u : Unit {0}) → ReadsFront bytes (Ok c) → TakeAllAnswer (blank job limit) fs (Ok u) new → RestoresFront job limit bytes (Ok (Restored, c.ending))
-    restored_front u h t saved k m l text =
-        let e = h (all_of saved) k m.2 l text in
+    pub restored_front : (u : Unit {0}) → ReadsFront job.program.version bytes (Ok c) → TakeAllAnswer (blank job limit) fs (Ok u) new → RestoresFront job limit bytes (Ok (Restored, c.ending))
+    restored_front u h t head saved k may m l text =
+        let e = h head (all_of saved) k may m.2 l text in
         (e.0, record { firings = c.firings; front = e.1; taken = took job limit c.firings new (taken_read u t) })

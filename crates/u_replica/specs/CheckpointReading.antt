@@ -2,6 +2,7 @@
 use Rattle.std.specs.Prelude.{◌≡◌, ℕ, List, [], Result, MatchResult}
 use Rattle.std.specs.List.{AllByRecursion}
 use Rattle.u_text.specs.Pieces.{PiecesAndRest}
+use Rattle.u_program.specs.declared.program.Version.{Version}
 use Rattle.u_rule.specs.declared.firing.Firing.{Firing}
 use Rattle.u_rule.specs.FiringText.{firing_text}
 use Rattle.u_rule.specs.FiringReading.{IsFiring}
@@ -12,12 +13,12 @@ use Rattle.u_replica.specs.declared.checkpoint.Checkpoint.{Checkpoint}
 use Rattle.u_replica.specs.declared.checkpoint.CheckpointError.{CheckpointError}
 use Rattle.u_replica.specs.declared.checkpoint.CheckpointError.TheVariants.{BadLine, TooLong, NoMemory}
 use Rattle.u_replica.specs.CheckpointText.{begun_lines, checkpoint_lines}
-use Rattle.u_replica.specs.Checkpoints.{AreFirings, IsTornIn, IsCheckpointErrorIn}
+use Rattle.u_replica.specs.Checkpoints.{AreFirings, MayRead, IsTornIn, IsCheckpointErrorIn}
 
--- firings of which the lines were read
-pub record AreRead (fs : List Firing) : Type 0 where
+-- firings of which the lines were read, behind this head
+pub record AreRead (head : Version) (fs : List Firing) : Type 0 where
   pub valid : AreFirings fs
-  pub short : AllByRecursion IsShort (begun_lines fs)
+  pub short : AllByRecursion IsShort (begun_lines head fs)
 
 -- the line is no firing's, or a growth was refused
 abbrev pub IsNoFiring : List ℕ → ℕ → CheckpointError → Type 0
@@ -26,14 +27,22 @@ IsNoFiring line number (TooLong n) = ⊥
 IsNoFiring line number NoMemory = Unit {0}
 
 -- the lines of the text are those of these firings' checkpoint, and nothing stands behind them
-pub record IsWholeIn (text : PiecesAndRest) (fs : List Firing) : Type 0 where
+pub record IsWholeIn (version : Version) (text : PiecesAndRest) (fs : List Firing) : Type 0 where
+  pub head : Version
+  pub may : MayRead version head
   pub valid : AreFirings fs
-  pub lines : text ≡ (checkpoint_lines fs, [])
+  pub lines : text ≡ (checkpoint_lines head fs, [])
 
-abbrev pub IsCheckpointIn : PiecesAndRest → Ending → List Firing → Type 0
-IsCheckpointIn text Whole fs = IsWholeIn text fs
-IsCheckpointIn text Torn fs = IsTornIn text fs
+abbrev pub IsCheckpointIn : Version → PiecesAndRest → Ending → List Firing → Type 0
+IsCheckpointIn version text Whole fs = IsWholeIn version text fs
+IsCheckpointIn version text Torn fs = IsTornIn version text fs
 
 -- what is answered for a text that was cut into its lines
-abbrev pub IsAnswer : PiecesAndRest → Result Checkpoint CheckpointError → Type 0
-IsAnswer text result = MatchResult result (λ c. IsCheckpointIn text c.ending c.firings) (λ error. IsCheckpointErrorIn text error)
+abbrev pub IsAnswer : Version → PiecesAndRest → Result Checkpoint CheckpointError → Type 0
+IsAnswer version text result =
+    MatchResult result (λ c. IsCheckpointIn version text c.ending c.firings)
+    (λ error. IsCheckpointErrorIn version text error)
+
+-- what every job answers that reads this head
+abbrev pub IsAnswerBehind : Version → PiecesAndRest → Result Checkpoint CheckpointError → Type 0
+IsAnswerBehind head text result = (version : Version) → MayRead version head → IsAnswer version text result

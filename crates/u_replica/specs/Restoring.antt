@@ -2,6 +2,7 @@
 use Rattle.std.specs.Prelude.{◌≡◌, ℕ, ◌<◌, ◌⊎◌, List, [], ◌∷◌, Result, MatchResult, Contains, length, take}
 use Rattle.u_text.specs.Pieces.{pieces}
 use Rattle.u_system.specs.Firing.{Same}
+use Rattle.u_program.specs.declared.program.Version.{Version}
 use Rattle.u_check.specs.Jobs.{JobParts}
 use Rattle.u_rule.specs.Rule.{system_of}
 use Rattle.u_rule.specs.declared.firing.Firing.{Firing}
@@ -20,25 +21,25 @@ use Rattle.u_replica.specs.Marking.{fresh_marks}
 use Rattle.u_replica.specs.Merging.{all_of}
 use Rattle.u_replica.specs.CheckpointText.{checkpoint_text}
 use Rattle.u_replica.specs.Checkpoints as ranges
-use Rattle.u_replica.specs.Checkpoints.{IsCheckpointLines, IsCheckpointOf, IsFrontOf}
+use Rattle.u_replica.specs.Checkpoints.{MayRead, IsCheckpointLines, IsCheckpointOf, IsFrontOf}
 use Rattle.u_replica.specs.ReplicaState.{ReplicaState, replica}
 
 -- a machine of the job that has taken nothing
 abbrev pub blank : JobParts → ℕ → State
 blank job limit = state job limit [] [] ((system_of job).start ∷ [])
 
--- some firings were read of the bytes, which ended so
-pub record WasRead (bytes : List ℕ) (P : List Firing → Type 0) : Type 0 where
+-- a job of the version read some firings of the bytes, which ended so
+pub record WasRead (version : Version) (bytes : List ℕ) (P : List Firing → Type 0) : Type 0 where
   pub firings : List Firing
   pub ending : Ending
-  pub read : IsCheckpointOf bytes ending firings
+  pub read : IsCheckpointOf version bytes ending firings
   pub so : P firings
 
 -- the replica took the firings that were read, all of them firings of the job, and nothing else; it knows
 -- nothing of its peers
 pub record IsRestored (job : JobParts) (limit number life : ℕ) (bytes : List ℕ) (ending : Ending) (new : ReplicaState) : Type 0 where
   pub firings : List Firing
-  pub read : IsCheckpointOf bytes ending firings
+  pub read : IsCheckpointOf job.program.version bytes ending firings
   pub of_job : AreFirings job firings
   pub takes : TakesAll (blank job limit) firings new.machine
   pub settled : IsSettled new.machine
@@ -47,10 +48,10 @@ pub record IsRestored (job : JobParts) (limit number life : ℕ) (bytes : List �
 -- why there is no replica: the first line that is not allowed, or is too long; or the checkpoint was
 -- read, and has what is no firing of the job, or more firings than may be taken; or there is no memory
 abbrev pub IsRestoreError : JobParts → ℕ → List ℕ → RestoreError → Type 0
-IsRestoreError job limit bytes (BadLine n) = texts.IsBadLine IsCheckpointLines (pieces 10 bytes) n
-IsRestoreError job limit bytes (TooLong n) = texts.IsTooLong IsCheckpointLines (pieces 10 bytes) n
-IsRestoreError job limit bytes (NotAFiring place) = WasRead bytes (λ fs. IsFirstOther job fs place)
-IsRestoreError job limit bytes Full = WasRead bytes (λ fs. AreFirings job fs × IsTooLong (blank job limit) fs)
+IsRestoreError job limit bytes (BadLine n) = texts.IsBadLine (IsCheckpointLines job.program.version) (pieces 10 bytes) n
+IsRestoreError job limit bytes (TooLong n) = texts.IsTooLong (IsCheckpointLines job.program.version) (pieces 10 bytes) n
+IsRestoreError job limit bytes (NotAFiring place) = WasRead job.program.version bytes (λ fs. IsFirstOther job fs place)
+IsRestoreError job limit bytes Full = WasRead job.program.version bytes (λ fs. AreFirings job fs × IsTooLong (blank job limit) fs)
 IsRestoreError job limit bytes NoMemory = Unit {0}
 
 -- the replica and how the checkpoint ended; or why there is none
@@ -77,11 +78,12 @@ MayWrite job fs = ranges.AreFirings fs × AreFirings job fs
 abbrev pub IsNoRoomFor : JobParts → ℕ → List Firing → RestoreError → Type 0
 IsNoRoomFor job limit fs error = (error ≡ NoMemory) ⊎ ((error ≡ Full) × IsTooLong (blank job limit) fs)
 
--- for the text that was written of such firings, the ending is whole, and the replica took them and nothing
--- else
+-- for the text that was written of such firings, with either head that the job reads, the ending is whole,
+-- and the replica took them and nothing else
 abbrev pub RestoresWritten : JobParts → ℕ → List ℕ → Result (ReplicaState × Ending) RestoreError → Type 0
 RestoresWritten job limit bytes result =
-    (fs : List Firing) → MayWrite job fs → bytes ≡ checkpoint_text fs
+    (head : Version) (fs : List Firing) → MayRead job.program.version head → MayWrite job fs
+    → bytes ≡ checkpoint_text head fs
     → MatchResult result (λ p. (p.1 ≡ Whole) × TakesAll (blank job limit) fs p.0.machine) (IsNoRoomFor job limit fs)
 
 -- there is no memory, or the saved machine took more than the limit
@@ -93,9 +95,9 @@ abbrev pub TookAll : State → ReplicaState → Type 0
 TookAll saved new = Same (Taken new.machine) (Taken saved)
 
 -- the replica took the first ones of what the saved machine took: those whose lines are complete
-pub record TookFront (saved : State) (bytes : List ℕ) (new : ReplicaState) : Type 0 where
+pub record TookFront (version : Version) (saved : State) (bytes : List ℕ) (new : ReplicaState) : Type 0 where
   pub firings : List Firing
-  pub front : IsFrontOf bytes firings (all_of saved)
+  pub front : IsFrontOf version bytes firings (all_of saved)
   pub taken : Same (Taken new.machine) (Contains firings)
 
 -- a machine of the job, whose firings are in their ranges
@@ -105,12 +107,14 @@ MaySave job saved = IsMachine saved × (saved.job ≡ job) × ranges.AreFirings 
 -- for the text that was saved of a machine, the ending is whole and the replica took what that machine took
 abbrev pub RestoresWhole : JobParts → ℕ → List ℕ → Result (ReplicaState × Ending) RestoreError → Type 0
 RestoresWhole job limit bytes result =
-    (saved : State) → MaySave job saved → bytes ≡ checkpoint_text (all_of saved)
+    (saved : State) → MaySave job saved → bytes ≡ checkpoint_text job.program.version (all_of saved)
     → MatchResult result (λ p. (p.1 ≡ Whole) × TookAll saved p.0) (IsNoRoom saved limit)
 
--- for a front of such a text, the ending is torn, and the replica took the first ones
+-- for a front of such a text, with either head that the job reads, the ending is torn, and the replica took
+-- the first ones
 abbrev pub RestoresFront : JobParts → ℕ → List ℕ → Result (ReplicaState × Ending) RestoreError → Type 0
 RestoresFront job limit bytes result =
-    (saved : State) (k : ℕ) → MaySave job saved → k < length (checkpoint_text (all_of saved))
-    → bytes ≡ take k (checkpoint_text (all_of saved))
-    → MatchResult result (λ p. (p.1 ≡ Torn) × TookFront saved bytes p.0) (IsNoRoom saved limit)
+    (head : Version) (saved : State) (k : ℕ) → MayRead job.program.version head → MaySave job saved
+    → k < length (checkpoint_text head (all_of saved))
+    → bytes ≡ take k (checkpoint_text head (all_of saved))
+    → MatchResult result (λ p. (p.1 ≡ Torn) × TookFront job.program.version saved bytes p.0) (IsNoRoom saved limit)

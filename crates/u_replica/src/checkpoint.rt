@@ -3,12 +3,13 @@ ghost use Rattle.std.specs.Prelude.{◌≡◌, ◌++◌, ◌∷◌, [], map, len
 ghost use Rattle.u_rule.specs.FiringText.{firing_text};
 ghost use Rattle.u_text.specs.Appending.{Extends};
 ghost use Rattle.u_text.specs.Spaced.{ended};
-ghost use Rattle.u_replica.specs.CheckpointText.{count_line, checkpoint_lines, checkpoint_text};
+ghost use Rattle.u_replica.specs.CheckpointText.{first_line, count_line, checkpoint_lines, checkpoint_text};
 ghost use Rattle.u_replica.specs.Checkpoints.{AreFirings};
 
 use std::alloc::{AllocError, AllocFailed};
 use thiserror::Error;
 use u_delta::{Firings, all_in_range, in_range, write_firings};
+use u_program::Version;
 use u_rule::Firing;
 use u_sets::OrderedSet;
 use u_text::{cut_back, push_long};
@@ -91,45 +92,60 @@ fn push_count(out: &mut Vec<u8>, count: u64) -> Result<(), AllocError>
     Ok(())
 }
 
+/// Appends the first line of a checkpoint of a job whose program has the version. On an error a part
+/// of it may stand there.
+fn push_head(out: &mut Vec<u8>, version: Version) -> Result<(), AllocError>
+    ensures ok { OnOk result (out.new.items ≡ out.old.items ++ (first_line version ++ (10 ∷ []))) }
+    ensures err { OnErr result (Extends out.old.items out.new.items) }
+{
+    match version {
+        Version::One => out.extend_from_slice(b"u-history 1\n"),
+        Version::Two => out.extend_from_slice(b"u-history 2\n"),
+    }
+}
+
 /// Appends the lines of a checkpoint. On an error a part of them may stand there.
 #[tactic(auto, using(u_text::proofs::AppendingLaws::extends_same, u_text::proofs::AppendingLaws::extends_by, u_text::proofs::AppendingLaws::extends_behind, crate::proofs::CheckpointWritten::all_written, crate::proofs::CheckpointWritten::counted))]
 fn push_checkpoint(
+    version: Version,
     applied: &[Firing],
     parked: &OrderedSet<Firing>,
     out: &mut Vec<u8>,
 ) -> Result<(), AllocError>
-    ensures ok { OnOk result
-        (out.new.items ≡ out.old.items ++ ended (checkpoint_lines (applied.now ++ parked.now))) }
+    ensures ok { OnOk result (out.new.items
+        ≡ out.old.items ++ ended (checkpoint_lines version (applied.now ++ parked.now))) }
     ensures err { OnErr result (Extends out.old.items out.new.items) }
 {
-    out.extend_from_slice(b"u-history 1\n")?;
+    push_head(out, version)?;
     write_firings(applied, out)?;
     push_set(out, parked)?;
     let count = applied.len() + parked.len();
     push_count(out, count as u64)
 }
 
-/// Appends the checkpoint of the applied firings, and behind them of the parked ones: the line
-/// `u-history 1`, a line for each firing, and the line `end COUNT`, where `COUNT` is how many
-/// firings there are, each with a newline behind it. The parts of all firings are in their ranges,
-/// as those of every firing in memory.
+/// Appends the checkpoint of the applied firings, and behind them of the parked ones: the first
+/// line, a line for each firing, and the line `end COUNT`, where `COUNT` is how many firings there
+/// are, each with a newline behind it. The first line says the version of the job's program:
+/// `u-history 1` or `u-history 2`. The parts of all firings are in their ranges, as those of every
+/// firing in memory.
 ///
 /// # Errors
 /// `AllocError` where there is no memory. Then `out` is as it was.
 #[tactic(auto, unfolding(crate::specs::CheckpointText::checkpoint_text), using(u_text::proofs::AppendingLaws::extends_cut, crate::proofs::CheckpointWritten::all_behind))]
 pub fn write_checkpoint(
+    version: Version,
     applied: &[Firing],
     parked: &OrderedSet<Firing>,
     out: &mut Vec<u8>,
 ) -> Result<(), AllocError>
     ensures ok { OnOk result
-        (out.new.items ≡ out.old.items ++ checkpoint_text (applied.now ++ parked.now)) }
+        (out.new.items ≡ out.old.items ++ checkpoint_text version (applied.now ++ parked.now)) }
     ensures err { OnErr result (out.new.items ≡ out.old.items) }
     ensures valid { AreFirings (applied.now ++ parked.now) }
 {
     all_in_range(applied);
     set_in_range(parked);
     let len = out.len();
-    let written = push_checkpoint(applied, parked, out);
+    let written = push_checkpoint(version, applied, parked, out);
     cut_back(out, len, written)
 }

@@ -1,5 +1,6 @@
 //! The text of a checkpoint, read line by line.
-ghost use Rattle.std.specs.Prelude.{◌≡◌, ◌↔◌, ◌∷◌, [], ◌++◌, ℕ, ◌<◌, List, length, take, IsTrue, MatchResult};
+ghost use Rattle.std.specs.Prelude.{◌≡◌, ◌↔◌, ◌∷◌, [], ◌++◌, ℕ, ◌<◌, List, length, take, IsTrue, MatchOption, MatchResult};
+ghost use Rattle.u_program.specs.declared.program.Version.{Version};
 ghost use Rattle.u_rule.specs.declared.firing.Firing.{Firing};
 ghost use Rattle.u_rule.specs.FiringReading.{IsFiringOf};
 ghost use Rattle.u_text.specs.Pieces.{pieces};
@@ -8,13 +9,14 @@ ghost use Rattle.u_replica.specs.declared.checkpoint.Ending.TheVariants as endin
 ghost use Rattle.u_replica.specs.declared.checkpoint.CheckpointError.TheVariants as errors;
 ghost use Rattle.u_replica.specs.CheckpointText.{first_line, count_line, begun_lines};
 ghost use Rattle.u_replica.specs.CheckpointText.{checkpoint_lines, checkpoint_text};
-ghost use Rattle.u_replica.specs.Checkpoints.{AreFirings, IsFrontOf};
+ghost use Rattle.u_replica.specs.Checkpoints.{AreFirings, MayRead, IsFrontOf};
 ghost use Rattle.u_replica.specs.Checkpoints.{IsCheckpointOf, IsCheckpointErrorOf};
-ghost use Rattle.u_replica.specs.CheckpointReading.{AreRead, IsNoFiring, IsAnswer};
+ghost use Rattle.u_replica.specs.CheckpointReading.{AreRead, IsNoFiring, IsAnswer, IsAnswerBehind};
 
 use crate::checkpoint::{Checkpoint, CheckpointError, Ending};
 use std::alloc::Global;
 use u_delta::{Ahead, Firings, look_ahead};
+use u_program::Version;
 use u_rule::{Firing, TextError};
 use u_text::{after_all, long_word};
 
@@ -59,9 +61,10 @@ fn add(firings: &mut Vec<Firing>, mut firing: Firing) -> Result<(), CheckpointEr
 }
 
 /// The checkpoint of these firings, of which all lines were read. Nothing may stand behind them.
-fn closed(firings: Vec<Firing>, bytes: &[u8]) -> Result<Checkpoint, CheckpointError>
-    requires { AreRead firings.items }
-    ensures { IsAnswer (lines_behind (checkpoint_lines firings.items) bytes.now) result }
+fn closed(head: Version, firings: Vec<Firing>, bytes: &[u8]) -> Result<Checkpoint, CheckpointError>
+    requires { AreRead head firings.items }
+    ensures { IsAnswerBehind head
+        (lines_behind (checkpoint_lines head firings.items) bytes.now) result }
 {
     let number = firings.len() + 3;
     if bytes.is_empty() {
@@ -77,8 +80,8 @@ fn closed(firings: Vec<Firing>, bytes: &[u8]) -> Result<Checkpoint, CheckpointEr
 }
 
 /// The checkpoint that goes on with these bytes behind its first line.
-fn read_firings(alloc: Global, bytes: &[u8]) -> Result<Checkpoint, CheckpointError>
-    ensures { IsAnswer (lines_behind (first_line ∷ []) bytes.now) result }
+fn read_firings(alloc: Global, head: Version, bytes: &[u8]) -> Result<Checkpoint, CheckpointError>
+    ensures { IsAnswerBehind head (lines_behind (first_line head ∷ []) bytes.now) result }
 {
     let mut firings = Vec::new(alloc);
     let mut rest = bytes;
@@ -95,7 +98,7 @@ fn read_firings(alloc: Global, bytes: &[u8]) -> Result<Checkpoint, CheckpointErr
             }
         };
         if is_count_line(line, firings.len() as u64) {
-            return closed(firings, others);
+            return closed(head, firings, others);
         }
         match firing_in(alloc, line, number) {
             Ok(firing) => add(&mut firings, firing)?,
@@ -105,17 +108,30 @@ fn read_firings(alloc: Global, bytes: &[u8]) -> Result<Checkpoint, CheckpointErr
     }
 }
 
+/// Which first line of a checkpoint the line is, where a job of the version reads that one.
+fn head_of(version: Version, line: &[u8]) -> Option<Version>
+    ensures { MatchOption result
+        ((head : Version) → MayRead version head → line.now ≡ first_line head → ⊥)
+        (λ head. MayRead version head × (line.now ≡ first_line head)) }
+{
+    if line == b"u-history 1".as_slice() {
+        return Some(Version::One);
+    }
+    if version == Version::Two && line == b"u-history 2".as_slice() {
+        return Some(Version::Two);
+    }
+    None
+}
+
 /// The checkpoint whose lines these are.
-fn read_lines(alloc: Global, bytes: &[u8]) -> Result<Checkpoint, CheckpointError>
-    ensures { IsAnswer (pieces 10 bytes.now) result }
+fn read_lines(alloc: Global, version: Version, bytes: &[u8]) -> Result<Checkpoint, CheckpointError>
+    ensures { IsAnswer version (pieces 10 bytes.now) result }
 {
     match look_ahead(bytes) {
-        Ahead::Line(line, rest) => {
-            if line != b"u-history 1".as_slice() {
-                return Err(CheckpointError::BadLine(1));
-            }
-            read_firings(alloc, rest)
-        }
+        Ahead::Line(line, rest) => match head_of(version, line) {
+            Some(head) => read_firings(alloc, head, rest),
+            None => Err(CheckpointError::BadLine(1)),
+        },
         Ahead::TooLong => Err(CheckpointError::TooLong(1)),
         Ahead::Rest => Ok(Checkpoint {
             firings: Firings::new(Vec::new(alloc)),
@@ -124,11 +140,14 @@ fn read_lines(alloc: Global, bytes: &[u8]) -> Result<Checkpoint, CheckpointError
     }
 }
 
-/// Returns the checkpoint that the bytes are, or that they are the front of.
+/// Returns the checkpoint that the bytes are, or that they are the front of. It is read for a job
+/// whose program has the version.
 ///
-/// A checkpoint is the line `u-history 1`, a line for each firing, and the line `end COUNT`, where
-/// `COUNT` is how many firings there are, each with a newline behind it: `write_checkpoint` writes
-/// it, and of that text the firings come back, and the ending is `Whole`. Where the text was cut
+/// A checkpoint is its first line, a line for each firing, and the line `end COUNT`, where `COUNT`
+/// is how many firings there are, each with a newline behind it. The first line is `u-history 1` or
+/// `u-history 2`: a job of version 1 reads the first of these alone, and a job of version 2 reads
+/// both, with the same firings behind them. `write_checkpoint` writes it, and of that text the
+/// firings come back, and the ending is `Whole`. Where the text was cut
 /// anywhere before its last byte, the ending is `Torn`, and the firings are those whose lines are
 /// there with their newline; what stands behind the last newline is dropped, whatever it is. The
 /// front of a checkpoint's text is refused for want of memory alone.
@@ -138,16 +157,24 @@ fn read_lines(alloc: Global, bytes: &[u8]) -> Result<Checkpoint, CheckpointError
 /// whether a newline ends it or not; this is judged before all else of a line. `BadLine` where no
 /// checkpoint has that line, which ends with a newline, behind those before it, and for any byte
 /// behind a whole checkpoint. `NoMemory` where there is no memory.
-pub fn read_checkpoint(alloc: Global, bytes: &[u8]) -> Result<Checkpoint, CheckpointError>
-    ensures answer { MatchResult result (λ c. IsCheckpointOf bytes.now c.ending c.firings)
-        (λ error. IsCheckpointErrorOf bytes.now error) }
-    ensures back { (fs : List Firing) → AreFirings fs → bytes.now ≡ checkpoint_text fs
+pub fn read_checkpoint(
+    alloc: Global,
+    version: Version,
+    bytes: &[u8],
+) -> Result<Checkpoint, CheckpointError>
+    ensures answer { MatchResult result
+        (λ c. IsCheckpointOf version bytes.now c.ending c.firings)
+        (λ error. IsCheckpointErrorOf version bytes.now error) }
+    ensures back { (head : Version) (fs : List Firing) → MayRead version head → AreFirings fs
+        → bytes.now ≡ checkpoint_text head fs
         → MatchResult result (λ c. (c.ending ≡ endings.Whole) × (c.firings ≡ fs))
         (λ error. error ≡ errors.NoMemory) }
-    ensures cut { (fs : List Firing) (k : ℕ) → AreFirings fs → k < length (checkpoint_text fs)
-        → bytes.now ≡ take k (checkpoint_text fs)
-        → MatchResult result (λ c. (c.ending ≡ endings.Torn) × IsFrontOf bytes.now c.firings fs)
+    ensures cut { (head : Version) (fs : List Firing) (k : ℕ) → MayRead version head
+        → AreFirings fs → k < length (checkpoint_text head fs)
+        → bytes.now ≡ take k (checkpoint_text head fs)
+        → MatchResult result
+        (λ c. (c.ending ≡ endings.Torn) × IsFrontOf version bytes.now c.firings fs)
         (λ error. error ≡ errors.NoMemory) }
 {
-    read_lines(alloc, bytes)
+    read_lines(alloc, version, bytes)
 }

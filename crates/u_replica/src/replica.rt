@@ -278,17 +278,25 @@ impl<'a> Replica<'a> {
     }
 
     /// The checkpoint of the replica: the text of its applied firings in their order, then of its
-    /// parked ones.
+    /// parked ones. Its first line is `u-history 1` where the job's program has version 1, and
+    /// `u-history 2` where it has version 2.
     ///
     /// # Errors
     /// `AllocError` where there is no memory.
     pub fn save(&self) -> Result<Vec<u8>, AllocError>
         ensures text { IfOk result
-            (λ bytes. bytes.items ≡ checkpoint_text (all_of self.now.machine)) }
+            (λ bytes. bytes.items ≡ checkpoint_text self.now.machine.job.program.version
+            (all_of self.now.machine)) }
         ensures valid { AreFirings (all_of self.now.machine) }
     {
         let mut bytes = Vec::new(self.alloc);
-        write_checkpoint(self.machine.applied(), self.machine.parked(), &mut bytes)?;
+        let version = self.machine.job().program().version();
+        write_checkpoint(
+            version,
+            self.machine.applied(),
+            self.machine.parked(),
+            &mut bytes,
+        )?;
         Ok(bytes)
     }
 
@@ -297,13 +305,18 @@ impl<'a> Replica<'a> {
     /// replica knows nothing of its peers. `number` is 1 to 8, and `life` at least 1; a replica that
     /// starts again takes its own number and a life that it did not live before.
     ///
-    /// Of what `write_checkpoint` wrote of any firings of this job the replica takes exactly these; so
-    /// of what `save` returned for this job it takes what the saved one took, and of a front of that the
-    /// first ones. Then it is refused for want of room or of memory alone.
+    /// The first line is `u-history 1` or `u-history 2`. A job whose program has version 2 reads both,
+    /// and takes the same firings behind them; for a job of version 1 `u-history 2` is no line of a
+    /// checkpoint.
+    ///
+    /// Of what `write_checkpoint` wrote of any firings of this job, with a first line that the job reads,
+    /// the replica takes exactly these; so of what `save` returned for this job it takes what the saved
+    /// one took, and of a front of that the first ones. Then it is refused for want of room or of memory
+    /// alone.
     ///
     /// # Errors
-    /// `BadLine` and `TooLong` with the first line, counted from 1, that no checkpoint has in its place
-    /// or that has more than 32,768 bytes. `NotAFiring` with the place, counted from 0, of the first
+    /// `BadLine` and `TooLong` with the first line, counted from 1, that no checkpoint which the job reads
+    /// has in its place or that has more than 32,768 bytes. `NotAFiring` with the place, counted from 0, of the first
     /// firing that is none of the job. `Full` where the checkpoint has more firings than `limit`.
     /// `NoMemory` where there is no memory.
     pub fn restore(
@@ -321,7 +334,8 @@ impl<'a> Replica<'a> {
         ensures whole { RestoresWhole job.now limit bytes.now result }
         ensures front { RestoresFront job.now limit bytes.now result }
     {
-        let checkpoint = match read_checkpoint(alloc, bytes) {
+        let version = job.program().version();
+        let checkpoint = match read_checkpoint(alloc, version, bytes) {
             Ok(checkpoint) => checkpoint,
             Err(error) => return Err(unread(error)),
         };

@@ -4,6 +4,7 @@ use Rattle.std.proofs.Common.{sym, ◌∙◌, ap, subst, arith, inl, inr, get_or
 use Rattle.std.proofs.lemmas.List.{take_all}
 use Rattle.u_text.specs.Spaced.{ended}
 use Rattle.u_text.proofs.WholeWordsLaws.{le_cases}
+use Rattle.u_program.specs.declared.program.Version.{Version}
 use Rattle.u_rule.specs.declared.firing.Firing.{Firing}
 use Rattle.u_rule.specs.FiringText.{firing_text}
 use Rattle.u_delta.specs.declared.message.Message.{Message}
@@ -14,6 +15,7 @@ use Rattle.u_replica.specs.declared.answer.RestoreError.TheVariants as restores
 use Rattle.u_replica.specs.Merging.{all_of}
 use Rattle.u_replica.specs.CheckpointText.{first_line, count_line, checkpoint_text}
 use Rattle.u_replica.specs.ReplicaState.{ReplicaState, HoldsAlways}
+use Rattle.u_replica.proofs.CheckpointLaws.{reads_own}
 use Rattle.u_replica.specs.Restoring.{IsRestored, IsNoRoom, RestoresWhole, RestoresFront}
 use Rattle.u_world.specs.declared.event.Event.TheVariants as events
 use Rattle.u_world.specs.declared.refused.Refused.{Refused}
@@ -49,9 +51,9 @@ restarted w is k n keep life read before after next saved bytes ending has e r b
     let again : StartsAgain w (take keep saved) before after = (ending, subst (λ r. IsRestored w.job w.limit before.number (before.life + 1) (take keep saved) ending r) (sym same) by_bytes) in
     inr ((read, read_at, omega (arith, l, small)), (saved, saves, one_changed w k n (StartsAgain w (take keep saved)) before after has e b again holds))
 
-text_some : (fs : List Firing) → 0 < length (checkpoint_text fs)
+text_some : (version : Version) (fs : List Firing) → 0 < length (checkpoint_text version fs)
 unfolding checkpoint_text
-text_some fs = omega (arith, length-append first_line (10 ∷ ended (map firing_text fs ++ (count_line (length fs) ∷ []))))
+text_some version fs = omega (arith, length-append (first_line version) (10 ∷ ended (map firing_text fs ++ (count_line (length fs) ∷ []))))
 
 take_nothing : (k : ℕ) → take {A = ℕ} k [] ≡ []
 take_nothing zero = refl
@@ -59,17 +61,20 @@ take_nothing (suc k) = refl
 
 -- of what was saved a replica is refused for want of memory alone
 module _ (w : WorldState) (is : IsWorld w) (k keep : ℕ) (saved bytes : List ℕ) (error : RestoreError) (at : At w.saves k saved) (t : bytes ≡ take keep saved) (whole : RestoresWhole w.job w.limit bytes (Err error)) (front : RestoresFront w.job w.limit bytes (Err error)) where
+  abbrev version : Version
+  version = w.job.program.version
+
   room : (s : IsSaved w saved) → IsNoRoom s.saver w.limit error → error ≡ restores.NoMemory
   room s (inl e) = e
   room s (inr (e, l)) = absurd (let n = s.may.0.sound.within in let m = s.limit in omega (arith, l, n, m))
 
-  refused_of : (s : IsSaved w saved) → (saved ≡ []) ⊎ (saved ≡ checkpoint_text (all_of s.saver)) → error ≡ restores.NoMemory
-  refused_of s (inl e) = room s (front s.saver 0 s.may (text_some (all_of s.saver)) (t ∙ ap (take keep) e ∙ take_nothing keep))
+  refused_of : (s : IsSaved w saved) → (saved ≡ []) ⊎ (saved ≡ checkpoint_text w.job.program.version (all_of s.saver)) → error ≡ restores.NoMemory
+  refused_of s (inl e) = room s (front version s.saver 0 (reads_own version) s.may (text_some version (all_of s.saver)) (t ∙ ap (take keep) e ∙ take_nothing keep))
   refused_of s (inr e) =
-      let text = checkpoint_text (all_of s.saver) in
+      let text = checkpoint_text version (all_of s.saver) in
       elim (le_cases (length text) keep) [
         | inl l ↦ room s (whole s.saver s.may (t ∙ ap (take keep) e ∙ take_all keep text l.1))
-        | inr l ↦ room s (front s.saver keep s.may (omega (arith, l)) (t ∙ ap (take keep) e))
+        | inr l ↦ room s (front version s.saver keep (reads_own version) s.may (omega (arith, l)) (t ∙ ap (take keep) e))
       ]
 
   pub not_restored : of_restore error ≡ refusals.NoMemory

@@ -3,6 +3,7 @@ use Rattle.std.specs.Prelude.{◌≡◌, ℕ, ◌-◌, ◌⊎◌, List, [], ◌�
 use Rattle.std.proofs.Common.{sym, ◌∙◌, ap, subst, arith, inl, inr}
 use Rattle.std.proofs.lemmas.List.{length-set}
 use Rattle.u_name.specs.Context.{IsBetween}
+use Rattle.u_check.specs.Jobs.{JobParts}
 use Rattle.u_rule.specs.declared.firing.Firing.{Firing}
 use Rattle.u_rule.specs.Rule.{system_of}
 use Rattle.u_delta.specs.declared.message.Ask.{Ask}
@@ -244,24 +245,24 @@ module _ (old : WorldState) (is : IsWorld old) where
   saves_keep : (k : ℕ) (result : Result (Unit {0}) Refused) (new : WorldState) → Saves k result old new → IsWorld new
   saves_keep k (Ok u) new (r, at, valid, e) = subst IsWorld (sym e) saves
     where
-      member : IsSaved old (checkpoint_text (all_of r.machine))
-      member = let i = is.members k r at in record { saver = r.machine; may = (i.is.machine, i.job, valid); limit = i.limit; text = inr refl }
+      member : IsSaved old (checkpoint_text r.machine.job.program.version (all_of r.machine))
+      member = let i = is.members k r at in record { saver = r.machine; may = (i.is.machine, i.job, valid); limit = i.limit; text = inr (ap (λ (j : JobParts). checkpoint_text j.program.version (all_of r.machine)) i.job) }
 
-      either : (j : ℕ) (bytes : List ℕ) → ((k ≡ j) × (bytes ≡ checkpoint_text (all_of r.machine))) ⊎ ((k ≡ j → ⊥) × At old.saves j bytes) → IsSaved old bytes
+      either : (j : ℕ) (bytes : List ℕ) → ((k ≡ j) × (bytes ≡ checkpoint_text r.machine.job.program.version (all_of r.machine))) ⊎ ((k ≡ j → ⊥) × At old.saves j bytes) → IsSaved old bytes
       either j bytes (inl a) = subst (λ b. IsSaved old b) (sym a.1) member
       either j bytes (inr b) = is.saved j bytes b.1
 
-      saves : IsWorld (world old.job old.limit old.replicas old.messages (slice_set old.saves (k - 1) (checkpoint_text (all_of r.machine))))
+      saves : IsWorld (world old.job old.limit old.replicas old.messages (slice_set old.saves (k - 1) (checkpoint_text r.machine.job.program.version (all_of r.machine))))
       saves = record {
         count = is.count;
-        save_count = length-set old.saves (k - 1) (checkpoint_text (all_of r.machine)) ∙ is.save_count;
+        save_count = length-set old.saves (k - 1) (checkpoint_text r.machine.job.program.version (all_of r.machine)) ∙ is.save_count;
         members = λ j r a. let i = is.members j r a in record { is = i.is; number = i.number; job = i.job; limit = i.limit };
         honest = is.honest;
         sent = λ x c. sent x (is.sent x c);
-        saved = λ j bytes a. let s = either j bytes (at_set_cases old.saves k j (checkpoint_text (all_of r.machine)) bytes at.0 a) in record { saver = s.saver; may = s.may; limit = s.limit; text = s.text };
+        saved = λ j bytes a. let s = either j bytes (at_set_cases old.saves k j (checkpoint_text r.machine.job.program.version (all_of r.machine)) bytes at.0 a) in record { saver = s.saver; may = s.may; limit = s.limit; text = s.text };
       }
         where
-          sent : (x : Message) → IsSent old x → IsSent (world old.job old.limit old.replicas old.messages (slice_set old.saves (k - 1) (checkpoint_text (all_of r.machine)))) x
+          sent : (x : Message) → IsSent old x → IsSent (world old.job old.limit old.replicas old.messages (slice_set old.saves (k - 1) (checkpoint_text r.machine.job.program.version (all_of r.machine)))) x
           sent (messages.Ask a) s = record { asker = s.asker; asked = s.asked; apart = s.apart }
           sent (messages.Delta d) s = record { sender = s.sender; receiver = s.receiver; apart = s.apart; firings = s.firings; part = s.part }
   saves_keep k (Err e) new s = subst IsWorld (sym s.1) is

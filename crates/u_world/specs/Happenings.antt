@@ -59,7 +59,8 @@ Delivers (messages.Delta d) result old new = Changes d.receiver (Receives d resu
 abbrev pub Saves : ℕ → Result (Unit {0}) Refused → WorldState → WorldState → Type 0
 Saves k (Ok u) old new =
     (r : ReplicaState) × At old.replicas k r × ranges.AreFirings (all_of r.machine)
-    × (new ≡ world old.job old.limit old.replicas old.messages (slice_set old.saves (k - 1) (checkpoint_text (all_of r.machine))))
+    × (new ≡ world old.job old.limit old.replicas old.messages
+    (slice_set old.saves (k - 1) (checkpoint_text r.machine.job.program.version (all_of r.machine))))
 Saves k (Err e) old new = IsUnmet e old new
 
 -- the replica's next life: it took the firings of the complete lines among the bytes that were kept, and

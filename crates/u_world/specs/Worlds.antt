@@ -70,7 +70,7 @@ pub record IsSaved (w : WorldState) (bytes : List ℕ) : Type 0 where
   pub saver : State
   pub may : MaySave w.job saver
   pub limit : saver.limit ≡ w.limit
-  pub text : (bytes ≡ []) ⊎ (bytes ≡ checkpoint_text (all_of saver))
+  pub text : (bytes ≡ []) ⊎ (bytes ≡ checkpoint_text w.job.program.version (all_of saver))
 
 -- 1 to 8 replicas of one job, whose marks are true of each other; the deltas among the messages are parts
 -- of their senders' logs; and what was saved are checkpoints.

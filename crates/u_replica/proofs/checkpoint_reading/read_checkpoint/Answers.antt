@@ -4,10 +4,10 @@ use Rattle.u_replica.proofs.CheckpointCuts.{read_cut}
 use Rattle.u_replica.proofs.checkpoint_reading.read_checkpoint.Goals as goal
 
 pub returns-clause-answer : goal.returns-clause-answer
-returns-clause-answer c = read_whole c.args.bytes.now c.read_lines.result c.read_lines.ensures
+returns-clause-answer c = read_whole c.args.version c.args.bytes.now c.read_lines.result c.read_lines.ensures
 
 pub returns-clause-back : goal.returns-clause-back
-returns-clause-back c fs valid text = read_back c.args.bytes.now (omega arith) fs c.read_lines.result c.read_lines.ensures valid text
+returns-clause-back c head fs may valid text = read_back c.args.version c.args.bytes.now (omega arith) head fs c.read_lines.result c.read_lines.ensures may valid text
 
 pub returns-clause-cut : goal.returns-clause-cut
-returns-clause-cut c fs k valid inside text = read_cut fs k c.args.bytes.now c.read_lines.result (omega arith) valid inside text c.read_lines.ensures
+returns-clause-cut c head fs k may valid inside text = read_cut c.args.version head fs k c.args.bytes.now c.read_lines.result (omega arith) may valid inside text c.read_lines.ensures

@@ -5,7 +5,9 @@ use Rattle.u_replica.specs.CheckpointReading.{AreRead}
 use Rattle.u_replica.proofs.checkpoint_reading.read_firings.Given as goal
 
 abbrev pub invariant-loop-line : goal.invariant-loop-line
-invariant-loop-line l = AreRead l.firings.items × (lines_behind (first_line ∷ []) l.bytes ≡ lines_behind (begun_lines l.firings.items) l.rest)
+invariant-loop-line l =
+    AreRead l.head l.firings.items
+    × (lines_behind (first_line l.head ∷ []) l.bytes ≡ lines_behind (begun_lines l.head l.firings.items) l.rest)
 
 abbrev pub decreases-loop-line : goal.decreases-loop-line
 decreases-loop-line l = length l.rest

@@ -1,7 +1,5 @@
-use Rattle.std.proofs.Common.{◌≡◌, ◌∙◌, ap, subst, refl, Err, inl, List}
+use Rattle.std.proofs.Common.{◌≡◌, ◌∙◌, ap, subst, refl, Err, inl}
 use Rattle.std.specs.Prelude.{Result}
-use Rattle.u_rule.specs.declared.firing.Firing.{Firing}
-use Rattle.u_machine.specs.State.{State}
 use Rattle.u_machine.specs.Calls.{Settles}
 use Rattle.u_machine.specs.Taking.{AreFirings, TakeAllAnswer}
 use Rattle.u_machine.specs.declared.answer.ListRefusal.{ListRefusal}
