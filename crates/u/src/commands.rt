@@ -10,9 +10,9 @@ use std::thread::Threads;
 use std::{fs, io};
 use u_cli::{
     Asked, Bus, CommandError, JobTexts, Plan, STORED_PROGRAM, WorldPlan, blame_watched_text,
-    check_text, draw_world_text, explain_text, fleet_text, read_input, restore_watched_text,
-    run_text, run_watched_text, save_watched_text, share_text, trace_watched_text,
-    waits_watched_text, world_watched_text,
+    check_text, draw_world_text, explain_text, fleet_text, lift_text, read_input,
+    restore_watched_text, run_text, run_watched_text, save_watched_text, share_text,
+    trace_watched_text, waits_watched_text, world_watched_text,
 };
 use u_pictures::{draw_run_text, draw_story_text, draw_text};
 
@@ -65,6 +65,12 @@ fn not_readable(rt: &HostRuntime, path: &str) -> Result<u8, CommandError> {
 fn first_byte(rt: &HostRuntime, path: &str) -> Result<usize, io::Error> {
     let mut opened = fs::open(rt, path)?;
     opened.read(&mut [0])
+}
+
+/// `lift FILE`.
+pub fn lift(rt: &HostRuntime, file: &str) -> Result<u8, CommandError> {
+    let program = read_file(rt, file)?;
+    lift_text(rt.alloc(), &program, &mut io::writer(rt))
 }
 
 /// `draw FILE`.

@@ -100,6 +100,7 @@ fn follow<T: Threads + Wait + Sync>(
             },
         ),
         Request::Explain { file, strict } => commands::explain(rt, file, strict),
+        Request::Lift { file } => commands::lift(rt, file),
         Request::Draw { file } => commands::draw(rt, file),
         Request::DrawRun {
             file,

@@ -14,8 +14,9 @@ pub use sharing::{SHARED_FIRINGS, member_plan, share_text};
 pub use u_commands::{
     Asked, CommandError, FIRING_LIMIT, INPUT_LIMIT, JobTexts, Progress, STORED_PROGRAM, Unwatched,
     Unwritten, Watch, argument_of, blame_text, blame_watched_text, check_text, explain_text,
-    read_input, restore_text, restore_watched_text, run_text, run_watched_text, save_text,
-    save_watched_text, trace_text, trace_watched_text, waits_text, waits_watched_text, write_whole,
+    lift_text, read_input, restore_text, restore_watched_text, run_text, run_watched_text,
+    save_text, save_watched_text, trace_text, trace_watched_text, waits_text, waits_watched_text,
+    write_whole,
 };
 pub use u_share::{Bus, Plan};
 pub use worlds::{WorldPlan, world_text, world_watched_text};

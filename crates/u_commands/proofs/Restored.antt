@@ -148,7 +148,7 @@ module _ (job : JobParts) (number life firings : ℕ) (checkpoint : List ℕ) (e
   restored_refused faults.NotWritten r = r
 
 -- what was read of a checkpoint was taken, or was not
-module _ (job : JobParts) (checkpoint : List ℕ) (ending : Ending) (fs gs : List Firing) (read : IsCheckpointOf checkpoint ending fs) (same : gs ≡ fs) where
+module _ (job : JobParts) (checkpoint : List ℕ) (ending : Ending) (fs gs : List Firing) (read : IsCheckpointOf job.program.version checkpoint ending fs) (same : gs ≡ fs) where
   pub restored_with : (r : ReplicaState) → IsReplicaWith job gs r → IsRestored job most_taken 1 1 checkpoint ending r
   restored_with r w =
       let v = subst (λ (xs : List Firing). IsReplicaWith job xs r) same w in

@@ -6,14 +6,16 @@ use Rattle.u_machine.specs.State.{State}
 use Rattle.u_history.specs.declared.report.Ending.{Ending}
 use Rattle.u_replica.specs.Merging.{all_of}
 use Rattle.u_replica.specs.CheckpointText.{checkpoint_text}
-use Rattle.u_replica.specs.Checkpoints.{AreFirings, IsWholeOf}
+use Rattle.u_replica.specs.Checkpoints.{AreFirings}
 use Rattle.u_commands.specs.Runs.{RanTo}
 use Rattle.u_commands.specs.Saves.{SavesRunOfJob}
 
-pub saved_run : (job : JobParts) (firings : ℕ) (end : Ending) (m : State) (bytes : List ℕ) → RanTo job firings end m → bytes ≡ checkpoint_text (all_of m) → AreFirings (all_of m) → SavesRunOfJob job firings bytes
+pub saved_run : (job : JobParts) (firings : ℕ) (end : Ending) (m : State) (bytes : List ℕ) → RanTo job firings end m → bytes ≡ checkpoint_text m.job.program.version (all_of m) → AreFirings (all_of m) → SavesRunOfJob job firings bytes
 saved_run job firings end m bytes ran text valid =
+    let all : all_of m ≡ m.log = ap (λ (fs : FiringList). m.log ++ fs) ran.parked ∙ append-nil m.log in
     record {
       fs = m.log;
       plain = ran.run.plain;
-      is = subst (λ (fs : FiringList). IsWholeOf bytes fs) (ap (λ (fs : FiringList). m.log ++ fs) ran.parked ∙ append-nil m.log) (record { valid = valid; text = text });
+      valid = subst AreFirings all valid;
+      text = text ∙ ap (λ (fs : FiringList). checkpoint_text m.job.program.version fs) all ∙ ap (λ (j : JobParts). checkpoint_text j.program.version m.log) ran.of;
     }

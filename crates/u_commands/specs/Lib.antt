@@ -12,3 +12,4 @@ pub mod Takings
 pub mod Traces
 pub mod Blaming
 pub mod Waits
+pub mod Lifts

@@ -76,7 +76,7 @@ ending_line endings.Torn = codes "checkpoint torn\n"
 pub record RestoresJob (job : JobParts) (firings : ℕ) (checkpoint written : List ℕ) (status : ℕ) : Type 0 where
   pub ending : CheckpointEnding
   pub fs : List Firing
-  pub read : IsCheckpointOf checkpoint ending fs
+  pub read : IsCheckpointOf job.program.version checkpoint ending fs
   pub of_job : AreFirings job fs
   pub report : List ℕ
   pub on : ReportsOn job firings fs report status
@@ -89,10 +89,10 @@ HasNoRoom job firings fs = AreFirings job fs × (IsTooLong (blank job most_taken
 -- why no report comes of a job's checkpoint: its first line that is not allowed, or is too long; or its
 -- first firing that is none of the job; or there is no room
 abbrev pub CheckpointRefused : JobParts → ℕ → List ℕ → CommandError → Type 0
-CheckpointRefused job firings checkpoint (faults.CheckpointLineNotAllowed n) = IsCheckpointErrorOf checkpoint (errors.BadLine n)
-CheckpointRefused job firings checkpoint (faults.CheckpointLineTooLong n) = IsCheckpointErrorOf checkpoint (errors.TooLong n)
-CheckpointRefused job firings checkpoint (faults.OtherFiring place) = WasRead checkpoint (λ fs. IsFirstOther job fs place)
-CheckpointRefused job firings checkpoint faults.Full = WasRead checkpoint (λ fs. HasNoRoom job firings fs)
+CheckpointRefused job firings checkpoint (faults.CheckpointLineNotAllowed n) = IsCheckpointErrorOf job.program.version checkpoint (errors.BadLine n)
+CheckpointRefused job firings checkpoint (faults.CheckpointLineTooLong n) = IsCheckpointErrorOf job.program.version checkpoint (errors.TooLong n)
+CheckpointRefused job firings checkpoint (faults.OtherFiring place) = WasRead job.program.version checkpoint (λ fs. IsFirstOther job fs place)
+CheckpointRefused job firings checkpoint faults.Full = WasRead job.program.version checkpoint (λ fs. HasNoRoom job firings fs)
 CheckpointRefused job firings checkpoint faults.NoMemory = Unit {0}
 CheckpointRefused job firings checkpoint fault = ⊥
 

@@ -6,7 +6,8 @@ use Rattle.u_system.specs.Firing.{Plain}
 use Rattle.u_rule.specs.Rule.{system_of}
 use Rattle.u_rule.specs.declared.firing.Firing.{Firing}
 use Rattle.u_machine.specs.Calls.{firing_le}
-use Rattle.u_replica.specs.Checkpoints.{IsWholeOf}
+use Rattle.u_replica.specs.CheckpointText.{checkpoint_text}
+use Rattle.u_replica.specs.Checkpoints.{AreFirings}
 use Rattle.u_commands.specs.Outputs.{WritesAll, WritesPrefix}
 use Rattle.u_commands.specs.Runs.{IsJobOf, JobRefused}
 use Rattle.u_commands.specs.declared.command_error.CommandError.{CommandError}
@@ -17,7 +18,8 @@ use Rattle.u_commands.specs.declared.command_error.CommandError.TheVariants as f
 pub record SavesRunOfJob (job : JobParts) (firings : ℕ) (checkpoint : List ℕ) : Type 0 where
   pub fs : List Firing
   pub plain : Plain (system_of job) firing_le firings fs
-  pub is : IsWholeOf checkpoint fs
+  pub valid : AreFirings fs
+  pub text : checkpoint ≡ checkpoint_text job.program.version fs
 
 -- the checkpoint of the run of some job of these texts
 pub record SavesRun (bytes word : List ℕ) (firings : ℕ) (checkpoint : List ℕ) : Type 0 where

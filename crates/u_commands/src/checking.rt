@@ -26,7 +26,7 @@ pub struct Asked {
 }
 
 /// The fault that is told of a program's text.
-fn error_of(error: ReadError) -> CommandError
+pub(crate) fn error_of(error: ReadError) -> CommandError
     ensures { result ≡ error_of error }
 {
     match error {

@@ -8,6 +8,7 @@ mod checking;
 mod command_error;
 mod explaining;
 mod input;
+mod lifting;
 mod output;
 mod restoring;
 mod run;
@@ -24,6 +25,7 @@ pub use checking::{Asked, check_text};
 pub use command_error::CommandError;
 pub use explaining::explain_text;
 pub use input::{INPUT_LIMIT, read_input};
+pub use lifting::lift_text;
 pub use output::{Unwritten, push_numbered, write_whole};
 pub use restoring::{restore_text, restore_watched_text, run_behind};
 pub use run::{

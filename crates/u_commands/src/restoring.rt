@@ -1,6 +1,5 @@
 //! The command `restore`.
 ghost use Rattle.std.specs.Prelude.{◌≡◌, MatchResult, ℕ};
-ghost use Rattle.u_check.specs.Jobs.{JobParts};
 ghost use Rattle.u_replica.specs.Checkpoints.{IsCheckpointOf};
 ghost use Rattle.u_replica.specs.Restoring.{IsRestored};
 ghost use Rattle.u_commands.specs.Runs.{RunsBehind, RunRefused};
@@ -18,12 +17,13 @@ use u_check::Job;
 use u_machine::Refusal;
 use u_replica::{Checkpoint, CheckpointError, Ending, Replica, read_checkpoint};
 
-/// The checkpoint that the bytes are.
-fn checkpoint_in(alloc: Global, bytes: &[u8]) -> Result<Checkpoint, CommandError>
-    ensures { MatchResult result (λ c. IsCheckpointOf bytes.now c.ending c.firings)
-        (λ fault. (job : JobParts) (n : ℕ) → CheckpointRefused job n bytes.now fault) }
+/// The checkpoint of the job that the bytes are.
+fn checkpoint_in(alloc: Global, job: &Job, bytes: &[u8]) -> Result<Checkpoint, CommandError>
+    ensures { MatchResult result
+        (λ c. IsCheckpointOf job.now.program.version bytes.now c.ending c.firings)
+        (λ fault. (n : ℕ) → CheckpointRefused job.now n bytes.now fault) }
 {
-    match read_checkpoint(alloc, bytes) {
+    match read_checkpoint(alloc, job.program().version(), bytes) {
         Ok(checkpoint) => Ok(checkpoint),
         Err(CheckpointError::BadLine(line)) => Err(CommandError::CheckpointLineNotAllowed(line)),
         Err(CheckpointError::TooLong(line)) => Err(CommandError::CheckpointLineTooLong(line)),
@@ -43,7 +43,7 @@ fn restored<'a, V: Watch>(
         (λ p. IsRestored job.now most_taken 1 1 checkpoint.now p.1 p.0)
         (λ fault. (n : ℕ) → CheckpointRefused job.now n checkpoint.now fault) }
 {
-    let read = match checkpoint_in(alloc, checkpoint) {
+    let read = match checkpoint_in(alloc, job, checkpoint) {
         Ok(read) => read,
         Err(fault) => return Err(fault),
     };

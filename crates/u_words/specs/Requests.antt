@@ -3,18 +3,19 @@ use Rattle.std.specs.Prelude.{◌≡◌, ◌↔◌, ℕ, ◌≤◌, Bool, true, 
 use Rattle.clap.specs.Words.{first_value}
 use Rattle.clap.specs.declared.parser.matches.Found.{Found}
 use Rattle.u_words.specs.declared.words.Request.{Request}
-use Rattle.u_words.specs.declared.words.Request.TheVariants.{Stored, Check, Explain, Draw, DrawRun, DrawStory, Run, Save, Restore, Trace, Blame, Waits, World, Fleet, Share}
+use Rattle.u_words.specs.declared.words.Request.TheVariants.{Stored, Check, Explain, Lift, Draw, DrawRun, DrawStory, Run, Save, Restore, Trace, Blame, Waits, World, Fleet, Share}
 use Rattle.u_words.specs.Numbers.{IsFirings, IsDrawn, IsOneToEight, IsPort, IsNumberText}
 
 -- the numbers of a request are in their ranges: what runs may fire from one to a million times, the
 -- picture of a run has one to two thousand firings, a port
--- is the first, the second or the third, a world has one to eight replicas, which take one to a million
+-- is one of the first five, a world has one to eight replicas, which take one to a million
 -- firings each, and at most a hundred thousand events, a fleet one to eight workers with at most a
 -- thousand rounds, and a member of a bus fires one to a million times between two reads
 abbrev pub IsInRange : Request → Type 0
 IsInRange Stored = Unit {0}
 IsInRange (Check file strict determinate) = Unit {0}
 IsInRange (Explain file strict) = Unit {0}
+IsInRange (Lift file) = Unit {0}
 IsInRange (Draw file) = Unit {0}
 IsInRange (DrawRun file argument firings) = IsDrawn firings
 IsInRange (DrawStory file argument entry firings) = IsFirings firings
@@ -54,6 +55,11 @@ abbrev pub IsExplainRequest : Found → Request → Type 0
 IsExplainRequest found (Explain file strict) =
     (file.now ≡ word_of found (codes "FILE")) × IsFlag strict (word_of found (codes "strict"))
 IsExplainRequest found request = ⊥
+
+-- a program to lift, with the words that were found for it
+abbrev pub IsLiftRequest : Found → Request → Type 0
+IsLiftRequest found (Lift file) = file.now ≡ word_of found (codes "FILE")
+IsLiftRequest found request = ⊥
 
 -- the number is that one where no word was found for it, and else what the word spells
 abbrev pub IsNumberOr : ℕ → ℕ → Option (List ℕ) → Type 0

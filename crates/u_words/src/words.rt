@@ -2,7 +2,7 @@
 ghost use Rattle.std.specs.Prelude.{◌≡◌, IfOk, IfSome, codes};
 ghost use Rattle.clap.specs.Words.{found_of, first_value};
 ghost use Rattle.u_words.specs.Requests.{IsInRange, IsCheckRequest, IsRunRequest, IsSaveRequest, IsRestoreRequest, IsTraceRequest, IsWorldRequest, word_of};
-ghost use Rattle.u_words.specs.Requests.{IsExplainRequest, IsDrawRequest, IsNumberOr, IsWaitsRequest, IsFleetRequest, IsFlag};
+ghost use Rattle.u_words.specs.Requests.{IsExplainRequest, IsLiftRequest, IsDrawRequest, IsNumberOr, IsWaitsRequest, IsFleetRequest, IsFlag};
 ghost use Rattle.u_words.specs.Requests.{IsBlameRequest, IsShareRequest};
 ghost use Rattle.u_words.specs.Numbers.{IsFirings, IsDrawn, IsOneToEight, IsPort, IsNumberText};
 
@@ -20,6 +20,9 @@ const CHECK: &str = "check";
 
 /// The word of the command that explains.
 const EXPLAIN: &str = "explain";
+
+/// The word of the command that prints a program under version 2.
+const LIFT: &str = "lift";
 
 /// The word of the command that draws.
 const DRAW: &str = "draw";
@@ -84,6 +87,10 @@ pub enum Request<'a> {
     Explain {
         file: &'a str,
         strict: bool,
+    },
+    /// `lift FILE`: the text of the program under version 2.
+    Lift {
+        file: &'a str,
     },
     /// `draw FILE`: the picture of the program.
     Draw {
@@ -183,6 +190,7 @@ pub fn parse<'a>(alloc: Global, words: &'a [String]) -> Result<Request<'a>, Erro
         None => Ok(Request::Stored),
         Some((name, check)) if name == CHECK => Ok(check_request(check)),
         Some((name, explain)) if name == EXPLAIN => Ok(explain_request(explain)),
+        Some((name, lift)) if name == LIFT => Ok(lift_request(lift)),
         Some((name, draw)) if name == DRAW => draw_request(alloc, draw),
         Some((name, save)) if name == SAVE => save_request(alloc, save),
         Some((name, restore)) if name == RESTORE => restore_request(alloc, restore),
@@ -230,6 +238,15 @@ fn explain_request<'a>(matches: &ArgMatches<'a>) -> Request<'a>
     Request::Explain {
         file: text(matches, "FILE"),
         strict: flag(matches, "strict"),
+    }
+}
+
+/// The words of `lift`.
+fn lift_request<'a>(matches: &ArgMatches<'a>) -> Request<'a>
+    ensures { IsLiftRequest (found_of matches.now) result }
+{
+    Request::Lift {
+        file: text(matches, "FILE"),
     }
 }
 
@@ -525,6 +542,7 @@ fn commands<'a>(alloc: Global) -> Result<Command<'a>, AllocError> {
         .disable_help_subcommand(true);
     let all = with(all, check(alloc))?;
     let all = with(all, explain(alloc))?;
+    let all = with(all, lift(alloc))?;
     let all = with(all, draw(alloc, DRAW))?;
     let all = with(all, run(alloc, "run"))?;
     let all = with(all, save(alloc, SAVE))?;
@@ -593,6 +611,15 @@ fn explain<'a>(alloc: Global) -> Result<Command<'a>, AllocError> {
         "Example: ./u explain programs/double.u",
     )?
     .arg(choice(alloc, "strict").help("Say of an allowed program why it is not strict"))
+}
+
+fn lift<'a>(alloc: Global) -> Result<Command<'a>, AllocError> {
+    of_program(
+        alloc,
+        LIFT,
+        "Prints the program as one of version 2, which runs alike",
+        "Example: ./u lift programs/double.u > double2.u",
+    )
 }
 
 fn draw<'a>(alloc: Global, name: &'a str) -> Result<Command<'a>, AllocError> {
