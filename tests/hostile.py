@@ -130,6 +130,8 @@ def commands(room):
         ["check", f"{room}/refused"],
         ["explain", DOUBLE, "--strict"],
         ["explain", f"{room}/refused"],
+        ["lift", DOUBLE],
+        ["run", "tests/files/two_arguments.u", "7"],
         ["draw", DOUBLE],
         ["draw", DOUBLE, "4"],
         ["draw", WRITERS, "0", "a 20"],

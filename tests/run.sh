@@ -74,6 +74,8 @@ make_checkpoints() {
     head -c -1 -- "$temp/whole" >"$temp/torn"
     sed '3s/3$/03/' "$temp/whole" >"$temp/leading_zero"
     sed 's/^end 5$/end 4/' "$temp/whole" >"$temp/wrong_count"
+    sed '1s/1/2/' "$temp/whole" >"$temp/of_version_2"
+    sed '1s/1/3/' "$temp/whole" >"$temp/of_version_3"
     sed '2s/.*/f -.main.99.1 1/' "$temp/whole" >"$temp/other_firing"
     sed '2s/$/ 1 2 3 4/' "$temp/whole" >"$temp/five_values"
     sed '2s/$/ 1 2 3 4 5/' "$temp/whole" >"$temp/six_values"

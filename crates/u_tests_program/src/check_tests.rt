@@ -1,7 +1,9 @@
 //! Worked programs: which breach is named, and how it is printed.
 use crate::answers::is_printed;
 use crate::program_tests::is_program_written;
-use crate::worked_texts::{DOUBLE, FACTORIAL, NO_WRITER, OPERATORS, SUM, TWO_WRITERS};
+use crate::worked_texts::{
+    DOUBLE, FACTORIAL, NO_WRITER, OPERATORS, SUM, TWO_ARGUMENTS, TWO_WRITERS,
+};
 use std::alloc::{AllocError, Global};
 use std::test::Fail;
 use u_check::{Job, check};
@@ -13,6 +15,35 @@ const NO_BREACH: &str = "no breach";
 /// Programs, each with parts of its text, what stands in the place of that part, and what is then
 /// the first breach.
 const ROWS: &[(&str, &[(&str, &str, &str)])] = &[
+    (
+        TWO_ARGUMENTS,
+        &[
+            ("", "", NO_BREACH),
+            ("param 2", "param 3", "rule 17 block 2 statement 2"),
+            (
+                "block sum\n1 0 begin -> 3.1\n2 0 param 2 -> 3.2\n3 0 add -> 4.1\n4 0 end",
+                "block sum\n1 0 begin -> 4.1\n2 0 param 2 -> 4.2\n3 0 param 2 ->\n4 0 add -> 5.1\n5 0 end",
+                "rule 17 block 2 statement 3",
+            ),
+            (
+                "block sum\n1 0 begin -> 3.1\n2 0 param 2 -> 3.2",
+                "block sum\nloop 1 0\n1 0 begin -> 3.1 3.2\n2 1 param 2 ->",
+                "rule 17 block 2 statement 2",
+            ),
+            (
+                "begin -> 3.1\n2 0 param",
+                "begin -> 2.1 3.1\n2 0 param",
+                "rule 6 block 2 statement 1",
+            ),
+            (
+                "main\n1 0 begin -> 2.1 3.2 3.3\n2 0 const @sum -> 3.1\n3 0 apply 4 2 ->\n4 0 back -> 5.1\n5 0 end ->\n",
+                "main\n1 0 begin -> 3.1\n2 0 param 2 -> 3.2\n3 0 add -> 4.1\n4 0 end ->\n",
+                "rule 18 block 1 statement 2",
+            ),
+            ("apply 4 2", "apply 4 4", "rule 16 block 1 statement 3"),
+            ("apply 4 2", "apply 4 1", "rule 5 block 1 statement 1"),
+        ],
+    ),
     (
         DOUBLE,
         &[

@@ -2,7 +2,7 @@
 use crate::answers::{SAME, is_printed};
 use std::alloc::{AllocError, Global};
 use std::test::Fail;
-use u_program::{Constant, Kind, Program, ReadError, read};
+use u_program::{Arguments, Constant, Kind, Parameter, Program, ReadError, read};
 use u_value::{BinaryOperator, UnaryOperator};
 
 /// What is answered to each of some texts, of which this is the frame round the part that differs;
@@ -28,6 +28,39 @@ loop 1 0\nloop 2 1\nloop 3 1\nloop 4 0\n1 4 switch -> /|\
 ",
     ),
     (
+        SAME,
+        "u-program 2\nblock main\n#\n",
+        "\
+1 0 begin -> 1.1 1.2 1.3 1.4 1.5 2.1|\
+1 0 apply 1 1 ->|\
+1 0 apply 999 4 ->|\
+1 0 param 2 -> 2.1|\
+1 0 param 3 ->|\
+1 0 param 4 -> 999.5\
+",
+    ),
+    (
+        "program line 3 not allowed",
+        "u-program 2\nblock main\n#\n",
+        "\
+1 0 begin -> 2.6|\
+1 0 begin -> 2.5 2.5|\
+1 0 apply 2 ->|\
+1 0 apply 2 0 ->|\
+1 0 apply 2 5 ->|\
+1 0 apply 2 01 ->|\
+1 0 apply 2 1 1 ->|\
+1 0 apply 0 1 ->|\
+1 0 apply 2 2 -> 2.1|\
+1 0 param ->|\
+1 0 param 0 ->|\
+1 0 param 1 ->|\
+1 0 param 5 ->|\
+1 0 param 02 ->|\
+1 0 param 2 2 ->\
+",
+    ),
+    (
         "program line 3 not allowed",
         "u-program 1\nblock main\n#\n",
         "\
@@ -37,6 +70,7 @@ loop 1 0\nloop 2 1\nloop 3 1\nloop 4 0\n1 4 switch -> /|\
 1 0 begin -> 2.2 2.1|\
 1 0 begin -> 2.1 2.1|\
 1 0 begin -> 2.4|\
+1 0 begin -> 2.5|\
 1 0 begin -> 1000.1|\
 1 0 begin 2 -> 2.1|\
 1 100 begin ->|\
@@ -71,6 +105,8 @@ loop 1 0\nloop 2 1\nloop 3 1\nloop 4 0\n1 4 switch -> /|\
 1 0 enter 01 ->|\
 1 0 apply 0 ->|\
 1 0 apply 1000 ->|\
+1 0 apply 2 1 ->|\
+1 0 param 2 ->|\
 1 0 apply 2 -> 2.1|\
 1 0 apply 2 -> /|\
 1 0 next 1 ->|\
@@ -114,7 +150,11 @@ loop 1 0\nblock next|\
 1 0 switch -> / 1.1 2.1 3.1 4.1 5.1 6.1 7.1 8.1 9.1 10.1 11.1 12.1 13.1 14.1 15.1 16.1 17.1\
 ",
     ),
-    ("program line 1 not allowed", "u-program #\n", "2|01|1 |"),
+    (
+        "program line 1 not allowed",
+        "u-program #\n",
+        "0|3|01|1 |2 |",
+    ),
     (
         "program line 2 not allowed",
         "u-program 1\n#\n",
@@ -127,6 +167,7 @@ loop 1 0\nblock next|\
 |\
 u-program|\
 u-program 1\n|\
+u-program 2\n|\
 u-program 1\nblock main\n|\
 u-program 1\nblock main\nloop 1 0\n|\
 u-program 1\nblock main\n1 0 begin ->\nblock next\n|\
@@ -222,6 +263,12 @@ const STATEMENTS: &[(&str, usize, usize)] = &[
     ("end ->", 0, 0),
 ];
 
+/// Statements that a program of version 2 alone has, with how many destinations their two lists have.
+const STATEMENTS_OF_VERSION_2: &[(&str, usize, usize)] = &[
+    ("apply 12 3 ->", 0, 0),
+    ("param 4 -> 2.5", 1, 0),
+];
+
 /// Whether the program is written so.
 pub fn is_program_written(
     alloc: Global,
@@ -282,7 +329,9 @@ fn words_of(kind: &Kind) -> &'static str {
         Kind::Next => "next",
         Kind::Last => "last",
         Kind::Leave => "leave",
-        Kind::Apply(12) => "apply 12",
+        Kind::Apply(12, Arguments::One) => "apply 12",
+        Kind::Apply(12, Arguments::Three) => "apply 12 3",
+        Kind::Param(Parameter::Fourth) => "param 4",
         Kind::Back => "back",
         Kind::Alloc => "alloc",
         Kind::Store => "store",
@@ -346,6 +395,17 @@ fn programs_have_so_many_parts(rt: HostRuntime) -> Result<(), Fail> {
 fn statements_are_read(rt: HostRuntime) -> Result<(), Fail> {
     let frame = "u-program 1\nblock main\nloop 1 0\n1 1 #\n";
     for (line, on_true, on_false) in STATEMENTS {
+        let text = frame.replace(rt.alloc(), "#", line)?;
+        let is_read = reads_first(rt.alloc(), text.as_str(), line, *on_true, *on_false)?;
+        assert!(rt; is_read, "{line}");
+    }
+    Ok(())
+}
+
+#[test]
+fn statements_of_version_2_are_read(rt: HostRuntime) -> Result<(), Fail> {
+    let frame = "u-program 2\nblock main\nloop 1 0\n1 1 #\n";
+    for (line, on_true, on_false) in STATEMENTS_OF_VERSION_2 {
         let text = frame.replace(rt.alloc(), "#", line)?;
         let is_read = reads_first(rt.alloc(), text.as_str(), line, *on_true, *on_false)?;
         assert!(rt; is_read, "{line}");

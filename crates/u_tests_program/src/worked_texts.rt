@@ -131,3 +131,19 @@ block main\n\
 16 0 select -> 16.3 17.1\n\
 17 0 end ->\n\
 ";
+
+/// A procedure of two parameters adds them; both are the argument of the program.
+pub const TWO_ARGUMENTS: &str = "\
+u-program 2\n\
+block main\n\
+1 0 begin -> 2.1 3.2 3.3\n\
+2 0 const @sum -> 3.1\n\
+3 0 apply 4 2 ->\n\
+4 0 back -> 5.1\n\
+5 0 end ->\n\
+block sum\n\
+1 0 begin -> 3.1\n\
+2 0 param 2 -> 3.2\n\
+3 0 add -> 4.1\n\
+4 0 end ->\n\
+";

@@ -2,7 +2,7 @@
 use std::alloc::{AllocError, Global};
 use u_check::Job;
 use u_history::History;
-use u_plain::enabled_firings;
+use u_plain::enabled;
 use u_rule::{Entry, Firing, RuleError, gives, start};
 
 /// The firings that are enabled over the history, in order.
@@ -11,7 +11,7 @@ pub fn enabled_over(
     job: &Job,
     history: &History,
 ) -> Result<Vec<Firing>, AllocError> {
-    let mut found = enabled_firings(alloc, job, &history.entries()?)?;
+    let mut found = enabled(alloc, job, &history.entries()?)?;
     found.sort()?;
     Ok(found)
 }

@@ -2,6 +2,7 @@
 use crate::linkage_rows::{CALL_FIRINGS, DOUBLE_FIRINGS, LOOP_FIRINGS, NESTED, NESTED_FIRINGS};
 use crate::operator_rows::{OPERATOR_FIRINGS, OPERATORS};
 use crate::structure_rows::{STRUCTURE_FIRINGS, STRUCTURES};
+use crate::version_rows::{DEEPEST_PAIRS, PAIR, SEVERAL, SEVERAL_FIRINGS, TURN_FIRINGS, TURNS};
 use crate::worked_firings::{how_many_fire, with_name};
 use std::test::Fail;
 use u_plain::examples::{DOUBLE, FACTORIAL, SUM};
@@ -15,6 +16,8 @@ fn firings_need_and_give(rt: HostRuntime) -> Result<(), Fail> {
         (SUM, LOOP_FIRINGS, 18),
         (NESTED, NESTED_FIRINGS, 2),
         (FACTORIAL, CALL_FIRINGS, 13),
+        (SEVERAL, SEVERAL_FIRINGS, 8),
+        (TURNS, TURN_FIRINGS, 4),
     ];
     for (program, text, count) in rows {
         assert!(rt; how_many_fire(rt.alloc(), program, text)? == count);
@@ -75,5 +78,7 @@ t *.main.5.1 1 4";
 fn the_deepest_context_calls_and_enters_nothing(rt: HostRuntime) -> Result<(), Fail> {
     let text = with_name(rt.alloc(), DEEPEST_FIRINGS, DEEPEST)?;
     assert!(rt; how_many_fire(rt.alloc(), ENDLESS, &text)? == 4);
+    let text = with_name(rt.alloc(), DEEPEST_PAIRS, DEEPEST)?;
+    assert!(rt; how_many_fire(rt.alloc(), PAIR, &text)? == 2);
     Ok(())
 }

@@ -30,6 +30,8 @@ mod report_rows;
 #[cfg(test)]
 mod structure_rows;
 #[cfg(test)]
+mod version_rows;
+#[cfg(test)]
 mod worked_firings;
 #[cfg(test)]
 mod worked_histories;

@@ -1,12 +1,12 @@
 //! Texts of checkpoints, and of none, each with what is said of it.
 use crate::replicas::plain_checkpoints::Judgement;
-use crate::replicas::texts::{DOUBLE_3, SUM_5, SUM_5_AND_4, SUM_5_AND_PARKED};
+use crate::replicas::texts::{DOUBLE_3, DOUBLE_3_OF_TWO, SUM_5, SUM_5_AND_4, SUM_5_AND_PARKED};
 
 /// The lengths of fronts of the checkpoint of the sum: of each front that is shorter, and no
 /// shorter than those above, so many firings are read.
 const FRONTS: &[(usize, usize)] = &[(27, 0), (42, 1), (57, 2), (72, 3), (99, 4), (105, 5)];
 
-/// Texts, each with what is said of it.
+/// Texts, each with what is said of it for a job of version 1.
 const TEXTS: &[(&str, Judgement)] = &[
     ("", Judgement::Torn(0)),
     ("u-history 1", Judgement::Torn(0)),
@@ -25,6 +25,8 @@ const TEXTS: &[(&str, Judgement)] = &[
     (DOUBLE_3, Judgement::Whole(3)),
     ("\n", Judgement::BadLine(1)),
     ("u-history 2\n", Judgement::BadLine(1)),
+    ("u-history 2\nend 0\n", Judgement::BadLine(1)),
+    (DOUBLE_3_OF_TWO, Judgement::BadLine(1)),
     ("u-history 1 \n", Judgement::BadLine(1)),
     ("u-history 1\r\n", Judgement::BadLine(1)),
     ("end 0\n", Judgement::BadLine(1)),
@@ -56,6 +58,29 @@ const TEXTS: &[(&str, Judgement)] = &[
     ("u-history 1\nend 0\nx\n", Judgement::BadLine(3)),
     ("u-history 1\nend 0\n\n", Judgement::BadLine(3)),
     ("u-history 1\nend 0\nend 0\n", Judgement::BadLine(3)),
+];
+
+/// Texts, each with what is said of it for a job of version 2.
+const TEXTS_OF_TWO: &[(&str, Judgement)] = &[
+    ("", Judgement::Torn(0)),
+    ("u-history 2", Judgement::Torn(0)),
+    ("u-history 1\n", Judgement::Torn(0)),
+    ("u-history 2\n", Judgement::Torn(0)),
+    ("u-history 1\nend 0\n", Judgement::Whole(0)),
+    ("u-history 2\nend 0\n", Judgement::Whole(0)),
+    ("u-history 2\nf -.main.1.1 4\nx", Judgement::Torn(1)),
+    (SUM_5, Judgement::Whole(5)),
+    (DOUBLE_3, Judgement::Whole(3)),
+    (DOUBLE_3_OF_TWO, Judgement::Whole(3)),
+    ("u-history 0\n", Judgement::BadLine(1)),
+    ("u-history 3\n", Judgement::BadLine(1)),
+    ("u-history 2 \n", Judgement::BadLine(1)),
+    ("u-history 12\n", Judgement::BadLine(1)),
+    ("u-program 2\n", Judgement::BadLine(1)),
+    ("u-history 1\nu-history 2\n", Judgement::BadLine(2)),
+    ("u-history 2\nu-history 1\n", Judgement::BadLine(2)),
+    ("u-history 2\nend 1\n", Judgement::BadLine(2)),
+    ("u-history 2\nend 0\nx", Judgement::BadLine(3)),
 ];
 
 /// Texts, each with how many bytes of a further line stand behind it, whether a newline ends that
@@ -106,6 +131,10 @@ pub fn fronts() -> &'static [(usize, usize)] {
 
 pub fn texts() -> &'static [(&'static str, Judgement)] {
     TEXTS
+}
+
+pub fn texts_of_two() -> &'static [(&'static str, Judgement)] {
+    TEXTS_OF_TWO
 }
 
 pub fn long_lines() -> &'static [(&'static str, usize, bool, Judgement)] {

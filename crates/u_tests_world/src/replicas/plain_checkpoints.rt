@@ -1,6 +1,7 @@
 //! A plain reader of checkpoints: slow, line by line, and written without a look at the reader of
 //! `u_replica`, so that the answers of the two can be compared.
 use std::alloc::{AllocError, Global};
+use u_program::Version;
 use u_rule::Firing;
 
 /// What is said of some bytes. Lines are counted from 1.
@@ -47,10 +48,28 @@ fn is_firing(alloc: Global, line: &[u8]) -> bool {
     }
 }
 
+/// The first lines of the checkpoints that a job of the version reads.
+fn heads(version: Version) -> &'static [&'static [u8]] {
+    match version {
+        Version::One => &[b"u-history 1"],
+        Version::Two => &[b"u-history 1", b"u-history 2"],
+    }
+}
+
+/// Whether the line is one of them.
+fn is_head(version: Version, line: &[u8]) -> bool {
+    for head in heads(version) {
+        if line == *head {
+            return true;
+        }
+    }
+    false
+}
+
 /// What the lines are with this line behind them, where a checkpoint goes on so.
-fn with_line(alloc: Global, had: Had, line: &[u8]) -> Option<Had> {
+fn with_line(alloc: Global, version: Version, had: Had, line: &[u8]) -> Option<Had> {
     match had {
-        Had::Nothing => (line == b"u-history 1".as_slice()).then_some(Had::Firings(0)),
+        Had::Nothing => is_head(version, line).then_some(Had::Firings(0)),
         Had::Firings(count) => {
             if matches!(is_end(alloc, line, count), Ok(true)) {
                 return Some(Had::All(count));
@@ -63,11 +82,17 @@ fn with_line(alloc: Global, had: Had, line: &[u8]) -> Option<Had> {
 }
 
 /// The same of the line with that number, which may be too long.
-fn with_line_of(alloc: Global, had: Had, line: &[u8], number: usize) -> Result<Had, Judgement> {
+fn with_line_of(
+    alloc: Global,
+    version: Version,
+    had: Had,
+    line: &[u8],
+    number: usize,
+) -> Result<Had, Judgement> {
     if line.len() > 32_768 {
         return Err(Judgement::TooLong(number));
     }
-    with_line(alloc, had, line).ok_or(Judgement::BadLine(number))
+    with_line(alloc, version, had, line).ok_or(Judgement::BadLine(number))
 }
 
 /// What is said where these bytes without a newline stand behind the lines, in the line with that
@@ -89,14 +114,14 @@ fn part(bytes: &[u8], from: usize, to: usize) -> &[u8] {
     bytes.get(from..to).unwrap_or(b"")
 }
 
-/// What is said of the bytes.
-pub fn judge(alloc: Global, bytes: &[u8]) -> Judgement {
+/// What is said of the bytes for a job of the version.
+pub fn judge(alloc: Global, version: Version, bytes: &[u8]) -> Judgement {
     let mut had = Had::Nothing;
     let mut number = 1usize;
     let mut start = 0usize;
     for (place, byte) in bytes.iter().enumerate() {
         if *byte == b'\n' {
-            match with_line_of(alloc, had, part(bytes, start, place), number) {
+            match with_line_of(alloc, version, had, part(bytes, start, place), number) {
                 Ok(now) => had = now,
                 Err(judgement) => return judgement,
             }

@@ -2,10 +2,12 @@
 use crate::replicas::acts::Act;
 use crate::replicas::stories::Story;
 use crate::replicas::stories::Who::{First, Second};
-use crate::replicas::texts::{DOUBLE_3, SUM_5, SUM_5_AND_4, SUM_5_AND_PARKED};
+use crate::replicas::texts::{
+    DOUBLE_3, DOUBLE_3_OF_TWO, DOUBLE_OF_TWO, SUM_5, SUM_5_AND_4, SUM_5_AND_PARKED,
+};
 use u_machine::Ran;
 use u_plain::examples::{DOUBLE, SUM};
-use u_replica::{Ending, RestoreError};
+use u_replica::{Ending, MergeRefusal, RestoreError};
 
 const RESTORING: &[Story] = &[
     Story {
@@ -226,6 +228,49 @@ t -.main.3.1 1 8
 a 8
 ";
 
+/// What is saved of jobs of version 2, and what they restore.
+const HEADS: &[Story] = &[
+    Story {
+        shows: "a job of version 2 saves its own head, and restores both",
+        first: (DOUBLE_OF_TWO, 4),
+        second: (DOUBLE_OF_TWO, 4),
+        limit: 1000,
+        acts: &[
+            (First, Act::Runs(10, Ok(Ran::Quiet))),
+            (First, Act::Saves(DOUBLE_3_OF_TWO)),
+            (Second, Act::Restarts(1, Ok(Ending::Whole))),
+            (Second, Act::Has([3, 0, 5])),
+            (First, Act::Finds(DOUBLE_3)),
+            (First, Act::Restarts(2, Ok(Ending::Whole))),
+            (First, Act::Has([3, 0, 5])),
+            (First, Act::Saves(DOUBLE_3_OF_TWO)),
+            (First, Act::Finds("u-history 1\nf -.main.1.1 4\nf -.main")),
+            (First, Act::Restarts(3, Ok(Ending::Torn))),
+            (First, Act::Has([1, 0, 3])),
+            (First, Act::Finds("u-history 3\nend 0\n")),
+            (First, Act::Restarts(4, Err(RestoreError::BadLine(1)))),
+            (First, Act::Has([1, 0, 3])),
+        ],
+    },
+    Story {
+        shows: "a job of version 1 restores its own head alone",
+        first: (DOUBLE, 4),
+        second: (DOUBLE_OF_TWO, 4),
+        limit: 1000,
+        acts: &[
+            (Second, Act::Runs(10, Ok(Ran::Quiet))),
+            (Second, Act::Saves(DOUBLE_3_OF_TWO)),
+            (First, Act::Restarts(1, Err(RestoreError::BadLine(1)))),
+            (First, Act::Has([0, 0, 1])),
+            (First, Act::Runs(10, Ok(Ran::Quiet))),
+            (First, Act::Saves(DOUBLE_3)),
+            (Second, Act::Restarts(2, Ok(Ending::Whole))),
+            (Second, Act::Has([3, 0, 5])),
+            (Second, Act::Merges(Err(MergeRefusal::OtherJob))),
+        ],
+    },
+];
+
 /// The double's checkpoint of 4 with changed bytes: some of those that stand there, some others.
 const CHANGED: &[Story] = &[Story {
     shows: "a changed checkpoint is refused, or its run ends with the history of the job",
@@ -256,6 +301,10 @@ const CHANGED: &[Story] = &[Story {
 /// The rows. A proof that calls these knows none of them, and so is short.
 pub fn restoring() -> &'static [Story] {
     RESTORING
+}
+
+pub fn heads() -> &'static [Story] {
+    HEADS
 }
 
 pub fn changed() -> &'static [Story] {

@@ -1,6 +1,6 @@
 //! Stories of two replicas, each act of which is answered as it says.
 use crate::replicas::mark_rows::marks;
-use crate::replicas::restore_rows::{changed, restoring};
+use crate::replicas::restore_rows::{changed, heads, restoring};
 use crate::replicas::stories::{Story, first_wrong};
 use crate::replicas::story_rows::{merging, saving, sending, taking};
 use std::alloc::Global;
@@ -17,7 +17,7 @@ fn wrong_in(alloc: Global, stories: &[Story]) -> Option<(&'static str, usize)> {
 }
 
 /// The stories, by what they are about.
-fn topics() -> [&'static [Story]; 7] {
+fn topics() -> [&'static [Story]; 8] {
     [
         taking(),
         merging(),
@@ -25,6 +25,7 @@ fn topics() -> [&'static [Story]; 7] {
         sending(),
         marks(),
         restoring(),
+        heads(),
         changed(),
     ]
 }

@@ -53,3 +53,21 @@ f -.main.2.1 4 4
 f -.main.3.1 8
 end 3
 ";
+
+/// The same checkpoint, of a job of version 2.
+pub const DOUBLE_3_OF_TWO: &str = "\
+u-history 2
+f -.main.1.1 4
+f -.main.2.1 4 4
+f -.main.3.1 8
+end 3
+";
+
+/// The double, as a program of version 2.
+pub const DOUBLE_OF_TWO: &[u8] = b"\
+u-program 2\n\
+block main\n\
+1 0 begin -> 2.1 2.2\n\
+2 0 add -> 3.1\n\
+3 0 end ->\n\
+";
