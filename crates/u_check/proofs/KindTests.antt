@@ -30,13 +30,13 @@ pub no_param : (k : Kind) → comes_from_outside k ≡ false → is_param k ≡ 
 no_param (Param p) e = absurd (false≢true (sym e))
 no_param k e = refl
 
--- a statement has five ports at most
-pub few_ports : (k : Kind) → ports_of k ≤ 5
-few_ports (Apply b arguments.One) = omega arith
-few_ports (Apply b arguments.Two) = omega arith
-few_ports (Apply b arguments.Three) = omega arith
-few_ports (Apply b arguments.Four) = omega arith
-few_ports k = omega arith
+-- a statement has one to five ports, whatever its kind
+pub few_ports : (k : Kind) → (1 ≤ ports_of k) × (ports_of k ≤ 5)
+few_ports (Apply b arguments.One) = (omega arith, omega arith)
+few_ports (Apply b arguments.Two) = (omega arith, omega arith)
+few_ports (Apply b arguments.Three) = (omega arith, omega arith)
+few_ports (Apply b arguments.Four) = (omega arith, omega arith)
+few_ports k = (omega arith, omega arith)
 
 -- what takes tokens is neither a `begin` nor a `back`
 pub no_begin : (k : Kind) → comes_from_outside k ≡ false → is_begin k ≡ false

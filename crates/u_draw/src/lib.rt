@@ -14,4 +14,3 @@ mod words;
 pub use dot::{push_arc, push_attribute, push_cluster, push_node, push_opened, push_quoted};
 pub use program::write_picture;
 pub use styles::{entry_of, fill_of};
-pub use words::push_kind;

@@ -3,9 +3,8 @@
 ghost use Rattle.std.specs.Prelude.{◌≡◌, IfOk};
 ghost use Rattle.u_draw.specs.Names.{statement_name, point_name, block_cluster, loop_cluster};
 
-use crate::words::push_list;
 use std::alloc::{AllocError, Global};
-use u_program::Destination;
+use u_program::{Destination, push_list};
 use u_text::push_long;
 
 /// The name of a statement's node: `BLOCK.NUMBER`.

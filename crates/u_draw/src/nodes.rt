@@ -24,7 +24,8 @@ fn attributes_of(
     statement: &Statement,
 ) -> Result<Vec<u8>, AllocError>
     ensures { IfOk result
-        (λ v. v.items ≡ attributes_text (statement_attributes version name.now number statement.now)) }
+        (λ v. v.items
+        ≡ attributes_text (statement_attributes version name.now number statement.now)) }
 {
     let line = line_of(alloc, version, number, statement)?;
     let label = label_of(alloc, version, number, statement.kind())?;

@@ -25,7 +25,8 @@ const OPENING: &[u8] = b"digraph u {
 /// Appends the lines of the block. On an error a part of them may stand there.
 #[tactic(auto, unfolding(crate::specs::Picture::block_picture), using(u_text::proofs::AppendingLaws::extends_behind, crate::proofs::Shows::text_three))]
 fn push_block(out: &mut Vec<u8>, version: Version, block: &Block) -> Result<(), AllocError>
-    ensures ok { OnOk result (out.new.items ≡ out.old.items ++ text (block_picture version block.now)) }
+    ensures ok { OnOk result
+        (out.new.items ≡ out.old.items ++ text (block_picture version block.now)) }
     ensures err { OnErr result (Extends out.old.items out.new.items) }
 {
     push_clusters(out, block)?;

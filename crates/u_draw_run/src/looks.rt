@@ -10,8 +10,8 @@ ghost use Rattle.u_draw_run.specs.Looks.{cells, kind_words, fill_at, firing_labe
 ghost use Rattle.u_draw_run.specs.Looks.{fault_look, entry_look, meet, need_look, line_by, line_of, give_look};
 
 use std::alloc::{AllocError, Global};
-use u_draw::{entry_of, fill_of, push_attribute, push_kind};
-use u_program::{Kind, Statement, Version};
+use u_draw::{entry_of, fill_of, push_attribute};
+use u_program::{Kind, Statement, Version, push_kind};
 use u_rule::{Entry, Firing};
 use u_text::{push_long, push_number};
 use u_value::Value;

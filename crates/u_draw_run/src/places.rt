@@ -270,7 +270,8 @@ fn push_cluster_line(
     attributes: &[u8],
 ) -> Result<(), AllocError>
     ensures ok { OnOk result (out.new.items ≡ out.old.items ++ (codes "  "
-        ++ (within (clusters_at place.entry) (codes "graph" ++ bracketed attributes.now) ++ (10 ∷ [])))) }
+        ++ (within (clusters_at place.entry) (codes "graph" ++ bracketed attributes.now)
+        ++ (10 ∷ [])))) }
     ensures err { OnErr result (Extends out.old.items out.new.items) }
 {
     begin_line(out, place)?;

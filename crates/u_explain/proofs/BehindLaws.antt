@@ -1,5 +1,5 @@
 -- The place behind one more line.
-use Rattle.std.specs.Prelude.{◌≡◌, ℕ, suc, ◌+◌, ◌≤◌, ◌==◌, Bool, true, false, if◌then◌else◌, List, [], ◌∷◌, ◌++◌, length, IsTrue, refl}
+use Rattle.std.specs.Prelude.{◌≡◌, ℕ, suc, ◌+◌, ◌≤◌, ◌==◌, Bool, true, false, if◌then◌else◌, List, [], ◌∷◌, ◌++◌, length, refl}
 use Rattle.std.proofs.Common.{sym, ◌∙◌, ap, subst, arith, length-append}
 use Rattle.std.proofs.lemmas.Bool.Decides.{nat_tests}
 use Rattle.u_text.specs.Spaced.{spaced}
@@ -7,39 +7,37 @@ use Rattle.std.specs.Fmt.{decimal}
 use Rattle.u_text.proofs.NumberLaws.{decimal_first}
 use Rattle.u_program.specs.declared.program.Version.{Version}
 use Rattle.u_program.specs.Parts.{StatementParts, BlockParts, block}
-use Rattle.u_program.specs.Limits.{limits_of, is_known}
+use Rattle.u_program.specs.Limits.{limits_of}
 use Rattle.u_program.specs.Text.{header, block_line, loop_line, statement_line, statement_words}
 use Rattle.u_program.specs.Begun.{part_lines}
 use Rattle.u_program.specs.FirstBad.{Begins}
 use Rattle.u_program.proofs.Lists.{heads}
 use Rattle.u_program.proofs.Next.{new_block, new_loop, new_statement}
-use Rattle.u_program.proofs.Steps.{block_taken, loop_taken, statement_taken, lifted}
+use Rattle.u_program.proofs.Steps.{next_of, block_taken, loop_taken, statement_taken, lifted}
 use Rattle.u_program.proofs.Whole.{first_part}
 use Rattle.u_explain.specs.declared.text_place.Sort.{Sort}
 use Rattle.u_explain.specs.declared.text_place.Sort.TheVariants as sorts
 use Rattle.u_explain.specs.declared.text_place.TextPlace.{TextPlace}
 use Rattle.u_explain.specs.declared.text_place.TextPlace.TheVariants as places
 use Rattle.u_explain.specs.Places.{IsAllowed, IsInside, IsPlace, sort_of}
-use Rattle.u_explain.proofs.PlaceLaws.{next_of, first_back}
+use Rattle.u_explain.proofs.PlaceLaws.{first_back}
 
 -- what the place behind a first line is, which says that version
 pub behind_header : (before : List (List ℕ)) (t : List ℕ) (new : Version) → ((v : Version) → t ≡ header v → new ≡ v) → before ≡ [] → IsAllowed before t → IsPlace (before ++ (t ∷ [])) (places.FirstBlock new)
 behind_header before t new says e b =
     let f : Begins limits_of (t ∷ []) = subst (λ ls. Begins limits_of (ls ++ (t ∷ []))) e b in
     let h = sym (heads f.there) in
-    let n = says f.version h in (
-      subst (λ (v : Version). IsTrue (is_known v)) (sym n) f.known,
-      ap (λ ls. ls ++ (t ∷ [])) e ∙ ap (λ l. l ∷ []) (h ∙ ap header (sym n)),
-    )
+    let n = says f.version h in
+    ap (λ ls. ls ++ (t ∷ [])) e ∙ ap (λ l. l ∷ []) (h ∙ ap header (sym n))
 
-pub behind_first : (version : Version) (before : List (List ℕ)) (t : List ℕ) → IsTrue (is_known version) × (before ≡ header version ∷ []) → IsAllowed before t → IsInside (before ++ (t ∷ [])) version 1 0 0
+pub behind_first : (version : Version) (before : List (List ℕ)) (t : List ℕ) → before ≡ header version ∷ [] → IsAllowed before t → IsInside (before ++ (t ∷ [])) version 1 0 0
 behind_first version before t e b =
-    let m = first_back version t (subst (λ ls. Begins limits_of (ls ++ (t ∷ []))) e.1 b) in
+    let m = first_back version t (subst (λ ls. Begins limits_of (ls ++ (t ∷ []))) e b) in
     record {
       done = [];
       last = block m.0 [] [];
-      part = first_part version e.0 m.0 m.1;
-      lines = ap (λ ls. ls ++ (t ∷ [])) e.1 ∙ ap (λ l. header version ∷ (l ∷ [])) m.2;
+      part = first_part version m.0 m.1;
+      lines = ap (λ ls. ls ++ (t ∷ [])) e ∙ ap (λ l. header version ∷ (l ∷ [])) m.2;
       blocks_are = refl;
       loops_are = refl;
       statements_are = refl;
@@ -87,7 +85,7 @@ module _ (before : List (List ℕ)) (version : Version) (blocks loops statements
 
   pub step : IsAllowed before t → Step before version blocks loops statements t
   step b =
-      elim (next_of version v.done v.last t v.part (subst (λ ls. Begins limits_of (ls ++ (t ∷ []))) v.lines b)) [
+      elim (next_of version limits_of v.done v.last t v.part (subst (λ ls. Begins limits_of (ls ++ (t ∷ []))) v.lines b)) [
         | new_block name w e f g ↦
             let new = block_taken version v.done v.last name v.part w f (omega arith) in
             begins_block (ap sort_of e ∙ of_block name) (record {
@@ -157,5 +155,5 @@ module _ (before : List (List ℕ)) (version : Version) (blocks loops statements
       ]
 
 -- the place behind a line, of any place
-pub first_too : (before : List (List ℕ)) (place : TextPlace) (version : Version) → place ≡ places.FirstBlock version → IsPlace before place → IsTrue (is_known version) × (before ≡ header version ∷ [])
+pub first_too : (before : List (List ℕ)) (place : TextPlace) (version : Version) → place ≡ places.FirstBlock version → IsPlace before place → before ≡ header version ∷ []
 first_too before place version e v = subst (IsPlace before) e v

@@ -1,19 +1,18 @@
 -- The lines that may stand at a place are those with which a program goes on there.
-use Rattle.std.specs.Prelude.{◌≡◌, ℕ, suc, ◌≤◌, ◌<◌, List, [], ◌∷◌, ◌++◌, length, IsTrue, refl}
+use Rattle.std.specs.Prelude.{◌≡◌, ℕ, suc, ◌≤◌, ◌<◌, List, [], ◌∷◌, ◌++◌, length, refl}
 use Rattle.std.proofs.Common.{sym, ◌∙◌, ap, subst, arith, inl, inr, append_assoc}
-use Rattle.std.specs.List.{AllByRecursion}
 use Rattle.std.proofs.lemmas.List.{append-nil}
 use Rattle.u_program.specs.declared.program.Version.{Version}
 use Rattle.u_program.specs.declared.program.Version.TheVariants as versions
 use Rattle.u_program.specs.Parts.{BlockParts, block}
-use Rattle.u_program.specs.Limits.{IsBlockOf, limits_of, is_known}
+use Rattle.u_program.specs.Limits.{IsBlockOf, limits_of}
 use Rattle.u_program.specs.Text.{header, block_line, loop_line, statement_line}
 use Rattle.u_program.specs.Begun.{IsPart, part_lines}
 use Rattle.u_program.specs.FirstBad.{Begins}
 use Rattle.u_program.proofs.Lists.{heads}
-use Rattle.u_program.proofs.Next.{IsShort, NextLine, first, next, new_block, new_loop, new_statement}
-use Rattle.u_program.proofs.Steps.{begun_so, completes, block_taken, loop_taken, statement_taken, lifted}
-use Rattle.u_program.proofs.Whole.{begins_header, first_part}
+use Rattle.u_program.proofs.Next.{new_block, new_loop, new_statement}
+use Rattle.u_program.proofs.Steps.{next_of, completes, block_taken, loop_taken, statement_taken, lifted}
+use Rattle.u_program.proofs.Whole.{begins_header, first_lines, first_part}
 use Rattle.u_explain.specs.declared.text_place.TextPlace.{TextPlace}
 use Rattle.u_explain.specs.declared.text_place.TextPlace.TheVariants as places
 use Rattle.u_explain.specs.Left.{IsLeft}
@@ -23,15 +22,15 @@ use Rattle.u_explain.proofs.LeftLaws.{same, nothing}
 
 -- the first line
 
-version_onto : (version : Version) → IsTrue (is_known version) → (t : List ℕ) → VersionOn version t → IsAllowed [] t
-version_onto version known t m = subst (λ l. Begins limits_of (l ∷ [])) (sym (m.1 ∙ ap (λ i. header version ++ i) m.2 ∙ append-nil (header version))) (begins_header version known)
+version_onto : (version : Version) → (t : List ℕ) → VersionOn version t → IsAllowed [] t
+version_onto version t m = subst (λ l. Begins limits_of (l ∷ [])) (sym (m.1 ∙ ap (λ i. header version ++ i) m.2 ∙ append-nil (header version))) (begins_header version)
 
 version_back : (version : Version) (t : List ℕ) → t ≡ header version → VersionOn version t
 version_back version t e = ([], e ∙ sym (append-nil (header version)), refl)
 
 header_onto : (t : List ℕ) → HeaderOn t → IsAllowed [] t
-header_onto t (inl m) = version_onto versions.One refl t m
-header_onto t (inr m) = version_onto versions.Two refl t m
+header_onto t (inl m) = version_onto versions.One t m
+header_onto t (inr m) = version_onto versions.Two t m
 
 header_back : (t : List ℕ) → IsAllowed [] t → HeaderOn t
 header_back t b = at b.version (sym (heads b.there))
@@ -43,29 +42,17 @@ header_back t b = at b.version (sym (heads b.there))
 module _ (version : Version) where
   -- the second line
 
-  first_onto : IsTrue (is_known version) → (t : List ℕ) → BlockOn t → IsAllowed (header version ∷ []) t
-  first_onto known t m = subst (λ l. Begins limits_of (header version ∷ (l ∷ []))) (sym m.2) (completes version limits_of known [] (block m.0 [] []) (first_part version known m.0 m.1))
+  first_onto : (t : List ℕ) → BlockOn t → IsAllowed (header version ∷ []) t
+  first_onto t m = subst (λ l. Begins limits_of (header version ∷ (l ∷ []))) (sym m.2) (completes version limits_of [] (block m.0 [] []) (first_part version m.0 m.1))
 
   pub first_back : (t : List ℕ) → IsAllowed (header version ∷ []) t → BlockOn t
-  first_back t b =
-      let c = begun_so version limits_of (t ∷ []) b in
-      first version (limits_of version) t c.1 c.0 c.2.each c.3
+  first_back t b = first_lines version limits_of t b
 
   -- a line behind the first block's
 
-  short : (done : List BlockParts) → AllByRecursion (IsBlockOf (limits_of version)) done → AllByRecursion IsShort done
-  short [] v = tt
-  short (d ∷ ds) v = (v.0.few, short ds v.1)
-
-  pub next_of : (done : List BlockParts) (last : BlockParts) (t : List ℕ) → IsPart (limits_of version) done last → Begins limits_of ((header version ∷ part_lines version done last) ++ (t ∷ [])) → NextLine version (limits_of version) 0 done last t
-  next_of done last t v b =
-      let c = begun_so version limits_of (part_lines version done last ++ (t ∷ [])) b in
-      next version (limits_of version) 0 done last t c.1 c.0 (short done v.each) v.few c.2.each (let f : length c.0 ≤ 64 = c.2.few in omega arith)
-      (c.3 ∙ append_assoc (part_lines version done last) (t ∷ []) c.1)
-
   -- a part with one more line begins a program
   goes_on : (done : List BlockParts) (last : BlockParts) (new : List BlockParts) (open_block : BlockParts) (t : List ℕ) → IsPart (limits_of version) new open_block × (part_lines version new open_block ≡ part_lines version done last ++ (t ∷ [])) → Begins limits_of ((header version ∷ part_lines version done last) ++ (t ∷ []))
-  goes_on done last new open_block t v = subst (λ ls. Begins limits_of (header version ∷ ls)) v.1 (completes version limits_of v.0.known new open_block v.0)
+  goes_on done last new open_block t v = subst (λ ls. Begins limits_of (header version ∷ ls)) v.1 (completes version limits_of new open_block v.0)
 
   module _ (done : List BlockParts) (last : BlockParts) (v : IsPart (limits_of version) done last) where
     abbrev lines_before : List (List ℕ)
@@ -87,7 +74,7 @@ module _ (version : Version) where
 
     inside_back : (t : List ℕ) → Begins limits_of (lines_before ++ (t ∷ [])) → InsideOn version (suc (length done)) (length last.loops) (length last.statements) t
     inside_back t b =
-        elim (next_of done last t v b) [
+        elim (next_of version limits_of done last t v b) [
           | new_block name w e f g ↦ inl (f, omega arith, (name, w, e))
           | new_loop h u w z e f ↦ inr (inl (z, omega arith, (h, omega arith, omega (arith, u), e)))
           | new_statement s w e f ↦ inr (inr (omega arith, (s, w, e)))
@@ -111,12 +98,12 @@ module _ (version : Version) where
 
 allowed_onto : (place : TextPlace) (before : List (List ℕ)) → IsPlace before place → (t : List ℕ) → PlaceOn place t → IsAllowed before t
 allowed_onto places.Header before e t m = subst (λ ls. Begins limits_of (ls ++ (t ∷ []))) (sym e) (header_onto t m)
-allowed_onto (places.FirstBlock version) before e t m = subst (λ ls. Begins limits_of (ls ++ (t ∷ []))) (sym e.1) (first_onto version e.0 t m)
+allowed_onto (places.FirstBlock version) before e t m = subst (λ ls. Begins limits_of (ls ++ (t ∷ []))) (sym e) (first_onto version t m)
 allowed_onto (places.Inside version blocks loops statements) before v t m = by_counts version before blocks loops statements v t m
 
 allowed_back : (place : TextPlace) (before : List (List ℕ)) → IsPlace before place → (t : List ℕ) → IsAllowed before t → PlaceOn place t
 allowed_back places.Header before e t b = header_back t (subst (λ ls. Begins limits_of (ls ++ (t ∷ []))) e b)
-allowed_back (places.FirstBlock version) before e t b = first_back version t (subst (λ ls. Begins limits_of (ls ++ (t ∷ []))) e.1 b)
+allowed_back (places.FirstBlock version) before e t b = first_back version t (subst (λ ls. Begins limits_of (ls ++ (t ∷ []))) e b)
 allowed_back (places.Inside version blocks loops statements) before v t b = to_counts version before blocks loops statements v t b
 
 -- what is left of a line at the place is left of it where lines are those with which a program goes on

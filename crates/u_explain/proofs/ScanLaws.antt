@@ -25,7 +25,7 @@ pub scanned_none : (bytes : List ℕ) → Scanned bytes 0 bytes places.Header
 scanned_none bytes = record { gone = []; read = read_none bytes; many = refl; stands = λ b. refl }
 
 fewer : (ls : List (List ℕ)) (t : List ℕ) → Begins limits_of (ls ++ (t ∷ [])) → Begins limits_of ls
-fewer ls t b = record { version = b.version; known = b.known; program = b.program; more = t ∷ b.more; valid = b.valid; there = b.there ∙ append_assoc ls (t ∷ []) b.more }
+fewer ls t b = record { version = b.version; program = b.program; more = t ∷ b.more; valid = b.valid; there = b.there ∙ append_assoc ls (t ∷ []) b.more }
 
 pub scanned_next : (bytes : List ℕ) (count : ℕ) (rest : List ℕ) (place : TextPlace) (line others : List ℕ) (new : TextPlace) → Scanned bytes count rest place → IsCutInto 10 rest line others → ((before : List (List ℕ)) → IsPlace before place → IsAllowed before line → IsPlace (before ++ (line ∷ [])) new) → Scanned bytes (count + 1) others new
 scanned_next bytes count rest place line others new s c h = record {

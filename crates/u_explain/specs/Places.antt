@@ -1,9 +1,9 @@
 -- Places of a program's text, and the lines that may stand there.
-use Rattle.std.specs.Prelude.{◌≡◌, ℕ, suc, ◌≤◌, ◌<◌, ◌==◌, if◌then◌else◌, List, [], ◌∷◌, ◌++◌, length, IsTrue}
+use Rattle.std.specs.Prelude.{◌≡◌, ℕ, suc, ◌≤◌, ◌<◌, ◌==◌, if◌then◌else◌, List, [], ◌∷◌, ◌++◌, length}
 use Rattle.u_program.specs.declared.program.Version.{Version}
 use Rattle.u_program.specs.declared.program.Version.TheVariants as versions
 use Rattle.u_program.specs.Parts.{BlockParts}
-use Rattle.u_program.specs.Limits.{limits_of, is_known}
+use Rattle.u_program.specs.Limits.{limits_of}
 use Rattle.u_program.specs.Text.{header}
 use Rattle.u_program.specs.Begun.{IsPart, part_lines}
 use Rattle.u_program.specs.FirstBad.{Begins}
@@ -32,7 +32,7 @@ pub record IsInside (before : List (List ℕ)) (version : Version) (blocks loops
 -- the place behind these lines
 abbrev pub IsPlace : List (List ℕ) → TextPlace → Type 0
 IsPlace before places.Header = before ≡ []
-IsPlace before (places.FirstBlock version) = IsTrue (is_known version) × (before ≡ header version ∷ [])
+IsPlace before (places.FirstBlock version) = before ≡ header version ∷ []
 IsPlace before (places.Inside version blocks loops statements) = IsInside before version blocks loops statements
 
 -- a block ends where it has a statement, and there are 64 blocks at most
@@ -55,7 +55,7 @@ InsideOn version blocks loops statements = Either (BlockWhere blocks statements)
 abbrev pub VersionOn : Version → List ℕ → Type 0
 VersionOn version = Behind (header version) EndOn
 
--- the first line of a text of a version that is known
+-- the first line of a text
 abbrev pub HeaderOn : List ℕ → Type 0
 HeaderOn = Either (VersionOn versions.One) (VersionOn versions.Two)
 

@@ -14,7 +14,7 @@ use Rattle.u_rule.specs.declared.entry.Entry.{Entry}
 use Rattle.u_rule.specs.declared.entry.Entry.TheVariants as entries
 use Rattle.u_rule.specs.declared.firing.Firing.{Firing}
 use Rattle.u_system.proofs.Member.{Contains-head}
-use Rattle.u_rule.proofs.FiringShapes.{few_ports}
+use Rattle.u_check.proofs.KindTests.{few_ports}
 use Rattle.u_rule.proofs.Firings.{at_statement}
 
 some_value : (p : List BlockParts) (s : Option StatementParts) (f : Firing) → is_firing_at p s f ≡ true → 1 ≤ length f.values

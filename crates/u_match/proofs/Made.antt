@@ -22,7 +22,8 @@ use Rattle.u_match.specs.Joins.{JoinsTwo, JoinsAll}
 use Rattle.u_match.specs.Waking.{IsWokenBy}
 use Rattle.u_match.proofs.MetValues.{Held, own_token, met_held, held_met, same_token}
 use Rattle.u_match.proofs.Choices.{IsAmong, its_place, needed_token, tokens_needed, needs_tokens, own_chosen, held_chosen, chosen_of}
-use Rattle.u_rule.proofs.FiringShapes.{TwoValues, Reading, Shape, shape_of, few_ports, rebuilt, needs_two, needs_read}
+use Rattle.u_check.proofs.KindTests.{few_ports}
+use Rattle.u_rule.proofs.FiringShapes.{TwoValues, Reading, Shape, shape_of, rebuilt, needs_two, needs_read}
 use Rattle.u_rule.proofs.Firings.{at_statement}
 
 -- a firing has as many values as its activity has ports

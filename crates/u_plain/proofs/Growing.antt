@@ -22,7 +22,8 @@ use Rattle.u_rule.specs.declared.entry.Entry.TheVariants as entries
 use Rattle.u_rule.specs.declared.firing.Firing.{Firing}
 use Rattle.u_rule.specs.declared.firing.Written.{Written}
 use Rattle.u_rule.proofs.Firings.{at_statement}
-use Rattle.u_rule.proofs.FiringShapes.{Reading, Shape, shape_of, few_ports}
+use Rattle.u_check.proofs.KindTests.{few_ports}
+use Rattle.u_rule.proofs.FiringShapes.{Reading, Shape, shape_of}
 use Rattle.u_plain.specs.Tries.{EnabledOver, Extends, longer, FitsRead, FitsLonger, FitsFirst}
 
 -- a firing has one value for each port of its statement

@@ -9,7 +9,7 @@ use Rattle.std.specs.List.{AllByRecursion}
 use Rattle.u_text.specs.Pieces.{pieces}
 use Rattle.u_program.specs.declared.reading.Line.TheVariants.{Block, Loop, Statement}
 use Rattle.u_program.specs.Parts.{StatementParts, BlockParts, ProgramParts, block, program}
-use Rattle.u_program.specs.Limits.{AreLoops, IsStatement, IsBlockOf, IsProgram, limits_of, is_known}
+use Rattle.u_program.specs.Limits.{AreLoops, IsStatement, IsBlockOf, IsProgram, limits_of}
 use Rattle.u_program.specs.Text.{loop_lines, statement_lines, inner_lines, blocks_lines, program_lines, program_text}
 use Rattle.u_program.specs.FirstBad.{IsFirstBad}
 use Rattle.u_program.specs.declared.read_error.ReadError.{ReadError}
@@ -90,17 +90,17 @@ same_program p q v w h =
     ap (λ v. program v p.blocks) one ∙ ap (program q.version) same
 
 -- the first lines of a program's text are allowed
-none_bad : (p : ProgramParts) (bytes : List ℕ) (n : ℕ) (V : List (List ℕ) → Type 0) → IsTrue (is_known p.version) → IsOne p → bytes ≡ program_text p.version p.blocks → IsFirstBad bytes n V → ⊥
-none_bad p bytes n V known v e b =
+none_bad : (p : ProgramParts) (bytes : List ℕ) (n : ℕ) (V : List (List ℕ) → Type 0) → IsOne p → bytes ≡ program_text p.version p.blocks → IsFirstBad bytes n V → ⊥
+none_bad p bytes n V v e b =
     let f : program_lines p.version p.blocks ≡ b.before ++ (b.line ∷ b.others) = sym (ap (λ (t : List (List ℕ) × List ℕ). t.0) (ap (pieces 10) e ∙ pieces-program_text p.version p.blocks v)) ∙ b.there in
-    b.refused (record { version = p.version; known = known; program = p.blocks; more = b.others; valid = v; there = f ∙ sym (append_assoc b.before (b.line ∷ []) b.others) })
+    b.refused (record { version = p.version; program = p.blocks; more = b.others; valid = v; there = f ∙ sym (append_assoc b.before (b.line ∷ []) b.others) })
 
 -- what is returned for the text of a program
 pub read_back : (bytes : List ℕ) (p : ProgramParts) (result : Result ProgramParts ReadError) → MatchResult result (λ x. IsTextOf bytes x) (λ fault. IsReadError bytes fault) → IsTextOf bytes p → MatchResult result (λ x. x ≡ p) (λ fault. fault ≡ errors.NoMemory)
-read_back bytes p (Ok x) h v = same_program x p h.1 v.1 (sym h.2 ∙ v.2)
-read_back bytes p (Err (errors.BadLine n)) h v = absurd (none_bad p bytes n _ v.0 v.1 v.2 h)
-read_back bytes p (Err (errors.TooMany n)) h v = absurd (none_bad p bytes n _ v.0 v.1 v.2 h)
-read_back bytes p (Err errors.Truncated) h v = absurd (h.none p v.0 v.1 v.2)
+read_back bytes p (Ok x) h v = same_program x p h.0 v.0 (sym h.1 ∙ v.1)
+read_back bytes p (Err (errors.BadLine n)) h v = absurd (none_bad p bytes n _ v.0 v.1 h)
+read_back bytes p (Err (errors.TooMany n)) h v = absurd (none_bad p bytes n _ v.0 v.1 h)
+read_back bytes p (Err errors.Truncated) h v = absurd (h.none p v.0 v.1)
 read_back bytes p (Err errors.NoMemory) h v = refl
 
 -- Where a test tells whether two programs are equal, it tells whether they have one text.

@@ -8,7 +8,7 @@ use Rattle.u_text.specs.Pieces.{words}
 use Rattle.u_program.specs.declared.program.Kind.TheVariants.{Begin}
 use Rattle.u_program.specs.declared.reading.Line.TheVariants.{Block, Loop, Statement}
 use Rattle.u_program.specs.Parts.{StatementParts, BlockParts, statement, block}
-use Rattle.u_program.specs.Limits.{Limits, AtMost, AreLoops, IsStatement, IsBlockOf, IsProgram, limits_of, no_limits, is_known}
+use Rattle.u_program.specs.Limits.{Limits, AtMost, AreLoops, IsStatement, IsBlockOf, IsProgram, limits_of, no_limits}
 use Rattle.u_program.specs.Text.{block_line, loop_line, loop_lines, statement_line, statement_lines, block_lines, blocks_lines, header}
 use Rattle.u_program.specs.FirstBad.{Begins}
 use Rattle.u_program.specs.Reading.{line_at}
@@ -73,13 +73,12 @@ module _ (version : Version) where
   statement_lines-append n (t ∷ ts) s = let e : suc n + length ts ≡ n + suc (length ts) = omega arith in ap (λ u. statement_line version n t ∷ u) (statement_lines-append (suc n) ts s ∙ ap (λ m. statement_lines version (suc n) ts ++ (statement_line version m s ∷ [])) e)
 
   -- a part can go on to a program
-  pub completes : (limits : Version → Limits) → IsTrue (is_known version) → (done : List BlockParts) (last : BlockParts) → IsPart (limits version) done last → Begins limits (header version ∷ part_lines version done last)
-  completes limits known done last v = at last.statements refl
+  pub completes : (limits : Version → Limits) → (done : List BlockParts) (last : BlockParts) → IsPart (limits version) done last → Begins limits (header version ∷ part_lines version done last)
+  completes limits done last v = at last.statements refl
     where
       whole : (b : BlockParts) (more : List (List ℕ)) → IsBlockOf (limits version) b → block_lines version b ≡ block_lines version last ++ more → Begins limits (header version ∷ part_lines version done last)
       whole b more w e = record {
         version = version;
-        known = known;
         program = done ++ (b ∷ []);
         more = more;
         valid = record { each = all_append (IsBlockOf (limits version)) done b v.each w; few = subst (AtMost (limits version).blocks) (sym (length-append done (b ∷ []))) v.blocks; some = omega (arith, length-append done (b ∷ [])) };
@@ -99,7 +98,7 @@ module _ (version : Version) where
   short (d ∷ ds) v = (v.0.few, short ds v.1)
 
   -- what the line can be
-  next_of : (limits : Version → Limits) (done : List BlockParts) (last : BlockParts) (line : List ℕ) → IsPart (limits_of version) done last → Begins limits ((header version ∷ part_lines version done last) ++ (line ∷ [])) → NextLine version (limits version) 0 done last line
+  pub next_of : (limits : Version → Limits) (done : List BlockParts) (last : BlockParts) (line : List ℕ) → IsPart (limits_of version) done last → Begins limits ((header version ∷ part_lines version done last) ++ (line ∷ [])) → NextLine version (limits version) 0 done last line
   next_of limits done last line v b =
       let c = begun_so limits (part_lines version done last ++ (line ∷ [])) b in
       next version (limits version) 0 done last line c.1 c.0 (short done v.each) v.few c.2.each (subst (AtMost (limits version).blocks) (let e : length c.0 ≡ 0 + length c.0 = omega arith in e) c.2.few)
@@ -139,12 +138,12 @@ module _ (version : Version) where
   part_lines-block : (done : List BlockParts) (last : BlockParts) (name : List ℕ) → part_lines version (done ++ (last ∷ [])) (block name [] []) ≡ part_lines version done last ++ (block_line name ∷ [])
   part_lines-block done last name = ap (λ t. t ++ (block_line name ∷ [])) (blocks_lines-append done last)
 
-  closed : (limits : Limits) (done : List BlockParts) (last : BlockParts) (name : List ℕ) → IsTrue (is_known limits.version) → IsBlock name → AllByRecursion (IsBlockOf limits) done → IsBlockOf limits last → AtMost limits.statements 1 → AtMost limits.blocks (length done + 2) → IsPart limits (done ++ (last ∷ [])) (block name [] [])
-  closed limits done last name k n v w o f = record { known = k; each = all_append (IsBlockOf limits) done last v w; name = n; loops = tt; few_loops = none_few limits.loops; statements = tt; few = none_few limits.statements; one = o; blocks = subst (AtMost limits.blocks) (let e : length done + 2 ≡ length (done ++ (last ∷ [])) + 1 = omega (arith, length-append done (last ∷ [])) in e) f }
+  closed : (limits : Limits) (done : List BlockParts) (last : BlockParts) (name : List ℕ) → IsBlock name → AllByRecursion (IsBlockOf limits) done → IsBlockOf limits last → AtMost limits.statements 1 → AtMost limits.blocks (length done + 2) → IsPart limits (done ++ (last ∷ [])) (block name [] [])
+  closed limits done last name n v w o f = record { each = all_append (IsBlockOf limits) done last v w; name = n; loops = tt; few_loops = none_few limits.loops; statements = tt; few = none_few limits.statements; one = o; blocks = subst (AtMost limits.blocks) (let e : length done + 2 ≡ length (done ++ (last ∷ [])) + 1 = omega (arith, length-append done (last ∷ [])) in e) f }
 
   pub block_over : (done : List BlockParts) (last : BlockParts) (name : List ℕ) → IsPart (limits_of version) done last → IsBlock name → 1 ≤ length last.statements → length done ≡ 63 → Begins no_limits ((header version ∷ part_lines version done last) ++ (block_line name ∷ [])) × (Begins limits_of ((header version ∷ part_lines version done last) ++ (block_line name ∷ [])) → ⊥)
   block_over done last name v n some h = (
-    subst (λ ls. Begins no_limits (header version ∷ ls)) (part_lines-block done last name) (completes no_limits v.known (done ++ (last ∷ [])) (block name [] []) (closed (no_limits version) done last name v.known n (blocks_lifted done v.each) (record { name = v.name; loops = v.loops; few_loops = tt; each = each_lifted last.statements v.statements; few = tt; some = some }) tt tt)),
+    subst (λ ls. Begins no_limits (header version ∷ ls)) (part_lines-block done last name) (completes no_limits (done ++ (last ∷ [])) (block name [] []) (closed (no_limits version) done last name n (blocks_lifted done v.each) (record { name = v.name; loops = v.loops; few_loops = tt; each = each_lifted last.statements v.statements; few = tt; some = some }) tt tt)),
     λ b. elim (next_of limits_of done last (block_line name) v b) [
       | new_block other w e f g ↦ omega arith
       | new_loop k u w n e f ↦ loop_not_block (suc (length last.loops)) k name (sym e)
@@ -153,7 +152,7 @@ module _ (version : Version) where
   )
 
   pub block_taken : (done : List BlockParts) (last : BlockParts) (name : List ℕ) → IsPart (limits_of version) done last → IsBlock name → 1 ≤ length last.statements → length done < 63 → IsPart (limits_of version) (done ++ (last ∷ [])) (block name [] []) × (part_lines version (done ++ (last ∷ [])) (block name [] []) ≡ part_lines version done last ++ (block_line name ∷ []))
-  block_taken done last name v n some h = (closed (limits_of version) done last name v.known n v.each (record { name = v.name; loops = v.loops; few_loops = v.few_loops; each = v.statements; few = v.few; some = some }) (omega arith) (omega arith), part_lines-block done last name)
+  block_taken done last name v n some h = (closed (limits_of version) done last name n v.each (record { name = v.name; loops = v.loops; few_loops = v.few_loops; each = v.statements; few = v.few; some = some }) (omega arith) (omega arith), part_lines-block done last name)
 
   statements_same : (n m : ℕ) (s t : StatementParts) → IsLine version (Statement n s) → IsLine version (Statement m t) → statement_line version n s ≡ statement_line version m t → (n ≡ m) × (s ≡ t)
   statements_same n m s t v w e = let f = line_same version (Statement n s) (Statement m t) v w e in (cc, cc)
@@ -180,7 +179,7 @@ module _ (version : Version) where
 
   pub statement_over : (done : List BlockParts) (last : BlockParts) (n : ℕ) (s : StatementParts) → IsPart (limits_of version) done last → IsLine version (Statement n s) → n ≡ length last.statements + 1 → (999 < n) ⊎ ((16 < length s.to) ⊎ (16 < length s.otherwise)) → Begins no_limits ((header version ∷ part_lines version done last) ++ (statement_line version n s ∷ [])) × (Begins limits_of ((header version ∷ part_lines version done last) ++ (statement_line version n s ∷ [])) → ⊥)
   statement_over done last n s v l h over = (
-    subst (λ ls. Begins no_limits (header version ∷ ls)) (part_lines-statement done last n s h) (completes no_limits v.known done (block last.name last.loops (last.statements ++ (s ∷ []))) (record { known = v.known; each = blocks_lifted done v.each; name = v.name; loops = v.loops; few_loops = tt; statements = all_append (IsStatement (no_limits version)) last.statements s (each_lifted last.statements v.statements) l.1; few = tt; one = tt; blocks = tt })),
+    subst (λ ls. Begins no_limits (header version ∷ ls)) (part_lines-statement done last n s h) (completes no_limits done (block last.name last.loops (last.statements ++ (s ∷ []))) (record { each = blocks_lifted done v.each; name = v.name; loops = v.loops; few_loops = tt; statements = all_append (IsStatement (no_limits version)) last.statements s (each_lifted last.statements v.statements) l.1; few = tt; one = tt; blocks = tt })),
     λ b. elim (next_of limits_of done last (statement_line version n s) v b) [
       | new_block name w e f g ↦ lines_differ version name n s l.0.0 l.0.1 (sym e)
       | new_loop k u w z e f ↦ loop_not_statement version (suc (length last.loops)) k n s l.0.0 l.0.1 (sym e)
@@ -198,7 +197,6 @@ module _ (version : Version) where
   pub statement_taken : (done : List BlockParts) (last : BlockParts) (n : ℕ) (s : StatementParts) → IsPart (limits_of version) done last → IsLine version (Statement n s) → n ≡ length last.statements + 1 → n ≤ 999 → length s.to ≤ 16 → length s.otherwise ≤ 16 → IsPart (limits_of version) done (block last.name last.loops (last.statements ++ (s ∷ []))) × (part_lines version done (block last.name last.loops (last.statements ++ (s ∷ []))) ≡ part_lines version done last ++ (statement_line version n s ∷ []))
   statement_taken done last n s v l h low few few_otherwise = (
     record {
-      known = v.known;
       each = v.each;
       name = v.name;
       loops = v.loops;
@@ -244,7 +242,7 @@ module _ (version : Version) where
 
   pub loop_over : (done : List BlockParts) (last : BlockParts) (n h : ℕ) → IsPart (limits_of version) done last → IsLine version (Loop n h) → length last.statements ≡ 0 → n ≡ length last.loops + 1 → h < n → 99 < n → Begins no_limits ((header version ∷ part_lines version done last) ++ (loop_line n h ∷ [])) × (Begins limits_of ((header version ∷ part_lines version done last) ++ (loop_line n h ∷ [])) → ⊥)
   loop_over done last n h v l z e low over = (
-    subst (λ ls. Begins no_limits (header version ∷ ls)) (part_lines-loop done last n h z e) (completes no_limits v.known done (block last.name (last.loops ++ (h ∷ [])) last.statements) (record { known = v.known; each = blocks_lifted done v.each; name = v.name; loops = are_loops_append 1 last.loops h v.loops (omega arith) l.1; few_loops = tt; statements = each_lifted last.statements v.statements; few = tt; one = tt; blocks = tt })),
+    subst (λ ls. Begins no_limits (header version ∷ ls)) (part_lines-loop done last n h z e) (completes no_limits done (block last.name (last.loops ++ (h ∷ [])) last.statements) (record { each = blocks_lifted done v.each; name = v.name; loops = are_loops_append 1 last.loops h v.loops (omega arith) l.1; few_loops = tt; statements = each_lifted last.statements v.statements; few = tt; one = tt; blocks = tt })),
     λ b. elim (next_of limits_of done last (loop_line n h) v b) [
       | new_block name w f g i ↦ loop_not_block n h name f
       | new_loop k u w y f g ↦ omega arith
@@ -254,4 +252,4 @@ module _ (version : Version) where
 
   pub loop_taken : (done : List BlockParts) (last : BlockParts) (n h : ℕ) → IsPart (limits_of version) done last → IsLine version (Loop n h) → length last.statements ≡ 0 → n ≡ length last.loops + 1 → h < n → n ≤ 99 → IsPart (limits_of version) done (block last.name (last.loops ++ (h ∷ [])) last.statements) × (part_lines version done (block last.name (last.loops ++ (h ∷ [])) last.statements) ≡ part_lines version done last ++ (loop_line n h ∷ []))
   loop_taken done last n h v l z e low few =
-      (record { known = v.known; each = v.each; name = v.name; loops = are_loops_append 1 last.loops h v.loops (omega arith) l.1; few_loops = omega (arith, length-append last.loops (h ∷ [])); statements = v.statements; few = v.few; one = v.one; blocks = v.blocks }, part_lines-loop done last n h z e)
+      (record { each = v.each; name = v.name; loops = are_loops_append 1 last.loops h v.loops (omega arith) l.1; few_loops = omega (arith, length-append last.loops (h ∷ [])); statements = v.statements; few = v.few; one = v.one; blocks = v.blocks }, part_lines-loop done last n h z e)

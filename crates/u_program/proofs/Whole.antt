@@ -10,7 +10,7 @@ use Rattle.u_text.specs.Spaced.{ended}
 use Rattle.u_text.proofs.SpacedLaws.{AllFree, all_free_append, pieces-ended, glued-ended}
 use Rattle.u_program.specs.declared.reading.Line.TheVariants.{Block, Loop, Statement}
 use Rattle.u_program.specs.Parts.{StatementParts, BlockParts, ProgramParts, block}
-use Rattle.u_program.specs.Limits.{Limits, AtMost, AreLoops, IsStatement, IsBlockOf, IsProgram, limits_of, no_limits, is_known}
+use Rattle.u_program.specs.Limits.{Limits, AtMost, AreLoops, IsStatement, IsBlockOf, IsProgram, limits_of, no_limits}
 use Rattle.u_program.specs.Text.{block_line, loop_lines, statement_lines, block_lines, blocks_lines, program_lines, program_text, header}
 use Rattle.u_program.specs.FirstBad.{Begins, IsFirstBad, IsBadLine, IsTooMany, IsTruncated}
 use Rattle.u_program.specs.Reading.{line_at}
@@ -51,7 +51,7 @@ first_bad : (bytes rest text others : List ℕ) (ls : List (List ℕ)) (V : List
 first_bad bytes rest text others ls V r h a b v = record { before = ls; line = text; others = (pieces 10 others).0; there = ap (λ (p : List (List ℕ) × List ℕ). p.0) (r.all ∙ ap (λ (p : List (List ℕ) × List ℕ). (ls ++ p.0, p.1)) h); number = refl; allowed = a; refused = b; verdict = v }
 
 pub lifted : (ls : List (List ℕ)) → Begins limits_of ls → Begins no_limits ls
-lifted ls b = record { version = b.version; known = b.known; program = b.program; more = b.more; valid = record { each = blocks_lifted b.version b.program b.valid.each; few = tt; some = b.valid.some }; there = b.there }
+lifted ls b = record { version = b.version; program = b.program; more = b.more; valid = record { each = blocks_lifted b.version b.program b.valid.each; few = tt; some = b.valid.some }; there = b.there }
 
 pub bad_line : (bytes rest text others : List ℕ) (ls : List (List ℕ)) → IsRead bytes ls rest → pieces 10 rest ≡ (text ∷ (pieces 10 others).0, (pieces 10 others).1) → Begins limits_of ls → (Begins no_limits (ls ++ (text ∷ [])) → ⊥) → IsBadLine bytes (suc (length ls))
 bad_line bytes rest text others ls r h a b = first_bad bytes rest text others ls _ r h a (λ c. b (lifted _ c)) b
@@ -91,14 +91,14 @@ module _ (version : Version) where
 is_truncated : (bytes rest : List ℕ) (ls : List (List ℕ)) → pieces 10 bytes ≡ (ls, rest) → Begins limits_of ls → ((p : ProgramParts) → IsProgram (limits_of p.version) p.blocks → program_lines p.version p.blocks ≡ ls → rest ≡ [] → ⊥) → IsTruncated bytes
 is_truncated bytes rest ls h b n = record {
   allowed = subst (Begins limits_of) (sym (ap (λ (p : List (List ℕ) × List ℕ). p.0) h)) b;
-  none = λ p known v e.
+  none = λ p v e.
       let f : ◌≡◌ {A = List (List ℕ) × List ℕ} (program_lines p.version p.blocks, []) (ls, rest) = sym (pieces-program_text p.version p.blocks v) ∙ ap (pieces 10) (sym e) ∙ h in
       n p v (ap (λ t. t.0) f) (sym (ap (λ t. t.1) f));
 }
 
 module _ (version : Version) where
-  pub begins_header : IsTrue (is_known version) → Begins limits_of (header version ∷ [])
-  begins_header known = record { version = version; known = known; program = least ∷ []; more = blocks_lines version (least ∷ []); valid = least_program version; there = refl }
+  pub begins_header : Begins limits_of (header version ∷ [])
+  begins_header = record { version = version; program = least ∷ []; more = blocks_lines version (least ∷ []); valid = least_program version; there = refl }
 
   -- a program with these lines is of this version
   EndsSo : List BlockParts → List (List ℕ) → Version → Type 0
@@ -109,14 +109,13 @@ module _ (version : Version) where
   so_ends p ls w e = subst (EndsSo p.blocks ls) (same_version p.version version (heads e)) (w, tails e)
 
   pub truncated_rest : (bytes rest : List ℕ) (done : List BlockParts) (last : BlockParts) → IsRead bytes (header version ∷ part_lines version done last) rest → pieces 10 rest ≡ ([], rest) → IsPart (limits_of version) done last → (rest ≡ [] → ⊥) → IsTruncated bytes
-  truncated_rest bytes rest done last r h v n = is_truncated bytes rest _ (ends bytes rest _ r h) (completes version limits_of v.known done last v) (λ p w e f. n f)
+  truncated_rest bytes rest done last r h v n = is_truncated bytes rest _ (ends bytes rest _ r h) (completes version limits_of done last v) (λ p w e f. n f)
 
   -- a program that ends with a block without statements is none
   half : (done : List BlockParts) (last : BlockParts) (p : List BlockParts) → IsPart (limits_of version) done last → length last.statements ≡ 0 → IsProgram (limits_of version) p → program_lines version p ≡ header version ∷ part_lines version done last → ⊥
   unfolding least
   half done last p v h w e = block_closed version done last least.name v h (record {
     version = version;
-    known = v.known;
     program = p ++ (least ∷ []);
     more = statement_lines version 1 least.statements;
     valid = record { each = all_append (IsBlockOf (no_limits version)) p least (blocks_lifted version p w.each) (is_least (no_limits version) tt); few = tt; some = omega (arith, length-append p (least ∷ [])) };
@@ -124,10 +123,10 @@ module _ (version : Version) where
   })
 
   pub truncated_half : (bytes rest : List ℕ) (done : List BlockParts) (last : BlockParts) → IsRead bytes (header version ∷ part_lines version done last) rest → pieces 10 rest ≡ ([], rest) → IsPart (limits_of version) done last → length last.statements ≡ 0 → IsTruncated bytes
-  truncated_half bytes rest done last r h v n = is_truncated bytes rest _ (ends bytes rest _ r h) (completes version limits_of v.known done last v) (λ p w e f. let c = so_ends p (part_lines version done last) w e in half done last p.blocks v n c.0 (ap (λ t. header version ∷ t) c.1))
+  truncated_half bytes rest done last r h v n = is_truncated bytes rest _ (ends bytes rest _ r h) (completes version limits_of done last v) (λ p w e f. let c = so_ends p (part_lines version done last) w e in half done last p.blocks v n c.0 (ap (λ t. header version ∷ t) c.1))
 
-  pub truncated_header : IsTrue (is_known version) → (bytes rest : List ℕ) → IsRead bytes (header version ∷ []) rest → pieces 10 rest ≡ ([], rest) → IsTruncated bytes
-  truncated_header known bytes rest r h = is_truncated bytes rest _ (ends bytes rest _ r h) (begins_header known) (λ p w e f. let c = so_ends p [] w e in no_blocks p.blocks c.0 c.1)
+  pub truncated_header : (bytes rest : List ℕ) → IsRead bytes (header version ∷ []) rest → pieces 10 rest ≡ ([], rest) → IsTruncated bytes
+  truncated_header bytes rest r h = is_truncated bytes rest _ (ends bytes rest _ r h) begins_header (λ p w e f. let c = so_ends p [] w e in no_blocks p.blocks c.0 c.1)
     where
       no_blocks : (p : List BlockParts) → IsProgram (limits_of version) p → blocks_lines version p ≡ [] → ⊥
       no_blocks [] w e = let s = w.some in omega arith
@@ -141,14 +140,14 @@ module _ (version : Version) where
         sym (glued-pieces 10 bytes) ∙ ap (λ (p : List (List ℕ) × List ℕ). glued 10 p.0 p.1) e ∙ glued-ended (header version ∷ part_lines version done last) ∙ ap (λ t. ended (header version ∷ t)) (sym (blocks_lines-append version done last)),
       )
 
-  first_lines : (limits : Version → Limits) (text : List ℕ) → Begins limits ((header version ∷ []) ++ (text ∷ [])) → (name : List ℕ) × IsBlock name × (text ≡ block_line name)
+  pub first_lines : (limits : Version → Limits) (text : List ℕ) → Begins limits ((header version ∷ []) ++ (text ∷ [])) → (name : List ℕ) × IsBlock name × (text ≡ block_line name)
   first_lines limits text b = let c = begun_so version limits (text ∷ []) b in first version (limits version) text c.1 c.0 c.2.each c.3
 
   pub not_first : (text : List ℕ) → ((name : List ℕ) → IsBlock name → text ≡ block_line name → ⊥) → Begins no_limits ((header version ∷ []) ++ (text ∷ [])) → ⊥
   not_first text n b = let f = first_lines no_limits text b in n f.0 f.1 f.2
 
-  pub first_part : IsTrue (is_known version) → (name : List ℕ) → IsBlock name → IsPart (limits_of version) [] (block name [] [])
-  first_part known name n = record { known = known; each = tt; name = n; loops = tt; few_loops = omega arith; statements = tt; few = omega arith; one = omega arith; blocks = omega arith }
+  pub first_part : (name : List ℕ) → IsBlock name → IsPart (limits_of version) [] (block name [] [])
+  first_part name n = record { each = tt; name = n; loops = tt; few_loops = omega arith; statements = tt; few = omega arith; one = omega arith; blocks = omega arith }
 
   pub no_first_line : (text : List ℕ) → line_at version (words text) ≡ None → Begins no_limits ((header version ∷ []) ++ (text ∷ [])) → ⊥
   no_first_line text h = not_first text (λ name n e. line_none version text h (Block name) n e)
@@ -161,16 +160,11 @@ module _ (version : Version) where
 
 -- nothing can go on
 pub begins_nothing : Begins limits_of []
-begins_nothing = record { version = versions.One; known = refl; program = least ∷ []; more = program_lines versions.One (least ∷ []); valid = least_program versions.One; there = refl }
+begins_nothing = record { version = versions.One; program = least ∷ []; more = program_lines versions.One (least ∷ []); valid = least_program versions.One; there = refl }
 
--- a line that is no known header
-pub not_header : (limits : Version → Limits) (text : List ℕ) → ((v : Version) → IsTrue (is_known v) → text ≡ header v → ⊥) → Begins limits ([] ++ (text ∷ [])) → ⊥
-not_header limits text n b = n b.version b.known (sym (heads b.there))
+-- a line that is no header
+pub not_header : (limits : Version → Limits) (text : List ℕ) → ((v : Version) → text ≡ header v → ⊥) → Begins limits ([] ++ (text ∷ [])) → ⊥
+not_header limits text n b = n b.version (sym (heads b.there))
 
 pub truncated_nothing : (bytes : List ℕ) → pieces 10 bytes ≡ ([], bytes) → IsTruncated bytes
 truncated_nothing bytes h = is_truncated bytes bytes [] h begins_nothing (λ p w e f. let g : header p.version ∷ blocks_lines p.version p.blocks ≡ [] = e in cc)
-
--- programs of both versions are read
-pub all_known : (v : Version) → IsTrue (is_known v)
-all_known versions.One = refl
-all_known versions.Two = refl

@@ -1,5 +1,5 @@
 -- A program of which some lines were read: whole blocks, and the last one.
-use Rattle.std.specs.Prelude.{◌≡◌, ℕ, ◌+◌, ◌≤◌, List, ◌++◌, length, IsTrue}
+use Rattle.std.specs.Prelude.{◌≡◌, ℕ, ◌+◌, ◌≤◌, List, ◌++◌, length}
 use Rattle.std.specs.List.{AllByRecursion}
 use Rattle.u_name.specs.Block.{IsBlock}
 use Rattle.u_text.specs.Number.{IsUpTo}
@@ -8,7 +8,7 @@ use Rattle.u_program.specs.declared.reading.Line.{Line}
 use Rattle.u_program.specs.declared.reading.Line.TheVariants.{Block, Loop, Statement}
 use Rattle.u_program.specs.declared.program.Version.{Version}
 use Rattle.u_program.specs.Parts.{BlockParts}
-use Rattle.u_program.specs.Limits.{Limits, AtMost, AreLoops, IsStatement, IsBlockOf, no_limits, is_known}
+use Rattle.u_program.specs.Limits.{Limits, AtMost, AreLoops, IsStatement, IsBlockOf, no_limits}
 use Rattle.u_program.specs.Text.{block_line, loop_line, statement_line, block_lines, blocks_lines}
 
 abbrev pub line_text : Version → Line → List ℕ
@@ -26,7 +26,6 @@ abbrev pub part_lines : Version → List BlockParts → BlockParts → List (Lis
 part_lines version done last = blocks_lines version done ++ block_lines version last
 
 pub record IsPart (limits : Limits) (done : List BlockParts) (last : BlockParts) : Type 0 where
-  pub known : IsTrue (is_known limits.version)
   pub each : AllByRecursion (IsBlockOf limits) done
   pub name : IsBlock last.name
   pub loops : AreLoops 1 last.loops

@@ -1,15 +1,14 @@
 -- Which line of a text is the first that is not allowed, and why.
-use Rattle.std.specs.Prelude.{◌≡◌, ℕ, suc, List, [], ◌∷◌, ◌++◌, length, IsTrue}
+use Rattle.std.specs.Prelude.{◌≡◌, ℕ, suc, List, [], ◌∷◌, ◌++◌, length}
 use Rattle.u_text.specs.Pieces.{lines}
 use Rattle.u_program.specs.declared.program.Version.{Version}
 use Rattle.u_program.specs.Parts.{BlockParts, ProgramParts}
-use Rattle.u_program.specs.Limits.{Limits, IsProgram, limits_of, no_limits, is_known}
+use Rattle.u_program.specs.Limits.{Limits, IsProgram, limits_of, no_limits}
 use Rattle.u_program.specs.Text.{program_lines, program_text}
 
 -- some program within the limits of its version begins with these lines
 pub record Begins (limits : Version → Limits) (ls : List (List ℕ)) : Type 0 where
   pub version : Version
-  pub known : IsTrue (is_known version)
   pub program : List BlockParts
   pub more : List (List ℕ)
   pub valid : IsProgram (limits version) program
@@ -38,5 +37,4 @@ IsTooMany bytes n = IsFirstBad bytes n (λ ls. Begins no_limits ls)
 -- Each line that ends with a newline is allowed, and the text is no program's.
 pub record IsTruncated (bytes : List ℕ) : Type 0 where
   pub allowed : Begins limits_of (lines bytes)
-  pub none : (p : ProgramParts) → IsTrue (is_known p.version) → IsProgram (limits_of p.version) p.blocks
-      → bytes ≡ program_text p.version p.blocks → ⊥
+  pub none : (p : ProgramParts) → IsProgram (limits_of p.version) p.blocks → bytes ≡ program_text p.version p.blocks → ⊥

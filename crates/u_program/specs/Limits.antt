@@ -17,11 +17,6 @@ use Rattle.u_program.specs.declared.program.Destination.{Destination}
 use Rattle.u_program.specs.Parts.{StatementParts, BlockParts}
 use Rattle.std.specs.Int.{w64}
 
--- whether programs of the version are read
-abbrev pub is_known : Version → Bool
-is_known versions.One = true
-is_known versions.Two = true
-
 -- how many arguments an `apply` has
 abbrev pub count_of : Arguments → ℕ
 count_of arguments.One = 1

@@ -16,3 +16,4 @@ pub use program::{
 };
 pub use read_error::ReadError;
 pub use text::read;
+pub use writing::{push_kind, push_list, push_tail};

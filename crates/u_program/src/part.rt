@@ -1,8 +1,8 @@
 //! A program of which some lines were read.
-ghost use Rattle.std.specs.Prelude.{◌≡◌, ◌++◌, ◌∷◌, [], MatchResult, IfOk, IsTrue};
+ghost use Rattle.std.specs.Prelude.{◌≡◌, ◌++◌, ◌∷◌, [], MatchResult, IfOk};
 ghost use Rattle.u_program.specs.declared.reading.Line.TheVariants as variants;
 ghost use Rattle.u_program.specs.Text.{header, block_line, loop_line, statement_line};
-ghost use Rattle.u_program.specs.Limits.{IsProgram, limits_of, is_known};
+ghost use Rattle.u_program.specs.Limits.{IsProgram, limits_of};
 ghost use Rattle.u_program.specs.Parts.{program};
 ghost use Rattle.u_program.specs.Begun.{IsLine, part_lines, IsPart};
 ghost use Rattle.u_program.specs.Faults.{IsLineFault};
@@ -51,8 +51,8 @@ impl Part {
             (λ new. IsPart (limits_of version) new.done.items new.last
             × (part_lines version new.done.items new.last
             ≡ part_lines version self.done.items self.last ++ (block_line name ∷ [])))
-            (λ fault. IsLineFault fault (header version ∷ part_lines version self.done.items self.last)
-            (block_line name)) }
+            (λ fault. IsLineFault fault
+            (header version ∷ part_lines version self.done.items self.last) (block_line name)) }
     {
         // Brings in that the block's name is one: 1 to 16 letters, digits and `_`.
         let _ = name.as_bytes();
@@ -79,7 +79,8 @@ impl Part {
             (λ new. IsPart (limits_of version) new.done.items new.last
             × (part_lines version new.done.items new.last
             ≡ part_lines version self.done.items self.last ++ (loop_line number held_by ∷ [])))
-            (λ fault. IsLineFault fault (header version ∷ part_lines version self.done.items self.last)
+            (λ fault. IsLineFault fault
+            (header version ∷ part_lines version self.done.items self.last)
             (loop_line number held_by)) }
     {
         let Part { done, last } = self;
@@ -109,8 +110,10 @@ impl Part {
         ensures { MatchResult result
             (λ new. IsPart (limits_of version) new.done.items new.last
             × (part_lines version new.done.items new.last
-            ≡ part_lines version self.done.items self.last ++ (statement_line version number statement ∷ [])))
-            (λ fault. IsLineFault fault (header version ∷ part_lines version self.done.items self.last)
+            ≡ part_lines version self.done.items self.last
+            ++ (statement_line version number statement ∷ [])))
+            (λ fault. IsLineFault fault
+            (header version ∷ part_lines version self.done.items self.last)
             (statement_line version number statement)) }
     {
         let Part { done, last } = self;
@@ -135,8 +138,8 @@ impl Part {
             (λ new. IsPart (limits_of version) new.done.items new.last
             × (part_lines version new.done.items new.last
             ≡ part_lines version self.done.items self.last ++ (text.now ∷ [])))
-            (λ fault. IsLineFault fault (header version ∷ part_lines version self.done.items self.last)
-            text.now) }
+            (λ fault. IsLineFault fault
+            (header version ∷ part_lines version self.done.items self.last) text.now) }
     {
         let line = match read_line(alloc, version, text) {
             Ok(line) => line,
@@ -153,7 +156,6 @@ impl Part {
     /// The part that one line behind the header begins.
     #[tactic(auto, using(crate::proofs::Whole::first_part))]
     pub fn first(alloc: Global, version: Version, text: &[u8]) -> Result<Part, LineFault>
-        requires { IsTrue (is_known version) }
         ensures { MatchResult result
             (λ new. IsPart (limits_of version) new.done.items new.last
             × (part_lines version new.done.items new.last
@@ -178,8 +180,7 @@ impl Part {
 
     /// The program that ends here.
     pub fn finish(self, version: Version) -> Result<Program, AllocFailed<Block>>
-        requires { IsTrue (is_known version)
-            × IsProgram (limits_of version) (self.done.items ++ (self.last ∷ [])) }
+        requires { IsProgram (limits_of version) (self.done.items ++ (self.last ∷ [])) }
         ensures { IfOk result (λ p. p ≡ program version (self.done.items ++ (self.last ∷ []))) }
     {
         let Part { mut done, last } = self;

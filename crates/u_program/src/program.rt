@@ -1,7 +1,6 @@
 //! Programs: blocks of numbered statements.
 ghost use Rattle.std.specs.Prelude.{◌≡◌, ◌++◌, ◌∷◌, [], length, IfOk};
-ghost use Rattle.std.specs.Prelude.{IsTrue};
-ghost use Rattle.u_program.specs.Limits.{IsProgram, the_limits, limits_of, is_known, count_of, place_of};
+ghost use Rattle.u_program.specs.Limits.{IsProgram, the_limits, limits_of, count_of, place_of};
 ghost use Rattle.u_program.specs.Parts.{statement, block, program};
 ghost use Rattle.u_program.specs.declared.program.Version.TheVariants as versions;
 
@@ -175,20 +174,18 @@ pub struct Program {
 
 impl Model for Program {
     ghost use Rattle.u_program.specs.Parts.{ProgramParts, program};
-    ghost use Rattle.u_program.specs.Limits.{IsProgram, limits_of, is_known};
-    ghost use Rattle.std.specs.Prelude.{IsTrue};
+    ghost use Rattle.u_program.specs.Limits.{IsProgram, limits_of};
 
     ghost Value = { ProgramParts };
 
     ghost view = { λ p. program p.version p.blocks.items };
 
-    ghost invariant = { λ p. IsTrue (is_known p.version)
-        × IsProgram (limits_of p.version) p.blocks.items };
+    ghost invariant = { λ p. IsProgram (limits_of p.version) p.blocks.items };
 }
 
 impl Statement {
     /// A statement of these parts.
-    pub(crate) fn new(
+    pub fn new(
         region: u8,
         kind: Kind,
         to: Vec<Destination>,
@@ -235,7 +232,7 @@ impl Statement {
 
 impl Block {
     /// A block without loops and statements.
-    pub(crate) fn new(alloc: Global, name: BlockName) -> Block
+    pub fn new(alloc: Global, name: BlockName) -> Block
         ensures { result ≡ block name [] [] }
     {
         Block {
@@ -246,7 +243,10 @@ impl Block {
     }
 
     /// The block with one more loop, which that region holds.
-    pub(crate) fn with_loop(self, held_by: u8) -> Result<Block, AllocFailed<u8>>
+    ///
+    /// # Errors
+    /// An error is returned if there is no memory.
+    pub fn with_loop(self, held_by: u8) -> Result<Block, AllocFailed<u8>>
         ensures { IfOk result
             (λ b. b ≡ block self.name (self.loops ++ (held_by ∷ [])) self.statements) }
     {
@@ -264,7 +264,10 @@ impl Block {
     }
 
     /// The block with one more statement.
-    pub(crate) fn with(self, statement: Statement) -> Result<Block, AllocFailed<Statement>>
+    ///
+    /// # Errors
+    /// An error is returned if there is no memory.
+    pub fn with(self, statement: Statement) -> Result<Block, AllocFailed<Statement>>
         ensures { IfOk result
             (λ b. b ≡ block self.name self.loops (self.statements ++ (statement ∷ []))) }
     {
@@ -304,9 +307,9 @@ impl Block {
 }
 
 impl Program {
-    /// A program of these blocks.
-    pub(crate) fn new(version: Version, blocks: Vec<Block>) -> Program
-        requires { IsTrue (is_known version) × IsProgram (limits_of version) blocks.items }
+    /// A program of these blocks, which lie within the limits of the version.
+    pub fn new(version: Version, blocks: Vec<Block>) -> Program
+        requires { IsProgram (limits_of version) blocks.items }
         ensures { result ≡ program version blocks.items }
     {
         Program { version, blocks }
@@ -327,7 +330,6 @@ impl Program {
     /// The version of its text.
     pub fn version(&self) -> Version
         ensures version { result ≡ self.now.version }
-        ensures known { IsTrue (is_known self.now.version) }
     {
         self.version
     }

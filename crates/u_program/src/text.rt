@@ -1,9 +1,8 @@
 //! The text of a program, read.
-ghost use Rattle.std.specs.Prelude.{◌≡◌, ◌<◌, ◌∷◌, [], length, MatchOption, MatchResult, IsTrue};
+ghost use Rattle.std.specs.Prelude.{◌≡◌, ◌<◌, ◌∷◌, [], length, MatchOption, MatchResult};
 ghost use Rattle.u_program.specs.declared.read_error.ReadError.TheVariants as errors;
 ghost use Rattle.u_program.specs.declared.program.Version.{Version};
 ghost use Rattle.u_program.specs.Parts.{ProgramParts};
-ghost use Rattle.u_program.specs.Limits.{is_known};
 ghost use Rattle.u_program.specs.Text.{header};
 ghost use Rattle.u_program.specs.Begun.{IsRead};
 ghost use Rattle.u_program.specs.Answer.{IsTextOf, IsReadError, fault_at};
@@ -24,13 +23,15 @@ use u_text::cut;
 /// `Truncated`, whatever stands behind the last newline. The text of a program is refused for want of
 /// memory alone.
 ///
-/// The first line is `u-program 1` or `u-program 2` and says the version. `block NAME` begins a block. Behind it stand the lines of its loops, `loop NUMBER HELD_BY`, where
-/// `HELD_BY` is 0 or the number of an earlier loop, and behind them its statements, `NUMBER REGION KIND
-/// [ARGUMENT] -> DESTINATION..`, of a `switch` `-> DESTINATION.. / DESTINATION..` (for true, and for
-/// false). Loops and statements are numbered 1, 2, and so on. An argument is the constant of a `const`,
-/// the loop of an `enter` (1 to 99) or the statement of an `apply` (1 to 999), and other kinds have
-/// none. `apply`, `store` and `end` list no destinations. Source of the language: Arvind and Gostelow
-/// 1982, of its structures Arvind and Nikhil 1990; the text is this project's profile.
+/// The first line is `u-program 1` or `u-program 2` and says the version. `block NAME` begins a block.
+/// Behind it stand the lines of its loops, `loop NUMBER HELD_BY`, where `HELD_BY` is 0 or the number of
+/// an earlier loop, and behind them its statements, `NUMBER REGION KIND [ARGUMENT..] -> DESTINATION..`,
+/// of a `switch` `-> DESTINATION.. / DESTINATION..` (for true, and for false). Loops and statements are
+/// numbered 1, 2, and so on. An argument is the constant of a `const`, the loop of an `enter` (1 to 99),
+/// the statement of an `apply` (1 to 999) and in version 2 how many arguments it has (1 to 4), or the
+/// place of a `param` (2 to 4), which version 2 has; other kinds have none. `apply`, `store` and `end`
+/// list no destinations. Source of the language: Arvind and Gostelow 1982, of its structures Arvind and
+/// Nikhil 1990; the text is this project's profile.
 #[tactic(auto, using(crate::proofs::Same::read_back))]
 pub fn read(alloc: Global, bytes: &[u8]) -> Result<Program, ReadError>
     ensures answer { MatchResult result (λ program. IsTextOf bytes.now program)
@@ -77,7 +78,6 @@ fn read_blocks(
     bytes: &[u8],
     after_first: &[u8],
 ) -> Result<Program, ReadError>
-    requires known { IsTrue (is_known version) }
     requires first { IsRead bytes.now (header version ∷ []) after_first.now }
     requires shorter { length after_first.now < length bytes.now }
     ensures { MatchResult result (λ program. IsTextOf bytes.now program)

@@ -49,10 +49,15 @@ fn push_call(
     }
 }
 
+/// Appends the kind's words, each behind a space.
+///
+/// # Errors
+/// An error is returned if there is no memory. Then a part of them may stand there.
 #[tactic(auto, using(u_text::proofs::AppendingLaws::extends_same, u_text::proofs::AppendingLaws::extends_behind, std::proofs::Common::append_assoc))]
-fn push_kind(out: &mut Vec<u8>, version: Version, kind: &Kind) -> Result<(), AllocError>
+pub fn push_kind(out: &mut Vec<u8>, version: Version, kind: &Kind) -> Result<(), AllocError>
     ensures ok { OnOk result
-        (out.new.items ≡ out.old.items ++ spaced (kind_word kind.now ∷ argument_words version kind.now)) }
+        (out.new.items ≡ out.old.items
+        ++ spaced (kind_word kind.now ∷ argument_words version kind.now)) }
     ensures err { OnErr result (Extends out.old.items out.new.items) }
 {
     push_spaced(out, kind_word(kind))?;
@@ -74,8 +79,12 @@ fn push_destination(out: &mut Vec<u8>, to: &Destination) -> Result<(), AllocErro
     push_behind(out, b'.', u32::from(to.port))
 }
 
+/// Appends the destinations, each behind a space.
+///
+/// # Errors
+/// An error is returned if there is no memory. Then a part of them may stand there.
 #[tactic(auto, using(u_text::proofs::AppendingLaws::extends_by, u_text::proofs::AppendingLaws::extends_behind, crate::proofs::Written::list_more))]
-fn push_list(out: &mut Vec<u8>, to: &[Destination]) -> Result<(), AllocError>
+pub fn push_list(out: &mut Vec<u8>, to: &[Destination]) -> Result<(), AllocError>
     ensures ok { OnOk result
         (out.new.items ≡ out.old.items ++ spaced (map destination_word to.now)) }
     ensures err { OnErr result (Extends out.old.items out.new.items) }
@@ -102,9 +111,12 @@ fn push_otherwise(out: &mut Vec<u8>, kind: &Kind, to: &[Destination]) -> Result<
     Ok(())
 }
 
-/// Appends what stands behind a statement's region.
+/// Appends what stands behind a statement's region, from its kind to its last destination.
+///
+/// # Errors
+/// An error is returned if there is no memory. Then a part of it may stand there.
 #[tactic(auto, using(u_text::proofs::AppendingLaws::extends_behind, crate::proofs::Written::tail_text))]
-fn push_tail(
+pub fn push_tail(
     out: &mut Vec<u8>,
     version: Version,
     kind: &Kind,
@@ -112,7 +124,8 @@ fn push_tail(
     otherwise: &[Destination],
 ) -> Result<(), AllocError>
     ensures ok { OnOk result
-        (out.new.items ≡ out.old.items ++ spaced (tail_words version kind.now to.now otherwise.now)) }
+        (out.new.items ≡ out.old.items
+        ++ spaced (tail_words version kind.now to.now otherwise.now)) }
     ensures err { OnErr result (Extends out.old.items out.new.items) }
 {
     push_kind(out, version, kind)?;
@@ -130,7 +143,8 @@ fn push_statement(
     statement: &Statement,
 ) -> Result<(), AllocError>
     ensures ok { OnOk result
-        (out.new.items ≡ out.old.items ++ (statement_line version number statement.now ++ (10 ∷ []))) }
+        (out.new.items ≡ out.old.items
+        ++ (statement_line version number statement.now ++ (10 ∷ []))) }
     ensures err { OnErr result (Extends out.old.items out.new.items) }
 {
     push_long(out, number)?;
@@ -188,7 +202,8 @@ fn push_loops(out: &mut Vec<u8>, loops: &[u8]) -> Result<(), AllocError>
 
 #[tactic(auto, using(u_text::proofs::AppendingLaws::extends_same, u_text::proofs::AppendingLaws::extends_behind, crate::proofs::Written::begun_text))]
 fn push_block_line(out: &mut Vec<u8>, name: &[u8]) -> Result<(), AllocError>
-    ensures ok { OnOk result (out.new.items ≡ out.old.items ++ (block_line name.now ++ (10 ∷ []))) }
+    ensures ok { OnOk result
+        (out.new.items ≡ out.old.items ++ (block_line name.now ++ (10 ∷ []))) }
     ensures err { OnErr result (Extends out.old.items out.new.items) }
 {
     out.extend_from_slice(b"block")?;
@@ -199,7 +214,8 @@ fn push_block_line(out: &mut Vec<u8>, name: &[u8]) -> Result<(), AllocError>
 
 #[tactic(auto, using(u_text::proofs::AppendingLaws::extends_behind, crate::proofs::Written::block_text))]
 fn push_block(out: &mut Vec<u8>, version: Version, block: &Block) -> Result<(), AllocError>
-    ensures ok { OnOk result (out.new.items ≡ out.old.items ++ ended (block_lines version block.now)) }
+    ensures ok { OnOk result
+        (out.new.items ≡ out.old.items ++ ended (block_lines version block.now)) }
     ensures err { OnErr result (Extends out.old.items out.new.items) }
 {
     push_block_line(out, block.name().as_bytes())?;
@@ -210,7 +226,8 @@ fn push_block(out: &mut Vec<u8>, version: Version, block: &Block) -> Result<(), 
 
 #[tactic(auto, using(u_text::proofs::AppendingLaws::extends_by, u_text::proofs::AppendingLaws::extends_behind, crate::proofs::Written::blocks_more))]
 fn push_blocks(out: &mut Vec<u8>, version: Version, blocks: &[Block]) -> Result<(), AllocError>
-    ensures ok { OnOk result (out.new.items ≡ out.old.items ++ ended (blocks_lines version blocks.now)) }
+    ensures ok { OnOk result
+        (out.new.items ≡ out.old.items ++ ended (blocks_lines version blocks.now)) }
     ensures err { OnErr result (Extends out.old.items out.new.items) }
 {
     for block in blocks {
@@ -233,7 +250,8 @@ impl Program {
     /// Appends the program's text. On an error a part of it may stand there.
     #[tactic(auto, using(u_text::proofs::AppendingLaws::extends_same, u_text::proofs::AppendingLaws::extends_behind, crate::proofs::Written::whole_text))]
     fn append(&self, out: &mut Vec<u8>) -> Result<(), AllocError>
-        ensures ok { OnOk result (out.new.items ≡ out.old.items ++ program_text self.now.version self.now.blocks) }
+        ensures ok { OnOk result
+            (out.new.items ≡ out.old.items ++ program_text self.now.version self.now.blocks) }
         ensures err { OnErr result (Extends out.old.items out.new.items) }
     {
         let version = self.version();
@@ -250,7 +268,8 @@ impl Program {
     /// `AllocError` where there is no memory. Then `out` is as it was.
     #[tactic(auto, using(u_text::proofs::AppendingLaws::extends_cut))]
     pub fn write_text(&self, out: &mut Vec<u8>) -> Result<(), AllocError>
-        ensures ok { OnOk result (out.new.items ≡ out.old.items ++ program_text self.now.version self.now.blocks) }
+        ensures ok { OnOk result
+            (out.new.items ≡ out.old.items ++ program_text self.now.version self.now.blocks) }
         ensures err { OnErr result (out.new.items ≡ out.old.items) }
         ensures limits { IsProgram (limits_of self.now.version) self.now.blocks }
     {

@@ -5,11 +5,11 @@ use Rattle.std.proofs.lemmas.Bool.{and_parts, eqb-true}
 use Rattle.u_name.specs.Name.{Activity}
 use Rattle.u_value.specs.declared.value.Value.{Value}
 use Rattle.u_program.specs.declared.program.Kind.{Kind}
-use Rattle.u_program.specs.declared.program.Arguments.TheVariants as arguments
-use Rattle.u_program.specs.declared.program.Kind.TheVariants.{Apply, Fetch}
+use Rattle.u_program.specs.declared.program.Kind.TheVariants.{Fetch}
 use Rattle.u_program.specs.Parts.{StatementParts, BlockParts}
 use Rattle.u_check.specs.Jobs.{JobParts}
 use Rattle.u_check.specs.Kinds.{ports_of}
+use Rattle.u_check.proofs.KindTests.{few_ports}
 use Rattle.u_rule.specs.Parts.{token, ValueList}
 use Rattle.u_rule.specs.Rule.{is_firing_of, is_firing_at, needs_of}
 use Rattle.u_rule.specs.Fits.{statement_of, fits_at}
@@ -68,14 +68,6 @@ ok_of (Err fault) h = cc
 pub reads : (k : Kind) (vs : ValueList) → reads_cell k vs ≡ true → (ports_of k ≡ 2) × ((cell : CellOf) × (cell_named vs ≡ Ok cell))
 reads Fetch vs h = (refl, ok_of (cell_named vs) h)
 reads k vs h = cc
-
--- a statement has one to five ports, whatever its kind
-pub few_ports : (k : Kind) → (1 ≤ ports_of k) × (ports_of k ≤ 5)
-few_ports (Apply n arguments.One) = (omega arith, omega arith)
-few_ports (Apply n arguments.Two) = (omega arith, omega arith)
-few_ports (Apply n arguments.Three) = (omega arith, omega arith)
-few_ports (Apply n arguments.Four) = (omega arith, omega arith)
-few_ports k = (omega arith, omega arith)
 
 -- so many values
 abbrev pub OneValue : ValueList → Type 0

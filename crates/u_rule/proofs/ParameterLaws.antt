@@ -79,11 +79,12 @@ fourth ss e = and_parts (is_param_in (statement_at ss 2)) (is_param_in (statemen
 
 module _ (p : List BlockParts) (c : IsChecked p) (b : BlockParts) (m : Contains p b) where
   -- a `param` of the block, with what the checker says of it
-  record Placed (n : ℕ) : Type 0 where
-    it : Taker b.statements n
-    kind : Parameter
-    place : n ≡ place_of kind
-    behind : follows_params b.statements kind ≡ true
+  pub record Placed (n : ℕ) : Type 0 where
+    pub it : Taker b.statements n
+    pub kind : Parameter
+    pub is : it.it.kind ≡ Param kind
+    pub place : n ≡ place_of kind
+    pub behind : follows_params b.statements kind ≡ true
 
   placed : (n : ℕ) → is_param_in (statement_at b.statements n) ≡ true → Placed n
   placed n h = at (statement_at b.statements n) refl h
@@ -94,7 +95,7 @@ module _ (p : List BlockParts) (c : IsChecked p) (b : BlockParts) (m : Contains 
           let k = has_number b.statements n s e in
           let q = param_kind s.kind h in
           let w = param_in_order p c b m (n - 1) s k.1 q.0 q.1 in
-          record { it = record { it = s; stands = e; region = w.1 }; kind = q.0; place = omega (arith, k.0, w.0); behind = w.2 }
+          record { it = record { it = s; stands = e; region = w.1 }; kind = q.0; is = q.1; place = omega (arith, k.0, w.0); behind = w.2 }
 
   second_before_third : is_param_in (statement_at b.statements 3) ≡ true → is_param_in (statement_at b.statements 2) ≡ true
   second_before_third h = (let w = placed 3 h in by w.kind w.place w.behind)
@@ -112,16 +113,22 @@ module _ (p : List BlockParts) (c : IsChecked p) (b : BlockParts) (m : Contains 
       by Third e f = absurd (omega (arith, e))
       by Fourth e f = fourth b.statements f
 
+  -- each parameter behind the first has its `param`
+  pub further : (k : ℕ) → 2 ≤ k → k ≤ parameters_in b.statements → Placed k
+  further zero low high = absurd (omega (arith, low))
+  further (suc zero) low high = absurd (omega (arith, low))
+  further (suc (suc zero)) low high =
+      placed 2 (at_two (is_param_in (statement_at b.statements 2)) (is_param_in (statement_at b.statements 3)) (is_param_in (statement_at b.statements 4)) second_before_third (λ h. (before_fourth h).0) high)
+  further (suc (suc (suc zero))) low high =
+      placed 3 (at_three (is_param_in (statement_at b.statements 2)) (is_param_in (statement_at b.statements 3)) (is_param_in (statement_at b.statements 4)) (λ h. (before_fourth h).1) high)
+  further (suc (suc (suc (suc zero)))) low high =
+      placed 4 (at_four (is_param_in (statement_at b.statements 2)) (is_param_in (statement_at b.statements 3)) (is_param_in (statement_at b.statements 4)) high)
+  further (suc (suc (suc (suc (suc k))))) low high =
+      let few = few_parameters b.statements in
+      absurd (omega (arith, high, few))
+
   -- each parameter has its statement, where the block has a first one in region 0
   pub takes : Taker b.statements 1 → (k : ℕ) → 1 ≤ k → k ≤ parameters_in b.statements → Taker b.statements k
   takes first zero low high = absurd (omega (arith, low))
   takes first (suc zero) low high = first
-  takes first (suc (suc zero)) low high =
-      (placed 2 (at_two (is_param_in (statement_at b.statements 2)) (is_param_in (statement_at b.statements 3)) (is_param_in (statement_at b.statements 4)) second_before_third (λ h. (before_fourth h).0) high)).it
-  takes first (suc (suc (suc zero))) low high =
-      (placed 3 (at_three (is_param_in (statement_at b.statements 2)) (is_param_in (statement_at b.statements 3)) (is_param_in (statement_at b.statements 4)) (λ h. (before_fourth h).1) high)).it
-  takes first (suc (suc (suc (suc zero)))) low high =
-      (placed 4 (at_four (is_param_in (statement_at b.statements 2)) (is_param_in (statement_at b.statements 3)) (is_param_in (statement_at b.statements 4)) high)).it
-  takes first (suc (suc (suc (suc (suc k))))) low high =
-      let few = few_parameters b.statements in
-      absurd (omega (arith, high, few))
+  takes first (suc (suc k)) low high = (further (suc (suc k)) (omega arith) high).it

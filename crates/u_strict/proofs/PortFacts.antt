@@ -84,5 +84,5 @@ module _ (ss : List StatementParts) where
   pub all_ports : (a : Option ℕ) → IsFirstFailing (PortsBelowAreFed ss 6) a → IsFirstFailing (PortsHaveOneSource ss) a
   all_ports a w =
       alike_first (PortsBelowAreFed ss 6) (PortsHaveOneSource ss)
-      (λ n k s e o port h. k port h.0 (let m = few_ports s.kind in omega (arith, m, h.1)) s e o h.1)
+      (λ n k s e o port h. k port h.0 (let m = (few_ports s.kind).1 in omega (arith, m, h.1)) s e o h.1)
       (λ n k p f l s e o h. k s e o p (f, h)) a w

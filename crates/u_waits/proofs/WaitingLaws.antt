@@ -16,7 +16,7 @@ abbrev pub waiting : Activity → Ports → Ports → WaitingActivity
 waiting activity has lacks = record { activity = activity; has = has; lacks = lacks }
 
 pub port_between : (p : List BlockParts) (a : Activity) (k : ℕ) → IsPortOf p a k → IsBetween 1 k most_ports
-port_between p a k (s, e, w) = let t = few_ports s.kind in (w.0, omega (arith, w.1, t))
+port_between p a k (s, e, w) = let t = (few_ports s.kind).1 in (w.0, omega (arith, w.1, t))
 
 module _ (p : List BlockParts) (H : Entry → Type 0) (a : Activity) (all tokens has lacks : Ports) (of_all : (k : ℕ) → IsTrue (has_port all k) ↔ IsPortOf p a k) (of_tokens : (k : ℕ) → IsTrue (has_port tokens k) ↔ (IsBetween 1 k most_ports × HasToken H a k)) (both : (k : ℕ) → IsTrue (has_port has k) ↔ (IsTrue (has_port all k) × IsTrue (has_port tokens k))) (but : (k : ℕ) → IsTrue (has_port lacks k) ↔ (IsTrue (has_port all k) × (IsTrue (has_port tokens k) → ⊥))) where
   pub has_those : (k : ℕ) → IsTrue (has_port has k) ↔ (IsPortOf p a k × HasToken H a k)

@@ -25,4 +25,4 @@ pub returns : goal.returns
 returns c =
     let h : line_at c.args.version (words c.args.text.now) ≡ Some (Block c.in-Block.name) = search rules in
     let l = line_sound c.args.version c.args.text.now _ h in
-    rw c.new.ensures.items (rw c.new-2.ensures (first_part c.args.version c.requires c.in-Block.name l.0, rw l.1 refl))
+    rw c.new.ensures.items (rw c.new-2.ensures (first_part c.args.version c.in-Block.name l.0, rw l.1 refl))
