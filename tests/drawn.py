@@ -4,14 +4,14 @@ alone, by a second program that shares nothing with the first."""
 import sys
 
 FAMILIES = {
-    "begin end": "#d9ead3",
+    "begin param end": "#d9ead3",
     "enter next last leave": "#dbe7f6",
     "select switch": "#fff2cc",
     "apply back": "#eadcf4",
     "alloc store fetch": "#fce5cd",
 }
 FILL = {kind: fill for kinds, fill in FAMILIES.items() for kind in kinds.split()}
-PORTS = dict.fromkeys("and or add sub mul div rem lt le eq switch apply fetch".split(), 2)
+PORTS = dict.fromkeys("and or add sub mul div rem lt le eq switch fetch".split(), 2)
 PORTS.update(select=3, store=3)
 EXITS = {
     "switch": {"tailport": "t:s", "color": "#2e7d32"},
@@ -50,8 +50,13 @@ class Statement:
             return int(self.words[1])
         return block.holder(self.region) if self.kind == "leave" else self.region
 
+    def ports(self):
+        if self.kind == "apply":
+            return 1 + (int(self.words[2]) if len(self.words) > 2 else 1)
+        return PORTS.get(self.kind, 1)
+
     def label(self):
-        ports = PORTS.get(self.kind, 1)
+        ports = self.ports()
         middle = " ".join([self.number, *self.words])
         if ports == 1:
             return "<i1>" + middle

@@ -381,3 +381,95 @@ loop 4 0\n\
 102 4 leave -> 103.1\n\
 103 0 end ->\n\
 ";
+
+/// Ackermann's function of 2 and its argument, by a procedure of two parameters: programs/ackermann.u.
+pub const ACKERMANN: &[u8] = b"\
+u-program 2\n\
+block main\n\
+1 0 begin -> 2.1 3.1 4.3\n\
+2 0 const @ack -> 4.1\n\
+3 0 const 2 -> 4.2\n\
+4 0 apply 5 2 ->\n\
+5 0 back -> 6.1\n\
+6 0 end ->\n\
+block ack\n\
+1 0 begin -> 3.1 4.2 5.1\n\
+2 0 param 2 -> 6.1\n\
+3 0 const 0 -> 4.1\n\
+4 0 lt -> 5.2 6.2\n\
+5 0 switch -> 9.1 10.1 11.1 14.1 /\n\
+6 0 switch -> 12.1 13.2 15.1 / 7.1 8.1\n\
+7 0 const 1 -> 8.2\n\
+8 0 add -> 24.1\n\
+9 0 const @ack -> 22.1\n\
+10 0 const 1 -> 11.2\n\
+11 0 sub -> 22.2\n\
+12 0 const 0 -> 13.1\n\
+13 0 lt -> 14.2 15.2\n\
+14 0 switch -> 20.2 /\n\
+15 0 switch -> 17.1 18.1 19.1 / 16.1\n\
+16 0 const 1 -> 22.3\n\
+17 0 const @ack -> 20.1\n\
+18 0 const 1 -> 19.2\n\
+19 0 sub -> 20.3\n\
+20 0 apply 21 2 ->\n\
+21 0 back -> 22.3\n\
+22 0 apply 23 2 ->\n\
+23 0 back -> 24.1\n\
+24 0 end ->\n\
+";
+
+/// The least number whose square is not below its argument, by a search in halves over a structure:
+/// programs/search.u.
+pub const SEARCH: &[u8] = b"\
+u-program 2\n\
+block main\n\
+loop 1 0\n\
+1 0 begin -> 2.1 3.1 6.1 21.1 22.1 23.4\n\
+2 0 const 1 -> 3.2\n\
+3 0 add -> 4.1 5.1\n\
+4 0 alloc -> 7.1 23.2\n\
+5 0 enter 1 -> 8.1 9.2 10.1\n\
+6 0 enter 1 -> 11.1\n\
+7 0 enter 1 -> 12.1\n\
+8 1 const 0 -> 9.1\n\
+9 1 lt -> 10.2 11.2 12.2\n\
+10 1 switch -> 13.1 14.1 /\n\
+11 1 switch -> 16.2 19.1 /\n\
+12 1 switch -> 17.1 20.1 /\n\
+13 1 const 1 -> 14.2\n\
+14 1 sub -> 15.1 15.2 17.2 18.1\n\
+15 1 mul -> 16.1\n\
+16 1 sub -> 17.3\n\
+17 1 store ->\n\
+18 1 next -> 8.1 9.2 10.1\n\
+19 1 next -> 11.1\n\
+20 1 next -> 12.1\n\
+21 0 const 0 -> 23.3\n\
+22 0 const @find -> 23.1\n\
+23 0 apply 24 3 ->\n\
+24 0 back -> 25.1\n\
+25 0 end ->\n\
+block find\n\
+1 0 begin -> 5.1\n\
+2 0 param 2 -> 4.1 6.1\n\
+3 0 param 3 -> 4.2 7.1\n\
+4 0 lt -> 5.2 6.2 7.2\n\
+5 0 switch -> 11.1 18.1 19.2 /\n\
+6 0 switch -> 8.1 16.3 / 21.1\n\
+7 0 switch -> 8.2 9.1 17.2 /\n\
+8 0 add -> 10.1\n\
+9 0 const 2 -> 10.2\n\
+10 0 div -> 11.2 14.1 15.1 17.3\n\
+11 0 fetch -> 12.1 13.1\n\
+12 0 const 0 -> 13.2\n\
+13 0 lt -> 16.1 17.1\n\
+14 0 const 1 -> 15.2\n\
+15 0 add -> 16.2\n\
+16 0 select -> 19.3\n\
+17 0 select -> 19.4\n\
+18 0 const @find -> 19.1\n\
+19 0 apply 20 3 ->\n\
+20 0 back -> 21.1\n\
+21 0 end ->\n\
+";

@@ -1,7 +1,7 @@
 //! The worked programs with their arguments, and one more program.
 use crate::examples::{
-    DOUBLE, FACTORIAL, FIBONACCI, GCD, MATRICES, NESTED, NO_WRITER, PRODUCER, SUM, TWO_WRITERS,
-    WAVEFRONT,
+    ACKERMANN, DOUBLE, FACTORIAL, FIBONACCI, GCD, MATRICES, NESTED, NO_WRITER, PRODUCER, SEARCH, SUM,
+    TWO_WRITERS, WAVEFRONT,
 };
 use std::alloc::{AllocError, Global};
 use u_check::{Job, check};
@@ -18,7 +18,7 @@ block main\n\
 ";
 
 /// Each program of the folder, and the argument that it is run on.
-pub const EXAMPLES: [(&[u8], i64); 11] = [
+pub const EXAMPLES: [(&[u8], i64); 13] = [
     (DOUBLE, 4),
     (SUM, 3),
     (FACTORIAL, 2),
@@ -30,10 +30,12 @@ pub const EXAMPLES: [(&[u8], i64); 11] = [
     (PRODUCER, 2),
     (WAVEFRONT, 3),
     (MATRICES, 1),
+    (ACKERMANN, 0),
+    (SEARCH, 1),
 ];
 
 /// How many firings each of them makes.
-pub const FIRINGS: [usize; 11] = [3, 45, 51, 50, 74, 20, 12, 4, 64, 208, 130];
+pub const FIRINGS: [usize; 13] = [3, 45, 51, 50, 74, 20, 12, 4, 64, 208, 130, 79, 72];
 
 /// The program of that text, on the argument.
 pub fn job(alloc: Global, text: &[u8], argument: i64) -> Result<Job, AllocError> {

@@ -1,7 +1,7 @@
 //! Worked programs: whether they are strict, and where they are not.
 use crate::answers::is_printed;
 use crate::strict_texts::{
-    BOTH_SIDES, CALL_LOOP, CHOICE, EMPTY_LOOP, ENDLESS_LOOP, ENTERED_LOOP, INNER_LOOP,
+    BOTH_SIDES, CALL_LOOP, CHOICE, EMPTY_LOOP, ENDLESS_LOOP, ENTERED_LOOP, FIVE_PORTS, INNER_LOOP,
     NESTED_LOOPS, PLAIN_LOOP, THREE_BLOCKS, TWO_CALLS, TWO_CONSTANTS, TWO_ENDS, TWO_PORT_LOOP,
     TWO_RETURNS, TWO_VALUES,
 };
@@ -104,6 +104,20 @@ const PLAIN: Rows = &[
 
 /// Programs that call.
 const CALLS: Rows = &[
+    (
+        FIVE_PORTS,
+        &[
+            ("", "", STRICT),
+            ("pass ->", "pass -> 3.1", "not strict rule 1 block 1 at 3"),
+            ("pass ->", "pass -> 3.4", "not strict rule 1 block 1 at 3"),
+            ("pass ->", "pass -> 3.5", "not strict rule 1 block 1 at 3"),
+            (
+                "param 4 -> 7.2",
+                "param 4 -> 6.2 7.2",
+                "not strict rule 1 block 2 at 6",
+            ),
+        ],
+    ),
     (
         FACTORIAL,
         &[

@@ -221,3 +221,24 @@ loop 2 1\n\
 14 1 next -> 3.1 4.1\n\
 15 0 end ->\n\
 ";
+
+/// A call on four arguments, and so an `apply` with five ports.
+pub const FIVE_PORTS: &str = "\
+u-program 2\n\
+block main\n\
+1 0 begin -> 2.1 3.2 3.3 3.4 3.5 5.1\n\
+2 0 const @four -> 3.1\n\
+3 0 apply 4 4 ->\n\
+4 0 back -> 6.1\n\
+5 0 pass ->\n\
+6 0 end ->\n\
+block four\n\
+1 0 begin -> 5.1\n\
+2 0 param 2 -> 5.2\n\
+3 0 param 3 -> 6.2\n\
+4 0 param 4 -> 7.2\n\
+5 0 add -> 6.1\n\
+6 0 add -> 7.1\n\
+7 0 add -> 8.1\n\
+8 0 end ->\n\
+";

@@ -374,6 +374,56 @@ block main\n\
 8 0 end ->\n\
 ";
 
+/// The sides of a conditional meet in the fifth port of a call.
+const SIDES_AT_PORT_FIVE: &str = "\
+u-program 2\n\
+block main\n\
+1 0 begin -> 2.1 3.2 4.1 7.1 8.2 8.3 8.4\n\
+2 0 const 0 -> 3.1\n\
+3 0 lt -> 4.2\n\
+4 0 switch -> 5.1 / 6.1\n\
+5 0 pass -> 8.5\n\
+6 0 pass -> 8.5\n\
+7 0 const @four -> 8.1\n\
+8 0 apply 9 4 ->\n\
+9 0 back -> 10.1\n\
+10 0 end ->\n\
+block four\n\
+1 0 begin -> 5.1\n\
+2 0 param 2 -> 5.2\n\
+3 0 param 3 -> 6.2\n\
+4 0 param 4 -> 7.2\n\
+5 0 add -> 6.1\n\
+6 0 add -> 7.1\n\
+7 0 add -> 8.1\n\
+8 0 end ->\n\
+";
+
+/// An arc meets a side of a conditional in the fourth port of a call.
+const ARC_AND_SIDE_AT_PORT_FOUR: &str = "\
+u-program 2\n\
+block main\n\
+1 0 begin -> 2.1 3.2 4.1 7.1 8.2 8.3 8.4\n\
+2 0 const 0 -> 3.1\n\
+3 0 lt -> 4.2\n\
+4 0 switch -> 5.1 / 6.1\n\
+5 0 pass -> 8.5\n\
+6 0 pass -> 8.4 8.5\n\
+7 0 const @four -> 8.1\n\
+8 0 apply 9 4 ->\n\
+9 0 back -> 10.1\n\
+10 0 end ->\n\
+block four\n\
+1 0 begin -> 5.1\n\
+2 0 param 2 -> 5.2\n\
+3 0 param 3 -> 6.2\n\
+4 0 param 4 -> 7.2\n\
+5 0 add -> 6.1\n\
+6 0 add -> 7.1\n\
+7 0 add -> 8.1\n\
+8 0 end ->\n\
+";
+
 /// A block with two `end`s.
 const TWO_ENDS: &str = "\
 u-program 1\n\
@@ -429,6 +479,8 @@ const ROWS: &[(&str, &str)] = &[
     (LOOP_IN_A_SIDE, DETERMINATE),
     (BEHIND_TWO_PASS, DETERMINATE),
     (CALL_IN_A_SIDE, DETERMINATE),
+    (SIDES_AT_PORT_FIVE, DETERMINATE),
+    (ARC_AND_SIDE_AT_PORT_FOUR, "arcs block 1 at 8"),
     (TWO_ENDS, "ends block 1 at 3"),
     (TWO_CALLS, "calls block 1 at 5"),
     (TURNS_AND_ENDS, "turns block 1 at 4"),
