@@ -16,6 +16,10 @@ use Rattle.u_determinate.proofs.Named.{named}
 use Rattle.u_determinate.proofs.Checked.{keeps}
 use Rattle.u_determinate.proofs.Givers.{ByApply}
 
+-- of two statements that are there alike
+some_same : (x y : StatementParts) → Some x ≡ Some y → x ≡ y
+some_same x y e = cc
+
 module _ (job : JobParts) (sound : IsChecked job.program.blocks) (name : List ℕ) (b : BlockParts) (q : named job name ≡ Some b) where
   -- the statement of a parameter takes its value from a call, and not the result of one
   pub takes_parameter : (i : ℕ) → i < parameters_in b.statements → (s : StatementParts) → statement_at b.statements (1 + i) ≡ Some s → (comes_from_outside s.kind ≡ true) × (is_back s.kind ≡ false)
@@ -25,7 +29,9 @@ module _ (job : JobParts) (sound : IsChecked job.program.blocks) (name : List �
   takes_parameter (suc i) h s e =
       let m = (named_member job.program.blocks name b q).0 in
       let w = further job.program.blocks sound b m (suc (suc i)) (omega arith) (omega (arith, h)) in
-      let same : s ≡ w.it.it = (let there = w.it.stands in let here = e in cc) in
+      let number : 1 + suc i ≡ suc (suc i) = omega arith in
+      let there : statement_at b.statements (1 + suc i) ≡ Some w.it.it = ap (statement_at b.statements) number ∙ w.it.stands in
+      let same = some_same s w.it.it (sym e ∙ there) in
       let k : s.kind ≡ Param w.kind = ap (λ (x : StatementParts). x.kind) same ∙ w.is in
       (ap comes_from_outside k, ap is_back k)
 
