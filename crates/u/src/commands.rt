@@ -39,8 +39,8 @@ pub fn check(rt: &HostRuntime, file: &str, asked: Asked) -> Result<u8, CommandEr
     check_text(rt.alloc(), &program, asked, &mut io::writer(rt))
 }
 
-/// `explain FILE`, and why the program is not strict, if that is asked for. Where FILE can't be read, its path and the system's own words for the cause stand
-/// behind `not readable`.
+/// `explain FILE`, and why the program is not strict, if that is asked for. Where FILE can't be read, its
+/// path and the system's own words for the cause stand behind `not readable`.
 pub fn explain(rt: &HostRuntime, file: &str, strict: bool) -> Result<u8, CommandError> {
     match read_file(rt, file) {
         Ok(program) => explain_text(rt.alloc(), &program, strict, &mut io::writer(rt)),

@@ -316,9 +316,9 @@ impl<'a> Replica<'a> {
     ///
     /// # Errors
     /// `BadLine` and `TooLong` with the first line, counted from 1, that no checkpoint which the job reads
-    /// has in its place or that has more than 32,768 bytes. `NotAFiring` with the place, counted from 0, of the first
-    /// firing that is none of the job. `Full` where the checkpoint has more firings than `limit`.
-    /// `NoMemory` where there is no memory.
+    /// has in its place or that has more than 32,768 bytes. `NotAFiring` with the place, counted from 0,
+    /// of the first firing that is none of the job. `Full` where the checkpoint has more firings than
+    /// `limit`. `NoMemory` where there is no memory.
     pub fn restore(
         alloc: Global,
         job: &'a Job,
