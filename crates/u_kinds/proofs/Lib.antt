@@ -1,0 +1,5 @@
+pub mod FirstLaws
+pub mod TreeLaws
+pub mod WalkLaws
+pub mod PartLaws
+pub mod OperatorLaws

@@ -1,0 +1,3 @@
+pub mod Kinds
+pub mod Clashes
+pub mod Verdicts
