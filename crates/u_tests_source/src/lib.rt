@@ -4,6 +4,8 @@
 #[cfg(test)]
 mod check_tests;
 #[cfg(test)]
+mod kind_tests;
+#[cfg(test)]
 mod source_tests;
 #[cfg(test)]
 mod token_tests;
