@@ -99,6 +99,36 @@ impl History {
         Ok(true)
     }
 
+    /// Puts a copy of the entry in. Returns whether it was new.
+    ///
+    /// # Errors
+    /// `AllocError` where there is no memory; the set stays as it was.
+    pub fn insert_copy(&mut self, entry: &Entry) -> Result<bool, AllocError>
+        ensures ok { OnOk result (IsWith self.old entry.now self.new) }
+        ensures new { IfOk result (λ b. IsTrue b ↔ (Contains self.old entry.now → ⊥)) }
+        ensures still { IfOk result (λ b. (IsTrue b → ⊥) → self.new ≡ self.old) }
+        ensures err { OnErr result (self.new ≡ self.old) }
+    {
+        let Some(next) = self.count.checked_add(1) else {
+            return Err(AllocError);
+        };
+        let added = self.tables.insert_copy(entry)?;
+        if !added {
+            return Ok(false);
+        }
+        self.count = next;
+        Ok(true)
+    }
+
+    /// The values of the tokens at that port of the activity, each once, in no order.
+    pub fn values_under(&self, activity: &Name, port: u8) -> &[Value]
+        ensures all { (v : Value) → Contains result.now v
+            ↔ ValueAt (Contains self.now) activity.now port v }
+        ensures distinct { Distinct result.now }
+    {
+        self.tables.values_at(activity, port)
+    }
+
     /// The values of the tokens at the port, each once, in no order.
     pub fn values_at(&self, port: &Port) -> &[Value]
         ensures all { (v : Value) → Contains result.now v
@@ -210,7 +240,7 @@ impl History {
         ensures { OnOk result (IsUnion self.old entries.now self.new) }
     {
         for entry in entries {
-            let _ = self.insert(entry.copy()?)?;
+            let _ = self.insert_copy(entry)?;
         }
         Ok(())
     }

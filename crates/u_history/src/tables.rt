@@ -54,6 +54,21 @@ fn put_token(table: &mut KeyedSet<Name, Value>, token: Token) -> Result<bool, Al
     }
 }
 
+/// Puts copies of the token's activity and value into the table of its port.
+fn put_token_copy(table: &mut KeyedSet<Name, Value>, token: &Token) -> Result<bool, AllocError>
+    ensures ok { OnOk result (IsWith table.old (token.now.activity, token.now.value) table.new) }
+    ensures new { IfOk result
+        (λ b. IsTrue b
+        ↔ (Contains table.old (token.now.activity, token.now.value) → ⊥)) }
+    ensures still { IfOk result (λ b. (IsTrue b → ⊥) → table.new ≡ table.old) }
+    ensures err { OnErr result (table.new ≡ table.old) }
+{
+    let activity = token.activity().copy()?;
+    let value = token.value().copy()?;
+    let added = table.insert(activity, value)?;
+    Ok(added)
+}
+
 /// Puts the write into the table.
 fn put_write(table: &mut KeyedSet<Cell, Written>, write: Write) -> Result<bool, AllocFailed<Entry>>
     ensures ok { OnOk result
@@ -268,6 +283,41 @@ impl Tables {
             Entry::Fault(fault) => self.rest.insert(Entry::Fault(fault)),
             Entry::Answer(value) => self.rest.insert(Entry::Answer(value)),
         }
+    }
+
+    /// Puts a copy of the token in. Returns whether it was new.
+    fn insert_token_copy(&mut self, item: &Token) -> Result<bool, AllocError>
+        ensures ok { OnOk result
+            ((e : Entry) → InTables self.new e
+            ↔ (InTables self.old e ⊎ (kinds.Token item.now ≡ e))) }
+        ensures new { IfOk result
+            (λ b. IsTrue b ↔ (InTables self.old (kinds.Token item.now) → ⊥)) }
+        ensures still { IfOk result (λ b. (IsTrue b → ⊥) → self.new ≡ self.old) }
+        ensures err { OnErr result (self.new ≡ self.old) }
+        ensures rest { self.new.rest ≡ self.old.rest }
+        ensures ports { length self.new.tokens ≡ length self.old.tokens }
+    {
+        let place = usize::from(item.port()) - 1;
+        put_token_copy(&mut self.tokens[place], item)
+    }
+
+    /// Puts a copy of the entry in. Returns whether it was new.
+    pub fn insert_copy(&mut self, entry: &Entry) -> Result<bool, AllocError>
+        requires { OthersAreOther self.old }
+        ensures ok { OnOk result
+            ((e : Entry) → InTables self.new e ↔ (InTables self.old e ⊎ (entry.now ≡ e))) }
+        ensures new { IfOk result (λ b. IsTrue b ↔ (InTables self.old entry.now → ⊥)) }
+        ensures still { IfOk result (λ b. (IsTrue b → ⊥) → self.new ≡ self.old) }
+        ensures err { OnErr result (self.new ≡ self.old) }
+        ensures others { OthersAreOther self.new }
+        ensures ports { length self.new.tokens ≡ length self.old.tokens }
+    {
+        if let Entry::Token(token) = entry {
+            return self.insert_token_copy(token);
+        }
+        let copy = entry.copy()?;
+        let added = self.insert(copy)?;
+        Ok(added)
     }
 
     /// Copies of the tokens, port by port.

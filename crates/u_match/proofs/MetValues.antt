@@ -7,8 +7,6 @@ use Rattle.u_rule.specs.Parts.{TokenParts, token}
 use Rattle.u_rule.specs.declared.entry.Entry.{Entry}
 use Rattle.u_rule.specs.declared.entry.Entry.TheVariants as entries
 use Rattle.u_history.specs.Outcomes.{ValueAt}
-use Rattle.u_history.specs.Clashes.{port_of}
-use Rattle.u_history.specs.declared.clash.Port.{Port}
 use Rattle.u_match.specs.Keys.{IsMet}
 use Rattle.u_rule.proofs.FiringShapes.{one_member}
 
@@ -66,12 +64,8 @@ module _ (H : Entry → Type 0) (t : TokenParts) where
       back (inl (q, f)) = absurd (n q)
       back (inr (k, m)) = m
 
-  pub met_elsewhere : (p : Port) → p ≡ port_of t.activity p.number → (t.port ≡ p.number → ⊥) → (xs : List Value) → ((v : Value) → Contains xs v ↔ ValueAt H p.activity p.number v) → (v : Value) → Contains xs v ↔ IsMet H t p.number v
-  met_elsewhere p e n xs h v =
-      let g = met_there p.number n v in
-      let k = subst (λ (b : Activity). Contains xs v ↔ ValueAt H b p.number v) (ap (λ (x : Port). x.activity) e) (h v) in
+  pub met_elsewhere : (a : Activity) (p : ℕ) → a ≡ t.activity → (t.port ≡ p → ⊥) → (xs : List Value) → ((v : Value) → Contains xs v ↔ ValueAt H a p v) → (v : Value) → Contains xs v ↔ IsMet H t p v
+  met_elsewhere a p e n xs h v =
+      let g = met_there p n v in
+      let k = subst (λ (b : Activity). Contains xs v ↔ ValueAt H b p v) e (h v) in
       ((λ m. g.0 (k.0 m)), λ m. k.1 (g.1 m))
-
-  -- by the port's name
-  pub met_by : (p : Port) (k : ℕ) (xs : List Value) → p ≡ port_of t.activity k → ((v : Value) → Contains xs v ↔ IsMet H t p.number v) → (v : Value) → Contains xs v ↔ IsMet H t k v
-  met_by p k xs e h v = subst (λ (n : ℕ). Contains xs v ↔ IsMet H t n v) (ap (λ (x : Port). x.number) e) (h v)

@@ -1,5 +1,5 @@
 -- What is left of a sorted list without those that come twice: the same members, in order and each once.
-use Rattle.std.proofs.Common.{◌≡◌, inl, inr, sym, subst, List, [], ◌∷◌, Bool, true, Contains, Ordering}
+use Rattle.std.proofs.Common.{◌≡◌, ◌<◌, inl, inr, sym, subst, arith, List, [], ◌∷◌, length, Bool, true, Contains, Ordering}
 use Rattle.std.specs.Prelude.{IsSorted}
 use Rattle.std.specs.Cmp.{IsTotalOrder, IsEquivalence}
 use Rattle.std.specs.Ordering.{eq_by_cmp}
@@ -17,6 +17,12 @@ use Rattle.u_sets.specs.Rising.{Rises}
 of_all : {X : Type 0} (P : X → Type 0) (xs : List X) → AllByRecursion P xs → (y : X) → Contains xs y → P y
 of_all P [] h y m = absurd (Contains-nil y m)
 of_all P (x ∷ xs) h y m = elim (Contains-cons_cases x y xs m) [ inl e ↦ subst P e h.0 | inr k ↦ of_all P xs h.1 y k ]
+
+-- a list of one or none rises
+pub rises_alone : {X : Type 0} (R : X → X → Ordering) (xs : List X) → length xs < 2 → Rises R xs
+rises_alone R [] h = tt
+rises_alone R (x ∷ []) h = ((λ y m. absurd (Contains-nil y m)), tt)
+rises_alone R (x ∷ y ∷ ys) h = absurd (omega arith)
 
 module _ {X : Type 0} (R : X → X → Ordering) (o : IsTotalOrder R) (E : X → X → Bool) (ties : (x y : X) → E x y ≡ eq_by_cmp R x y) where
   risen : (xs : List X) → IsStrictlySortedBy R xs → Rises R xs

@@ -15,7 +15,7 @@ ghost use Rattle.u_match.specs.Waking.{IsWokenBy, WakesSome};
 
 use crate::halt::Halt;
 use crate::making_firings::{of_one, of_read, of_two, of_values};
-use crate::meeting::{met_at, met_at_each, port_of};
+use crate::meeting::{met_at, met_at_each};
 use crate::ordering::put_in_order;
 use std::alloc::{AllocError, Global};
 use u_check::Job;
@@ -280,14 +280,12 @@ fn gathered(
         joining.add_all(&lists, &mut chosen, &mut found)?;
         return Ok(found);
     }
-    let first = port_of(token, 1)?;
-    let firsts = met_at(history, token, &first);
+    let firsts = met_at(history, token, 1);
     if ports == 1 {
         joining.add_ones(firsts, &mut found)?;
         return Ok(found);
     }
-    let second = port_of(token, 2)?;
-    let seconds = met_at(history, token, &second);
+    let seconds = met_at(history, token, 2);
     joining.add_twos(firsts, seconds, &mut found)?;
     Ok(found)
 }

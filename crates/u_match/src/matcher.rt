@@ -143,9 +143,8 @@ impl Matcher {
         ensures ok { OnOk result (IsWith self.old entry.now self.new) }
         ensures err { OnErr result (self.new ≡ self.old) }
     {
-        let copy = entry.copy()?;
         note(&self.history, &mut self.reads, entry)?;
-        self.history.insert(copy)?;
+        self.history.insert_copy(entry)?;
         Ok(())
     }
 

@@ -2,13 +2,12 @@
 ghost use Rattle.std.specs.Prelude.{◌≡◌, ◌≤◌, IfOk, Contains, length};
 ghost use Rattle.u_rule.specs.Parts.{most_ports};
 ghost use Rattle.u_sets.specs.Members.{AreThose};
-ghost use Rattle.u_history.specs.Clashes.{port_of};
 ghost use Rattle.u_match.specs.Keys.{IsMet, AreMetFrom, lent_lists};
 ghost use Rattle.u_match.specs.ReadOrder.{read_ties};
 
 use std::alloc::{AllocError, Global};
 use std::slice;
-use u_history::{History, Port};
+use u_history::History;
 use u_name::{Cell, Name};
 use u_order::ExactOrd;
 use u_rule::Token;
@@ -34,23 +33,14 @@ impl ExactOrd for Read {
 /// The reads that wait for each cell, each once.
 pub(crate) type Reads = KeyedSet<Cell, Read>;
 
-/// That port of the token's activity.
-pub(crate) fn port_of(token: &Token, number: u8) -> Result<Port, AllocError>
-    ensures { IfOk result (λ p. p ≡ port_of token.now.activity number) }
-{
-    let activity = token.activity().copy()?;
-    Ok(Port { activity, number })
-}
-
 /// The values that the token meets at that port of its activity.
-pub(crate) fn met_at<'a>(history: &'a History, token: &'a Token, at: &Port) -> &'a [Value]
-    requires { at.now ≡ port_of token.now.activity at.now.number }
-    ensures { AreThose (IsMet (Contains history.now) token.now at.now.number) result.now }
+pub(crate) fn met_at<'a>(history: &'a History, token: &'a Token, port: u8) -> &'a [Value]
+    ensures { AreThose (IsMet (Contains history.now) token.now port) result.now }
 {
-    if token.port() == at.number {
+    if token.port() == port {
         return slice::from_ref(token.value());
     }
-    history.values_at(at)
+    history.values_under(token.activity(), port)
 }
 
 /// The values that the token meets at each of the first ports of its activity, so many.
@@ -67,8 +57,7 @@ pub(crate) fn met_at_each<'a>(
 {
     let mut lists = Vec::with_capacity(alloc, ports)?;
     for place in 0..ports {
-        let port = port_of(token, place as u8 + 1)?;
-        lists.push(met_at(history, token, &port))?;
+        lists.push(met_at(history, token, place as u8 + 1))?;
     }
     Ok(lists)
 }

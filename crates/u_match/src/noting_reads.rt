@@ -5,7 +5,7 @@ ghost use Rattle.u_value.specs.declared.value.Value.{Value};
 ghost use Rattle.u_system.specs.Firing.{Within};
 ghost use Rattle.u_match.specs.Keys.{IsMet, Notes, NamesNone, IsCompleteWith};
 
-use crate::meeting::{Read, Reads, met_at, port_of};
+use crate::meeting::{Read, Reads, met_at};
 use std::alloc::AllocError;
 use u_history::History;
 use u_name::Name;
@@ -98,10 +98,8 @@ fn note_reads_of(history: &History, reads: &mut Reads, token: &Token) -> Result<
     if !may_name(token) {
         return Ok(());
     }
-    let first = port_of(token, 1)?;
-    let second = port_of(token, 2)?;
-    let structures = met_at(history, token, &first);
-    let indices = met_at(history, token, &second);
+    let structures = met_at(history, token, 1);
+    let indices = met_at(history, token, 2);
     note_reads(reads, token.activity(), structures, indices)?;
     Ok(())
 }

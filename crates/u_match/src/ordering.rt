@@ -11,6 +11,9 @@ pub(crate) fn put_in_order(firings: &mut Vec<Firing>)
     ensures rises { Rises firing_cmp firings.new.items }
     ensures same { Same (Contains firings.new.items) (Contains firings.old.items) }
 {
+    if firings.len() < 2 {
+        return;
+    }
     firings.sort_unstable();
     firings.dedup();
 }

@@ -1,7 +1,7 @@
 //! The worked programs with their arguments, and one more program.
 use crate::examples::{
-    ACKERMANN, DOUBLE, FACTORIAL, FIBONACCI, GCD, MATRICES, NESTED, NO_WRITER, PRODUCER, SEARCH, SUM,
-    TWO_WRITERS, WAVEFRONT,
+    ACKERMANN, DOUBLE, FACTORIAL, FIBONACCI, GCD, MATRICES, NESTED, NO_WRITER, PRODUCER, SEARCH,
+    SUM, TWO_WRITERS, WAVEFRONT,
 };
 use std::alloc::{AllocError, Global};
 use u_check::{Job, check};

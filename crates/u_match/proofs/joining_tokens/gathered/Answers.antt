@@ -12,7 +12,6 @@ use Rattle.u_match.specs.Waking.{WakesSome}
 use Rattle.u_match.specs.Finite.{HasSome}
 use Rattle.u_match.specs.Joins.{IsOne, JoinsSome, JoinsAll}
 use Rattle.u_match.proofs.Finite.{too_many, ones, twos, alls, wakes_some}
-use Rattle.u_match.proofs.MetValues.{met_by}
 use Rattle.u_match.proofs.Made.{few_at}
 use Rattle.u_match.proofs.Choices.{lent_count}
 use Rattle.u_match.proofs.Answering.{two_of, two_left, answered_none, answered_ones, answered_twos, answered_all}
@@ -55,7 +54,7 @@ returns-then-ports-eq1-clause-exact c =
     let ports : c.ports_at-ports.result ≡ ports_at c.args.job.now c.args.token.now.activity = c.ports_at-ports.ensures ∙ ap (ports_at c.args.job.now) c.activity-activity.ensures in
     let high : c.args.token.now.port ≤ ports_at c.args.job.now c.args.token.now.activity = omega (arith, ports, c.if-ports-from.false, c.from.ensures, c.port.ensures.port) in
     answered_ones (Contains c.args.history.now) c.args.token.now c.args.job.now c.met_at-firsts.result.now
-    (met_by (Contains c.args.history.now) c.args.token.now c.in_ok-first.first 1 c.met_at-firsts.result.now c.in_ok-first.ensures c.met_at-firsts.ensures)
+    c.met_at-firsts.ensures
     c.add_ones.new.found.items (sym ports ∙ c.if-ports-eq1.true) c.port.ensures.range.port.0 high
     (subst (λ (a : Activity). Gains [] (SomeOf c.met_at-firsts.result.now (IsOne c.args.job.now a)) c.add_ones.new.found.items) c.activity-activity.ensures
     (subst (λ (xs : List Firing). Gains xs (SomeOf c.met_at-firsts.result.now (IsOne c.args.job.now c.activity-activity.result.now)) c.add_ones.new.found.items) c.new-found.ensures.items c.in_ok-add_ones.ensures.ok))
@@ -66,9 +65,9 @@ returns-clause-exact c =
     let high : c.args.token.now.port ≤ c.ports_at-ports.result = omega (arith, c.if-ports-from.false, c.from.ensures, c.port.ensures.port) in
     let two : c.ports_at-ports.result ≡ 2 = two_left c.ports_at-ports.result (omega (arith, c.port.ensures.range.port.0, high)) (omega (arith, c.if-ports-gt2.false)) c.if-ports-eq1.false in
     answered_twos (Contains c.args.history.now) c.args.token.now c.args.job.now c.met_at-firsts.result.now
-    (met_by (Contains c.args.history.now) c.args.token.now c.in_ok-first.first 1 c.met_at-firsts.result.now c.in_ok-first.ensures c.met_at-firsts.ensures)
+    c.met_at-firsts.ensures
     c.add_twos.new.found.items c.met_at-seconds.result.now
-    (met_by (Contains c.args.history.now) c.args.token.now c.in_ok-second.second 2 c.met_at-seconds.result.now c.in_ok-second.ensures c.met_at-seconds.ensures)
+    c.met_at-seconds.ensures
     (sym ports ∙ two) (two_of c.args.token.now.port c.ports_at-ports.result c.port.ensures.range.port.0 high two)
     (subst (λ (a : Activity). Gains [] (SomeOf c.met_at-firsts.result.now (JoinsSome c.args.job.now (Contains c.args.history.now) a c.met_at-seconds.result.now)) c.add_twos.new.found.items) c.activity-activity.ensures
     (subst (λ (xs : List Firing). Gains xs (SomeOf c.met_at-firsts.result.now (JoinsSome c.args.job.now (Contains c.args.history.now) c.activity-activity.result.now c.met_at-seconds.result.now)) c.add_twos.new.found.items) c.new-found.ensures.items c.in_ok-add_twos.ensures.ok))
@@ -94,7 +93,7 @@ returns-in_err-add_ones-clause-many c =
     let high : c.args.token.now.port ≤ ports_at c.args.job.now c.args.token.now.activity = omega (arith, ports, c.if-ports-from.false, c.from.ensures, c.port.ensures.port) in
     too_many c.from_residual-in_err-add_ones.result (HasSome (SomeOf c.met_at-firsts.result.now (IsOne c.args.job.now c.activity-activity.result.now))) (WakesSome c.args.job.now (entries.Token c.args.token.now) (HasOr c.args.history.now (entries.Token c.args.token.now)))
     (λ some. wakes_some (Contains c.args.history.now) c.args.token.now c.args.job.now (SomeOf c.met_at-firsts.result.now (IsOne c.args.job.now c.args.token.now.activity))
-    (λ found g. answered_ones (Contains c.args.history.now) c.args.token.now c.args.job.now c.met_at-firsts.result.now (met_by (Contains c.args.history.now) c.args.token.now c.in_ok-first.first 1 c.met_at-firsts.result.now c.in_ok-first.ensures c.met_at-firsts.ensures) found (sym ports ∙ c.if-ports-eq1.true) c.port.ensures.range.port.0 high g)
+    (λ found g. answered_ones (Contains c.args.history.now) c.args.token.now c.args.job.now c.met_at-firsts.result.now c.met_at-firsts.ensures found (sym ports ∙ c.if-ports-eq1.true) c.port.ensures.range.port.0 high g)
     (ones c.args.job.now c.args.token.now.activity c.args.history.now c.met_at-firsts.result.now)
     (subst (λ (a : Activity). HasSome (SomeOf c.met_at-firsts.result.now (IsOne c.args.job.now a))) c.activity-activity.ensures some)) (search rules)
 
@@ -106,6 +105,6 @@ returns-in_err-add_twos-clause-many c =
     let port = two_of c.args.token.now.port c.ports_at-ports.result c.port.ensures.range.port.0 high two in
     too_many c.from_residual-in_err-add_twos.result (HasSome (SomeOf c.met_at-firsts.result.now (JoinsSome c.args.job.now (Contains c.args.history.now) c.activity-activity.result.now c.met_at-seconds.result.now))) (WakesSome c.args.job.now (entries.Token c.args.token.now) (HasOr c.args.history.now (entries.Token c.args.token.now)))
     (λ some. wakes_some (Contains c.args.history.now) c.args.token.now c.args.job.now (SomeOf c.met_at-firsts.result.now (JoinsSome c.args.job.now (Contains c.args.history.now) c.args.token.now.activity c.met_at-seconds.result.now))
-    (λ found g. answered_twos (Contains c.args.history.now) c.args.token.now c.args.job.now c.met_at-firsts.result.now (met_by (Contains c.args.history.now) c.args.token.now c.in_ok-first.first 1 c.met_at-firsts.result.now c.in_ok-first.ensures c.met_at-firsts.ensures) found c.met_at-seconds.result.now (met_by (Contains c.args.history.now) c.args.token.now c.in_ok-second.second 2 c.met_at-seconds.result.now c.in_ok-second.ensures c.met_at-seconds.ensures) (sym ports ∙ two) port g)
+    (λ found g. answered_twos (Contains c.args.history.now) c.args.token.now c.args.job.now c.met_at-firsts.result.now c.met_at-firsts.ensures found c.met_at-seconds.result.now c.met_at-seconds.ensures (sym ports ∙ two) port g)
     (twos c.args.job.now c.args.token.now.activity c.args.history.now c.met_at-firsts.result.now c.met_at-seconds.result.now)
     (subst (λ (a : Activity). HasSome (SomeOf c.met_at-firsts.result.now (JoinsSome c.args.job.now (Contains c.args.history.now) a c.met_at-seconds.result.now))) c.activity-activity.ensures some)) (search rules)

@@ -3,7 +3,6 @@ use Rattle.std.specs.Prelude.{Contains}
 use Rattle.u_rule.specs.Parts.{ValueList}
 use Rattle.u_sets.specs.Members.{AreThose}
 use Rattle.u_match.specs.Keys.{IsMet, AreMetFrom, lent_lists}
-use Rattle.u_match.proofs.MetValues.{met_by}
 use Rattle.u_match.proofs.Choices.{met_more, lent_all, lent_count, length_more}
 use Rattle.u_match.proofs.meeting.met_at_each.Goals as goal
 
@@ -19,5 +18,5 @@ loop-place-preserved c =
       subst (λ (ls : List ValueList). AreMetFrom (Contains c.args.history.now) c.args.token.now 1 ls) (sym (ap lent_lists pushed ∙ lent_all c.loop-place.lists.items c.met_at.result))
           (met_more (Contains c.args.history.now) c.args.token.now 1 (lent_lists c.loop-place.lists.items) c.met_at.result.now c.loop-place.invariant.1
           (subst (λ (n : ℕ). AreThose (IsMet (Contains c.args.history.now) c.args.token.now n) c.met_at.result.now) port
-          (met_by (Contains c.args.history.now) c.args.token.now c.in_ok-port.port (c.loop-place.place + 1) c.met_at.result.now c.in_ok-port.ensures c.met_at.ensures))),
+          c.met_at.ensures)),
     )

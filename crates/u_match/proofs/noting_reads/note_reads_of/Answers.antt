@@ -2,14 +2,13 @@ use Rattle.std.proofs.Common.{inr, subst}
 use Rattle.std.specs.Prelude.{Contains}
 use Rattle.u_name.specs.Name.{Activity}
 use Rattle.u_match.specs.Keys.{Notes}
-use Rattle.u_match.proofs.MetValues.{met_by}
 use Rattle.u_match.proofs.Naming.{notes_nothing}
 use Rattle.u_match.proofs.noting_reads.note_reads_of.Goals as goal
 
 pub returns-clause-ok : goal.returns-clause-ok
 returns-clause-ok c v w m n =
-    let first = met_by (Contains c.args.history.now) c.args.token.now c.in_ok-first.first 1 c.met_at-structures.result.now c.in_ok-first.ensures c.met_at-structures.ensures v in
-    let second = met_by (Contains c.args.history.now) c.args.token.now c.in_ok-second.second 2 c.met_at-indices.result.now c.in_ok-second.ensures c.met_at-indices.ensures w in
+    let first = c.met_at-structures.ensures v in
+    let second = c.met_at-indices.ensures w in
     inr (subst (λ (a : Activity). Notes a v w c.note_reads.new.reads) c.activity.ensures (c.in_ok-note_reads.ensures.ok v (first.1 m) w (second.1 n)))
 
 pub returns-then-not-may_name-clause-ok : goal.returns-then-not-may_name-clause-ok

@@ -10,8 +10,7 @@ loop-entry-init c = union_none c.args.self.now c.args.entries.now
 
 pub loop-entry-preserved : goal.loop-entry-preserved
 loop-entry-preserved c =
-    union_more c.args.self.now c.args.entries.now c.loop-entry.self c.insert.new.self c.loop-entry.entry-index c.entry-item.result c.loop-entry-test.true c.entry-item.is c.loop-entry.invariant
-    (subst (λ (e : Entry). IsWith c.loop-entry.self e c.insert.new.self) c.in_ok-copy.ensures c.in_ok-insert.ensures.ok)
+    union_more c.args.self.now c.args.entries.now c.loop-entry.self c.insert_copy.new.self c.loop-entry.entry-index c.entry-item.result c.loop-entry-test.true c.entry-item.is c.loop-entry.invariant c.in_ok-insert_copy.ensures.ok
 
 pub returns : goal.returns
 returns c =
