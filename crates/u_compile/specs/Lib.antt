@@ -1,0 +1,4 @@
+pub mod Drafts
+pub mod Graphs
+pub mod Blocks
+pub mod Fanning
