@@ -64,21 +64,36 @@ fn has_write(entries: &[Entry], cell: &Cell) -> bool {
     false
 }
 
-/// Which of the first so many of three ports have a token, and which have none.
-fn ports_of_activity(entries: &[Entry], activity: &Name, count: usize) -> [[bool; 3]; 2] {
+/// Which of the first so many of five ports have a token, and which have none.
+fn ports_of_activity(entries: &[Entry], activity: &Name, count: usize) -> [[bool; 5]; 2] {
     let first = has_token(entries, activity, 1);
     let second = has_token(entries, activity, 2);
     let third = has_token(entries, activity, 3);
+    let fourth = has_token(entries, activity, 4);
+    let fifth = has_token(entries, activity, 5);
     let [one, two, three] = [count >= 1, count >= 2, count >= 3];
+    let [four, five] = [count >= 4, count >= 5];
     [
-        [one & first, two & second, three & third],
-        [one & !first, two & !second, three & !third],
+        [
+            one & first,
+            two & second,
+            three & third,
+            four & fourth,
+            five & fifth,
+        ],
+        [
+            one & !first,
+            two & !second,
+            three & !third,
+            four & !fourth,
+            five & !fifth,
+        ],
     ]
 }
 
 /// The numbers of the ports, each behind a space.
-fn put_ports(out: &mut Vec<u8>, ports: [bool; 3]) -> Result<(), AllocError> {
-    let [first, second, third] = ports;
+fn put_ports(out: &mut Vec<u8>, ports: [bool; 5]) -> Result<(), AllocError> {
+    let [first, second, third, fourth, fifth] = ports;
     if first {
         out.extend_from_slice(b" 1")?;
     }
@@ -87,6 +102,12 @@ fn put_ports(out: &mut Vec<u8>, ports: [bool; 3]) -> Result<(), AllocError> {
     }
     if third {
         out.extend_from_slice(b" 3")?;
+    }
+    if fourth {
+        out.extend_from_slice(b" 4")?;
+    }
+    if fifth {
+        out.extend_from_slice(b" 5")?;
     }
     Ok(())
 }
@@ -99,7 +120,7 @@ fn put_activity(
     count: usize,
 ) -> Result<(), AllocError> {
     let [has, lacks] = ports_of_activity(entries, activity, count);
-    if has == [false; 3] || lacks == [false; 3] {
+    if has == [false; 5] || lacks == [false; 5] {
         return Ok(());
     }
     out.extend_from_slice(b"waits ")?;
