@@ -10,3 +10,4 @@ pub mod Rounds
 pub mod Steps
 pub mod Shown
 pub mod Keyed
+pub mod Putting

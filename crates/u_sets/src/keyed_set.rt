@@ -235,6 +235,31 @@ impl<K: ExactOrd + Hash + Drop, V: ExactOrd + Hash + Drop> KeyedSet<K, V> {
         }
     }
 
+    /// Puts the pair in, as `insert` does, and looks for the key once. Returns whether it was new.
+    ///
+    /// # Errors
+    /// `AllocError` where there is no memory; the set stays as it was.
+    pub fn put(&mut self, key: K, value: V) -> Result<bool, AllocError>
+        ensures ok { OnOk result (IsWith self.old (key, value) self.new) }
+        ensures new { IfOk result (λ b. IsTrue b ↔ (Contains self.old (key, value) → ⊥)) }
+        ensures still { IfOk result (λ b. (IsTrue b → ⊥) → self.new ≡ self.old) }
+        ensures err { OnErr result (self.new ≡ self.old) }
+    {
+        let alloc = self.alloc;
+        let (place, before) = self.groups.insert_full(key, Few::One(value))?;
+        let Some(few) = before else {
+            return Ok(true);
+        };
+        let Some(there) = self.groups.get_index_mut(place) else {
+            unreachable!()
+        };
+        let Few::One(value) = mem::replace(there, few) else {
+            unreachable!()
+        };
+        let added = there.insert(alloc, value)?;
+        Ok(added)
+    }
+
     /// References to the pairs.
     ///
     /// # Errors
