@@ -18,7 +18,7 @@ use Rattle.u_value.specs.Reading.{IsValue}
 use Rattle.u_value.specs.declared.value.Value.{Value}
 use Rattle.u_value.specs.declared.value.Value.TheVariants.{Int, Bool, Proc, Ref}
 use Rattle.u_rule.specs.declared.firing.Firing.{Firing}
-use Rattle.u_rule.specs.declared.firing.Written.{Written}
+use Rattle.u_rule.specs.declared.parts.Written.{Written}
 use Rattle.u_rule.specs.FiringText.{values_text, written_text, firing_text}
 use Rattle.u_rule.specs.FiringReading.{AreValues, IsWritten, IsFiring}
 

@@ -8,7 +8,7 @@ ghost use Rattle.u_rule.specs.FiringReading.{AreValues, IsFiring, IsWritten};
 ghost use Rattle.u_value.specs.Reading.{IsValue};
 
 use u_name::Name;
-use u_rule::{Firing, Written};
+use u_rule::{Firing, SharedWritten};
 use u_value::Value;
 
 /// The parts of the name are in their ranges.
@@ -48,12 +48,13 @@ fn values_in_range(values: &[Value])
 }
 
 /// The parts of the write, if there is one, are in their ranges.
-fn written_in_range(write: &Option<Written>)
+fn written_in_range(write: &Option<SharedWritten>)
     ensures { IsWritten write.now }
 {
     if let Some(write) = write {
-        name_in_range(&write.writer);
-        value_in_range(&write.value);
+        let written = write.get();
+        name_in_range(&written.writer);
+        value_in_range(&written.value);
     }
 }
 

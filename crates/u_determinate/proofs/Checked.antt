@@ -27,7 +27,7 @@ use Rattle.u_rule.specs.Fits.{statement_of, fits, fits_at}
 use Rattle.u_rule.specs.Structures.{has_its_write}
 use Rattle.u_rule.specs.Rule.{is_firing_of, is_firing_at}
 use Rattle.u_rule.specs.declared.firing.Firing.{Firing}
-use Rattle.u_rule.specs.declared.firing.Written.{Written}
+use Rattle.u_rule.specs.declared.parts.Written.{Written}
 use Rattle.u_rule.proofs.Places.{looping}
 use Rattle.u_determinate.proofs.Named.{named}
 use Rattle.u_rule.proofs.Firings.{at_statement}

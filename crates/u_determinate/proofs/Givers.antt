@@ -26,7 +26,7 @@ use Rattle.u_rule.specs.Rule.{first_of, result_of, list_of, reached, refusal_of,
 use Rattle.u_rule.specs.declared.entry.Entry.{Entry}
 use Rattle.u_rule.specs.declared.entry.Entry.TheVariants as entries
 use Rattle.u_rule.specs.declared.firing.Firing.{Firing}
-use Rattle.u_rule.specs.declared.firing.Written.{Written}
+use Rattle.u_rule.specs.declared.parts.Written.{Written}
 
 -- a token that a statement sends along an arc
 pub record ByArc (job : JobParts) (f : Firing) (t : TokenParts) : Type 0 where

@@ -22,7 +22,7 @@ use Rattle.u_rule.specs.Rule.{tokens_from, needs_of, system_of}
 use Rattle.u_rule.specs.declared.entry.Entry.{Entry}
 use Rattle.u_rule.specs.declared.entry.Entry.TheVariants as entries
 use Rattle.u_rule.specs.declared.firing.Firing.{Firing}
-use Rattle.u_rule.specs.declared.firing.Written.{Written}
+use Rattle.u_rule.specs.declared.parts.Written.{Written}
 use Rattle.u_determinate.proofs.Clash.{Clash, Cells}
 use Rattle.u_determinate.proofs.Checked.{Fires, fires_of, same_value, same_written}
 

@@ -11,8 +11,8 @@ use Rattle.u_value.specs.contracts.value.ValueOrd.TheImpl.Laws as value_laws
 use Rattle.u_rule.specs.Parts.{TokenParts, token}
 use Rattle.u_rule.specs.EntryOrder.{write_of, written}
 use Rattle.u_rule.specs.declared.parts.Write.{Write}
-use Rattle.u_rule.specs.declared.firing.Written.{Written}
-use Rattle.u_rule.specs.contracts.firing.WrittenOrd.TheImpl.Laws as written_laws
+use Rattle.u_rule.specs.declared.parts.Written.{Written}
+use Rattle.u_rule.specs.contracts.parts.WrittenOrd.TheImpl.Laws as written_laws
 use Rattle.u_rule.specs.declared.entry.Entry.{Entry}
 use Rattle.u_rule.specs.declared.entry.Entry.TheVariants as entries
 use Rattle.u_history.specs.declared.clash.CellClash.{CellClash}

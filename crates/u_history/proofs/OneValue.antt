@@ -4,7 +4,7 @@ use Rattle.u_rule.specs.EntryOrder.{write_of, written}
 use Rattle.u_name.specs.Cell.{CellOf}
 use Rattle.u_rule.specs.Parts.{token, TokenParts}
 use Rattle.u_rule.specs.declared.parts.Write.{Write}
-use Rattle.u_rule.specs.declared.firing.Written.{Written}
+use Rattle.u_rule.specs.declared.parts.Written.{Written}
 use Rattle.u_name.specs.Name.{Activity}
 use Rattle.u_value.specs.declared.value.Value.{Value}
 use Rattle.u_rule.specs.declared.entry.Entry.TheVariants as entries

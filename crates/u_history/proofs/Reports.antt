@@ -12,11 +12,11 @@ use Rattle.u_name.specs.ExactOrders.{cell_cmp_total}
 use Rattle.u_rule.specs.Parts.{token}
 use Rattle.u_rule.specs.EntryOrder.{entry_cmp, write_of}
 use Rattle.u_rule.specs.ExactOrders.{entry_cmp_total}
-use Rattle.u_rule.specs.declared.firing.Written.{Written}
+use Rattle.u_rule.specs.declared.parts.Written.{Written}
 use Rattle.u_rule.specs.declared.parts.Fault.{Fault}
 use Rattle.u_rule.specs.declared.entry.Entry.{Entry}
 use Rattle.u_rule.specs.declared.entry.Entry.TheVariants as entries
-use Rattle.u_rule.specs.contracts.firing.WrittenOrd.TheImpl.Laws as written_laws
+use Rattle.u_rule.specs.contracts.parts.WrittenOrd.TheImpl.Laws as written_laws
 use Rattle.u_rule.specs.contracts.parts.FaultOrd.TheImpl.Laws as fault_laws
 use Rattle.u_history.specs.declared.report.Ending.{Ending}
 use Rattle.u_history.specs.declared.report.Counts.{Counts}

@@ -16,7 +16,7 @@ use Rattle.u_sets.proofs.Listed.{rises, members, counted}
 use Rattle.u_rule.specs.Parts.{TokenParts, token}
 use Rattle.u_rule.specs.EntryOrder.{entry_cmp, write_of, written}
 use Rattle.u_rule.specs.ExactOrders.{entry_cmp_total, entry_cmp_ties}
-use Rattle.u_rule.specs.declared.firing.Written.{Written}
+use Rattle.u_rule.specs.declared.parts.Written.{Written}
 use Rattle.u_rule.specs.declared.parts.Write.{Write}
 use Rattle.u_rule.specs.declared.entry.Entry.{Entry}
 use Rattle.u_rule.specs.declared.entry.Entry.TheVariants as entries

@@ -14,11 +14,11 @@ use Rattle.u_sets.specs.Pairs.{HasAnother}
 use Rattle.u_sets.proofs.Places.{list_of_same}
 use Rattle.u_rule.specs.Parts.{token}
 use Rattle.u_rule.specs.EntryOrder.{write_of, written}
-use Rattle.u_rule.specs.ExactOrders.{written_ties}
+use Rattle.u_rule.specs.WrittenOrder.{written_order_ties}
 use Rattle.u_rule.specs.declared.parts.Fault.{Fault}
 use Rattle.u_rule.specs.declared.entry.Entry.{Entry}
 use Rattle.u_rule.specs.declared.entry.Entry.TheVariants as entries
-use Rattle.u_rule.specs.contracts.firing.WrittenOrd.TheImpl.Laws as written_laws
+use Rattle.u_rule.specs.contracts.parts.WrittenOrd.TheImpl.Laws as written_laws
 use Rattle.u_rule.specs.contracts.parts.FaultOrd.TheImpl.Laws as fault_laws
 use Rattle.u_history.specs.declared.tables.Tables.{Tables}
 use Rattle.u_history.specs.Tables.{PortTables, place_at, InTables, Matters, AreSharing}
@@ -64,7 +64,7 @@ module _ (H M : Entry → Type 0) (same : (e : Entry) → M e ↔ Matters H e) w
   cell_same : (c : CellOf) → HasTwo (PairIn H c) → Same (PairIn M c) (PairIn H c)
   cell_same c two x =
       let s = same (entries.Write (write_of c x.writer x.value)) in
-      ((λ m. (s.0 m).0), λ h. s.1 (h, other_of written_order written_laws.total-law written_ties (PairIn H c) two x))
+      ((λ m. (s.0 m).0), λ h. s.1 (h, other_of written_order written_laws.total-law written_order_ties (PairIn H c) two x))
 
   cell_two_back : (c : CellOf) → HasTwo (PairIn H c) → HasTwo (PairIn M c)
   cell_two_back c (a, b, ha, hb, q) = (a, b, (cell_same c (a, b, ha, hb, q) a).1 ha, (cell_same c (a, b, ha, hb, q) b).1 hb, q)

@@ -5,8 +5,8 @@ use Rattle.u_value.specs.contracts.value.ValueOrd.TheImpl as value_ord
 use Rattle.u_rule.specs.Parts.{TokenParts}
 use Rattle.u_rule.specs.declared.parts.Write.{Write}
 use Rattle.u_rule.specs.declared.parts.Fault.{Fault}
-use Rattle.u_rule.specs.declared.firing.Written.{Written}
-use Rattle.u_rule.specs.contracts.firing.WrittenOrd.TheImpl as written_ord
+use Rattle.u_rule.specs.declared.parts.Written.{Written}
+use Rattle.u_rule.specs.contracts.parts.WrittenOrd.TheImpl as written_ord
 use Rattle.u_rule.specs.contracts.parts.TokenOrd.TheImpl as token_ord
 use Rattle.u_rule.specs.contracts.parts.WriteOrd.TheImpl as write_ord
 use Rattle.u_rule.specs.contracts.parts.FaultOrd.TheImpl as fault_ord

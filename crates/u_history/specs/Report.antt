@@ -9,7 +9,7 @@ use Rattle.u_value.specs.Values.{value_text}
 use Rattle.u_value.specs.FaultKinds.{fault_kind_text}
 use Rattle.u_rule.specs.EntryOrder.{entry_cmp}
 use Rattle.u_rule.specs.declared.parts.Fault.{Fault}
-use Rattle.u_rule.specs.declared.firing.Written.{Written}
+use Rattle.u_rule.specs.declared.parts.Written.{Written}
 use Rattle.u_rule.specs.declared.entry.Entry.{Entry}
 use Rattle.u_history.specs.declared.report.Ending.{Ending}
 use Rattle.u_history.specs.declared.report.Ending.TheVariants.{Quiet, Paused}

@@ -8,7 +8,7 @@ use Rattle.u_sets.specs.Rising.{in_order}
 use Rattle.u_sets.specs.Pairs.{HasAnother}
 use Rattle.u_rule.specs.Parts.{token, most_ports}
 use Rattle.u_rule.specs.EntryOrder.{entry_cmp, write_of, written}
-use Rattle.u_rule.specs.declared.firing.Written.{Written}
+use Rattle.u_rule.specs.declared.parts.Written.{Written}
 use Rattle.u_rule.specs.declared.entry.Entry.{Entry}
 use Rattle.u_rule.specs.declared.entry.Entry.TheVariants as entries
 use Rattle.u_history.specs.declared.tables.Tables.{Tables}

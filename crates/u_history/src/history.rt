@@ -3,7 +3,7 @@ ghost use Rattle.std.specs.Prelude.{◌≡◌, ◌↔◌, ◌++◌, [], ◌∷�
 ghost use Rattle.std.specs.Map.Iter.{deref};
 ghost use Rattle.u_system.specs.Firing.{Distinct, Same};
 ghost use Rattle.u_value.specs.declared.value.Value.{Value};
-ghost use Rattle.u_rule.specs.declared.firing.Written.{Written};
+ghost use Rattle.u_rule.specs.declared.parts.Written.{Written};
 ghost use Rattle.u_sets.specs.Rising.{Rises, IsListOf};
 ghost use Rattle.u_sets.specs.Members.{IsWith, IsUnion};
 ghost use Rattle.u_rule.specs.EntryOrder.{entry_cmp};

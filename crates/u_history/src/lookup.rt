@@ -4,7 +4,7 @@ ghost use Rattle.u_sets.specs.Rising.{Rises, IsListOf};
 ghost use Rattle.u_value.specs.declared.value.Value.{Value};
 ghost use Rattle.u_rule.specs.Parts.{token};
 ghost use Rattle.u_rule.specs.EntryOrder.{entry_cmp, write_of};
-ghost use Rattle.u_rule.specs.declared.firing.Written.{Written};
+ghost use Rattle.u_rule.specs.declared.parts.Written.{Written};
 ghost use Rattle.u_rule.specs.declared.entry.Entry.TheVariants as kinds;
 ghost use Rattle.u_history.specs.Orders.{value_order, written_order};
 ghost use Rattle.u_history.specs.Outcomes.{lent, PairIn, ValueAt};

@@ -65,7 +65,7 @@ fn put_token_copy(table: &mut KeyedSet<Name, Value>, token: &Token) -> Result<bo
 {
     let activity = token.activity().copy()?;
     let value = token.value().copy()?;
-    let added = table.insert(activity, value)?;
+    let added = table.put(activity, value)?;
     Ok(added)
 }
 

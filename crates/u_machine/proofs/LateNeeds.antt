@@ -14,7 +14,7 @@ use Rattle.u_value.specs.declared.fault_kind.FaultKind.{FaultKind}
 use Rattle.u_rule.specs.declared.entry.Entry.{Entry}
 use Rattle.u_rule.specs.declared.entry.Entry.TheVariants.{Token as token_entry}
 use Rattle.u_rule.specs.declared.firing.Firing.{Firing}
-use Rattle.u_rule.specs.declared.firing.Written.{Written}
+use Rattle.u_rule.specs.declared.parts.Written.{Written}
 use Rattle.u_rule.specs.Parts.{TokenParts, ValueList, token}
 use Rattle.u_rule.specs.Rule.{needs_of, tokens_from}
 use Rattle.u_rule.specs.Structures.{cell_named, wrote, read_from, write_read}

@@ -17,7 +17,7 @@ use Rattle.u_rule.specs.EntryOrder.{firing}
 use Rattle.u_rule.specs.declared.entry.Entry.{Entry}
 use Rattle.u_rule.specs.declared.entry.Entry.TheVariants as entries
 use Rattle.u_rule.specs.declared.firing.Firing.{Firing}
-use Rattle.u_rule.specs.declared.firing.Written.{Written}
+use Rattle.u_rule.specs.declared.parts.Written.{Written}
 use Rattle.u_rule.proofs.FiringShapes.{one_member}
 use Rattle.u_sets.specs.Members.{SomeOf, AreThose}
 use Rattle.u_match.specs.Keys.{IsMet, AreMetFrom, lent_lists}

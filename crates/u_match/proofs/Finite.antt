@@ -16,7 +16,7 @@ use Rattle.u_rule.specs.Structures.{cell_named}
 use Rattle.u_rule.specs.declared.entry.Entry.{Entry}
 use Rattle.u_rule.specs.declared.entry.Entry.TheVariants as entries
 use Rattle.u_rule.specs.declared.firing.Firing.{Firing}
-use Rattle.u_rule.specs.declared.firing.Written.{Written}
+use Rattle.u_rule.specs.declared.parts.Written.{Written}
 use Rattle.u_rule.specs.declared.parts.Write.{Write}
 use Rattle.u_rule.proofs.FiringShapes.{one_member}
 use Rattle.u_sets.specs.Members.{SomeOf, AreThose, Gains}

@@ -16,7 +16,7 @@ use Rattle.u_rule.specs.Structures.{cell_named, wrote, has_its_write}
 use Rattle.u_rule.specs.declared.entry.Entry.{Entry}
 use Rattle.u_rule.specs.declared.entry.Entry.TheVariants as entries
 use Rattle.u_rule.specs.declared.firing.Firing.{Firing}
-use Rattle.u_rule.specs.declared.firing.Written.{Written}
+use Rattle.u_rule.specs.declared.parts.Written.{Written}
 use Rattle.u_match.specs.Keys.{IsMet, AreMetFrom}
 use Rattle.u_match.specs.Joins.{JoinsTwo, JoinsAll}
 use Rattle.u_match.specs.Waking.{IsWokenBy}

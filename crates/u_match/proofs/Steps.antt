@@ -9,7 +9,7 @@ use Rattle.u_rule.specs.Rule.{is_firing_of}
 use Rattle.u_rule.specs.Structures.{cell_named}
 use Rattle.u_rule.specs.declared.entry.Entry.{Entry}
 use Rattle.u_rule.specs.declared.firing.Firing.{Firing}
-use Rattle.u_rule.specs.declared.firing.Written.{Written}
+use Rattle.u_rule.specs.declared.parts.Written.{Written}
 use Rattle.u_sets.specs.Members.{SomeOf, Gains}
 use Rattle.u_sets.proofs.Steps.{nothing}
 use Rattle.u_history.specs.Outcomes.{PairIn}

@@ -10,7 +10,7 @@ use Rattle.u_rule.specs.Structures.{cell_named, wrote}
 use Rattle.u_rule.specs.declared.entry.Entry.{Entry}
 use Rattle.u_rule.specs.declared.entry.Entry.TheVariants as entries
 use Rattle.u_rule.specs.declared.firing.Firing.{Firing}
-use Rattle.u_rule.specs.declared.firing.Written.{Written}
+use Rattle.u_rule.specs.declared.parts.Written.{Written}
 use Rattle.u_rule.specs.declared.parts.Write.{Write}
 use Rattle.u_sets.specs.Members.{SomeOf}
 use Rattle.u_system.proofs.Member.{Contains-nil}

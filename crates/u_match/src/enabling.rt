@@ -123,7 +123,7 @@ fn has_read(history: &History, firing: &Firing) -> Result<bool, AllocError>
     let [structure, index, ..] = firing.values.as_slice() else {
         unreachable!();
     };
-    let there = has_write(history, structure, index, by)?;
+    let there = has_write(history, structure, index, by.get())?;
     Ok(there)
 }
 

@@ -5,7 +5,7 @@ ghost use Rattle.u_rule.specs.Parts.{IsValueList};
 
 use std::alloc::{AllocError, Global};
 use u_name::Name;
-use u_rule::{Firing, Values, Written};
+use u_rule::{Firing, SharedWritten, Values, Written};
 use u_value::Value;
 
 /// The firing of one value.
@@ -63,7 +63,7 @@ pub(crate) fn of_read(
     ensures { IfOk result
         (λ f. f ≡ firing activity.now (first.now ∷ second.now ∷ []) (Some by.now)) }
 {
-    let by = by.copy()?;
+    let by = SharedWritten::new(alloc, by.copy()?)?;
     Ok(Firing {
         activity: activity.copy()?,
         values: Values::two(alloc, first.copy()?, second.copy()?)?,

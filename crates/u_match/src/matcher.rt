@@ -138,14 +138,16 @@ impl Matcher {
         }
     }
 
-    /// Lets the entry enter the set, with the reads that it makes.
-    fn admit(&mut self, entry: &Entry) -> Result<(), AllocError>
+    /// Lets the entry enter the set, with the reads that it makes. Returns whether it was new.
+    fn admit(&mut self, entry: &Entry) -> Result<bool, AllocError>
         ensures ok { OnOk result (IsWith self.old entry.now self.new) }
+        ensures new { IfOk result (λ b. IsTrue b ↔ (Contains self.old entry.now → ⊥)) }
+        ensures still { IfOk result (λ b. (IsTrue b → ⊥) → self.new ≡ self.old) }
         ensures err { OnErr result (self.new ≡ self.old) }
     {
         note(&self.history, &mut self.reads, entry)?;
-        self.history.insert_copy(entry)?;
-        Ok(())
+        let added = self.history.insert_copy(entry)?;
+        Ok(added)
     }
 
     /// Lets the entry enter the set, and answers the firings of the job that it wakes: those that need
@@ -178,15 +180,20 @@ impl Matcher {
     pub fn enter_few(&mut self, job: &Job, entry: &Entry) -> Result<Entered, AllocError>
         ensures { EnterAnswer job.now self.old entry.now result self.new }
     {
-        if self.contains(entry) {
-            return Ok(Entered::Known);
-        }
         let found = match self.woken(job, entry, MOST_AT_ONCE) {
             Ok(found) => found,
-            Err(Halt::TooMany) => return Ok(Entered::Many),
+            Err(Halt::TooMany) => {
+                if self.contains(entry) {
+                    return Ok(Entered::Known);
+                }
+                return Ok(Entered::Many);
+            }
             Err(Halt::NoMemory) => return Err(AllocError),
         };
-        self.admit(entry)?;
+        let added = self.admit(entry)?;
+        if !added {
+            return Ok(Entered::Known);
+        }
         Ok(Entered::Woken(found))
     }
 

@@ -32,7 +32,7 @@ fn note_read(
         structure: structure.copy()?,
         index: index.copy()?,
     };
-    reads.insert(cell, read)?;
+    reads.put(cell, read)?;
     Ok(())
 }
 

@@ -11,7 +11,8 @@ use Rattle.left_right.proofs.reader.Reader.TheSendSync as reader
 use Rattle.u_name.proofs.context.Context.TheLaws.TheKnot as knot
 use Rattle.u_name.specs.contracts.name.Name as name
 use Rattle.u_rule.specs.contracts.firing.Firing as firing
-use Rattle.u_rule.specs.contracts.firing.Written as written
+use Rattle.u_rule.specs.contracts.parts.Written as written
+use Rattle.u_rule.specs.contracts.shared_written.SharedWritten as shared_written
 use Rattle.u_rule.specs.contracts.values.Values as values
 use Rattle.u_outlet.specs.declared.named.Named as named
 use Rattle.u_outlet.specs.contracts.published.Published as published
@@ -36,11 +37,17 @@ written_send = search (name_send, name_sync, crosses, knot.crosses, sendable) de
 pub written_sync : IsSync written.the_row
 written_sync = search (name_send, name_sync, crosses, knot.crosses, sendable) depth 60 fits 20000
 
+pub shared_send : IsSend shared_written.the_row
+shared_send = search (written_send, written_sync, crosses, knot.crosses, sendable) depth 60 fits 20000
+
+pub shared_sync : IsSync shared_written.the_row
+shared_sync = search (written_send, written_sync, crosses, knot.crosses, sendable) depth 60 fits 20000
+
 pub firing_send : IsSend firing.the_row
-firing_send = search (name_send, values_send, written_send, option_laws.the_send, crosses, sendable) depth 60 fits 20000
+firing_send = search (name_send, values_send, shared_send, option_laws.the_send, crosses, sendable) depth 60 fits 20000
 
 pub firing_sync : IsSync firing.the_row
-firing_sync = search (name_sync, values_sync, written_sync, option_laws.the_sync, crosses, sendable) depth 60 fits 20000
+firing_sync = search (name_sync, values_sync, shared_sync, option_laws.the_sync, crosses, sendable) depth 60 fits 20000
 
 pub published_send : (J : RattleType) (g : named.Ghosts J.Denot) → IsSend (published.the_row J g)
 published_send J g = search (firing_send, firing_sync, phantom.the_field_send, phantom.the_send, global.the_send, global.the_field_send, crosses, sendable) depth 60 fits 20000

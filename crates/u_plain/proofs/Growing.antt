@@ -20,7 +20,7 @@ use Rattle.u_rule.specs.EntryOrder.{firing, write_of}
 use Rattle.u_rule.specs.declared.entry.Entry.{Entry}
 use Rattle.u_rule.specs.declared.entry.Entry.TheVariants as entries
 use Rattle.u_rule.specs.declared.firing.Firing.{Firing}
-use Rattle.u_rule.specs.declared.firing.Written.{Written}
+use Rattle.u_rule.specs.declared.parts.Written.{Written}
 use Rattle.u_rule.proofs.Firings.{at_statement}
 use Rattle.u_check.proofs.KindTests.{few_ports}
 use Rattle.u_rule.proofs.FiringShapes.{Reading, Shape, shape_of}

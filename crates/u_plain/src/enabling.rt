@@ -16,7 +16,9 @@ ghost use Rattle.u_plain.specs.Tries.{EnabledOver, Extends, with_write, longer, 
 use crate::among::add_new;
 use std::alloc::{AllocError, Global};
 use u_check::Job;
-use u_rule::{Entry, Firing, MOST_PORTS, RuleError, Token, Values, Write, Written, needs};
+use u_rule::{
+    Entry, Firing, MOST_PORTS, RuleError, SharedWritten, Token, Values, Write, Written, needs,
+};
 use u_value::Value;
 
 /// Whether the two entries are equal.
@@ -110,7 +112,7 @@ fn with_write(alloc: Global, made: &Firing, write: &Write) -> Result<Firing, All
     Ok(Firing {
         activity: made.activity.copy()?,
         values: made.values.copy(alloc)?,
-        write: Some(by),
+        write: Some(SharedWritten::new(alloc, by)?),
     })
 }
 

@@ -16,7 +16,7 @@ use Rattle.u_rule.specs.Parts.{most_ports}
 use Rattle.u_rule.specs.EntryOrder.{firing}
 use Rattle.u_rule.specs.FiringReading.{By, by_at, Tail, tail_at, values_of, write_in, values_at, firing_of, activity_at, firing_at, written_next, next_value, behind_space, next_at, spaced_by, last_write, end_at, more_values, behind_values, firing_behind, behind_name}
 use Rattle.u_rule.specs.declared.firing.Firing.{Firing}
-use Rattle.u_rule.specs.declared.firing.Written.{Written}
+use Rattle.u_rule.specs.declared.parts.Written.{Written}
 use Rattle.u_rule.specs.declared.firing_reading.Next.{Next}
 use Rattle.u_rule.specs.declared.firing_reading.Next.TheVariants.{End, Another}
 

@@ -28,7 +28,7 @@ use Rattle.u_rule.specs.EntryOrder.{firing}
 use Rattle.u_rule.specs.FiringText.{values_text, written_text, firing_text}
 use Rattle.u_rule.specs.FiringReading.{AreValues, IsWritten, IsFiring, line, By, by_at, Tail, tail_at, written_by, more_values, values_of, write_in, firing_of, firing_at, IsFiringOf, IsFiringErrorOf}
 use Rattle.u_rule.specs.declared.firing.Firing.{Firing}
-use Rattle.u_rule.specs.declared.firing.Written.{Written}
+use Rattle.u_rule.specs.declared.parts.Written.{Written}
 use Rattle.u_rule.specs.declared.reading.TextError.TheVariants.{BadText}
 
 -- what the bytes between the parts are not

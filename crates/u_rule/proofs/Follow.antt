@@ -29,7 +29,7 @@ use Rattle.u_name.specs.Cell.{CellOf}
 use Rattle.u_rule.specs.Structures.{cell_named, has_its_write, wrote, stored, stored_in}
 use Rattle.u_check.specs.Jobs.{JobParts}
 use Rattle.u_rule.specs.declared.firing.Firing.{Firing}
-use Rattle.u_rule.specs.declared.firing.Written.{Written}
+use Rattle.u_rule.specs.declared.parts.Written.{Written}
 use Rattle.u_rule.specs.HandingOn.{IsReachable, IsEndable}
 use Rattle.u_rule.specs.declared.entry.Entry.{Entry}
 use Rattle.u_rule.specs.declared.entry.Entry.TheVariants as entries

@@ -32,7 +32,7 @@ use Rattle.u_rule.specs.EntryReading.{IsEntry}
 use Rattle.u_rule.specs.FiringReading.{AreValues, IsWritten}
 use Rattle.u_rule.specs.declared.entry.Entry.{Entry}
 use Rattle.u_rule.specs.declared.entry.Entry.TheVariants as entries
-use Rattle.u_rule.specs.declared.firing.Written.{Written}
+use Rattle.u_rule.specs.declared.parts.Written.{Written}
 use Rattle.u_rule.proofs.Destinations.{list_in_range}
 use Rattle.u_rule.proofs.Linkage.{mapped}
 use Rattle.u_rule.proofs.Places.{standing}

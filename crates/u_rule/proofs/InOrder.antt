@@ -35,7 +35,7 @@ use Rattle.u_rule.proofs.Linkage.{mapped, reached_beside}
 use Rattle.u_rule.proofs.Destinations.{list_ascends}
 use Rattle.u_rule.specs.EntryOrder.{entry_cmp, write_of}
 use Rattle.u_rule.specs.declared.parts.Write.{Write}
-use Rattle.u_rule.specs.declared.firing.Written.{Written}
+use Rattle.u_rule.specs.declared.parts.Written.{Written}
 use Rattle.u_rule.specs.declared.entry.Entry.{Entry}
 use Rattle.u_rule.specs.declared.entry.Entry.TheVariants as entries
 

@@ -33,7 +33,7 @@ use Rattle.u_rule.specs.EntryReading.{IsEntry}
 use Rattle.u_rule.specs.FiringReading.{AreValues, IsWritten, IsFiring}
 use Rattle.u_rule.specs.declared.entry.Entry.{Entry}
 use Rattle.u_rule.specs.declared.firing.Firing.{Firing}
-use Rattle.u_rule.specs.declared.firing.Written.{Written}
+use Rattle.u_rule.specs.declared.parts.Written.{Written}
 use Rattle.u_rule.proofs.GivenInRange.{AreEntries, statement_in_range, given_in_range}
 use Rattle.u_rule.proofs.Firings.{at_statement}
 

@@ -32,7 +32,7 @@ use Rattle.u_rule.specs.Rule.{is_firing_of, is_firing_at, refusal_of, delivered,
 use Rattle.u_rule.specs.Lift.{lifted, TurnsLast}
 use Rattle.u_rule.specs.declared.entry.Entry.{Entry}
 use Rattle.u_rule.specs.declared.firing.Firing.{Firing}
-use Rattle.u_rule.specs.declared.firing.Written.{Written}
+use Rattle.u_rule.specs.declared.parts.Written.{Written}
 use Rattle.u_rule.proofs.Firings.{at_statement, in_turns}
 
 -- an initiation of version 1 is one of version 2

@@ -9,6 +9,7 @@ use Rattle.u_value.specs.Values.{value_cmp}
 use Rattle.u_value.specs.ExactOrders.{derived_value_cmp, derived_fault_kind_cmp}
 use Rattle.u_rule.specs.Parts.{TokenParts, ValueList}
 use Rattle.u_rule.specs.ValuesOrder.{values_order}
+use Rattle.u_rule.specs.WrittenOrder.{written_order}
 use Rattle.u_rule.specs.Orders.{token_cmp, write_cmp, fault_cmp, entry_order, values_cmp, written_cmp, firing_order}
 use Rattle.u_rule.specs.EntryOrder.{entry_cmp, firing_cmp}
 use Rattle.u_rule.specs.declared.parts.Write.{Write}
@@ -16,11 +17,10 @@ use Rattle.u_rule.specs.declared.parts.Fault.{Fault}
 use Rattle.u_rule.specs.declared.entry.Entry.{Entry}
 use Rattle.u_rule.specs.declared.entry.Entry.TheVariants as entries
 use Rattle.u_rule.specs.declared.firing.Firing.{Firing}
-use Rattle.u_rule.specs.declared.firing.Written.{Written}
+use Rattle.u_rule.specs.declared.parts.Written.{Written}
 use Rattle.u_rule.specs.contracts.parts.TokenOrd.TheImpl as token_ord
 use Rattle.u_rule.specs.contracts.parts.WriteOrd.TheImpl as write_ord
 use Rattle.u_rule.specs.contracts.parts.FaultOrd.TheImpl as fault_ord
-use Rattle.u_rule.specs.contracts.firing.WrittenOrd.TheImpl as written_ord
 
 derived_token_cmp : (a b : TokenParts) → (token_ord.ghosts).cmp a b ≡ token_cmp a b
 derived_token_cmp a b =
@@ -47,7 +47,7 @@ derived_values_cmp (v ∷ vs) [] = refl
 derived_values_cmp (v ∷ vs) (w ∷ ws) =
     ap (λ r. ordering_then r (values_order vs ws)) (derived_value_cmp v w) ∙ ap (λ r. ordering_then (value_cmp v w) r) (derived_values_cmp vs ws)
 
-derived_option_cmp : (a b : Option Written) → option_cmp (written_ord.ghosts).cmp a b ≡ option_cmp written_cmp a b
+derived_option_cmp : (a b : Option Written) → option_cmp written_order a b ≡ option_cmp written_cmp a b
 derived_option_cmp None None = refl
 derived_option_cmp None (Some b) = refl
 derived_option_cmp (Some a) None = refl
@@ -55,6 +55,6 @@ derived_option_cmp (Some a) (Some b) = ap (λ r. ordering_then (name_cmp a.write
 
 pub derived_firing_cmp : (a b : Firing) → firing_cmp a b ≡ firing_order a b
 derived_firing_cmp a b =
-    ap (λ r. ordering_then (name_cmp a.activity b.activity) (ordering_then r (option_cmp (written_ord.ghosts).cmp a.write b.write)))
+    ap (λ r. ordering_then (name_cmp a.activity b.activity) (ordering_then r (option_cmp written_order a.write b.write)))
     (derived_values_cmp a.values b.values)
     ∙ ap (λ r. ordering_then (name_cmp a.activity b.activity) (ordering_then (values_cmp a.values b.values) r)) (derived_option_cmp a.write b.write)

@@ -27,7 +27,7 @@ use Rattle.u_rule.specs.Parts.{ValueList}
 use Rattle.u_rule.specs.Structures.{is_index, cell_named, allocated, value_read, fetched}
 use Rattle.u_rule.specs.Rule.{value_of, first_of, unary_of, binary_of, selected_of, switched_of, result_of}
 use Rattle.u_rule.specs.FiringReading.{AreValues, IsWritten}
-use Rattle.u_rule.specs.declared.firing.Written.{Written}
+use Rattle.u_rule.specs.declared.parts.Written.{Written}
 
 -- the value is in its range, where there is one
 abbrev pub IsMade : Result Value FaultKind → Type 0

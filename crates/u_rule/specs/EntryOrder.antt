@@ -9,7 +9,7 @@ use Rattle.u_rule.specs.Parts.{ValueList}
 use Rattle.u_rule.specs.declared.parts.Write.{Write}
 use Rattle.u_rule.specs.declared.entry.Entry.{Entry}
 use Rattle.u_rule.specs.declared.firing.Firing.{Firing}
-use Rattle.u_rule.specs.declared.firing.Written.{Written}
+use Rattle.u_rule.specs.declared.parts.Written.{Written}
 use Rattle.u_rule.specs.contracts.entry.Entry as entry_row
 use Rattle.u_rule.specs.contracts.firing.Firing as firing_row
 use Rattle.u_rule.specs.contracts.entry.EntryOrd.TheImpl as entry_ord

@@ -12,20 +12,20 @@ use Rattle.u_name.specs.NameOrder.{name_cmp_ties}
 use Rattle.u_name.specs.ExactOrders.{cell_cmp_ties}
 use Rattle.u_value.specs.ExactOrders.{derived_value_ties, derived_fault_kind_ties}
 use Rattle.u_value.specs.declared.fault_kind.FaultKind.{FaultKind}
-use Rattle.u_rule.specs.EntryOrder.{write_of, written, firing, entry_cmp, firing_cmp}
+use Rattle.u_rule.specs.EntryOrder.{write_of, firing, entry_cmp, firing_cmp}
 use Rattle.u_rule.specs.Parts.{TokenParts, token}
 use Rattle.u_rule.specs.ValuesOrder.{values_order_ties}
+use Rattle.u_rule.specs.WrittenOrder.{written_order, written_order_ties}
 use Rattle.u_rule.specs.declared.parts.Write.{Write}
 use Rattle.u_rule.specs.declared.parts.Fault.{Fault}
 use Rattle.u_rule.specs.declared.entry.Entry.{Entry}
 use Rattle.u_rule.specs.declared.entry.Entry.TheVariants as entries
 use Rattle.u_rule.specs.declared.firing.Firing.{Firing}
-use Rattle.u_rule.specs.declared.firing.Written.{Written}
+use Rattle.u_rule.specs.declared.parts.Written.{Written}
 use Rattle.u_rule.specs.contracts.parts.TokenOrd.TheImpl as token_ord
 use Rattle.u_rule.specs.contracts.parts.WriteOrd.TheImpl as write_ord
 use Rattle.u_rule.specs.contracts.parts.FaultOrd.TheImpl as fault_ord
 use Rattle.u_rule.specs.contracts.entry.EntryOrd.TheImpl.Laws as entry_laws
-use Rattle.u_rule.specs.contracts.firing.WrittenOrd.TheImpl as written_ord
 use Rattle.u_rule.specs.contracts.firing.FiringOrd.TheImpl.Laws as firing_laws
 
 pub entry_cmp_total : IsTotalOrder entry_cmp
@@ -67,17 +67,11 @@ entry_cmp_ties (entries.Fault a) (entries.Fault b) h = ap (λ t. entries.Fault t
 entry_cmp_ties (entries.Answer a) (entries.Answer b) h = ap (λ t. entries.Answer t) (derived_value_ties a b h)
 entry_cmp_ties a b h = cc
 
--- pairs of a writer and a value that tie are the same
-pub written_ties : (a b : Written) → (written_ord.ghosts).cmp a b ≡ Equal → a ≡ b
-written_ties a b h =
-    let u = both _ _ h in
-    ap (λ n. written n a.value) (name_cmp_ties a.writer b.writer u.0) ∙ ap (λ v. written b.writer v) (derived_value_ties a.value b.value u.1)
-
-option_ties : (a b : Option Written) → option_cmp (written_ord.ghosts).cmp a b ≡ Equal → a ≡ b
+option_ties : (a b : Option Written) → option_cmp written_order a b ≡ Equal → a ≡ b
 option_ties None None h = refl
 option_ties None (Some b) h = cc
 option_ties (Some a) None h = cc
-option_ties (Some a) (Some b) h = ap (λ w. Some w) (written_ties a b h)
+option_ties (Some a) (Some b) h = ap (λ w. Some w) (written_order_ties a b h)
 
 -- firings that tie are the same
 pub firing_cmp_ties : (a b : Firing) → firing_cmp a b ≡ Equal → a ≡ b

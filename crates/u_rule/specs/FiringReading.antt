@@ -16,7 +16,7 @@ use Rattle.u_rule.specs.Parts.{most_ports, IsValueList}
 use Rattle.u_rule.specs.EntryOrder.{firing, written}
 use Rattle.u_rule.specs.FiringText.{firing_text}
 use Rattle.u_rule.specs.declared.firing.Firing.{Firing}
-use Rattle.u_rule.specs.declared.firing.Written.{Written}
+use Rattle.u_rule.specs.declared.parts.Written.{Written}
 use Rattle.u_rule.specs.declared.firing_reading.Next.{Next}
 use Rattle.u_rule.specs.declared.firing_reading.Next.TheVariants.{End, Another}
 use Rattle.u_rule.specs.declared.reading.TextError.{TextError}

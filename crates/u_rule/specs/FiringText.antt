@@ -4,7 +4,7 @@ use Rattle.u_name.specs.NameText.{name_text}
 use Rattle.u_value.specs.Values.{value_text}
 use Rattle.u_value.specs.declared.value.Value.{Value}
 use Rattle.u_rule.specs.declared.firing.Firing.{Firing}
-use Rattle.u_rule.specs.declared.firing.Written.{Written}
+use Rattle.u_rule.specs.declared.parts.Written.{Written}
 
 -- each value behind a space
 abbrev pub values_text : List Value → List ℕ

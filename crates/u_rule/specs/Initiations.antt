@@ -8,7 +8,7 @@ use Rattle.u_program.specs.declared.program.Version.TheVariants as versions
 use Rattle.u_value.specs.declared.value.Value.{Value}
 use Rattle.u_value.specs.declared.value.Value.TheVariants as values
 use Rattle.u_rule.specs.declared.firing.Firing.{Firing}
-use Rattle.u_rule.specs.declared.firing.Written.{Written}
+use Rattle.u_rule.specs.declared.parts.Written.{Written}
 
 -- the greatest initiation of an activity that a job has; of version 2 it is the greatest that a name has
 abbrev pub last_turn : Version → ℕ

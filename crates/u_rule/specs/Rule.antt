@@ -28,7 +28,7 @@ use Rattle.u_rule.specs.Structures.{cell_named, has_its_write, write_read, alloc
 use Rattle.u_rule.specs.declared.entry.Entry.{Entry}
 use Rattle.u_rule.specs.declared.entry.Entry.TheVariants as entries
 use Rattle.u_rule.specs.declared.firing.Firing.{Firing}
-use Rattle.u_rule.specs.declared.firing.Written.{Written}
+use Rattle.u_rule.specs.declared.parts.Written.{Written}
 
 abbrev pub has_its_values : StatementParts → Firing → Bool
 has_its_values s f = length f.values == ports_of s.kind && has_its_write s.kind f.values f.write

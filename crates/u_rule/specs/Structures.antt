@@ -13,7 +13,7 @@ use Rattle.u_program.specs.declared.program.Kind.TheVariants.{Fetch}
 use Rattle.u_rule.specs.Parts.{ValueList}
 use Rattle.u_rule.specs.declared.entry.Entry.{Entry}
 use Rattle.u_rule.specs.declared.entry.Entry.TheVariants as entries
-use Rattle.u_rule.specs.declared.firing.Written.{Written}
+use Rattle.u_rule.specs.declared.parts.Written.{Written}
 
 -- the index is that of a cell: at least 0, and below the length
 abbrev pub is_index : ℤ → ℕ → Bool

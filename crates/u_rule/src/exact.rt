@@ -1,9 +1,10 @@
 //! Entries, firings and their parts tie with nothing but themselves.
-ghost use Rattle.u_rule.specs.ExactOrders.{fault_ties, entry_cmp_ties, written_ties, firing_cmp_ties};
+ghost use Rattle.u_rule.specs.ExactOrders.{fault_ties, entry_cmp_ties, firing_cmp_ties};
+ghost use Rattle.u_rule.specs.WrittenOrder.{written_order_ties};
 
 use crate::entry::Entry;
-use crate::firing::{Firing, Written};
-use crate::parts::Fault;
+use crate::firing::Firing;
+use crate::parts::{Fault, Written};
 use u_order::ExactOrd;
 
 impl ExactOrd for Fault {
@@ -15,7 +16,7 @@ impl ExactOrd for Entry {
 }
 
 impl ExactOrd for Written {
-    ghost exact = { written_ties };
+    ghost exact = { written_order_ties };
 }
 
 impl ExactOrd for Firing {

@@ -5,20 +5,11 @@
 ghost use Rattle.std.specs.Prelude.{◌≡◌, IfOk};
 ghost use Rattle.u_rule.specs.Orders.{firing_order};
 
+use crate::shared_written::SharedWritten;
 use crate::values::Values;
 use std::alloc::{AllocError, Global};
 use std::cmp::Ordering;
 use u_name::Name;
-use u_value::Value;
-
-/// The write that a firing read: who wrote, and what. Its cell is given by the firing's first two values.
-#[derive(PartialEq, Eq, PartialOrd, Ord, Hash, Drop)]
-pub struct Written {
-    /// The name of the activity that wrote it.
-    pub writer: Name,
-    /// What it wrote.
-    pub value: Value,
-}
 
 /// A firing: an activity, one value for each of its ports, and for a read of a cell one write.
 /// Firings are ordered by activity, then by the list of values, then by the write, where none comes first.
@@ -29,22 +20,7 @@ pub struct Firing {
     /// The values at its ports.
     pub values: Values,
     /// The write that it read.
-    pub write: Option<Written>,
-}
-
-impl Written {
-    /// An equal write.
-    ///
-    /// # Errors
-    /// `AllocError` where there is no memory.
-    pub fn copy(&self) -> Result<Written, AllocError>
-        ensures { IfOk result (λ w. w ≡ self.now) }
-    {
-        Ok(Written {
-            writer: self.writer.copy()?,
-            value: self.value.copy()?,
-        })
-    }
+    pub write: Option<SharedWritten>,
 }
 
 impl Firing {

@@ -12,9 +12,10 @@ ghost use Rattle.u_rule.specs.FiringReading.{line, last_value, by_at, next_at, e
 ghost use Rattle.u_rule.specs.FiringReading.{behind_name, firing_behind, IsFiringOf, IsFiringErrorOf};
 ghost use Rattle.u_rule.specs.Parts.{most_ports, IsValueList};
 
-use crate::firing::{Firing, Written};
-use crate::parts::MOST_PORTS;
+use crate::firing::Firing;
+use crate::parts::{MOST_PORTS, Written};
 use crate::reading::{TextError, spaced_name, spaced_value};
+use crate::shared_written::SharedWritten;
 use crate::values::Values;
 use std::alloc::{AllocError, Global};
 use u_name::{Front, Name, front_name};
@@ -25,7 +26,7 @@ use u_value::{Value, front_value};
 /// is one, or another value.
 #[derive(Drop)]
 enum Next {
-    End(Option<Written>),
+    End(Option<SharedWritten>),
     Another(Value),
 }
 
@@ -80,7 +81,10 @@ fn next_write(alloc: Global, bytes: &[u8]) -> Result<Front<'_, Next>, AllocError
         (λ rest. mapped reader.written_next by_at bytes.now ≡ Err rest.now)) }
 {
     match front_by(alloc, bytes)? {
-        Ok((write, rest)) => Ok(Ok((Next::End(Some(write)), rest))),
+        Ok((write, rest)) => {
+            let write = SharedWritten::new(alloc, write)?;
+            Ok(Ok((Next::End(Some(write)), rest)))
+        }
         Err(rest) => Ok(Err(rest)),
     }
 }
@@ -155,20 +159,23 @@ fn spaced_by(alloc: Global, bytes: &[u8]) -> Result<Front<'_, Written>, AllocErr
 }
 
 /// ` by WRITER VALUE` and the newline, as what stands at the end.
-fn last_write(alloc: Global, bytes: &[u8]) -> Result<Front<'_, Option<Written>>, AllocError>
+fn last_write(alloc: Global, bytes: &[u8]) -> Result<Front<'_, Option<SharedWritten>>, AllocError>
     ensures { IfOk result (λ front. MatchResult front
         (λ found. reader.last_write bytes.now ≡ Ok (found.0, found.1.now))
         (λ rest. reader.last_write bytes.now ≡ Err rest.now)) }
 {
     match spaced_by(alloc, bytes)? {
-        Ok((write, rest)) => Ok(Ok((Some(write), rest))),
+        Ok((write, rest)) => {
+            let write = SharedWritten::new(alloc, write)?;
+            Ok(Ok((Some(write), rest)))
+        }
         Err(rest) => Ok(Err(rest)),
     }
 }
 
 /// What stands behind the last value that there may be.
 #[tactic(auto, using(crate::proofs::FiringPartLaws::end_here, crate::proofs::FiringPartLaws::end_behind_other, crate::proofs::FiringPartLaws::end_behind_nothing))]
-fn front_end(alloc: Global, bytes: &[u8]) -> Result<Front<'_, Option<Written>>, AllocError>
+fn front_end(alloc: Global, bytes: &[u8]) -> Result<Front<'_, Option<SharedWritten>>, AllocError>
     ensures { IfOk result (λ front. MatchResult front
         (λ found. end_at bytes.now ≡ Ok (found.0, found.1.now))
         (λ rest. end_at bytes.now ≡ Err rest.now)) }

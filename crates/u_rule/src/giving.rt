@@ -79,7 +79,7 @@ fn fetched(firing: &Firing) -> Result<Made, AllocError>
 {
     match (cell_named(firing.values.as_slice()), &firing.write) {
         (Err(kind), _) => Ok(Made::Fault(kind)),
-        (Ok(_), Some(write)) => Ok(Made::Value(write.value.copy()?)),
+        (Ok(_), Some(write)) => Ok(Made::Value(write.get().value.copy()?)),
         (Ok(_), None) => Ok(Made::Fault(FaultKind::Bounds)),
     }
 }

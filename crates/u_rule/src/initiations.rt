@@ -4,7 +4,8 @@ ghost use Rattle.std.specs.Prelude.{◌≡◌, ◌≤◌};
 ghost use Rattle.std.specs.List.{list_all};
 ghost use Rattle.u_rule.specs.Initiations.{last_turn, is_turn, has_turns, wrote_in_turns, fires_in_turns};
 
-use crate::firing::{Firing, Written};
+use crate::firing::Firing;
+use crate::shared_written::SharedWritten;
 use u_name::Name;
 use u_program::{Program, Version};
 use u_value::Value;
@@ -45,12 +46,15 @@ fn have_turns(version: Version, values: &[Value]) -> bool
 }
 
 /// Whether the initiations in the write that a firing read are.
-fn wrote_in_turns(version: Version, write: &Option<Written>) -> bool
+fn wrote_in_turns(version: Version, write: &Option<SharedWritten>) -> bool
     ensures { result ≡ wrote_in_turns version write.now }
 {
     match write {
         None => true,
-        Some(write) => is_turn(version, &write.writer) && has_turns(version, &write.value),
+        Some(write) => {
+            let written = write.get();
+            is_turn(version, &written.writer) && has_turns(version, &written.value)
+        }
     }
 }
 

@@ -1,4 +1,4 @@
-//! What entries are made of: tokens, writes and faults.
+//! What entries and firings are made of: tokens, writes, faults, and who wrote what.
 ghost use Rattle.std.specs.Prelude.{◌≡◌, IfOk};
 ghost use Rattle.u_name.specs.Context.{IsBetween};
 ghost use Rattle.u_rule.specs.Parts.{token, IsToken, most_ports};
@@ -138,6 +138,30 @@ impl Fault {
         Ok(Fault {
             activity: self.activity.copy()?,
             kind: self.kind,
+        })
+    }
+}
+
+/// The write that a firing read: who wrote, and what. Its cell is given by the firing's first two values.
+#[derive(PartialEq, Eq, PartialOrd, Ord, Hash, Drop)]
+pub struct Written {
+    /// The name of the activity that wrote it.
+    pub writer: Name,
+    /// What it wrote.
+    pub value: Value,
+}
+
+impl Written {
+    /// An equal write.
+    ///
+    /// # Errors
+    /// `AllocError` where there is no memory.
+    pub fn copy(&self) -> Result<Written, AllocError>
+        ensures { IfOk result (λ w. w ≡ self.now) }
+    {
+        Ok(Written {
+            writer: self.writer.copy()?,
+            value: self.value.copy()?,
         })
     }
 }

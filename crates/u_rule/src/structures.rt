@@ -94,7 +94,8 @@ pub(crate) fn add_write(entries: &mut Vec<Entry>, firing: &Firing) -> Result<(),
     let Ok((structure, index)) = cell_named(firing.values.as_slice()) else {
         return Ok(());
     };
-    entries.push(wrote(structure, index, &write.writer, &write.value)?)?;
+    let written = write.get();
+    entries.push(wrote(structure, index, &written.writer, &written.value)?)?;
     Ok(())
 }
 

@@ -9,8 +9,9 @@ ghost use Rattle.u_rule.specs.EntryText.{token_text, write_text, fault_text, ent
 ghost use Rattle.u_rule.specs.FiringText.{values_text, written_text, firing_text};
 
 use crate::entry::Entry;
-use crate::firing::{Firing, Written};
+use crate::firing::Firing;
 use crate::parts::{Fault, Token, Write};
+use crate::shared_written::SharedWritten;
 use std::alloc::AllocError;
 use u_text::{cut_back, push_behind, push_spaced};
 use u_value::Value;
@@ -88,7 +89,7 @@ fn push_values(out: &mut Vec<u8>, values: &[Value]) -> Result<(), AllocError>
 
 /// Appends ` by WRITER VALUE` where there is a write. On an error a part of it may stand there.
 #[tactic(auto, using(crate::proofs::Lists::nothing_more))]
-fn push_written(out: &mut Vec<u8>, write: &Option<Written>) -> Result<(), AllocError>
+fn push_written(out: &mut Vec<u8>, write: &Option<SharedWritten>) -> Result<(), AllocError>
     ensures ok { OnOk result (out.new.items ≡ out.old.items ++ written_text write.now) }
     ensures err { OnErr result (Extends out.old.items out.new.items) }
 {
@@ -96,8 +97,9 @@ fn push_written(out: &mut Vec<u8>, write: &Option<Written>) -> Result<(), AllocE
         None => Ok(()),
         Some(write) => {
             out.extend_from_slice(b" by ")?;
-            write.writer.write_text(out)?;
-            push_value(out, &write.value)
+            let written = write.get();
+            written.writer.write_text(out)?;
+            push_value(out, &written.value)
         }
     }
 }

@@ -22,12 +22,12 @@ use Rattle.u_rule.specs.declared.parts.Write.{Write}
 use Rattle.u_rule.specs.declared.entry.Entry.{Entry}
 use Rattle.u_rule.specs.declared.entry.Entry.TheVariants as entries
 use Rattle.u_rule.specs.declared.firing.Firing.{Firing}
-use Rattle.u_rule.specs.declared.firing.Written.{Written}
-use Rattle.u_rule.specs.contracts.firing.WrittenOrd.TheImpl.Laws as written_laws
+use Rattle.u_rule.specs.declared.parts.Written.{Written}
+use Rattle.u_rule.specs.contracts.parts.WrittenOrd.TheImpl.Laws as written_laws
 use Rattle.u_value.specs.contracts.value.ValueOrd.TheImpl.Laws as value_laws
 use Rattle.u_history.specs.Orders.{value_order, written_order}
 use Rattle.u_history.specs.Outcomes.{CellPairs, PairIn, ValueAt, HasTwo, IsCellClash, cell_clash_order}
-use Rattle.u_rule.specs.ExactOrders.{written_ties}
+use Rattle.u_rule.specs.WrittenOrder.{written_order_ties}
 use Rattle.u_history.specs.Clashes.{cell_pairs, port_values}
 use Rattle.u_history.specs.OutcomeParts.{IsOutcomeOf}
 use Rattle.u_history.specs.declared.outcome.Outcome.{Outcome}
@@ -143,8 +143,8 @@ module _ (c : CellOf) where
         (
           two,
           record {
-            rises = rises written_order written_laws.total-law written_ties w.0;
-            exact = λ x. ((λ m. (w.1 x).0 ((members written_order written_laws.total-law written_ties w.0 x).0 m)), λ h. (members written_order written_laws.total-law written_ties w.0 x).1 ((w.1 x).1 h));
+            rises = rises written_order written_laws.total-law written_order_ties w.0;
+            exact = λ x. ((λ m. (w.1 x).0 ((members written_order written_laws.total-law written_order_ties w.0 x).0 m)), λ h. (members written_order written_laws.total-law written_order_ties w.0 x).1 ((w.1 x).1 h));
           },
         ),
       )

@@ -22,7 +22,7 @@ use Rattle.u_rule.specs.EntryOrder.{write_of}
 use Rattle.u_rule.specs.declared.entry.Entry.{Entry}
 use Rattle.u_rule.specs.declared.entry.Entry.TheVariants as entries
 use Rattle.u_rule.specs.declared.firing.Firing.{Firing}
-use Rattle.u_rule.specs.declared.firing.Written.{Written}
+use Rattle.u_rule.specs.declared.parts.Written.{Written}
 use Rattle.u_waits.specs.Waiting.{IsWaiting}
 use Rattle.u_waits.specs.Deferred.{IsDeferred}
 use Rattle.u_waits.specs.Still.{AreStill}

@@ -6,7 +6,7 @@ use Rattle.u_system.proofs.Member.{Contains-nil, Contains-head}
 use Rattle.u_name.specs.Name.{Activity}
 use Rattle.u_name.specs.Cell.{CellOf}
 use Rattle.u_value.specs.declared.value.Value.{Value}
-use Rattle.u_rule.specs.declared.firing.Written.{Written}
+use Rattle.u_rule.specs.declared.parts.Written.{Written}
 use Rattle.u_rule.specs.declared.entry.Entry.{Entry}
 use Rattle.u_history.specs.Outcomes.{PairIn, ValueAt}
 use Rattle.u_waits.specs.Waiting.{HasToken}

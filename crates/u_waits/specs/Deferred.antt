@@ -6,7 +6,7 @@ use Rattle.u_program.specs.Parts.{BlockParts, StatementParts}
 use Rattle.u_rule.specs.Fits.{statement_of}
 use Rattle.u_rule.specs.Structures.{cell_named, reads_cell}
 use Rattle.u_rule.specs.declared.entry.Entry.{Entry}
-use Rattle.u_rule.specs.declared.firing.Written.{Written}
+use Rattle.u_rule.specs.declared.parts.Written.{Written}
 use Rattle.u_history.specs.Outcomes.{ValueAt, PairIn}
 use Rattle.u_waits.specs.declared.reads.DeferredRead.{DeferredRead}
 

@@ -1,7 +1,7 @@
 use Rattle.u_sets.specs.Rising.{Rises}
 use Rattle.std.proofs.Common.{◌≡◌, List, [], arith, refl, sym, subst}
 use Rattle.u_sets.proofs.Gathering.{scan_more, scan_all}
-use Rattle.u_rule.specs.declared.firing.Written.{Written}
+use Rattle.u_rule.specs.declared.parts.Written.{Written}
 use Rattle.u_rule.specs.EntryOrder.{write_of}
 use Rattle.u_rule.specs.declared.entry.Entry.{Entry}
 use Rattle.u_rule.specs.declared.entry.Entry.TheVariants as kinds

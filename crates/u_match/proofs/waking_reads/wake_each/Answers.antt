@@ -1,6 +1,6 @@
 use Rattle.std.proofs.Common.{[], ◌∷◌, Some, ◌∙◌, ap}
 use Rattle.u_rule.specs.EntryOrder.{firing, written}
-use Rattle.u_rule.specs.declared.firing.Written.{Written}
+use Rattle.u_rule.specs.declared.parts.Written.{Written}
 use Rattle.u_sets.specs.Members.{SomeOf}
 use Rattle.u_sets.proofs.Gathering.{scan_all}
 use Rattle.u_match.specs.Joins.{IsWoken}

@@ -6,7 +6,7 @@ use Rattle.u_sets.proofs.Gathering.{scan_more, scan_all}
 use Rattle.u_plain.specs.Tries.{EnabledOver, longer, FitsLonger}
 use Rattle.u_plain.proofs.Growing.{grown_all, grown_full, stepped, passed_over}
 use Rattle.u_plain.proofs.enabling.+grow.Goals as goal
-use Rattle.u_plain.proofs.enabling.+grow.Goals.{in-Some+in_ok-more+in_ok-grow+in-Some+in-Ref-1, in-Some+in_ok-more+in_ok-grow+in-Some+in-Int-1, in-Some+in_ok-more+in_ok-grow+in-None-1, in_default}
+use Rattle.u_plain.proofs.enabling.+grow.Goals.{in-Some+in_ok-more+in_ok-grow+in-Some-1, in-Some+in_ok-more+in_ok-grow+in-None-1, in_default}
 
 pub returns-then-as_slice-eq-MOST_PORTS : goal.returns-then-as_slice-eq-MOST_PORTS
 returns-then-as_slice-eq-MOST_PORTS t c f =
@@ -27,8 +27,7 @@ loop-entry-preserved t c =
     let g = c.args.made.now in
     let e = c.entry-item.result in
     let step : (f : Firing) → Contains c.match-next_token.found.items f ↔ (Contains c.loop-entry.found.items f ⊎ FitsLonger c.args.job.now c.args.held.now g e f) = elim c.match-next_token.branch [
-      | in-Some+in_ok-more+in_ok-grow+in-Some+in-Ref-1 w ↦ stepped c.args.job.now c.args.held.now g e w.in-Some.token.now w.in_ok-more.more c.loop-entry.found.items c.match-next_token.found.items w.in-Some.ensures (w.in_ok-more.ensures ∙ ap (longer g) w.value.ensures) (rw w.found-is w.in_ok-grow.ensures)
-      | in-Some+in_ok-more+in_ok-grow+in-Some+in-Int-1 w ↦ stepped c.args.job.now c.args.held.now g e w.in-Some.token.now w.in_ok-more.more c.loop-entry.found.items c.match-next_token.found.items w.in-Some.ensures (w.in_ok-more.ensures ∙ ap (longer g) w.value.ensures) (rw w.found-is w.in_ok-grow.ensures)
+      | in-Some+in_ok-more+in_ok-grow+in-Some-1 w ↦ stepped c.args.job.now c.args.held.now g e w.in-Some.token.now w.in_ok-more.more c.loop-entry.found.items c.match-next_token.found.items w.in-Some.ensures (w.in_ok-more.ensures ∙ ap (longer g) w.value.ensures) (rw w.found-is w.in_ok-grow.ensures)
       | in-Some+in_ok-more+in_ok-grow+in-None-1 w ↦ stepped c.args.job.now c.args.held.now g e w.in-Some.token.now w.in_ok-more.more c.loop-entry.found.items c.match-next_token.found.items w.in-Some.ensures (w.in_ok-more.ensures ∙ ap (longer g) w.value.ensures) (rw w.found-is w.in_ok-grow.ensures)
       | in_default w ↦ passed_over c.args.job.now c.args.held.now g e c.loop-entry.found.items c.match-next_token.found.items w.in_default.ensures (rw w.found-is refl)
     ] in

@@ -1,7 +1,7 @@
 use Rattle.std.proofs.Common.{◌∙◌, ap, List, Contains, subst, sym}
 use Rattle.u_sets.specs.Rising.{Rises, IsListOf}
 use Rattle.u_rule.specs.EntryOrder.{entry_cmp, write_of}
-use Rattle.u_rule.specs.declared.firing.Written.{Written}
+use Rattle.u_rule.specs.declared.parts.Written.{Written}
 use Rattle.u_rule.specs.declared.entry.Entry.{Entry}
 use Rattle.u_rule.specs.declared.entry.Entry.TheVariants as kinds
 use Rattle.u_history.specs.Orders.{written_order}

@@ -3,7 +3,7 @@ use Rattle.u_rule.specs.Rule.{system_of}
 use Rattle.u_rule.specs.EntryOrder.{write_of}
 use Rattle.u_rule.specs.declared.entry.Entry.{Entry}
 use Rattle.u_rule.specs.declared.entry.Entry.TheVariants as entries
-use Rattle.u_rule.specs.declared.firing.Written.{Written}
+use Rattle.u_rule.specs.declared.parts.Written.{Written}
 use Rattle.u_trace.specs.Holding.{GivenBy}
 use Rattle.u_trace.specs.Stories.{GivesFirst}
 use Rattle.u_trace.proofs.finding.Given.write.Goals as goal
