@@ -58,6 +58,14 @@ impl Checked {
     {
         &self.program
     }
+
+    /// The program, taken out.
+    pub fn into_program(self) -> Program
+        ensures program { result ≡ self }
+        ensures checked { IsChecked self.blocks }
+    {
+        self.program
+    }
 }
 
 impl Job {

@@ -26,7 +26,7 @@ pub struct Asked {
 }
 
 /// The fault that is told of a program's text.
-pub(crate) fn error_of(error: ReadError) -> CommandError
+fn error_of(error: ReadError) -> CommandError
     ensures { result ≡ error_of error }
 {
     match error {

@@ -5,12 +5,12 @@ ghost use Rattle.u_program.specs.declared.program.Version.TheVariants as version
 ghost use Rattle.u_commands.specs.Checks.{CheckRefused};
 ghost use Rattle.u_commands.specs.Lifts.{Lifts, LiftTextAnswer};
 
-use crate::checking::{checked_of, error_of};
+use crate::checking::checked_of;
 use crate::command_error::CommandError;
 use crate::output::write_whole;
 use std::alloc::{AllocError, Global};
 use std::io::Write;
-use u_program::{Program, read};
+use u_program::Program;
 
 /// The text of the program's blocks under version 2.
 fn lifted_text(alloc: Global, program: Program) -> Result<Vec<u8>, AllocError>
@@ -27,12 +27,8 @@ fn lifted_of(alloc: Global, bytes: &[u8]) -> Result<Vec<u8>, CommandError>
     ensures { MatchResult result (λ v. Lifts bytes.now v.items)
         (λ fault. CheckRefused bytes.now fault) }
 {
-    let _checked = checked_of(alloc, bytes)?;
-    let program = match read(alloc, bytes) {
-        Ok(program) => program,
-        Err(error) => return Err(error_of(error)),
-    };
-    let text = lifted_text(alloc, program)?;
+    let checked = checked_of(alloc, bytes)?;
+    let text = lifted_text(alloc, checked.into_program())?;
     Ok(text)
 }
 
