@@ -1,19 +1,22 @@
 -- The block of a graph lies within the limits of a block.
-use Rattle.std.proofs.Common.{◌≡◌, ℕ, suc, ◌≤◌, refl, sym, ap, ◌∙◌, subst, arith, Bool, true, false, cond, not, ◌&&◌, ◌||◌, ◌==◌, List, [], ◌∷◌, length, Some, Option}
+use Rattle.std.proofs.Common.{◌≡◌, ℕ, suc, ◌≤◌, refl, sym, ap, ◌∙◌, subst, arith, Bool, true, false, cond, not, ◌&&◌, ◌||◌, ◌==◌, List, [], ◌∷◌, ◌++◌, ◌<◌, length, Some, Option}
 use Rattle.std.specs.Prelude.{slice_get}
 use Rattle.std.specs.List.{AllByRecursion}
+use Rattle.std.proofs.lemmas.List.{length-append}
 use Rattle.std.proofs.lemmas.Bool.{false≢true, and_left, and_right, eqb-true}
 use Rattle.u_name.specs.Block.{IsBlock}
 use Rattle.u_program.specs.declared.program.Kind.{Kind}
 use Rattle.u_program.specs.declared.program.Kind.TheVariants.{Enter, Next, Param, Apply}
 use Rattle.u_program.specs.declared.program.Destination.{Destination}
 use Rattle.u_program.specs.declared.program.Version.TheVariants.{Two}
-use Rattle.u_program.specs.Limits.{has_list, has_otherwise, HasKind, HasPorts, IsListed, Ascending, rank, IsStatement, IsBlockOf, limits_of}
+use Rattle.u_program.specs.Parts.{BlockParts}
+use Rattle.u_program.proofs.Steps.{all_append}
+use Rattle.u_program.specs.Limits.{has_list, has_otherwise, HasKind, HasPorts, IsListed, Ascending, rank, IsStatement, IsBlockOf, IsProgram, limits_of}
 use Rattle.u_compile.specs.declared.graph.Link.{Link}
 use Rattle.u_compile.specs.Drafts.{DraftParts}
 use Rattle.u_compile.specs.Graphs.{GraphParts, output, destinations, draft_at, has_output, is_next, is_enter, enters, IsGraph}
-use Rattle.u_compile.specs.Blocks.{statement_of, statements_of, block_of}
-use Rattle.u_compile.specs.Fanning.{AreFew}
+use Rattle.u_compile.specs.Blocks.{statement_of, statements_of, block_of, AreBlocks}
+use Rattle.u_compile.specs.Fanning.{AreFew, IsFinished}
 use Rattle.u_compile.proofs.Numbers.{test_stands}
 use Rattle.u_compile.proofs.Links.{sends_some}
 
@@ -112,3 +115,18 @@ block_is name g named is few some =
       few = omega (arith, l, most);
       some = omega (arith, l, some);
     }
+
+-- a finished graph lies within the limits of a block
+pub finished_within : (name : List ℕ) (g : GraphParts) (b : BlockParts) → IsFinished name g b → IsBlockOf (limits_of Two) b
+finished_within name g b f = f.within
+
+-- one block more
+pub one_more_block : (bs : List BlockParts) (b : BlockParts) → AreBlocks bs → length bs < 64 → IsBlockOf (limits_of Two) b → AreBlocks (bs ++ (b ∷ []))
+one_more_block bs b are few is = record {
+  each = all_append (IsBlockOf (limits_of Two)) bs b are.each is;
+  few = let l = length-append bs (b ∷ []) in omega (arith, l, few);
+}
+
+-- blocks are those of a program, if there are any
+pub are_program : (bs : List BlockParts) → AreBlocks bs → 1 ≤ length bs → IsProgram (limits_of Two) bs
+are_program bs are some = record { each = are.each; few = are.few; some = some }

@@ -176,3 +176,10 @@ pub ascending_drop : (k below : ℕ) (ds : List Destination) → Ascending below
 ascending_drop zero below ds a = ascending_lower below ds a
 ascending_drop (suc k) below [] a = tt
 ascending_drop (suc k) below (d ∷ ds) a = ascending_drop k (rank d) ds a.2
+
+-- one link more, which leads to a port before that one if it comes from the output
+pub before_more : (o : Output) (l : Link) (ls : List Link) (below : ℕ) → (same_output o l.from ≡ true → rank l.to < below) → AllBefore below (destinations o ls) → AllBefore below (destinations o (l ∷ ls))
+before_more o l ls below first rest = elim (cases_Bool (same_output o l.from)) [
+  | inl e ↦ subst (AllBefore below) (sym (leads_yes o l ls e)) (first e, rest)
+  | inr e ↦ subst (AllBefore below) (sym (leads_no o l ls e)) rest
+]

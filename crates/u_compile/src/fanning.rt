@@ -28,7 +28,7 @@ fn count_from(links: &[Link], output: Output) -> usize
 
 /// The statement of that number, which counts from 1.
 #[tactic(auto, using(crate::proofs::Numbers::numbered))]
-fn draft_at(statements: &[Draft], number: u16) -> Option<&Draft>
+pub(crate) fn draft_at(statements: &[Draft], number: u16) -> Option<&Draft>
     ensures { option_copied result ≡ draft_at statements.now number }
 {
     if number == 0 {

@@ -5,7 +5,7 @@ ghost use Rattle.u_compile.specs.Drafts.{draft};
 ghost use Rattle.u_program.specs.Limits.{IsKind};
 ghost use Rattle.u_program.specs.declared.program.Kind.TheVariants as kinds;
 
-use std::alloc::{AllocFailed, Global};
+use std::alloc::{AllocError, AllocFailed, Global};
 use std::marker::Model;
 use u_program::{Destination, Kind};
 
@@ -106,6 +106,8 @@ pub enum Full {
     Loops,
     /// There is no memory.
     NoMemory,
+    /// What is added may not stand there.
+    Misplaced,
 }
 
 impl<T: Drop> From<AllocFailed<T>> for Full {
@@ -114,6 +116,16 @@ impl<T: Drop> From<AllocFailed<T>> for Full {
     ghost from_gives = { λ _ e. e ≡ fulls.NoMemory };
 
     fn from(_: AllocFailed<T>) -> Full {
+        Full::NoMemory
+    }
+}
+
+impl From<AllocError> for Full {
+    ghost use Rattle.u_compile.specs.declared.graph.Full.TheVariants as fulls;
+
+    ghost from_gives = { λ _ e. e ≡ fulls.NoMemory };
+
+    fn from(_: AllocError) -> Full {
         Full::NoMemory
     }
 }

@@ -1,8 +1,25 @@
-//! Programs of sources: graphs of statements under construction.
+//! Programs of sources: their procedures are drawn as graphs of statements.
 #![tactic(auto)]
 
+mod blocks;
+mod compile_error;
+mod compiled;
+mod compiling;
+mod drafting;
+mod drawing;
 mod fanning;
 mod graph;
+mod lowering;
+mod mapping;
+mod naming;
+mod operands;
+mod origins;
+mod sides;
+mod tree;
+mod turns;
 mod writing;
 
+pub use compile_error::{CompileError, CompileProblem};
+pub use compiled::Compiled;
+pub use compiling::compile;
 pub use graph::{Full, Graph, Link, Output};

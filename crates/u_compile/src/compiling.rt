@@ -1,0 +1,144 @@
+//! From the text of a source to a program.
+ghost use Rattle.std.specs.Prelude.{◌≡◌, IfOk};
+ghost use Rattle.u_check.specs.Rules.{IsChecked};
+ghost use Rattle.u_determinate.specs.Determinate.{IsDeterminate};
+
+use crate::compile_error::{CompileError, CompileProblem};
+use crate::compiled::Compiled;
+use crate::graph::Full;
+use crate::lowering::Lowering;
+use crate::origins::{Origins, place_in};
+use crate::tree::Tree;
+use std::alloc::Global;
+use u_check::check;
+use u_guards::{Determinacy, determinacy};
+use u_kinds::check_kinds;
+use u_program::Program;
+use u_scope::Checked;
+use u_source::{Place, Source};
+
+/// Why there is no program, and the place that shows it.
+#[derive(Clone, Copy)]
+struct Stopped {
+    /// The place.
+    pub place: Place,
+    /// Why.
+    pub full: Full,
+}
+
+/// A program that was not looked at, and where the statements of its blocks come from.
+#[derive(Drop)]
+struct Lowered {
+    /// The program.
+    pub program: Program,
+    /// Where the statements come from, block by block.
+    pub origins: Vec<Origins>,
+}
+
+/// Goes through the nodes.
+fn go_through(lowering: &mut Lowering<'_>, tree: &Tree<'_>) -> Result<(), Stopped> {
+    for number in 0..tree.len() {
+        if let Err(full) = lowering.advance(number) {
+            return Err(Stopped {
+                place: tree.place_of(number),
+                full,
+            });
+        }
+    }
+    Ok(())
+}
+
+/// The program of the nodes, and where the statements of its blocks come from.
+fn lower(alloc: Global, tree: &Tree<'_>) -> Result<Lowered, Stopped> {
+    let mut lowering = match Lowering::new(alloc, tree) {
+        Ok(lowering) => lowering,
+        Err(full) => {
+            return Err(Stopped {
+                place: Place::start(),
+                full,
+            });
+        }
+    };
+    go_through(&mut lowering, tree)?;
+    let Lowering {
+        blocks,
+        origins,
+        ..
+    } = lowering;
+    match blocks.program() {
+        Some(program) => Ok(Lowered { program, origins }),
+        None => Err(Stopped {
+            place: Place::start(),
+            full: Full::Misplaced,
+        }),
+    }
+}
+
+/// The program of a source whose names and kinds are allowed.
+fn program_of(alloc: Global, source: &Source, checked: &Checked) -> Result<Lowered, CompileError> {
+    let tree = match Tree::new(alloc, source.tokens(), source.nodes(), checked.meanings()) {
+        Ok(tree) => tree,
+        Err(full) => return Err(CompileError::at(Place::start(), full)),
+    };
+    match lower(alloc, &tree) {
+        Ok(lowered) => Ok(lowered),
+        Err(stopped) => Err(CompileError::at(stopped.place, stopped.full)),
+    }
+}
+
+/// The program as a checked one.
+fn checked_of(program: Program, origins: &[Origins]) -> Result<u_check::Checked, CompileError>
+    ensures { IfOk result (λ c. c ≡ program) }
+{
+    match check(program) {
+        Ok(checked) => Ok(checked),
+        Err(refused) => Err(CompileError::Refused(
+            place_in(origins, refused.breach.block, refused.breach.statement),
+            CompileProblem::NotChecked,
+        )),
+    }
+}
+
+/// Looks whether the program is determinate.
+fn look_at(
+    alloc: Global,
+    checked: &u_check::Checked,
+    origins: &[Origins],
+) -> Result<(), CompileError>
+    ensures { IfOk result (λ _. IsDeterminate checked.now.blocks) }
+{
+    match determinacy(alloc, checked) {
+        Ok(Determinacy::Determinate) => Ok(()),
+        Ok(Determinacy::Meets(place)) => Err(CompileError::Refused(
+            place_in(origins, place.block, place.at),
+            CompileProblem::NotDeterminate,
+        )),
+        Err(_) => Err(CompileError::NoMemory),
+    }
+}
+
+/// Compiles a source: the text of procedures in the notation with names. What is returned is a program that breaks
+/// no rule of the checker and is determinate: in a run of it a port has two values only if a cell has two writes.
+///
+/// The text is read, then its names and then its kinds are checked. Then each procedure becomes a block of version 2.
+/// At last the program is looked at by the checker and as to whether it is determinate. Of no source it is known that
+/// its names and kinds are allowed and that its program fails there; tests have found none, but there is no proof.
+///
+/// # Errors
+/// `Source`, `Check` or `Kinds` with what is not allowed first. `Refused` where a procedure takes more than 999
+/// statements or has more than 99 loops, with a place in it; or where the tree or the program is not what it should
+/// be, as above. `NoMemory` where there is no memory.
+pub fn compile(alloc: Global, bytes: &[u8]) -> Result<Compiled, CompileError>
+    ensures checked { IfOk result (λ c. IsChecked c.blocks) }
+    ensures determinate { IfOk result (λ c. IsDeterminate c.blocks) }
+{
+    let source = Source::read(alloc, bytes)?;
+    let names = Checked::check(alloc, &source)?;
+    check_kinds(alloc, &source, &names)?;
+    let Lowered { program, origins } = program_of(alloc, &source, &names)?;
+    let checked = checked_of(program, &origins)?;
+    look_at(alloc, &checked, &origins)?;
+    // Brings in that it is checked.
+    let _ = checked.program();
+    Ok(Compiled::new(checked, origins))
+}

@@ -1,0 +1,271 @@
+//! The lowering: one pass over the nodes of a source.
+ghost use Rattle.std.specs.Prelude.{IfOk};
+ghost use Rattle.u_program.specs.Limits.{IsBlockOf, limits_of};
+ghost use Rattle.u_program.specs.declared.program.Version.TheVariants as versions;
+
+use crate::blocks::Blocks;
+use crate::drawing::{Drawing, Scope, Way};
+use crate::graph::{Full, Output};
+use crate::naming::Names;
+use crate::origins::Origins;
+use crate::tree::Tree;
+use std::alloc::Global;
+use u_name::BlockName;
+use u_program::{Block, Constant};
+use u_source::{Form, Place};
+
+/// What waits for its use.
+#[derive(Clone, Copy)]
+pub(crate) enum Operand {
+    /// A name or a constant, by its node.
+    Atom(usize),
+    /// A value, by its number.
+    Value(usize),
+    /// The beginning of arguments.
+    Arguments,
+}
+
+/// An `if` whose sides have scopes of their own.
+#[derive(Clone, Copy)]
+pub(crate) struct Sides {
+    /// The control.
+    pub control: Output,
+    /// The number of the scope around it.
+    pub around: usize,
+    /// The value of the first side, if it is wanted and known.
+    pub first: Option<usize>,
+}
+
+/// A loop.
+#[derive(Clone, Copy)]
+pub(crate) struct Turns {
+    /// The number of the scope around it.
+    pub around: usize,
+    /// The number of the scope of its turns.
+    pub turn: usize,
+}
+
+/// What has begun and not ended.
+#[derive(Clone, Copy)]
+pub(crate) enum Frame {
+    /// An `if` that chooses one of two values, with its control.
+    Choice(usize),
+    /// Another `if`.
+    Sides(Sides),
+    /// A loop whose variables begin: how many others waited before, and the limit of a `for`.
+    Begun(usize, Option<usize>),
+    /// A loop whose test is looked at.
+    Test(Turns),
+    /// A loop whose block is looked at, with its control, and the number of the scope of its block.
+    Block(Turns, Output, usize),
+}
+
+/// A loop variable that begins with a value.
+#[derive(Clone, Copy)]
+pub(crate) struct Start {
+    /// The node from which its name is known.
+    pub name: usize,
+    /// The number of the value.
+    pub value: usize,
+    /// The place of the name.
+    pub place: Place,
+}
+
+/// A source that is gone through.
+#[derive(Drop)]
+pub(crate) struct Lowering<'a> {
+    /// The source.
+    pub tree: &'a Tree<'a>,
+    /// The names of the procedure.
+    pub names: Names,
+    /// The procedure.
+    pub drawing: Drawing,
+    /// What waits for its use.
+    pub operands: Vec<Operand>,
+    /// What has begun and not ended.
+    pub frames: Vec<Frame>,
+    /// The variables of loops that begin.
+    pub starts: Vec<Start>,
+    /// The number of the scope.
+    pub scope: usize,
+    /// The blocks of the procedures before.
+    pub blocks: Blocks,
+    /// Where their statements come from.
+    pub origins: Vec<Origins>,
+    /// Where memory comes from.
+    pub alloc: Global,
+}
+
+/// A procedure's block, and where its statements come from.
+fn finished(
+    drawing: Drawing,
+    names: Names,
+    value: usize,
+    name: BlockName,
+) -> Result<(Block, Origins), Full>
+    ensures { IfOk result (λ r. IsBlockOf (limits_of versions.Two) r.0) }
+{
+    let mut drawing = drawing;
+    let mut names = names;
+    drawing.end(value)?;
+    names.note(&drawing)?;
+    let block = drawing.finish(name)?;
+    Ok((block, names.into_origins()))
+}
+
+impl<'a> Lowering<'a> {
+    /// The beginning of a source.
+    pub fn new(alloc: Global, tree: &'a Tree<'a>) -> Result<Lowering<'a>, Full> {
+        Ok(Lowering {
+            tree,
+            names: Names::new(alloc),
+            drawing: Drawing::new(alloc, 0)?,
+            operands: Vec::new(alloc),
+            frames: Vec::new(alloc),
+            starts: Vec::new(alloc),
+            scope: 0,
+            blocks: Blocks::new(alloc),
+            origins: Vec::new(alloc),
+            alloc,
+        })
+    }
+}
+
+impl Lowering<'_> {
+    /// What has begun last and not ended.
+    pub fn pop_frame(&mut self) -> Result<Frame, Full> {
+        match self.frames.pop() {
+            Some(frame) => Ok(frame),
+            None => Err(Full::Misplaced),
+        }
+    }
+
+    /// What has begun last and not ended, which goes on.
+    pub fn last_frame(&self) -> Result<Frame, Full> {
+        match self.frames.last() {
+            Some(frame) => Ok(*frame),
+            None => Err(Full::Misplaced),
+        }
+    }
+
+    /// Adds a side of a control in a scope, and returns its number. Its clock is the one around it.
+    pub fn add_side(&mut self, around: usize, control: Output, on: bool) -> Result<usize, Full> {
+        let outer = self.drawing.scope(around)?;
+        self.drawing.add_scope(Scope {
+            region: outer.region,
+            around,
+            way: Way::Side(control, on),
+            clock: outer.clock,
+        })
+    }
+
+    /// The value of a name in a scope.
+    pub fn value_of(&mut self, scope: usize, name: usize) -> Result<usize, Full> {
+        self.names.value_of(&mut self.drawing, scope, name)
+    }
+
+    /// The value of a constant in the scope.
+    pub fn value_of_constant(&mut self, constant: &Constant) -> Result<usize, Full> {
+        self.names
+            .value_of_constant(&mut self.drawing, self.scope, constant)
+    }
+
+    /// Lets the statements that were added come from the node that is looked at.
+    pub fn note(&mut self) -> Result<(), Full> {
+        self.names.note(&self.drawing)
+    }
+
+    /// A procedure begins, the parameters of which come next.
+    fn begin_procedure(&mut self, number: usize) -> Result<(), Full> {
+        let Some(clock) = number.checked_add(2) else {
+            return Err(Full::Misplaced);
+        };
+        self.drawing = Drawing::new(self.alloc, clock)?;
+        self.scope = 0;
+        Ok(())
+    }
+
+    /// A parameter.
+    fn parameter(&mut self, number: usize) -> Result<(), Full> {
+        self.pop_spelled(number)?;
+        let value = self.drawing.add_parameter()?;
+        self.names.note_as(&self.drawing, number)?;
+        self.names.define(&self.drawing, 0, number, value)
+    }
+
+    /// A procedure ends.
+    fn end_procedure(&mut self) -> Result<(), Full> {
+        let value = self.pop_value()?;
+        let name = self.pop_name()?;
+        let drawing = std::mem::replace(&mut self.drawing, Drawing::new(self.alloc, 0)?);
+        let names = std::mem::replace(&mut self.names, Names::new(self.alloc));
+        let (block, origins) = finished(drawing, names, value, name)?;
+        self.blocks.push(block)?;
+        self.origins.push(origins)?;
+        Ok(())
+    }
+
+    /// The items of a block begin.
+    fn open_block(&mut self, number: usize) -> Result<(), Full> {
+        let block = self.tree.around(number, Form::Block, Form::Block)?;
+        let whole = self.tree.parent(block)?;
+        match self.tree.form(whole)? {
+            Form::If => self.open_if(number, whole),
+            Form::Loop | Form::For => self.open_turn(),
+            _ => Ok(()),
+        }
+    }
+
+    /// A block ends.
+    fn close_block(&mut self, number: usize) -> Result<(), Full> {
+        let whole = self.tree.parent(number)?;
+        match self.tree.form(whole)? {
+            Form::If => self.close_first(whole),
+            Form::Loop | Form::For => self.close_loop(number, whole),
+            _ => Ok(()),
+        }
+    }
+
+    /// Goes on with a node of an `if`, a loop, a block or a procedure.
+    fn advance_whole(&mut self, form: Form, number: usize) -> Result<(), Full> {
+        match form {
+            Form::NoItems => self.open_block(number),
+            Form::Block => self.close_block(number),
+            Form::Otherwise => self.open_else(),
+            Form::Else => self.close_else(number),
+            Form::If => self.close_if(),
+            Form::NoVariables => self.open_variables(number),
+            Form::AddVariable => self.start_variable(number),
+            Form::Variables => self.open_loop(number),
+            Form::Loop | Form::For => self.end_loop(number),
+            Form::NoParameters => self.begin_procedure(number),
+            Form::AddParameter => self.parameter(number),
+            Form::AddProcedure => self.end_procedure(),
+            _ => Ok(()),
+        }
+    }
+
+    /// Goes on with the node with this number.
+    pub fn advance(&mut self, number: usize) -> Result<(), Full> {
+        let form = self.tree.form(number)?;
+        self.names.set_place(self.tree.place_of(number));
+        match form {
+            Form::Name
+            | Form::Number
+            | Form::Negative
+            | Form::True
+            | Form::False
+            | Form::NoArguments
+            | Form::Index
+            | Form::Call
+            | Form::Write
+            | Form::Statement
+            | Form::Define
+            | Form::Next => self.advance_item(form, number),
+            _ => {
+                self.advance_operator(form)?;
+                self.advance_whole(form, number)
+            }
+        }
+    }
+}

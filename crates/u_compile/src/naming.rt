@@ -1,0 +1,319 @@
+//! The values of names and constants in scopes.
+
+use crate::drawing::{Drawing, Way};
+use crate::graph::Full;
+use crate::origins::Origins;
+use std::alloc::Global;
+use u_name::BlockName;
+use u_program::{Constant, Kind};
+use u_source::Place;
+
+/// The value of a name in a scope.
+#[derive(Clone, Copy)]
+struct Binding {
+    /// The number of the scope.
+    pub scope: usize,
+    /// The node from which the name is known.
+    pub name: usize,
+    /// The number of the value.
+    pub value: usize,
+}
+
+/// A constant in a scope.
+#[derive(Clone, Copy)]
+struct ConstantBinding {
+    /// The number of the scope.
+    pub scope: usize,
+    /// The constant.
+    pub constant: Constant,
+    /// The number of the value.
+    pub value: usize,
+}
+
+/// A name that is a constant.
+#[derive(Clone, Copy)]
+struct Alias {
+    /// The node from which the name is known.
+    pub name: usize,
+    /// The constant.
+    pub constant: Constant,
+}
+
+/// How a name is spelled.
+#[derive(Clone, Copy)]
+struct Spelling {
+    /// The node from which the name is known.
+    pub name: usize,
+    /// The name.
+    pub text: BlockName,
+}
+
+/// What the names of a procedure are in its scopes, and where its statements come from.
+#[derive(Drop)]
+pub(crate) struct Names {
+    bindings: Vec<Binding>,
+    aliases: Vec<Alias>,
+    constants: Vec<ConstantBinding>,
+    spellings: Vec<Spelling>,
+    origins: Origins,
+    place: Place,
+}
+
+/// The constant that a name is.
+fn constant_of(aliases: &[Alias], name: usize) -> Option<Constant> {
+    for alias in aliases {
+        if alias.name == name {
+            return Some(alias.constant);
+        }
+    }
+    None
+}
+
+/// The value that a name has in a scope itself.
+fn bound(bindings: &[Binding], scope: usize, name: usize) -> Option<usize> {
+    for binding in bindings {
+        if binding.scope == scope && binding.name == name {
+            return Some(binding.value);
+        }
+    }
+    None
+}
+
+/// The value that a constant has in a scope.
+fn given(constants: &[ConstantBinding], scope: usize, constant: &Constant) -> Option<usize> {
+    for given in constants {
+        if given.scope == scope && given.constant == *constant {
+            return Some(given.value);
+        }
+    }
+    None
+}
+
+/// How a name is spelled.
+fn spelled(spellings: &[Spelling], name: usize) -> Option<BlockName> {
+    for spelling in spellings {
+        if spelling.name == name {
+            return Some(spelling.text);
+        }
+    }
+    None
+}
+
+/// The innermost scope around a scope, or it itself, that has a value of the name, and the value.
+fn home(
+    bindings: &[Binding],
+    drawing: &Drawing,
+    scope: usize,
+    name: usize,
+) -> Result<(usize, usize), Full> {
+    let mut at = scope;
+    for _ in 0..=scope {
+        if let Some(value) = bound(bindings, at, name) {
+            return Ok((at, value));
+        }
+        at = drawing.scope(at)?.around;
+    }
+    Err(Full::Misplaced)
+}
+
+/// Of the scopes in `outer` the one that `scope` is, or that is around it.
+fn towards(drawing: &Drawing, outer: usize, scope: usize) -> Result<usize, Full> {
+    let mut at = scope;
+    for _ in 0..=scope {
+        let around = drawing.scope(at)?.around;
+        if around == outer {
+            return Ok(at);
+        }
+        at = around;
+    }
+    Err(Full::Misplaced)
+}
+
+impl Names {
+    /// Those of a procedure without scopes.
+    pub fn new(alloc: Global) -> Names {
+        Names {
+            bindings: Vec::new(alloc),
+            aliases: Vec::new(alloc),
+            constants: Vec::new(alloc),
+            spellings: Vec::new(alloc),
+            origins: Origins::new(alloc),
+            place: Place::start(),
+        }
+    }
+
+    /// Where its statements come from.
+    pub fn into_origins(self) -> Origins {
+        let Names { origins, .. } = self;
+        origins
+    }
+
+    /// The place from which statements come from now on.
+    pub fn place(&self) -> Place {
+        self.place
+    }
+
+    /// Lets statements come from this place from now on.
+    pub fn set_place(&mut self, place: Place) {
+        self.place = place;
+    }
+
+    /// Lets the statements that were added come from the place.
+    pub fn note(&mut self, drawing: &Drawing) -> Result<(), Full> {
+        self.origins.note(drawing.len(), self.place)?;
+        Ok(())
+    }
+
+    /// Lets the statements that were added come from the place, under the name that is known from that node.
+    pub fn note_as(&mut self, drawing: &Drawing, name: usize) -> Result<(), Full> {
+        let first = self.origins.len();
+        self.note(drawing)?;
+        let Some(text) = spelled(&self.spellings, name) else {
+            return Ok(());
+        };
+        self.origins.name_from(first, &text)?;
+        Ok(())
+    }
+
+    /// Gives the statement that gives a value a name, if it has none.
+    fn name_value(
+        &mut self,
+        drawing: &Drawing,
+        value: usize,
+        text: &BlockName,
+    ) -> Result<(), Full> {
+        if let Some(output) = drawing.only_output(value)? {
+            self.origins.name(output.statement as usize, text)?;
+        }
+        Ok(())
+    }
+
+    /// Gives a name its value in a scope.
+    fn bind(&mut self, scope: usize, name: usize, value: usize) -> Result<(), Full> {
+        self.bindings.push(Binding { scope, name, value })?;
+        Ok(())
+    }
+
+    /// Says how a name is spelled.
+    pub fn spell(&mut self, name: usize, text: &BlockName) -> Result<(), Full> {
+        self.spellings.push(Spelling { name, text: *text })?;
+        Ok(())
+    }
+
+    /// Gives a name its value in a scope.
+    pub fn define(
+        &mut self,
+        drawing: &Drawing,
+        scope: usize,
+        name: usize,
+        value: usize,
+    ) -> Result<(), Full> {
+        if let Some(text) = spelled(&self.spellings, name) {
+            self.name_value(drawing, value, &text)?;
+        }
+        self.bind(scope, name, value)
+    }
+
+    /// Lets a name be a constant.
+    pub fn alias(&mut self, name: usize, constant: &Constant) -> Result<(), Full> {
+        self.aliases.push(Alias {
+            name,
+            constant: *constant,
+        })?;
+        Ok(())
+    }
+
+    /// The constant that a name is.
+    pub fn constant_of(&self, name: usize) -> Option<Constant> {
+        constant_of(&self.aliases, name)
+    }
+
+    /// Lets a loop carry a value under a name, which is that of its variables, or of the names around it.
+    pub fn carry(
+        &mut self,
+        drawing: &mut Drawing,
+        turn: usize,
+        name: usize,
+        value: usize,
+    ) -> Result<usize, Full> {
+        let Way::Turn(number) = drawing.scope(turn)?.way else {
+            return Err(Full::Misplaced);
+        };
+        let inner = drawing.carry(turn, number, name, value)?;
+        self.note_as(drawing, name)?;
+        self.bind(turn, name, inner)?;
+        Ok(inner)
+    }
+
+    /// Brings the value of a name into a side from the scope around it.
+    fn gate(
+        &mut self,
+        drawing: &mut Drawing,
+        side: usize,
+        name: usize,
+        value: usize,
+    ) -> Result<usize, Full> {
+        let Way::Side(control, on) = drawing.scope(side)?.way else {
+            return Err(Full::Misplaced);
+        };
+        let inner = drawing.gated(side, control, on, value)?;
+        self.note_as(drawing, name)?;
+        self.bind(side, name, inner)?;
+        Ok(inner)
+    }
+
+    /// Brings the value of a name into a scope from the one around it.
+    fn bring(
+        &mut self,
+        drawing: &mut Drawing,
+        scope: usize,
+        name: usize,
+        value: usize,
+    ) -> Result<usize, Full> {
+        match drawing.scope(scope)?.way {
+            Way::Procedure => Err(Full::Misplaced),
+            Way::Side(_, _) => self.gate(drawing, scope, name, value),
+            Way::Turn(_) => self.carry(drawing, scope, name, value),
+        }
+    }
+
+    /// The value of a name in a scope.
+    pub fn value_of(
+        &mut self,
+        drawing: &mut Drawing,
+        scope: usize,
+        name: usize,
+    ) -> Result<usize, Full> {
+        let (mut at, mut value) = home(&self.bindings, drawing, scope, name)?;
+        for _ in 0..=scope {
+            if at == scope {
+                return Ok(value);
+            }
+            at = towards(drawing, at, scope)?;
+            value = self.bring(drawing, at, name, value)?;
+        }
+        Err(Full::Misplaced)
+    }
+
+    /// The value of a constant in a scope.
+    pub fn value_of_constant(
+        &mut self,
+        drawing: &mut Drawing,
+        scope: usize,
+        constant: &Constant,
+    ) -> Result<usize, Full> {
+        if let Some(value) = given(&self.constants, scope, constant) {
+            return Ok(value);
+        }
+        let clock = drawing.scope(scope)?.clock;
+        let trigger = self.value_of(drawing, scope, clock)?;
+        let value = drawing.add_unary(scope, &Kind::Const(*constant), trigger)?;
+        self.note(drawing)?;
+        self.constants.push(ConstantBinding {
+            scope,
+            constant: *constant,
+            value,
+        })?;
+        Ok(value)
+    }
+}

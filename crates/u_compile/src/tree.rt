@@ -1,0 +1,287 @@
+//! What stands around the nodes of a syntax tree.
+
+use crate::graph::Full;
+use std::alloc::Global;
+use u_name::BlockName;
+use u_scope::Meaning;
+use u_source::{Form, Node, Place, Token, Word};
+
+/// How many children a node of the form has.
+fn children(form: Form) -> usize {
+    match form {
+        Form::Name
+        | Form::Number
+        | Form::Negative
+        | Form::True
+        | Form::False
+        | Form::NoElse
+        | Form::Otherwise
+        | Form::NoGive
+        | Form::NoArguments
+        | Form::NoVariables
+        | Form::NoItems
+        | Form::NoParameters
+        | Form::NoProcedures => 0,
+        Form::Not
+        | Form::Negate
+        | Form::Array
+        | Form::Length
+        | Form::Give
+        | Form::Variables
+        | Form::Block
+        | Form::Statement => 1,
+        Form::If | Form::AddVariable => 3,
+        Form::Loop | Form::AddProcedure => 4,
+        Form::For => 6,
+        _ => 2,
+    }
+}
+
+/// Takes so many of the last roots as children of the node with this number.
+fn adopt(
+    parents: &mut Vec<usize>,
+    roots: &mut Vec<usize>,
+    number: usize,
+    count: usize,
+) -> Result<(), Full> {
+    for _ in 0..count {
+        let Some(child) = roots.pop() else {
+            return Err(Full::Misplaced);
+        };
+        let Some(parent) = parents.get_mut(child) else {
+            return Err(Full::Misplaced);
+        };
+        *parent = number;
+    }
+    Ok(())
+}
+
+/// For each node its parent; for the root, its own number.
+fn parents(alloc: Global, nodes: &[Node]) -> Result<Vec<usize>, Full> {
+    let mut parents: Vec<usize> = Vec::new(alloc);
+    let mut roots: Vec<usize> = Vec::new(alloc);
+    let mut number: usize = 0;
+    for node in nodes {
+        adopt(&mut parents, &mut roots, number, children(node.form))?;
+        parents.push(number)?;
+        roots.push(number)?;
+        number = parents.len();
+    }
+    Ok(parents)
+}
+
+/// Whether the value of a node is wanted, if it is an `if`, a loop or a block, where its parent has this form, and
+/// the value of the parent is wanted or not.
+fn is_wanted_below(form: Form, parent: Form, wanted: bool) -> bool {
+    match parent {
+        Form::AddItem => false,
+        Form::Loop | Form::For => !matches!(form, Form::Block),
+        Form::AddValue | Form::Else | Form::Block => wanted,
+        Form::If => wanted || !matches!(form, Form::Block | Form::Else),
+        _ => true,
+    }
+}
+
+/// Whether the value of the node with this number is wanted, where the list says it of the nodes behind it, from the
+/// last one on.
+fn is_wanted_with(
+    nodes: &[Node],
+    parents: &[usize],
+    behind: &[bool],
+    number: usize,
+) -> Result<bool, Full> {
+    let (Some(node), Some(parent)) = (nodes.get(number), parents.get(number)) else {
+        return Err(Full::Misplaced);
+    };
+    let Some(above) = nodes.get(*parent) else {
+        return Err(Full::Misplaced);
+    };
+    let wanted = match is_wanted_at(behind, nodes.len(), *parent) {
+        Some(wanted) => wanted,
+        None => true,
+    };
+    Ok(is_wanted_below(node.form, above.form, wanted))
+}
+
+/// For each node, from the last one on, whether its value is wanted, if it is an `if`, a loop or a block.
+fn wanted(alloc: Global, nodes: &[Node], parents: &[usize]) -> Result<Vec<bool>, Full> {
+    let mut wanted: Vec<bool> = Vec::new(alloc);
+    for back in 0..nodes.len() {
+        let number = nodes.len() - 1 - back;
+        let is_wanted = is_wanted_with(nodes, parents, &wanted, number)?;
+        wanted.push(is_wanted)?;
+    }
+    Ok(wanted)
+}
+
+/// Of a list from the last of so many nodes on, what it says of the node with this number.
+fn is_wanted_at(wanted: &[bool], count: usize, number: usize) -> Option<bool> {
+    if number >= count {
+        return None;
+    }
+    match wanted.get(count - 1 - number) {
+        Some(is_wanted) => Some(*is_wanted),
+        None => None,
+    }
+}
+
+/// The nodes of a source, and what stands around them.
+#[derive(Drop)]
+pub(crate) struct Tree<'a> {
+    tokens: &'a [Token],
+    nodes: &'a [Node],
+    meanings: &'a [Meaning],
+    parents: Vec<usize>,
+    wanted: Vec<bool>,
+}
+
+impl<'a> Tree<'a> {
+    /// The tree of these nodes.
+    pub fn new(
+        alloc: Global,
+        tokens: &'a [Token],
+        nodes: &'a [Node],
+        meanings: &'a [Meaning],
+    ) -> Result<Tree<'a>, Full> {
+        let parents = parents(alloc, nodes)?;
+        let wanted = wanted(alloc, nodes, &parents)?;
+        Ok(Tree {
+            tokens,
+            nodes,
+            meanings,
+            parents,
+            wanted,
+        })
+    }
+
+    /// How many nodes it has.
+    pub fn len(&self) -> usize {
+        self.nodes.len()
+    }
+
+    /// The node with this number.
+    pub fn node(&self, number: usize) -> Result<Node, Full> {
+        match self.nodes.get(number) {
+            Some(node) => Ok(*node),
+            None => Err(Full::Misplaced),
+        }
+    }
+
+    /// The form of the node with this number.
+    pub fn form(&self, number: usize) -> Result<Form, Full> {
+        match self.nodes.get(number) {
+            Some(node) => Ok(node.form),
+            None => Err(Full::Misplaced),
+        }
+    }
+
+    /// The parent of the node with this number; of the root, the root.
+    pub fn parent(&self, number: usize) -> Result<usize, Full> {
+        match self.parents.get(number) {
+            Some(parent) => Ok(*parent),
+            None => Err(Full::Misplaced),
+        }
+    }
+
+    /// Whether the value of the node with this number is wanted, if it is an `if`, a loop or a block.
+    pub fn is_wanted(&self, number: usize) -> Result<bool, Full> {
+        match is_wanted_at(&self.wanted, self.nodes.len(), number) {
+            Some(is_wanted) => Ok(is_wanted),
+            None => Err(Full::Misplaced),
+        }
+    }
+
+    /// What the node with this number means.
+    pub fn meaning(&self, number: usize) -> Result<Meaning, Full> {
+        match self.meanings.get(number) {
+            Some(meaning) => Ok(*meaning),
+            None => Err(Full::Misplaced),
+        }
+    }
+
+    /// The first node around this one that has the form or the other.
+    pub fn around(&self, number: usize, form: Form, other: Form) -> Result<usize, Full> {
+        let mut at = number;
+        for _ in 0..self.nodes.len() {
+            at = self.parent(at)?;
+            let found = self.form(at)?;
+            if found == form || found == other {
+                return Ok(at);
+            }
+        }
+        Err(Full::Misplaced)
+    }
+
+    /// The form of the node so many behind this one.
+    fn form_behind(&self, number: usize, count: usize) -> Option<Form> {
+        let Some(behind) = self.nodes.get(number..) else {
+            return None;
+        };
+        match behind.get(count) {
+            Some(node) => Some(node.form),
+            None => None,
+        }
+    }
+
+    /// Whether at the beginning of the first block of an `if` that ends with node `whole` both sides are just a name
+    /// or a constant.
+    pub fn is_choice(&self, number: usize, whole: usize) -> bool {
+        whole.checked_sub(number) == Some(10)
+            && is_atom(self.form_behind(number, 1))
+            && self.form_behind(number, 2) == Some(Form::AddValue)
+            && self.form_behind(number, 4) == Some(Form::Otherwise)
+            && is_atom(self.form_behind(number, 6))
+            && self.form_behind(number, 7) == Some(Form::AddValue)
+    }
+
+    /// The place of the token with this number, or of the first byte where there is none.
+    pub fn place_at(&self, token: usize) -> Place {
+        match self.tokens.get(token) {
+            Some(token) => token.place(),
+            None => Place::start(),
+        }
+    }
+
+    /// The place of the node with this number, or of the first byte where there is none.
+    pub fn place_of(&self, number: usize) -> Place {
+        match self.nodes.get(number) {
+            Some(node) => self.place_at(node.token),
+            None => Place::start(),
+        }
+    }
+
+    /// The name that a node is.
+    pub fn name_of(&self, number: usize) -> Result<BlockName, Full> {
+        let node = self.node(number)?;
+        match self.tokens.get(node.token) {
+            Some(token) => match token.word() {
+                Word::Name(name) => Ok(name),
+                _ => Err(Full::Misplaced),
+            },
+            None => Err(Full::Misplaced),
+        }
+    }
+
+    /// The number that a node is, without its sign.
+    pub fn number_of(&self, number: usize) -> Result<u64, Full> {
+        let node = self.node(number)?;
+        match self.tokens.get(node.token) {
+            Some(token) => match token.word() {
+                Word::Number(number) => Ok(number),
+                _ => Err(Full::Misplaced),
+            },
+            None => Err(Full::Misplaced),
+        }
+    }
+}
+
+/// Whether it is a name or a constant.
+fn is_atom(form: Option<Form>) -> bool {
+    match form {
+        Some(form) => matches!(
+            form,
+            Form::Name | Form::Number | Form::Negative | Form::True | Form::False
+        ),
+        None => false,
+    }
+}
