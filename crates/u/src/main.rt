@@ -5,8 +5,10 @@
 ghost use Rattle.u_words.specs.Requests.{IsInRange};
 
 mod commands;
+mod fault;
 mod telling;
 
+use fault::Fault;
 use std::alloc::Global;
 use std::io;
 use std::process::ExitCode;
@@ -29,7 +31,7 @@ fn main(rt: HostRuntime) -> ExitCode {
 }
 
 /// Does what the command line asks for. Returns the exit status. A fleet has its threads from `threads`.
-fn answer<T: Threads + Wait + Sync>(rt: &HostRuntime, threads: &T) -> Result<u8, CommandError> {
+fn answer<T: Threads + Wait + Sync>(rt: &HostRuntime, threads: &T) -> Result<u8, Fault> {
     let alloc: Global = rt.alloc();
     let words = match arguments(rt) {
         Ok(words) => words,
@@ -37,7 +39,7 @@ fn answer<T: Threads + Wait + Sync>(rt: &HostRuntime, threads: &T) -> Result<u8,
             let mistake = not_text(alloc).map_err(|_| CommandError::NoMemory)?;
             return show(rt, mistake);
         }
-        Err(Missing::NoMemory) => return Err(CommandError::NoMemory),
+        Err(Missing::NoMemory) => return Err(Fault::Command(CommandError::NoMemory)),
     };
     match parse(alloc, words.as_slice()) {
         Ok(request) => follow(rt, threads, request),
@@ -47,11 +49,7 @@ fn answer<T: Threads + Wait + Sync>(rt: &HostRuntime, threads: &T) -> Result<u8,
 
 /// Prints a mistake in the words, or help or the version. A number with a minus is told apart from other
 /// words that look like an option.
-fn show_mistake(
-    rt: &HostRuntime,
-    words: &[String],
-    error: clap::Error,
-) -> Result<u8, CommandError> {
+fn show_mistake(rt: &HostRuntime, words: &[String], error: clap::Error) -> Result<u8, Fault> {
     let number = match error.kind() {
         clap::error::ErrorKind::UnknownArgument => number_below_zero(words),
         _ => None,
@@ -59,7 +57,7 @@ fn show_mistake(
     match number {
         Some(word) => match below_zero(rt.alloc(), word) {
             Ok(mistake) => show(rt, mistake),
-            Err(_) => Err(CommandError::NoMemory),
+            Err(_) => Err(Fault::Command(CommandError::NoMemory)),
         },
         None => show(rt, error),
     }
@@ -82,7 +80,7 @@ fn follow<T: Threads + Wait + Sync>(
     rt: &HostRuntime,
     threads: &T,
     request: Request<'_>,
-) -> Result<u8, CommandError>
+) -> Result<u8, Fault>
     requires { IsInRange request }
 {
     match request {
@@ -101,6 +99,7 @@ fn follow<T: Threads + Wait + Sync>(
         ),
         Request::Explain { file, strict } => commands::explain(rt, file, strict),
         Request::Lift { file } => commands::lift(rt, file),
+        Request::Compile { file, map } => commands::compile(rt, file, map),
         Request::Draw { file } => commands::draw(rt, file),
         Request::DrawRun {
             file,
@@ -201,9 +200,9 @@ fn arguments(rt: &HostRuntime) -> Result<Vec<String>, Missing> {
 
 /// Prints what `clap` says: help and the version on standard output, with status 0, and a
 /// mistake on standard error, with status 1.
-fn show(rt: &HostRuntime, error: clap::Error) -> Result<u8, CommandError> {
+fn show(rt: &HostRuntime, error: clap::Error) -> Result<u8, Fault> {
     if error.kind() == clap::error::ErrorKind::OutOfMemory {
-        return Err(CommandError::NoMemory);
+        return Err(Fault::Command(CommandError::NoMemory));
     }
     if error.use_stderr() {
         let _ = error.print(rt);

@@ -1,3 +1,4 @@
+pub mod Compiles
 pub mod DrawnWorlds
 pub mod Fleets
 pub mod Shares

@@ -3,11 +3,13 @@
 //! of several replicas, in a world, in threads and over a message bus, stand here.
 #![tactic(auto)]
 
+mod compiling;
 mod drawing;
 mod fleets;
 mod sharing;
 mod worlds;
 
+pub use compiling::{SourceFault, compile_text, is_source, program_of};
 pub use drawing::draw_world_text;
 pub use fleets::{FLEET_BUDGET, FLEET_FIRINGS, fleet_text};
 pub use sharing::{SHARED_FIRINGS, member_plan, share_text};
@@ -18,5 +20,6 @@ pub use u_commands::{
     save_text, save_watched_text, trace_text, trace_watched_text, waits_text, waits_watched_text,
     write_whole,
 };
+pub use u_compile::CompileError;
 pub use u_share::{Bus, Plan};
 pub use worlds::{WorldPlan, world_text, world_watched_text};

@@ -3,7 +3,7 @@ use Rattle.std.specs.Prelude.{◌≡◌, ◌↔◌, ℕ, ◌≤◌, Bool, true, 
 use Rattle.clap.specs.Words.{first_value}
 use Rattle.clap.specs.declared.parser.matches.Found.{Found}
 use Rattle.u_words.specs.declared.words.Request.{Request}
-use Rattle.u_words.specs.declared.words.Request.TheVariants.{Stored, Check, Explain, Lift, Draw, DrawRun, DrawStory, Run, Save, Restore, Trace, Blame, Waits, World, Fleet, Share}
+use Rattle.u_words.specs.declared.words.Request.TheVariants.{Stored, Check, Explain, Lift, Compile, Draw, DrawRun, DrawStory, Run, Save, Restore, Trace, Blame, Waits, World, Fleet, Share}
 use Rattle.u_words.specs.Numbers.{IsFirings, IsDrawn, IsOneToEight, IsPort, IsNumberText}
 
 -- the numbers of a request are in their ranges: what runs may fire from one to a million times, the
@@ -16,6 +16,7 @@ IsInRange Stored = Unit {0}
 IsInRange (Check file strict determinate) = Unit {0}
 IsInRange (Explain file strict) = Unit {0}
 IsInRange (Lift file) = Unit {0}
+IsInRange (Compile file map) = Unit {0}
 IsInRange (Draw file) = Unit {0}
 IsInRange (DrawRun file argument firings) = IsDrawn firings
 IsInRange (DrawStory file argument entry firings) = IsFirings firings
@@ -60,6 +61,12 @@ IsExplainRequest found request = ⊥
 abbrev pub IsLiftRequest : Found → Request → Type 0
 IsLiftRequest found (Lift file) = file.now ≡ word_of found (codes "FILE")
 IsLiftRequest found request = ⊥
+
+-- a source to compile, with the words that were found for it
+abbrev pub IsCompileRequest : Found → Request → Type 0
+IsCompileRequest found (Compile file map) =
+    (file.now ≡ word_of found (codes "FILE")) × IsFlag map (word_of found (codes "map"))
+IsCompileRequest found request = ⊥
 
 -- the number is that one where no word was found for it, and else what the word spells
 abbrev pub IsNumberOr : ℕ → ℕ → Option (List ℕ) → Type 0

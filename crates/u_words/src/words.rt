@@ -2,7 +2,7 @@
 ghost use Rattle.std.specs.Prelude.{◌≡◌, IfOk, IfSome, codes};
 ghost use Rattle.clap.specs.Words.{found_of, first_value};
 ghost use Rattle.u_words.specs.Requests.{IsInRange, IsCheckRequest, IsRunRequest, IsSaveRequest, IsRestoreRequest, IsTraceRequest, IsWorldRequest, word_of};
-ghost use Rattle.u_words.specs.Requests.{IsExplainRequest, IsLiftRequest, IsDrawRequest, IsNumberOr, IsWaitsRequest, IsFleetRequest, IsFlag};
+ghost use Rattle.u_words.specs.Requests.{IsExplainRequest, IsLiftRequest, IsCompileRequest, IsDrawRequest, IsNumberOr, IsWaitsRequest, IsFleetRequest, IsFlag};
 ghost use Rattle.u_words.specs.Requests.{IsBlameRequest, IsShareRequest};
 ghost use Rattle.u_words.specs.Numbers.{IsFirings, IsDrawn, IsOneToEight, IsPort, IsNumberText};
 
@@ -23,6 +23,9 @@ const EXPLAIN: &str = "explain";
 
 /// The word of the command that prints a program under version 2.
 const LIFT: &str = "lift";
+
+/// The word of the command that compiles.
+const COMPILE: &str = "compile";
 
 /// The word of the command that draws.
 const DRAW: &str = "draw";
@@ -91,6 +94,11 @@ pub enum Request<'a> {
     /// `lift FILE`: the text of the program under version 2.
     Lift {
         file: &'a str,
+    },
+    /// `compile FILE`: the program of the source; what its statements stand for, only if `map` asks for it.
+    Compile {
+        file: &'a str,
+        map: bool,
     },
     /// `draw FILE`: the picture of the program.
     Draw {
@@ -191,6 +199,7 @@ pub fn parse<'a>(alloc: Global, words: &'a [String]) -> Result<Request<'a>, Erro
         Some((name, check)) if name == CHECK => Ok(check_request(check)),
         Some((name, explain)) if name == EXPLAIN => Ok(explain_request(explain)),
         Some((name, lift)) if name == LIFT => Ok(lift_request(lift)),
+        Some((name, compile)) if name == COMPILE => Ok(compile_request(compile)),
         Some((name, draw)) if name == DRAW => draw_request(alloc, draw),
         Some((name, save)) if name == SAVE => save_request(alloc, save),
         Some((name, restore)) if name == RESTORE => restore_request(alloc, restore),
@@ -247,6 +256,16 @@ fn lift_request<'a>(matches: &ArgMatches<'a>) -> Request<'a>
 {
     Request::Lift {
         file: text(matches, "FILE"),
+    }
+}
+
+/// The words of `compile`.
+fn compile_request<'a>(matches: &ArgMatches<'a>) -> Request<'a>
+    ensures { IsCompileRequest (found_of matches.now) result }
+{
+    Request::Compile {
+        file: text(matches, "FILE"),
+        map: flag(matches, "map"),
     }
 }
 
@@ -543,6 +562,7 @@ fn commands<'a>(alloc: Global) -> Result<Command<'a>, AllocError> {
     let all = with(all, check(alloc))?;
     let all = with(all, explain(alloc))?;
     let all = with(all, lift(alloc))?;
+    let all = with(all, compile(alloc))?;
     let all = with(all, draw(alloc, DRAW))?;
     let all = with(all, run(alloc, "run"))?;
     let all = with(all, save(alloc, SAVE))?;
@@ -573,7 +593,9 @@ fn of_program<'a>(
     Command::new(alloc, name)
         .about(about)
         .after_help(example)
-        .arg(word(alloc, "FILE").help("The program's file, or the word stdin for standard input"))
+        .arg(word(alloc, "FILE").help(
+            "The file of a program, or of a source if it ends in .ul; or the word stdin",
+        ))
 }
 
 /// A command that takes FILE and ARG.
@@ -620,6 +642,16 @@ fn lift<'a>(alloc: Global) -> Result<Command<'a>, AllocError> {
         "Prints the program as one of version 2, which runs alike",
         "Example: ./u lift programs/double.u > double2.u",
     )
+}
+
+fn compile<'a>(alloc: Global) -> Result<Command<'a>, AllocError> {
+    Command::new(alloc, COMPILE)
+        .about("Compiles a source, which has names in place of numbers, and prints its program")
+        .after_help("Example: ./u compile programs/sum.ul > sum.u")
+        .arg(word(alloc, "FILE").help("The source's file, or the word stdin for standard input"))?
+        .arg(choice(alloc, "map").help(
+            "Print which place of the source each statement stands for, in place of the program",
+        ))
 }
 
 fn draw<'a>(alloc: Global, name: &'a str) -> Result<Command<'a>, AllocError> {

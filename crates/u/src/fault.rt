@@ -1,0 +1,30 @@
+//! Why the program ends without what was asked for.
+use thiserror::Error;
+use u_cli::{CommandError, SourceFault};
+
+/// Why the program ends without what was asked for. It prints as the text that stands behind `u: `.
+#[derive(Debug, Drop, Error)]
+pub enum Fault {
+    /// A command gives no whole output.
+    #[error("{0}")]
+    Command(CommandError),
+    /// A source gives none.
+    #[error("{0}")]
+    Source(SourceFault),
+}
+
+impl From<CommandError> for Fault {
+    fn from(error: CommandError) -> Fault {
+        Fault::Command(error)
+    }
+}
+
+impl Fault {
+    /// The exit status.
+    pub fn status(&self) -> u8 {
+        match self {
+            Fault::Command(error) => error.status(),
+            Fault::Source(fault) => fault.status(),
+        }
+    }
+}

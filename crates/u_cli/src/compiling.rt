@@ -1,0 +1,110 @@
+//! The command `compile`, and sources in place of programs.
+ghost use Rattle.std.specs.Prelude.{◌≡◌, ◌∷◌, [], IfOk, IsTrue};
+ghost use Rattle.u_cli.specs.Compiles.{IsCompiledText, IsCompileText, CompileTextAnswer};
+ghost use Rattle.u_cli.specs.declared.compiling.SourceFault.TheVariants as faults;
+
+use std::alloc::Global;
+use std::io::Write;
+use thiserror::Error;
+use u_commands::write_whole;
+use u_compile::{CompileError, compile};
+
+/// How the name of a source's file ends.
+const ENDING: &str = ".ul";
+
+/// How the text of a program begins.
+const HEAD: &[u8] = b"u-program";
+
+/// Why a source gives no whole output.
+#[derive(Debug, Drop, PartialEq, Eq, Error)]
+pub enum SourceFault {
+    /// The source is refused, or there is no memory.
+    #[error("{0}")]
+    Refused(CompileError),
+    /// The output could not be written; what was written is a prefix of it.
+    #[error("not written")]
+    NotWritten,
+}
+
+impl From<CompileError> for SourceFault {
+    ghost from_gives = { λ error e. e ≡ faults.Refused error };
+
+    fn from(error: CompileError) -> SourceFault {
+        SourceFault::Refused(error)
+    }
+}
+
+impl SourceFault {
+    /// The exit status: 2 where a source is refused, 5 where memory or writing fails.
+    pub fn status(&self) -> u8 {
+        match self {
+            SourceFault::Refused(CompileError::NoMemory) | SourceFault::NotWritten => 5,
+            SourceFault::Refused(_) => 2,
+        }
+    }
+}
+
+/// Whether a file with that path and these bytes is a source: its name ends in `.ul`, and it does not begin as a
+/// program does.
+pub fn is_source(path: &str, bytes: &[u8]) -> bool {
+    path.ends_with(ENDING) && !bytes.starts_with(HEAD)
+}
+
+/// The text of the program of the source.
+///
+/// # Errors
+/// As `u_compile::compile`.
+pub fn program_of(alloc: Global, source: &[u8]) -> Result<Vec<u8>, CompileError>
+    ensures { IfOk result (λ v. IsCompiledText v.items) }
+{
+    let compiled = compile(alloc, source)?;
+    let mut text = Vec::new(alloc);
+    compiled.program().write_text(&mut text)?;
+    Ok(text)
+}
+
+/// The map of the source: what its program's statements stand for.
+///
+/// # Errors
+/// As `u_compile::compile`.
+fn map_of(alloc: Global, source: &[u8]) -> Result<Vec<u8>, CompileError> {
+    let compiled = compile(alloc, source)?;
+    let mut text = Vec::new(alloc);
+    compiled.write_map(&mut text)?;
+    Ok(text)
+}
+
+/// The text of the program of the source, or its map if that is asked for.
+///
+/// # Errors
+/// As `u_compile::compile`.
+fn text_of(alloc: Global, source: &[u8], map: bool) -> Result<Vec<u8>, CompileError>
+    ensures { IfOk result (λ v. IsCompileText map v.items) }
+{
+    if map {
+        map_of(alloc, source)
+    } else {
+        program_of(alloc, source)
+    }
+}
+
+/// Compiles the source and writes the text of its program; if `map` is true, in place of that the map: which place of
+/// the source each statement stands for. Returns the exit status, 0.
+///
+/// # Errors
+/// `Refused` as `u_compile::compile` refuses the source: nothing is written. `NotWritten`: a prefix of the text is
+/// written.
+pub fn compile_text<W: Write>(
+    alloc: Global,
+    source: &[u8],
+    map: bool,
+    writer: &mut W,
+) -> Result<u8, SourceFault>
+    ensures { CompileTextAnswer map (W.contents writer.old) result (W.contents writer.new) }
+{
+    let text = text_of(alloc, source, map)?;
+    match write_whole(writer, &text) {
+        Ok(()) => Ok(0),
+        Err(_) => Err(SourceFault::NotWritten),
+    }
+}
