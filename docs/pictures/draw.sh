@@ -1,7 +1,7 @@
 #!/usr/bin/env bash
 # Says which pictures of docs/pictures are old: each was drawn by Graphviz from what `u` printed of the program of
-# the same name, of a run of one, or of a world, and ends with the checksum of that text. The last line is
-# 'N passed, M failed'.
+# the same name, or of the source where there is no program, of a run of one, or of a world, and ends with the
+# checksum of that text. The last line is 'N passed, M failed'.
 #
 #   docs/pictures/draw.sh           says which are old
 #   docs/pictures/draw.sh --write   draws those anew, with Graphviz, which it installs by name if it is missing
@@ -48,6 +48,10 @@ look() {
 
 for program in programs/*.u; do
     look "$(basename -- "$program" .u)" draw "$program"
+done
+for source in programs/*.ul; do
+    name=$(basename -- "$source" .ul)
+    [ -e "programs/$name.u" ] || look "$name" draw "$source"
 done
 look sum_run draw programs/sum.u 3
 look two_writers_run draw programs/two_writers.u 0
