@@ -1,9 +1,10 @@
 #!/usr/bin/env bash
 # Runs the built program on the cases of tests/cases, and compares standard output, standard error
 # and the exit status with what stands there; runs the examples of README.md, docs/LANGUAGE.md,
-# docs/REPLICAS.md and docs/programs; compares the manual page and the completions with `--help`, what README counts with what
-# there is, and the names that docs/THEOREMS.md lists with those of its promises; and compares programs/ and
-# the example of docs/LIBRARY.md with the code that tests run. The last line is 'N passed, M failed'.
+# docs/NOTATION.md, docs/TUTORIAL.md, docs/REPLICAS.md and docs/programs; compares the manual page and the
+# completions with `--help`, what README counts with what there is, and the names that docs/THEOREMS.md
+# lists with those of its promises; and compares programs/ and the example of docs/LIBRARY.md with the code
+# that tests run. The last line is 'N passed, M failed'.
 #
 # The lines of a case:
 #   case: NAME            begins a case
@@ -240,7 +241,7 @@ run_examples() {
     end_example
 }
 
-for page in README.md docs/LANGUAGE.md docs/REPLICAS.md docs/programs/*.md; do
+for page in README.md docs/LANGUAGE.md docs/NOTATION.md docs/TUTORIAL.md docs/REPLICAS.md docs/programs/*.md; do
     run_examples "$page"
 done
 
@@ -276,9 +277,9 @@ expect_same 'the options of u are completed' "$(options_of)" "$(completed u -)"
 for command in $commands; do
     expect_same "the options of $command are completed" "$(options_of "$command")" "$(completed u "$command" -)"
 done
-expect_same 'a file is completed' programs/double.u "$(completed u check programs/doub)"
+expect_same 'a file is completed' docs/LANGUAGE.md "$(completed u check docs/LANG)"
 expect_same 'a number is not completed' '' "$(completed u run programs/double.u '')"
-expect_same 'a checkpoint is completed' programs/double.u "$(completed u restore --help a 3 programs/doub)"
+expect_same 'a checkpoint is completed' docs/LANGUAGE.md "$(completed u restore --help a 3 docs/LANG)"
 
 expect_same 'README counts the definitions of the headline' \
     "$(tests/definitions.py u_world/Headline | tail -n 1)" \
