@@ -178,6 +178,11 @@ has_seen() {
     [ "$(seen)" -ge "$1" ]
 }
 
+# Whether the last of the forged lines was.
+has_seen_forged() {
+    grep -qxF -- "${forged##*$'\n'}" "$temp/seen"
+}
+
 # Whether the process has ended.
 has_ended() {
     ! kill -0 "$1" 2>/dev/null
@@ -304,6 +309,8 @@ run_rough() {
     begin rough $((size - 1))
     start_job forge
     forging=$job
+    # Whoever reads the bus from its start gets a forged line before it has fired all there is.
+    until_so 100 has_seen_forged
     # For each line it fires eight times at most, so it is not at its end once its lines stop.
     U_STOP_AFTER=$((firings / 12)) start_member leader "$temp/spoilt" --burst 8
     start_member follower "$temp/spoilt" --follow
@@ -326,8 +333,8 @@ run_rough() {
     reports again "$again" parked
     count "$engine: the report of the member that was killed" $?
     kill -- "-$forging" 2>/dev/null
-    grep -q 'u: line [0-9]* not allowed' "$temp/again.said" &&
-        grep -q 'u: line [0-9]* not of this job' "$temp/again.said"
+    grep -q 'u: line [0-9]* not allowed' "$temp/follower.said" &&
+        grep -q 'u: line [0-9]* not of this job' "$temp/follower.said"
     count "$engine: notices of forged lines" $?
     end rough
 }
