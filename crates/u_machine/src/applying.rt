@@ -24,6 +24,17 @@ use u_match::Entered;
 use u_rule::{Entry, Firing, given_by};
 use u_sets::OrderedSet;
 
+/// Takes all firings out of the set. A single one leaves its room to the next.
+fn empty(alloc: Global, set: &mut OrderedSet<Firing>)
+    ensures { set.new ≡ [] }
+{
+    if set.len() == 1 {
+        set.pop_first();
+        return;
+    }
+    *set = OrderedSet::new(alloc);
+}
+
 impl<'a> Parts<'a> {
     /// Whether a firing is parked that is not being applied, since it waits for its needs.
     fn has_waiting(&self) -> bool
@@ -245,7 +256,7 @@ impl<'a> Parts<'a> {
         ensures still { SameButApplied self.old self.new }
         ensures applied_count { self.new.applied_count ≡ length self.old.log.items }
     {
-        self.parked = OrderedSet::new(self.alloc);
+        empty(self.alloc, &mut self.parked);
         self.applied_count = self.log.len();
     }
 
