@@ -21,3 +21,4 @@ pub mod LateNeeds
 pub mod LateTokens
 pub mod Making
 pub mod Picking
+pub mod Fronted

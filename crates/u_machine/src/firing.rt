@@ -58,12 +58,12 @@ impl<'a> Parts<'a> {
         if pick == 0 {
             self.make_least()?;
             // Brings in that the ready firings rise.
-            let _count = self.ready.len();
+            let _none = self.ready.is_empty();
             self.begin_least()?;
             return Ok(());
         }
         self.make_all()?;
-        let place = pick % self.ready.len();
+        let place = self.ready.picked(pick);
         self.begin_at(place)?;
         Ok(())
     }
@@ -95,7 +95,7 @@ impl<'a> Parts<'a> {
         ensures quiet { IsTrue result → NothingReady (state_of self.now) }
         ensures ready { IsFalse result → (f : Firing) × IsReady (state_of self.now) f }
     {
-        if self.ready.len() > 0 {
+        if !self.ready.is_empty() {
             return false;
         }
         if self.late.len() > 0 {

@@ -9,6 +9,7 @@ mod late_tokens;
 mod machine;
 mod masks;
 mod parts;
+mod ready_set;
 mod room;
 mod taking;
 

@@ -1,4 +1,4 @@
-use Rattle.std.proofs.Common.{◌<◌, ◌++◌, ◌∷◌, [], inl, inr, sym, ◌∙◌, ap, arith, subst, length, ℕ}
+use Rattle.std.proofs.Common.{◌<◌, ◌++◌, ◌∷◌, [], inl, inr, sym, ◌∙◌, ap, subst, length, ℕ}
 use Rattle.std.specs.Prelude.{Contains}
 use Rattle.std.proofs.lemmas.Nat.{mod_below}
 use Rattle.u_rule.specs.EntryOrder.{FiringList}
@@ -35,7 +35,7 @@ returns-then-pick-eq0-clause-ok c =
     record {
       firing = b.firing;
       picked = subst (λ (n : ℕ). IsPick (state_of c.args.self.now) n b.firing) (sym c.if-pick-eq0.true)
-          (subst (λ (s : State). IsPick s 0 b.firing) m.state (picks_least p c.in_ok-make_least.ensures.kept (makes_settled _ _ m c.requires.settled) c.in_ok-make_least.ensures.least c.len-count.ensures.rises b.firing b.at));
+          (subst (λ (s : State). IsPick s 0 b.firing) m.state (picks_least p c.in_ok-make_least.ensures.kept (makes_settled _ _ m c.requires.settled) c.in_ok-make_least.ensures.least c.is_empty-none.ensures.rises b.firing b.at));
       takes = subst (λ (s : State). Takes s b.firing (state_of c.begin_least.new.self)) m.state b.takes;
       log = b.log ∙ ap (λ (l : FiringList). l ++ b.firing ∷ []) m.log;
     }
@@ -49,15 +49,13 @@ some_made c =
     let there = ready_there p k st c.requires.ready.0 (subst (λ (s : State). IsReady s c.requires.ready.0) (sym m.state) c.requires.ready.1) in
     some_there p.ready c.requires.ready.0 ((ready_is_made _ _ _ _ _ _ _ k.late (k.idle st) c.in_ok-make_all.ensures.ok c.requires.ready.0).1 there)
 
-pub nonzero_rem-place : goal.nonzero_rem-place
-nonzero_rem-place c = let s = some_made (goal.at.nonzero_rem-place c).In_ok-make_all in let n = c.len.ensures.len in omega (arith, s, n)
+pub picked-place-requires : goal.picked-place-requires
+picked-place-requires c = some_made (goal.at.picked-place-requires c).In_ok-make_all
 
 pub begin_at-requires-clause-ready : goal.begin_at-requires-clause-ready
 begin_at-requires-clause-ready c =
     let s = some_made (goal.at.begin_at-requires-clause-ready c).In_ok-make_all in
-    let n = c.len.ensures.len in
-    let l = mod_below c.args.pick c.len.result (omega (arith, s, n)) in
-    omega (arith, l, n)
+    rw c.picked-place.ensures.place (mod_below c.args.pick (length c.make_all.new.self.ready) s)
 
 pub returns-clause-ok : goal.returns-clause-ok
 returns-clause-ok c =
@@ -67,7 +65,7 @@ returns-clause-ok c =
     record {
       firing = b.firing;
       picked = subst (λ (s : State). IsPick s c.args.pick b.firing) m.state
-          (picks_made p c.in_ok-make_all.ensures.kept (makes_settled _ _ m c.requires.settled) c.in_ok-make_all.ensures.ok c.len.ensures.rises c.args.pick b.firing (rw c.len.ensures.len at b.at));
+          (picks_made p c.in_ok-make_all.ensures.kept (makes_settled _ _ m c.requires.settled) c.in_ok-make_all.ensures.ok c.picked-place.ensures.rises c.args.pick b.firing (rw c.picked-place.ensures.place at b.at));
       takes = subst (λ (s : State). Takes s b.firing (state_of c.begin_at.new.self)) m.state b.takes;
       log = b.log ∙ ap (λ (l : FiringList). l ++ b.firing ∷ []) m.log;
     }
