@@ -1,8 +1,9 @@
 -- The block of a graph lies within the limits of a block.
-use Rattle.std.proofs.Common.{◌≡◌, ℕ, suc, ◌≤◌, refl, sym, ap, ◌∙◌, subst, arith, Bool, true, false, cond, not, ◌&&◌, ◌||◌, ◌==◌, List, [], ◌∷◌, ◌++◌, ◌<◌, length, Some, Option}
+use Rattle.std.proofs.Common.{◌≡◌, ℕ, suc, inl, inr, ◌≤◌, refl, sym, ap, ◌∙◌, subst, arith, Bool, true, false, cond, not, ◌&&◌, ◌||◌, ◌==◌, List, [], ◌∷◌, ◌++◌, ◌<◌, length, Some, Option}
 use Rattle.std.specs.Prelude.{slice_get}
 use Rattle.std.specs.List.{AllByRecursion}
 use Rattle.std.proofs.lemmas.List.{length-append}
+use Rattle.std.proofs.lemmas.List.Elements.{Contains-push_cases}
 use Rattle.std.proofs.lemmas.Bool.{false≢true, and_left, and_right, eqb-true}
 use Rattle.u_name.specs.Block.{IsBlock}
 use Rattle.u_program.specs.declared.program.Kind.{Kind}
@@ -12,6 +13,7 @@ use Rattle.u_program.specs.declared.program.Version.TheVariants.{Two}
 use Rattle.u_program.specs.Parts.{BlockParts}
 use Rattle.u_program.proofs.Steps.{all_append}
 use Rattle.u_program.specs.Limits.{has_list, has_otherwise, HasKind, HasPorts, IsListed, Ascending, rank, IsStatement, IsBlockOf, IsProgram, limits_of}
+use Rattle.u_determinate.specs.Determinate.{IsDeterminateBlock}
 use Rattle.u_compile.specs.declared.graph.Link.{Link}
 use Rattle.u_compile.specs.Drafts.{DraftParts}
 use Rattle.u_compile.specs.Graphs.{GraphParts, output, destinations, draft_at, has_output, is_next, is_enter, enters, IsGraph}
@@ -99,7 +101,7 @@ all_statements : (ls : List Link) (ds : List DraftParts) → ((k : ℕ) (d : Dra
 all_statements ls [] all = tt
 all_statements ls (d ∷ ds) all = (all 0 d refl, all_statements ls ds (λ k e at. all (suc k) e at))
 
-length-statements_of : (ls : List Link) (ds : List DraftParts) → length (statements_of ls ds) ≡ length ds
+pub length-statements_of : (ls : List Link) (ds : List DraftParts) → length (statements_of ls ds) ≡ length ds
 length-statements_of ls [] = refl
 length-statements_of ls (d ∷ ds) = ap suc (length-statements_of ls ds)
 
@@ -121,11 +123,15 @@ pub finished_within : (name : List ℕ) (g : GraphParts) (b : BlockParts) → Is
 finished_within name g b f = f.within
 
 -- one block more
-pub one_more_block : (bs : List BlockParts) (b : BlockParts) → AreBlocks bs → length bs < 64 → IsBlockOf (limits_of Two) b → AreBlocks (bs ++ (b ∷ []))
-one_more_block bs b are few is = record {
+pub one_more_block : (bs : List BlockParts) (b : BlockParts) → AreBlocks bs → length bs < 64 → IsBlockOf (limits_of Two) b → IsDeterminateBlock b → AreBlocks (bs ++ (b ∷ []))
+one_more_block bs b are few is sure = record {
   each = all_append (IsBlockOf (limits_of Two)) bs b are.each is;
   few = let l = length-append bs (b ∷ []) in omega (arith, l, few);
+  determinate = λ c has. elim (Contains-push_cases bs b c has) [ inl h ↦ are.determinate c h | inr e ↦ subst IsDeterminateBlock e sure ];
 }
+
+pub no_blocks : AreBlocks []
+no_blocks = record { each = tt; few = omega arith; determinate = λ b has. let h = has.1 in absurd (omega (arith, h)) }
 
 -- blocks are those of a program, if there are any
 pub are_program : (bs : List BlockParts) → AreBlocks bs → 1 ≤ length bs → IsProgram (limits_of Two) bs

@@ -4,3 +4,12 @@ pub mod GraphLaws
 pub mod Moves
 pub mod Fans
 pub mod BlockLaws
+pub mod ArcLaws
+pub mod GuardLaws
+pub mod DeterminateLaws
+pub mod ScopedFans
+pub mod ScopedSteps
+pub mod Entries
+pub mod PlacedLaws
+pub mod PlacedTests
+pub mod FinishedLaws

@@ -4,6 +4,7 @@ use Rattle.std.specs.List.{AllByRecursion}
 use Rattle.u_program.specs.Parts.{StatementParts, BlockParts, statement, block}
 use Rattle.u_program.specs.Limits.{IsBlockOf, limits_of}
 use Rattle.u_program.specs.declared.program.Version.TheVariants.{Two}
+use Rattle.u_determinate.specs.Determinate.{IsDeterminate}
 use Rattle.u_compile.specs.Drafts.{DraftParts}
 use Rattle.u_compile.specs.declared.graph.Link.{Link}
 use Rattle.u_compile.specs.Graphs.{GraphParts, output, destinations}
@@ -20,7 +21,8 @@ statements_of ls (d ∷ ds) = statement_of ls d ∷ statements_of ls ds
 abbrev pub block_of : List ℕ → GraphParts → BlockParts
 block_of name g = block name g.loops (statements_of g.links g.statements)
 
--- they lie within the limits of a program of version 2, but that there may be none
+-- they lie within the limits of a program of version 2, but that there may be none, and each is determinate
 pub record AreBlocks (bs : List BlockParts) : Type 0 where
   pub each : AllByRecursion (IsBlockOf (limits_of Two)) bs
   pub few : length bs ≤ 64
+  pub determinate : IsDeterminate bs

@@ -2,3 +2,5 @@ pub mod Drafts
 pub mod Graphs
 pub mod Blocks
 pub mod Fanning
+pub mod Scoped
+pub mod Placed

@@ -3,6 +3,7 @@ ghost use Rattle.std.specs.Prelude.{◌≡◌, ◌++◌, ◌∷◌, ◌≤◌, [
 ghost use Rattle.u_program.specs.Limits.{IsBlockOf, limits_of};
 ghost use Rattle.u_program.specs.Parts.{program};
 ghost use Rattle.u_program.specs.declared.program.Version.TheVariants as versions;
+ghost use Rattle.u_determinate.specs.Determinate.{IsDeterminateBlock, IsDeterminate};
 
 use crate::graph::Full;
 use std::alloc::Global;
@@ -12,7 +13,7 @@ use u_program::{Block, Program, Version};
 /// The most blocks of a program.
 const BLOCKS: usize = 64;
 
-/// At most 64 blocks of version 2.
+/// At most 64 blocks of version 2, each of them determinate.
 #[derive(Drop)]
 pub(crate) struct Blocks {
     list: Vec<Block>,
@@ -32,6 +33,7 @@ impl Model for Blocks {
 
 impl Blocks {
     /// No blocks.
+    #[tactic(auto, using(crate::proofs::BlockLaws::no_blocks))]
     pub fn new(alloc: Global) -> Blocks
         ensures { result ≡ [] }
     {
@@ -46,7 +48,8 @@ impl Blocks {
     /// `Misplaced` where there are 64, `NoMemory` where there is no memory.
     #[tactic(auto, using(crate::proofs::BlockLaws::one_more_block))]
     pub fn push(&mut self, block: Block) -> Result<(), Full>
-        requires { IsBlockOf (limits_of versions.Two) block }
+        requires block { IsBlockOf (limits_of versions.Two) block }
+        requires determinate { IsDeterminateBlock block }
         ensures { MatchResult result (λ _. self.new ≡ self.old ++ (block ∷ []))
             (λ _. self.new ≡ self.old) }
     {
@@ -57,10 +60,11 @@ impl Blocks {
         Ok(())
     }
 
-    /// The program of version 2 of these blocks, where there are any.
+    /// The program of version 2 of these blocks, where there are any. It is determinate.
     #[tactic(auto, using(crate::proofs::BlockLaws::are_program))]
     pub fn program(self) -> Option<Program>
-        ensures { IfSome result (λ p. p ≡ program versions.Two self) }
+        ensures program { IfSome result (λ p. p ≡ program versions.Two self) }
+        ensures determinate { IfSome result (λ p. IsDeterminate p.blocks) }
     {
         if self.list.is_empty() {
             return None;

@@ -16,12 +16,11 @@ pub enum CompileProblem {
     MoreStatements,
     /// A procedure has more than 99 loops.
     MoreLoops,
-    /// The syntax tree is none that the grammar gives. No source is known that shows it.
+    /// The syntax tree is none that the grammar gives, or a statement or a link has no place. No source is known that
+    /// shows it.
     Broken,
     /// The program breaks a rule of the checker. No source is known that shows it.
     NotChecked,
-    /// The program is not determinate. No source is known that shows it.
-    NotDeterminate,
 }
 
 impl fmt::Display for CompileProblem {
@@ -33,7 +32,6 @@ impl fmt::Display for CompileProblem {
             CompileProblem::MoreLoops => f.write_str("more than 99 loops in a procedure"),
             CompileProblem::Broken => f.write_str("the source is not what the parser makes"),
             CompileProblem::NotChecked => f.write_str("the program is not allowed"),
-            CompileProblem::NotDeterminate => f.write_str("the program is not determinate"),
         }
     }
 }

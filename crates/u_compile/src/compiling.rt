@@ -11,7 +11,6 @@ use crate::origins::{Origins, place_in};
 use crate::tree::Tree;
 use std::alloc::Global;
 use u_check::check;
-use u_guards::{Determinacy, determinacy};
 use u_kinds::check_kinds;
 use u_program::Program;
 use u_scope::Checked;
@@ -48,8 +47,10 @@ fn go_through(lowering: &mut Lowering<'_>, tree: &Tree<'_>) -> Result<(), Stoppe
     Ok(())
 }
 
-/// The program of the nodes, and where the statements of its blocks come from.
-fn lower(alloc: Global, tree: &Tree<'_>) -> Result<Lowered, Stopped> {
+/// The program of the nodes, which is determinate, and where the statements of its blocks come from.
+fn lower(alloc: Global, tree: &Tree<'_>) -> Result<Lowered, Stopped>
+    ensures { IfOk result (λ l. IsDeterminate l.program.blocks) }
+{
     let mut lowering = match Lowering::new(alloc, tree) {
         Ok(lowering) => lowering,
         Err(full) => {
@@ -74,8 +75,10 @@ fn lower(alloc: Global, tree: &Tree<'_>) -> Result<Lowered, Stopped> {
     }
 }
 
-/// The program of a source whose names and kinds are allowed.
-fn program_of(alloc: Global, source: &Source, checked: &Checked) -> Result<Lowered, CompileError> {
+/// The program of a source whose names and kinds are allowed. It is determinate.
+fn program_of(alloc: Global, source: &Source, checked: &Checked) -> Result<Lowered, CompileError>
+    ensures { IfOk result (λ l. IsDeterminate l.program.blocks) }
+{
     let tree = match Tree::new(alloc, source.tokens(), source.nodes(), checked.meanings()) {
         Ok(tree) => tree,
         Err(full) => return Err(CompileError::at(Place::start(), full)),
@@ -99,30 +102,14 @@ fn checked_of(program: Program, origins: &[Origins]) -> Result<u_check::Checked,
     }
 }
 
-/// Looks whether the program is determinate.
-fn look_at(
-    alloc: Global,
-    checked: &u_check::Checked,
-    origins: &[Origins],
-) -> Result<(), CompileError>
-    ensures { IfOk result (λ _. IsDeterminate checked.now.blocks) }
-{
-    match determinacy(alloc, checked) {
-        Ok(Determinacy::Determinate) => Ok(()),
-        Ok(Determinacy::Meets(place)) => Err(CompileError::Refused(
-            place_in(origins, place.block, place.at),
-            CompileProblem::NotDeterminate,
-        )),
-        Err(_) => Err(CompileError::NoMemory),
-    }
-}
-
 /// Compiles a source: the text of procedures in the notation with names. What is returned is a program that breaks
 /// no rule of the checker and is determinate: in a run of it a port has two values only if a cell has two writes.
 ///
-/// The text is read, then its names and then its kinds are checked. Then each procedure becomes a block of version 2.
-/// At last the program is looked at by the checker and as to whether it is determinate. Of no source it is known that
-/// its names and kinds are allowed and that its program fails there; tests have found none, but there is no proof.
+/// The text is read, then its names and then its kinds are checked. Then each procedure becomes a block of version 2,
+/// which is determinate since each statement and each link has its place: none is added where it may not stand. At
+/// last the program is looked at by the checker. Of no source it is known that its names and kinds are allowed, and
+/// that a statement or a link has no place or that the checker refuses its program; tests have found none, but there
+/// is no proof.
 ///
 /// # Errors
 /// `Source`, `Check` or `Kinds` with what is not allowed first. `Refused` where a procedure takes more than 999
@@ -137,7 +124,6 @@ pub fn compile(alloc: Global, bytes: &[u8]) -> Result<Compiled, CompileError>
     check_kinds(alloc, &source, &names)?;
     let Lowered { program, origins } = program_of(alloc, &source, &names)?;
     let checked = checked_of(program, &origins)?;
-    look_at(alloc, &checked, &origins)?;
     // Brings in that it is checked.
     let _ = checked.program();
     Ok(Compiled::new(checked, origins))

@@ -1,8 +1,12 @@
 //! Statements and links that a graph gets only where they may stand there.
-ghost use Rattle.std.specs.Prelude.{◌≡◌, ◌<◌, ◌≤◌, true, false, length, IfOk, IsTrue};
+ghost use Rattle.std.specs.Prelude.{◌≡◌, ◌+◌, ◌<◌, ◌≤◌, ◌++◌, ◌∷◌, [], true, false, length, IfOk, IsTrue, MatchResult};
+ghost use Rattle.u_compile.specs.Drafts.{draft};
+ghost use Rattle.u_compile.specs.Scoped.{Layout, IsScoped};
+ghost use Rattle.u_determinate.specs.Determinate.{IsDeterminateBlock};
+ghost use Rattle.u_program.specs.declared.program.Kind.TheVariants as kinds;
 ghost use Rattle.u_program.specs.Limits.{IsConstant, IsKind, IsBlockOf, limits_of, has_list, has_otherwise, rank};
 ghost use Rattle.u_program.specs.declared.program.Version.TheVariants as versions;
-ghost use Rattle.u_compile.specs.Graphs.{same_output, draft_at, is_output, has_port, is_enter, is_next, enters_one, destinations, AllBefore};
+ghost use Rattle.u_compile.specs.Graphs.{graph, link, same_output, draft_at, is_output, has_port, is_enter, is_next, enters_one, destinations, AllBefore};
 
 use crate::fanning::draft_at;
 use crate::graph::{Draft, Full, Graph, Link, Output};
@@ -107,6 +111,20 @@ fn are_before(links: &[Link], from: Output, to: Destination) -> bool
 }
 
 impl Graph {
+    /// Its statements.
+    pub(crate) fn drafts(&self) -> &[Draft]
+        ensures { result.now ≡ self.now.statements }
+    {
+        &self.statements
+    }
+
+    /// Its links.
+    pub(crate) fn links(&self) -> &[Link]
+        ensures { result.now ≡ self.now.links }
+    {
+        &self.links
+    }
+
     /// How many loops it has.
     fn count_loops(&self) -> usize
         ensures { result ≡ length self.now.loops }
@@ -146,7 +164,12 @@ impl Graph {
     ///
     /// # Errors
     /// Those of `add_loop`; `Misplaced` where there is no such region.
-    pub(crate) fn put_loop(&mut self, held_by: u8) -> Result<u8, Full> {
+    pub(crate) fn put_loop(&mut self, held_by: u8) -> Result<u8, Full>
+        ensures { MatchResult result
+            (λ number. (number ≡ length self.old.loops + 1)
+            × (self.new ≡ graph (self.old.loops ++ (held_by ∷ [])) self.old.statements self.old.links))
+            (λ _. self.new ≡ self.old) }
+    {
         if !self.has_region(held_by) {
             return Err(Full::Misplaced);
         }
@@ -158,7 +181,13 @@ impl Graph {
     /// # Errors
     /// Those of `add`; `Misplaced` where there is no such region, or the kind has no links of its own, or is no kind of
     /// programs.
-    pub(crate) fn put(&mut self, region: u8, kind: &Kind) -> Result<u16, Full> {
+    pub(crate) fn put(&mut self, region: u8, kind: &Kind) -> Result<u16, Full>
+        ensures { MatchResult result
+            (λ number. (number ≡ length self.old.statements + 1)
+            × (self.new ≡ graph self.old.loops
+            (self.old.statements ++ (draft region kind.now number ∷ [])) self.old.links))
+            (λ _. self.new ≡ self.old) }
+    {
         if !self.has_region(region) || !may_be(kind, self.count_loops()) {
             return Err(Full::Misplaced);
         }
@@ -169,7 +198,13 @@ impl Graph {
     ///
     /// # Errors
     /// Those of `add_next`; `Misplaced` where there is no such region, or the statement is no `enter`.
-    pub(crate) fn put_next(&mut self, region: u8, enter: u16) -> Result<u16, Full> {
+    pub(crate) fn put_next(&mut self, region: u8, enter: u16) -> Result<u16, Full>
+        ensures { MatchResult result
+            (λ number. (number ≡ length self.old.statements + 1)
+            × (self.new ≡ graph self.old.loops
+            (self.old.statements ++ (draft region kinds.Next enter ∷ [])) self.old.links))
+            (λ _. self.new ≡ self.old) }
+    {
         if !self.has_region(region) || !self.is_enter(enter) {
             return Err(Full::Misplaced);
         }
@@ -181,7 +216,11 @@ impl Graph {
     /// # Errors
     /// Those of `link`; `Misplaced` where there is no such output or no such port, or a link from the output leads to a
     /// port that is not before this one.
-    pub(crate) fn lead(&mut self, from: Output, to: Destination) -> Result<(), Full> {
+    pub(crate) fn lead(&mut self, from: Output, to: Destination) -> Result<(), Full>
+        ensures { MatchResult result (λ _. self.new ≡ graph self.old.loops self.old.statements
+            (self.old.links ++ (link from to.statement to.port ∷ [])))
+            (λ _. self.new ≡ self.old) }
+    {
         if !self.may_link(from, to) {
             return Err(Full::Misplaced);
         }
@@ -199,7 +238,9 @@ impl Graph {
     /// Those of `finish`; `Misplaced` where there is no statement.
     #[tactic(auto, using(crate::proofs::BlockLaws::finished_within))]
     pub(crate) fn complete(self, alloc: Global, name: BlockName) -> Result<Block, Full>
-        ensures { IfOk result (λ b. IsBlockOf (limits_of versions.Two) b) }
+        ensures block { IfOk result (λ b. IsBlockOf (limits_of versions.Two) b) }
+        ensures determinate { IfOk result
+            (λ b. (y : Layout) → IsScoped y self → IsDeterminateBlock b) }
     {
         if self.len() == 0 {
             return Err(Full::Misplaced);

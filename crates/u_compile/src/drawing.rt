@@ -2,11 +2,14 @@
 ghost use Rattle.std.specs.Prelude.{IfOk};
 ghost use Rattle.u_program.specs.Limits.{IsBlockOf, limits_of};
 ghost use Rattle.u_program.specs.declared.program.Version.TheVariants as versions;
+ghost use Rattle.u_determinate.specs.Determinate.{IsDeterminateBlock};
 
-use crate::graph::{Full, Graph, Output, STATEMENTS};
+use crate::graph::{Full, Output, STATEMENTS};
+use crate::place::{Guard, Place};
+use crate::placed::Noted;
 use std::alloc::Global;
 use u_name::BlockName;
-use u_program::{Arguments, Block, Destination, Kind, Parameter};
+use u_program::{Arguments, Block, Kind, Parameter};
 
 /// How a scope is entered.
 #[derive(Clone, Copy)]
@@ -66,7 +69,7 @@ struct Value {
 /// A procedure under construction. Scopes and values are numbered from 0; scope 0 is the procedure's.
 #[derive(Drop)]
 pub(crate) struct Drawing {
-    graph: Graph,
+    graph: Noted,
     scopes: Vec<Scope>,
     values: Vec<Value>,
     gates: Vec<Gate>,
@@ -90,10 +93,10 @@ fn outputs_of(values: &[Value], value: usize) -> Result<&[Output], Full> {
     }
 }
 
-/// Links each of the outputs to a port.
-fn lead_all(graph: &mut Graph, outputs: &[Output], to: Destination) -> Result<(), Full> {
+/// Links each of the outputs to a port of the last statement.
+fn lead_all(graph: &mut Noted, outputs: &[Output], port: u8) -> Result<(), Full> {
     for output in outputs {
-        graph.lead(*output, to)?;
+        graph.lead(*output, port)?;
     }
     Ok(())
 }
@@ -149,7 +152,7 @@ impl Drawing {
             clock,
         })?;
         Ok(Drawing {
-            graph: Graph::new(alloc),
+            graph: Noted::new(alloc),
             scopes,
             values: Vec::new(alloc),
             gates: Vec::new(alloc),
@@ -186,10 +189,34 @@ impl Drawing {
         Ok(number)
     }
 
+    /// Where the statements of a scope lie: in its region, and in the sides of controls there that it stands in.
+    fn place(&self, scope: usize) -> Result<Place, Full> {
+        let mut guards = Vec::new(self.alloc);
+        let mut at = scope;
+        for _ in 0..=scope {
+            let Scope { around, way, .. } = self.scope(at)?;
+            let Way::Side(control, value) = way else {
+                break;
+            };
+            guards.push(Guard {
+                control: control.statement,
+                value,
+            })?;
+            at = around;
+        }
+        Ok(Place::of(self.region(scope)?, guards))
+    }
+
     /// Adds a loop, which stands in that scope, and returns its number.
     pub fn add_loop(&mut self, around: usize) -> Result<u8, Full> {
-        let held_by = self.region(around)?;
-        self.graph.put_loop(held_by)
+        let place = self.place(around)?;
+        self.graph.put_loop(&place)
+    }
+
+    /// Lets a control say whether the loop with these turns goes on.
+    pub fn set_test(&mut self, turn: usize, control: Output) -> Result<(), Full> {
+        let region = self.region(turn)?;
+        self.graph.set_test(region, control.statement)
     }
 
     /// Adds a value with these outputs, and returns its number.
@@ -214,16 +241,16 @@ impl Drawing {
         }
     }
 
-    /// Adds a statement in the region of a scope, and returns its number.
+    /// Adds a statement in a scope, and returns its number.
     fn put(&mut self, scope: usize, kind: &Kind) -> Result<u16, Full> {
-        let region = self.region(scope)?;
-        self.graph.put(region, kind)
+        let place = self.place(scope)?;
+        self.graph.put(&place, kind, 0)
     }
 
-    /// Links a value to a port of a statement.
-    fn link(&mut self, value: usize, statement: u16, port: u8) -> Result<(), Full> {
+    /// Links a value to a port of the last statement.
+    fn link(&mut self, value: usize, port: u8) -> Result<(), Full> {
         let outputs = outputs_of(&self.values, value)?;
-        lead_all(&mut self.graph, outputs, Destination { statement, port })
+        lead_all(&mut self.graph, outputs, port)
     }
 
     /// Adds the next parameter, and returns its value.
@@ -242,7 +269,7 @@ impl Drawing {
     /// Adds a statement of one port, and returns its value.
     pub fn add_unary(&mut self, scope: usize, kind: &Kind, value: usize) -> Result<usize, Full> {
         let statement = self.put(scope, kind)?;
-        self.link(value, statement, 1)?;
+        self.link(value, 1)?;
         self.add_value(output_of(statement))
     }
 
@@ -255,8 +282,8 @@ impl Drawing {
         right: usize,
     ) -> Result<usize, Full> {
         let statement = self.put(scope, kind)?;
-        self.link(left, statement, 1)?;
-        self.link(right, statement, 2)?;
+        self.link(left, 1)?;
+        self.link(right, 2)?;
         self.add_value(output_of(statement))
     }
 
@@ -270,17 +297,17 @@ impl Drawing {
         third: usize,
     ) -> Result<usize, Full> {
         let statement = self.put(scope, kind)?;
-        self.link(first, statement, 1)?;
-        self.link(second, statement, 2)?;
-        self.link(third, statement, 3)?;
+        self.link(first, 1)?;
+        self.link(second, 2)?;
+        self.link(third, 3)?;
         self.add_value(output_of(statement))
     }
 
-    /// Links values to the ports of an `apply` behind the first.
-    fn link_arguments(&mut self, arguments: &[usize], statement: u16) -> Result<(), Full> {
+    /// Links values to the ports of the last statement behind the first.
+    fn link_arguments(&mut self, arguments: &[usize]) -> Result<(), Full> {
         let mut port: u8 = 2;
         for argument in arguments {
-            self.link(*argument, statement, port)?;
+            self.link(*argument, port)?;
             port = port.saturating_add(1);
         }
         Ok(())
@@ -295,10 +322,11 @@ impl Drawing {
     ) -> Result<usize, Full> {
         let count = count_of(arguments)?;
         let back = back_behind(self.graph.len())?;
-        let statement = self.put(scope, &Kind::Apply(back, count))?;
-        self.link(procedure, statement, 1)?;
-        self.link_arguments(arguments, statement)?;
+        self.put(scope, &Kind::Apply(back, count))?;
+        self.link(procedure, 1)?;
+        self.link_arguments(arguments)?;
         let back = self.put(scope, &Kind::Back)?;
+        self.graph.finish_call(back)?;
         self.add_value(output_of(back))
     }
 
@@ -319,21 +347,17 @@ impl Drawing {
             }
         }
         let statement = self.put(scope, &Kind::Pass)?;
-        self.link(value, statement, 1)?;
+        self.link(value, 1)?;
         Ok(output_of(statement))
     }
 
-    /// Adds a gate of a value under a control, and returns its `switch`.
+    /// Adds a gate of a value in a scope under a control, and returns its `switch`.
     fn add_gate(&mut self, scope: usize, control: Output, value: usize) -> Result<u16, Full> {
-        let switch = self.put(scope, &Kind::Switch)?;
-        self.link(value, switch, 1)?;
-        self.graph.lead(
-            control,
-            Destination {
-                statement: switch,
-                port: 2,
-            },
-        )?;
+        let place = self.place(scope)?;
+        let switch = self.graph.put(&place, &Kind::Switch, control.statement)?;
+        self.link(value, 1)?;
+        self.graph.lead(control, 2)?;
+        self.graph.finish_switch(control)?;
         self.gates.push(Gate {
             control,
             value,
@@ -362,7 +386,10 @@ impl Drawing {
     ) -> Result<usize, Full> {
         let switch = match gate_of(&self.gates, control, value) {
             Some(switch) => switch,
-            None => self.add_gate(side, control, value)?,
+            None => {
+                let around = self.scope(side)?.around;
+                self.add_gate(around, control, value)?
+            }
         };
         self.add_value(Output {
             statement: switch,
@@ -380,7 +407,7 @@ impl Drawing {
     ) -> Result<usize, Full> {
         let around = self.scope(turn)?.around;
         let enter = self.put(around, &Kind::Enter(number))?;
-        self.link(value, enter, 1)?;
+        self.link(value, 1)?;
         self.carried.push(Carried {
             turn,
             name,
@@ -414,14 +441,14 @@ impl Drawing {
         Err(Full::Misplaced)
     }
 
-    /// Adds the `next` of what is carried under this number, which gets that value.
-    pub fn add_next(&mut self, number: usize, value: usize) -> Result<(), Full> {
+    /// Adds the `next` of what is carried under this number, which gets a value that the block of its loop has.
+    pub fn add_next(&mut self, block: usize, number: usize, value: usize) -> Result<(), Full> {
         let Some(carried) = self.carried(number) else {
             return Err(Full::Misplaced);
         };
-        let region = self.region(carried.turn)?;
-        let next = self.graph.put_next(region, carried.enter)?;
-        self.link(value, next, 1)?;
+        let place = self.place(block)?;
+        self.graph.put_next(&place, carried.enter)?;
+        self.link(value, 1)?;
         if let Some(carried) = self.carried.get_mut(number) {
             carried.next = Some(value);
         }
@@ -431,7 +458,8 @@ impl Drawing {
     /// The last value, which comes in the scope where a loop ends, outside of the loop.
     pub fn leave(&mut self, end: usize, value: usize) -> Result<usize, Full> {
         let last = self.add_unary(end, &Kind::Last, value)?;
-        self.add_unary(end, &Kind::Leave, last)
+        let turn = self.scope(end)?.around;
+        self.add_unary(turn, &Kind::Leave, last)
     }
 
     /// Lets the procedure give that value.
@@ -440,11 +468,12 @@ impl Drawing {
         Ok(())
     }
 
-    /// The procedure as a block with this name.
+    /// The procedure as a block with this name. It is determinate.
     pub fn finish(self, name: BlockName) -> Result<Block, Full>
-        ensures { IfOk result (λ b. IsBlockOf (limits_of versions.Two) b) }
+        ensures block { IfOk result (λ b. IsBlockOf (limits_of versions.Two) b) }
+        ensures determinate { IfOk result (λ b. IsDeterminateBlock b) }
     {
-        let Drawing { graph, alloc, .. } = self;
-        graph.complete(alloc, name)
+        let Drawing { graph, .. } = self;
+        graph.complete(name)
     }
 }

@@ -14,6 +14,8 @@ mod mapping;
 mod naming;
 mod operands;
 mod origins;
+mod place;
+mod placed;
 mod sides;
 mod tree;
 mod turns;

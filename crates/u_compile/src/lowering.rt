@@ -2,6 +2,7 @@
 ghost use Rattle.std.specs.Prelude.{IfOk};
 ghost use Rattle.u_program.specs.Limits.{IsBlockOf, limits_of};
 ghost use Rattle.u_program.specs.declared.program.Version.TheVariants as versions;
+ghost use Rattle.u_determinate.specs.Determinate.{IsDeterminateBlock};
 
 use crate::blocks::Blocks;
 use crate::drawing::{Drawing, Scope, Way};
@@ -103,7 +104,8 @@ fn finished(
     value: usize,
     name: BlockName,
 ) -> Result<(Block, Origins), Full>
-    ensures { IfOk result (λ r. IsBlockOf (limits_of versions.Two) r.0) }
+    ensures block { IfOk result (λ r. IsBlockOf (limits_of versions.Two) r.0) }
+    ensures determinate { IfOk result (λ r. IsDeterminateBlock r.0) }
 {
     let mut drawing = drawing;
     let mut names = names;

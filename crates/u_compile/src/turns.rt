@@ -156,6 +156,7 @@ impl Lowering<'_> {
         let value = self.pop_value()?;
         let control = self.drawing.control(turns.turn, value)?;
         self.note()?;
+        self.drawing.set_test(turns.turn, control)?;
         let block = self.add_side(turns.turn, control, true)?;
         self.frames.push(Frame::Block(turns, control, block))?;
         self.scope = block;
@@ -187,7 +188,7 @@ impl Lowering<'_> {
             Some(value) => value,
             None => self.value_of(block, carried.name)?,
         };
-        self.drawing.add_next(number, value)?;
+        self.drawing.add_next(block, number, value)?;
         self.names.note_as(&self.drawing, carried.name)
     }
 

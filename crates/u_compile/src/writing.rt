@@ -3,7 +3,9 @@ ghost use Rattle.std.specs.Prelude.{◌≡◌, ◌≤◌, ℕ, [], length, IfOk}
 ghost use Rattle.u_program.specs.Parts.{block};
 ghost use Rattle.u_compile.specs.Graphs.{destinations};
 ghost use Rattle.u_compile.specs.Blocks.{statement_of, block_of};
+ghost use Rattle.u_determinate.specs.Determinate.{IsDeterminateBlock};
 ghost use Rattle.u_compile.specs.Fanning.{IsFinished};
+ghost use Rattle.u_compile.specs.Scoped.{Layout, IsScoped};
 
 use crate::graph::{Draft, Full, Graph, Link, Output};
 use std::alloc::{AllocError, AllocFailed, Global};
@@ -79,19 +81,24 @@ impl Graph {
     }
 
     /// The graph as a block of version 2 with this name. A list with more than 16 destinations gets a `pass` in the
-    /// place of the 16th, which sends where that one and those behind it were sent, and so on.
+    /// place of the 16th, which sends where that one and those behind it were sent, and so on. Where the graph's links
+    /// keep to a layout, the block is determinate.
     ///
     /// # Errors
     /// `Statements` where there are more than 999 then, `NoMemory` where there is no memory.
     pub fn finish(self, alloc: Global, name: BlockName) -> Result<Block, Full>
         requires { 1 ≤ length self.statements }
-        ensures { IfOk result (λ b. IsFinished name self b) }
+        ensures finished { IfOk result (λ b. IsFinished name self b) }
+        ensures determinate { IfOk result
+            (λ b. (y : Layout) → IsScoped y self → IsDeterminateBlock b) }
     {
+        // Brings in that it is a graph.
+        let _ = self.len();
         // Brings in that the block's name is one: 1 to 16 letters, digits and `_`.
         let _ = name.as_bytes();
         let mut graph = self;
         graph.fan_out_all(alloc)?;
-        // Brings in that it is a graph.
+        // Brings in that it still is one.
         let _ = graph.len();
         match graph.block(alloc, name) {
             Ok(block) => Ok(block),

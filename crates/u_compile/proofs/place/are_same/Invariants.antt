@@ -1,0 +1,8 @@
+use Rattle.std.proofs.Common.{◌≡◌, length}
+use Rattle.u_compile.proofs.place.are_same.Given as goal
+
+abbrev pub invariant-loop-first : goal.invariant-loop-first
+invariant-loop-first l = l.one ≡ l.two → l.guards ≡ l.others
+
+abbrev pub decreases-loop-first : goal.decreases-loop-first
+decreases-loop-first l = length l.one
