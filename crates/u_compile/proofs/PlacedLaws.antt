@@ -1,6 +1,6 @@
 -- A graph of which everything was noted stays one with one statement, one loop and one link more, and where a test
 -- becomes known or a statement is finished.
-use Rattle.std.proofs.Common.{◌≡◌, ℕ, zero, suc, ◌+◌, ◌≤◌, ◌⊎◌, inl, inr, refl, sym, ap, ◌∙◌, subst, arith, Bool, true, false, not, ◌==◌, List, [], ◌∷◌, ◌++◌, map, length, Some, get_or, cond}
+use Rattle.std.proofs.Common.{◌≡◌, ℕ, zero, suc, ◌+◌, ◌<◌, ◌≤◌, ◌⊎◌, inl, inr, refl, sym, ap, ◌∙◌, subst, arith, Bool, true, false, not, ◌==◌, List, [], ◌∷◌, ◌++◌, map, length, Some, get_or, cond}
 use Rattle.std.specs.Prelude.{◌&&◌}
 use Rattle.std.proofs.lemmas.Bool.{false≢true, eq-eqb, ne_eqb, cond-false}
 use Rattle.std.proofs.lemmas.List.{length-append}
@@ -14,7 +14,8 @@ use Rattle.u_compile.specs.Drafts.{DraftParts}
 use Rattle.u_compile.specs.Graphs.{graph, link, draft_at, is_next, IsGraph}
 use Rattle.u_compile.specs.Fanning.{holder}
 use Rattle.u_compile.specs.Scoped.{PlaceParts, guard, IsOf, GoesWell, AreApart, IsControlled, IsCalled, IsScoped}
-use Rattle.u_compile.specs.Placed.{entry, NoteParts, note, no_note, no_place, a_test, test_of, PlacedParts, layout_of, IsScopedBut, IsPlaced, OneSends, MayCome, with_link, with_statement, with_loop, with_test, finished, IsUntested, FitsIn, stands_against, names_back, opens}
+use Rattle.u_compile.specs.Placed.{entry, NoteParts, note, no_note, no_place, a_test, test_of, PlacedParts, layout_of, IsScopedBut, IsPlaced, OneSends, MayCome, with_link, with_statement, with_loop, with_test, finished, IsUntested, FitsIn, stands_against, names_back, opens, IsFull, IsLastFull, EachIsFull}
+use Rattle.u_compile.proofs.Numbers.{at_within, at_cases}
 use Rattle.u_compile.proofs.Entries.{entry_more, entry_last}
 use Rattle.u_compile.proofs.ScopedSteps as steps
 
@@ -91,6 +92,7 @@ none_placed = record {
   notes = refl;
   loops = refl;
   forward = λ l i. absurd i;
+  full = λ n d h low. none n d h;
   scoped = record {
     region = λ n d h. none n d h;
     links = λ l i. absurd i;
@@ -117,24 +119,30 @@ none_placed = record {
     nowhere zero = refl
     nowhere (suc l) = refl
 
--- where each statement is finished, any may not be: nothing is wanted of fewer
-scoped_with : (p : PlacedParts) (k : ℕ) → IsPlaced p → (k ≡ p.unfinished) ⊎ (p.unfinished ≡ 0) → IsScopedBut k (layout_of p) p.graph
-scoped_with p k b (inl e) = subst (λ (j : ℕ). IsScopedBut j (layout_of p) p.graph) (sym e) b.scoped
-scoped_with p k b (inr e) = steps.but_one k (layout_of p) p.graph (scoped p b e)
-  where
-    scoped : (q : PlacedParts) → IsPlaced q → q.unfinished ≡ 0 → IsScoped (layout_of q) q.graph
-    scoped q c f = steps.and_that q.unfinished (layout_of q) q.graph c.scoped
-        (λ d h k. absurd (steps.no_zero q.graph.statements q.unfinished d f h))
-        (λ n d h b. absurd (steps.no_zero q.graph.statements q.unfinished d f h))
-
 -- where each statement is finished it lies well
 pub is_scoped : (p : PlacedParts) → IsPlaced p → p.unfinished ≡ 0 → IsScoped (layout_of p) p.graph
 is_scoped p b e = steps.and_that p.unfinished (layout_of p) p.graph b.scoped
     (λ d h k. absurd (steps.no_zero p.graph.statements p.unfinished d e h))
     (λ n d h k. absurd (steps.no_zero p.graph.statements p.unfinished d e h))
 
-module _ (p : PlacedParts) (is : IsGraph p.graph) (b : IsPlaced p) (x : DraftParts) (at : PlaceParts) (control unfinished : ℕ) (f : FitsIn p x at) (stays : (unfinished ≡ p.unfinished) ⊎ (p.unfinished ≡ 0))
+-- and any may not be finished: nothing is wanted of fewer
+scoped_with : (p : PlacedParts) (k : ℕ) → IsPlaced p → (k ≡ p.unfinished) ⊎ (p.unfinished ≡ 0) → IsScopedBut k (layout_of p) p.graph
+scoped_with p k b (inl e) = subst (λ (j : ℕ). IsScopedBut j (layout_of p) p.graph) (sym e) b.scoped
+scoped_with p k b (inr e) = steps.but_one k (layout_of p) p.graph (is_scoped p b e)
+
+module _ (p : PlacedParts) (is : IsGraph p.graph) (b : IsPlaced p) (x : DraftParts) (at : PlaceParts) (control unfinished : ℕ) (f : FitsIn p x at) (last : IsLastFull p.graph) (stays : (unfinished ≡ p.unfinished) ⊎ (p.unfinished ≡ 0))
     (switch : x.kind ≡ Switch → length p.graph.statements + 1 ≡ unfinished) (apply : (n : ℕ) → back_named x.kind ≡ Some n → length p.graph.statements + 1 ≡ unfinished) where
+  full_before : (n : ℕ) (d : DraftParts) → draft_at (p.graph.statements ++ (x ∷ [])) n ≡ Some d → n < length (p.graph.statements ++ (x ∷ [])) → IsFull p.graph.links n d
+  full_before n d h low =
+      let one : length (p.graph.statements ++ (x ∷ [])) ≡ length p.graph.statements + 1 = length-append p.graph.statements (x ∷ []) in
+      elim (at_cases p.graph.statements x n d h) [
+        | inl w ↦ elim (steps.same_or_not n (length p.graph.statements)) [
+          | inl e ↦ subst (λ (m : ℕ). IsFull p.graph.links m d) (sym e) (last d (ap (draft_at p.graph.statements) (sym e) ∙ w))
+          | inr o ↦ b.full n d w (steps.less n (length p.graph.statements) (omega (arith, low, one)) o)
+        ]
+        | inr w ↦ absurd (let q = w.0 in omega (arith, low, one, q))
+      ]
+
   pub statement_placed : IsPlaced (with_statement p x at control unfinished)
   statement_placed =
       let one : length (p.graph.statements ++ (x ∷ [])) ≡ length p.graph.statements + 1 = length-append p.graph.statements (x ∷ []) in
@@ -145,6 +153,7 @@ module _ (p : PlacedParts) (is : IsGraph p.graph) (b : IsPlaced p) (x : DraftPar
         loops = b.loops;
         forward = b.forward;
         scoped = steps.held_is unfinished (layout_of p) (layout_of (with_statement p x at control unfinished)) p.graph is (scoped_with p unfinished b stays) (still_agree p x at control unfinished b.notes) (λ n d h q. refl) x (comes p x at control unfinished f b.notes) switch apply (λ l. held_by p.arounds l ∙ ap (λ (ls : List ℕ). holder ls l) (sym b.loops));
+        full = full_before;
       }
 
 named_opens : (k : Kind) (n : ℕ) → back_named k ≡ Some n → opens k ≡ true
@@ -152,12 +161,12 @@ named_opens (Apply b m) n e = refl
 named_opens k n e = cc
 
 -- a statement that is not finished when it is added may be added where each other one is
-pub put_placed : (p : PlacedParts) → IsGraph p.graph → IsPlaced p → (x : DraftParts) (at : PlaceParts) (control : ℕ) → FitsIn p x at → (opens x.kind ≡ true → p.unfinished ≡ 0) → IsPlaced (with_statement p x at control (cond (opens x.kind) (length p.graph.statements + 1) p.unfinished))
-put_placed p is b x at control f before = by (opens x.kind) refl
+pub put_placed : (p : PlacedParts) → IsGraph p.graph → IsPlaced p → (x : DraftParts) (at : PlaceParts) (control : ℕ) → FitsIn p x at → IsLastFull p.graph → (opens x.kind ≡ true → p.unfinished ≡ 0) → IsPlaced (with_statement p x at control (cond (opens x.kind) (length p.graph.statements + 1) p.unfinished))
+put_placed p is b x at control f last before = by (opens x.kind) refl
   where
     by : (w : Bool) → opens x.kind ≡ w → IsPlaced (with_statement p x at control (cond w (length p.graph.statements + 1) p.unfinished))
-    by true e = statement_placed p is b x at control (length p.graph.statements + 1) f (inr (before e)) (λ q. refl) (λ n q. refl)
-    by false e = statement_placed p is b x at control p.unfinished f (inl refl)
+    by true e = statement_placed p is b x at control (length p.graph.statements + 1) f last (inr (before e)) (λ q. refl) (λ n q. refl)
+    by false e = statement_placed p is b x at control p.unfinished f last (inl refl)
         (λ q. absurd (false≢true (sym e ∙ ap opens q)))
         (λ n q. absurd (false≢true (sym e ∙ named_opens x.kind n q)))
 
@@ -197,6 +206,9 @@ module _ (p : PlacedParts) (b : IsPlaced p) (o : Output) (port : ℕ) (m : MayCo
     loops = b.loops;
     forward = steps.forward_more p.graph.links new b.forward m.earlier;
     scoped = steps.linked_well p.unfinished (layout_of p) p.graph b.scoped b.forward new refl goes meets settled;
+    full = λ n d h low out port one most.
+        let w = b.full n d h low out port one most in
+        (w.0, steps.is_there p.graph.links new w.0 w.1, w.2, w.3);
   }
 
 -- with one loop more
@@ -222,6 +234,7 @@ module _ (p : PlacedParts) (is : IsGraph p.graph) (b : IsPlaced p) (around : Pla
         notes = b.notes;
         loops = e;
         forward = b.forward;
+        full = b.full;
         scoped = steps.relaid p.unfinished (layout_of p) (layout_of (with_loop p around)) p.graph is b.scoped
             (record { at = λ n low. refl; around = same_loop; control = λ n low. refl; order = λ n low. refl })
             (λ n d h q. refl)
@@ -240,6 +253,7 @@ test_placed p is b region control free = record {
   notes = b.notes;
   loops = b.loops;
   forward = b.forward;
+  full = b.full;
   scoped = steps.relaid p.unfinished (layout_of p) (layout_of (with_test p region control)) p.graph is b.scoped
       (record { at = λ n low. refl; around = λ l low. refl; control = λ n low. refl; order = λ n low. refl })
       (λ n d h q. other_test p.tests region control d.region (λ e. free n d h (sym e) q))
@@ -253,5 +267,15 @@ finished_placed p b switch back = record {
   notes = b.notes;
   loops = b.loops;
   forward = b.forward;
+  full = b.full;
   scoped = steps.but_one 0 (layout_of p) p.graph (steps.and_that p.unfinished (layout_of p) p.graph b.scoped switch back);
 }
+
+-- where the last statement is linked as well, each one is
+pub each_full : (p : PlacedParts) → IsPlaced p → IsLastFull p.graph → EachIsFull p.graph
+each_full p b last n d h =
+    let high = (at_within p.graph.statements n d h).1 in
+    elim (steps.same_or_not n (length p.graph.statements)) [
+      | inl e ↦ subst (λ (m : ℕ). IsFull p.graph.links m d) (sym e) (last d (ap (draft_at p.graph.statements) (sym e) ∙ h))
+      | inr o ↦ b.full n d h (steps.less n (length p.graph.statements) high o)
+    ]

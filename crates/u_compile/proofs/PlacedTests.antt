@@ -1,5 +1,5 @@
 -- What tests of a graph with places come to.
-use Rattle.std.proofs.Common.{◌≡◌, ℕ, zero, suc, ◌<◌, ◌⊎◌, inl, inr, refl, sym, ap, ◌∙◌, subst, false, not, List, [], ◌∷◌, Some, None, Ok, Err, Result}
+use Rattle.std.proofs.Common.{length, arith, ◌≤◌, ◌+◌, ◌≡◌, ℕ, zero, suc, ◌<◌, ◌⊎◌, inl, inr, refl, sym, ap, ◌∙◌, subst, true, false, not, List, [], ◌∷◌, Some, None, Ok, Err, Result}
 use Rattle.std.specs.Prelude.{IfOk, MatchResult}
 use Rattle.u_program.specs.declared.program.Destination.{Destination}
 use Rattle.u_program.specs.declared.program.Kind.TheVariants.{Switch, Next, Last}
@@ -12,7 +12,8 @@ use Rattle.u_compile.specs.declared.place.Guard.{Guard}
 use Rattle.u_compile.specs.Drafts.{DraftParts}
 use Rattle.u_compile.specs.Graphs.{GraphParts, draft_at, link, enters}
 use Rattle.u_compile.specs.Scoped.{PlaceParts, place, guard, sent_by, IsOf, AreGuards, HandsOn, it, IsControlled, IsCalled, Layout, IsScoped}
-use Rattle.u_compile.specs.Placed.{PlacedParts, NoteParts, note, entry, layout_of, IsSender, IsArrived, OneSends, MeetsWell, MayTake, MayCome, IsAlone, AreFree, IsUntested, stands_against, IsPlaced, finished}
+use Rattle.u_compile.specs.Placed.{PlacedParts, NoteParts, note, entry, layout_of, IsSender, IsArrived, OneSends, MeetsWell, MayTake, MayCome, IsAlone, AreFree, IsUntested, stands_against, IsPlaced, finished, IsLinked, IsFull, IsLastFull, HasNext, EachGoesOn}
+use Rattle.u_compile.proofs.ScopedSteps.{same_or_not, less}
 use Rattle.u_compile.proofs.PlacedLaws.{finished_placed, is_scoped}
 
 -- no statement stands against one, where the first and the others do not
@@ -133,3 +134,42 @@ determinate_of (Err f) p is e h = h
 pub either_placed : {T E : Type 0} (r : Result T E) (p : PlacedParts) (g h : GraphParts) → IsPlaced p → IsPlaced (record p { graph = g }) → MatchResult r (λ _. h ≡ g) (λ _. h ≡ p.graph) → IsPlaced (record p { graph = h })
 either_placed (Ok x) p g h is well e = subst (λ (v : GraphParts). IsPlaced (record p { graph = v })) (sym e) well
 either_placed (Err f) p g h is well e = subst (λ (v : GraphParts). IsPlaced (record p { graph = v })) (sym e) is
+
+-- a `next` of an `enter` is the first statement, or one of the others
+pub next_first : (d : DraftParts) (ds : List DraftParts) (n : ℕ) → d.kind ≡ Next → d.shares ≡ n → HasNext (d ∷ ds) n
+next_first d ds n k e = (1, d, refl, k, e)
+
+pub next_more : (d : DraftParts) (ds : List DraftParts) (n : ℕ) → HasNext ds n → HasNext (d ∷ ds) n
+next_more d ds n (zero, e, at, k, s) = cc
+next_more d ds n (suc m, e, at, k, s) = (suc (suc m), e, at, k, s)
+
+pub goes_more : (d : DraftParts) (ds all : List DraftParts) → (enters d.kind ≡ true → HasNext all d.shares) → EachGoesOn ds all → EachGoesOn (d ∷ ds) all
+goes_more d ds all h rest zero e at k = cc
+goes_more d ds all h rest (suc zero) e at k =
+    let q : d ≡ e = cc in
+    subst (λ (v : DraftParts). enters v.kind ≡ true → HasNext all v.shares) q h k
+goes_more d ds all h rest (suc (suc n)) e at k = rest (suc n) e at k
+
+pub goes_none : (all : List DraftParts) → EachGoesOn [] all
+goes_none all zero e at k = cc
+goes_none all (suc n) e at k = cc
+
+-- what holds anyway holds of the value, if there is one
+pub always_ok : {T E : Type 0} (r : Result T E) (P : Type 0) → P → IfOk r (λ _. P)
+always_ok (Ok x) P h = h
+always_ok (Err f) P h = tt
+
+pub linked_more : (ls : List Link) (n p : ℕ) → ((q : ℕ) → 1 ≤ q → q < p → IsLinked ls n q) → IsLinked ls n p → (q : ℕ) → 1 ≤ q → q < p + 1 → IsLinked ls n q
+linked_more ls n p all one q low high = elim (same_or_not q p) [
+  | inl e ↦ subst (IsLinked ls n) (sym e) one
+  | inr o ↦ all q low (less q p (omega (arith, high)) o)
+]
+
+-- the statement with the number of the last one is full
+pub last_full : (g : GraphParts) (ds : List DraftParts) (ls : List Link) (n : ℕ) (d : DraftParts) → ds ≡ g.statements → ls ≡ g.links → n ≡ length g.statements → Some d ≡ draft_at ds n → IsFull ls n d → IsLastFull g
+last_full g ds ls n d p q r stands full e at =
+    let same : draft_at ds n ≡ Some e = ap (λ (v : List DraftParts). draft_at v n) p ∙ (ap (draft_at g.statements) r ∙ at) in
+    let one : d ≡ e = (let s = stands ∙ same in cc) in
+    subst (λ (v : List Link). IsFull v (length g.statements) e) q
+    (subst (λ (m : ℕ). IsFull ls m e) r
+    (subst (λ (v : DraftParts). IsFull ls n v) one full))

@@ -55,13 +55,13 @@ in_loops g is n e h = (is.drafts n e h).region
 entered_loop : (k l : ℕ) (c : Kind) → c ≡ Enter l → enters_one k c ≡ true → l ≤ k
 entered_loop k l c q h = leb-true l k (ap (enters_one k) (sym q) ∙ h)
 
-same_or_not : (n k : ℕ) → (n ≡ k) ⊎ (n ≡ k → ⊥)
+pub same_or_not : (n k : ℕ) → (n ≡ k) ⊎ (n ≡ k → ⊥)
 same_or_not zero zero = inl refl
 same_or_not zero (suc k) = inr (λ e. cc)
 same_or_not (suc n) zero = inr (λ e. cc)
 same_or_not (suc n) (suc k) = elim (same_or_not n k) [ inl e ↦ inl (ap suc e) | inr o ↦ inr (λ e. o (omega (arith, e))) ]
 
-less : (a b : ℕ) → a ≤ b → (a ≡ b → ⊥) → a < b
+pub less : (a b : ℕ) → a ≤ b → (a ≡ b → ⊥) → a < b
 less zero zero h o = absurd (o refl)
 less zero (suc b) h o = omega arith
 less (suc a) zero h o = omega (arith, h)

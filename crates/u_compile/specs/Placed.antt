@@ -1,14 +1,14 @@
 -- Graphs with what was noted of their statements and loops: the layout is what was noted.
-use Rattle.std.specs.Prelude.{◌≡◌, ℕ, zero, suc, ◌<◌, ◌⊎◌, Bool, true, false, not, ◌&&◌, ◌==◌, List, [], ◌∷◌, ◌++◌, map, length, Option, Some, None, get_or, cond}
+use Rattle.std.specs.Prelude.{◌≡◌, ℕ, zero, suc, ◌<◌, ◌≤◌, ◌⊎◌, Bool, true, false, not, ◌&&◌, ◌==◌, List, [], ◌∷◌, ◌++◌, map, length, Option, Some, None, get_or, cond}
 use Rattle.u_program.specs.declared.program.Destination.{Destination}
 use Rattle.u_program.specs.declared.program.Kind.{Kind}
 use Rattle.u_program.specs.declared.program.Kind.TheVariants.{Switch, Enter, Next, Last, Leave, Apply, Back, End}
-use Rattle.u_check.specs.Kinds.{back_named, comes_from_outside, is_leave, is_end}
+use Rattle.u_check.specs.Kinds.{ports_of, back_named, comes_from_outside, is_leave, is_end}
 use Rattle.u_compile.specs.declared.graph.Link.{Link}
 use Rattle.u_compile.specs.declared.graph.Output.{Output}
 use Rattle.u_compile.specs.declared.placed.Test.{Test}
 use Rattle.u_compile.specs.Drafts.{DraftParts}
-use Rattle.u_compile.specs.Graphs.{GraphParts, graph, link, draft_at, is_next}
+use Rattle.u_compile.specs.Graphs.{GraphParts, graph, link, draft_at, is_next, enters}
 use Rattle.u_compile.specs.Fanning.{holder}
 use Rattle.u_compile.specs.Scoped.{PlaceParts, place, guard, IsOf, AreGuards, Layout, sent_by, GoesWell, AreApart, IsControlled, IsCalled}
 
@@ -66,6 +66,26 @@ layout_of p = record {
 abbrev pub IsForward : List Link → Type 0
 IsForward ls = (l : Link) → IsOf ls l → l.from.statement < l.to.statement
 
+-- some output leads to that port
+abbrev pub IsLinked : List Link → ℕ → ℕ → Type 0
+IsLinked ls n port = (l : Link) × IsOf ls l × (l.to.statement ≡ n) × (l.to.port ≡ port)
+
+-- so many ports of statement n are linked
+abbrev pub AreLinked : List Link → ℕ → ℕ → Type 0
+AreLinked ls n ports = (port : ℕ) → 1 ≤ port → port ≤ ports → IsLinked ls n port
+
+-- each port of statement n is linked, unless its value comes from outside
+abbrev pub IsFull : List Link → ℕ → DraftParts → Type 0
+IsFull ls n d = comes_from_outside d.kind ≡ false → AreLinked ls n (ports_of d.kind)
+
+-- each port of the last statement is
+abbrev pub IsLastFull : GraphParts → Type 0
+IsLastFull g = (d : DraftParts) → draft_at g.statements (length g.statements) ≡ Some d → IsFull g.links (length g.statements) d
+
+-- each port of each statement is
+abbrev pub EachIsFull : GraphParts → Type 0
+EachIsFull g = (n : ℕ) (d : DraftParts) → draft_at g.statements n ≡ Some d → IsFull g.links n d
+
 -- All that makes a graph lie well, but for what is wanted of the links of statement k and of the `back` that it names.
 pub record IsScopedBut (k : ℕ) (y : Layout) (g : GraphParts) : Type 0 where
   pub region : (n : ℕ) (d : DraftParts) → draft_at g.statements n ≡ Some d → d.region ≡ (y.at n).region
@@ -83,13 +103,14 @@ pub record IsScopedBut (k : ℕ) (y : Layout) (g : GraphParts) : Type 0 where
   pub backs : (m n : ℕ) (d : DraftParts) → draft_at g.statements m ≡ Some d → back_named d.kind ≡ Some n → (m ≡ k → ⊥) → IsCalled y g.statements m n
   pub one_end : (m n : ℕ) (d e : DraftParts) → draft_at g.statements m ≡ Some d → draft_at g.statements n ≡ Some e → d.kind ≡ End → e.kind ≡ End → m ≡ n
 
--- Everything was noted, and the statements and links lie well, but for what is wanted of the statement that is not
--- finished.
+-- Everything was noted; the statements and links lie well, but for what is wanted of the statement that is not finished;
+-- and each port of a statement before the last one is linked.
 pub record IsPlaced (p : PlacedParts) : Type 0 where
   pub notes : length p.notes ≡ length p.graph.statements
   pub loops : p.graph.loops ≡ map (λ (a : PlaceParts). a.region) p.arounds
   pub forward : IsForward p.graph.links
   pub scoped : IsScopedBut p.unfinished (layout_of p) p.graph
+  pub full : (n : ℕ) (d : DraftParts) → draft_at p.graph.statements n ≡ Some d → n < length p.graph.statements → IsFull p.graph.links n d
 
 -- the two options have one number
 abbrev pub names_back : Option ℕ → Option ℕ → Bool
@@ -204,3 +225,11 @@ IsUntested ds l = (n : ℕ) (d : DraftParts) → draft_at ds n ≡ Some d → d.
 -- where the statement that was not finished is
 abbrev pub finished : PlacedParts → PlacedParts
 finished p = record p { unfinished = 0 }
+
+-- some `next` goes on from the `enter` with that number
+abbrev pub HasNext : List DraftParts → ℕ → Type 0
+HasNext ds n = (m : ℕ) × (e : DraftParts) × (draft_at ds m ≡ Some e) × (e.kind ≡ Next) × (e.shares ≡ n)
+
+-- Each `enter` of the one has a `next` among the others: what a loop takes in goes on from turn to turn.
+abbrev pub EachGoesOn : List DraftParts → List DraftParts → Type 0
+EachGoesOn ds all = (n : ℕ) (d : DraftParts) → draft_at ds n ≡ Some d → enters d.kind ≡ true → HasNext all d.shares

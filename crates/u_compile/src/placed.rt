@@ -1,5 +1,5 @@
 //! Graphs with what was noted of their statements and loops: what is put into one lies well.
-ghost use Rattle.std.specs.Prelude.{◌≡◌, ◌⊎◌, ◌+◌, ℕ, [], ◌∷◌, ◌++◌, cond, length, Some, IfOk, IfSome, IsTrue, MatchResult, false, true};
+ghost use Rattle.std.specs.Prelude.{◌≡◌, ◌⊎◌, ◌+◌, ◌≤◌, ℕ, [], ◌∷◌, ◌++◌, cond, length, Some, IfOk, IfSome, IsTrue, MatchResult, false, true};
 ghost use Rattle.u_compile.specs.Drafts.{DraftParts, draft};
 ghost use Rattle.u_compile.specs.Graphs.{graph, link, draft_at, enters};
 ghost use Rattle.u_check.specs.Kinds.{comes_from_outside, back_named};
@@ -8,13 +8,14 @@ ghost use Rattle.u_program.specs.declared.program.Version.TheVariants as version
 ghost use Rattle.u_determinate.specs.Determinate.{IsDeterminateBlock};
 ghost use Rattle.u_program.specs.declared.program.Kind.TheVariants as kinds;
 ghost use Rattle.u_compile.specs.Scoped.{place, sent_by, IsOf, IsControlled, IsCalled};
-ghost use Rattle.u_compile.specs.Placed.{entry, note, test_of, placed, layout_of, IsSender, IsArrived, OneSends, MayTake, MayCome, MeetsWell, IsAlone, LiesWell, FitsIn, AreFree, IsUntested, stands_against, opens, with_link, with_statement, with_loop, with_test, finished};
+ghost use Rattle.u_compile.specs.Placed.{entry, note, test_of, placed, layout_of, IsSender, IsArrived, OneSends, MayTake, MayCome, MeetsWell, IsAlone, LiesWell, FitsIn, AreFree, IsUntested, stands_against, opens, with_link, with_statement, with_loop, with_test, finished, IsLinked, AreLinked, IsFull, IsLastFull, EachIsFull, HasNext, EachGoesOn};
 
 use crate::fanning::draft_at;
 use crate::graph::{Draft, Full, Graph, Link, Output};
 use crate::place::{Place, are_guards, opposite};
 use std::alloc::{AllocError, Global};
 use std::marker::Model;
+use u_check::ports_of;
 use u_name::BlockName;
 use u_program::{Block, Destination, Kind};
 
@@ -197,6 +198,86 @@ fn is_enter(draft: &Draft) -> bool
     ensures { result ≡ enters draft.now.kind }
 {
     matches!(draft.kind(), Kind::Enter(_))
+}
+
+/// Whether some output leads to the port.
+fn is_linked(links: &[Link], statement: u16, port: u8) -> bool
+    ensures { IsTrue result → IsLinked links.now statement port }
+{
+    let mut rest = links;
+    while let Some((link, others)) = rest.split_first() {
+        if link.to.statement == statement && link.to.port == port {
+            return true;
+        }
+        rest = others;
+    }
+    false
+}
+
+/// Whether so many ports of the statement are linked, of at most 5.
+fn are_linked(links: &[Link], statement: u16, ports: usize) -> bool
+    requires { ports ≤ 5 }
+    ensures { IsTrue result → AreLinked links.now statement ports }
+{
+    let mut port: u8 = 1;
+    while port as usize <= ports {
+        if !is_linked(links, statement, port) {
+            return false;
+        }
+        port += 1;
+    }
+    true
+}
+
+/// Whether each port of the statement is linked, unless its value comes from outside.
+#[tactic(auto, using(crate::proofs::Links::few_ports))]
+fn is_full(links: &[Link], statement: u16, draft: &Draft) -> bool
+    ensures { IsTrue result → IsFull links.now statement draft.now }
+{
+    let kind = draft.kind();
+    if comes_from_outside(&kind) {
+        return true;
+    }
+    are_linked(links, statement, ports_of(&kind))
+}
+
+/// Whether a `next` among the statements has the links of that `enter`.
+#[tactic(auto, using(crate::proofs::PlacedTests::next_first))]
+fn has_next(drafts: &[Draft], enter: u16) -> bool
+    ensures { IsTrue result → HasNext drafts.now enter }
+{
+    let mut rest = drafts;
+    while let Some((draft, others)) = rest.split_first() {
+        if matches!(draft.kind(), Kind::Next) && draft.shares() == enter {
+            return true;
+        }
+        rest = others;
+    }
+    false
+}
+
+/// Whether the statement is no `enter`, or has a `next` among the statements.
+fn keeps_on(drafts: &[Draft], draft: &Draft) -> bool
+    ensures { IsTrue result → enters draft.now.kind ≡ true → HasNext drafts.now draft.now.shares }
+{
+    if !is_enter(draft) {
+        return true;
+    }
+    has_next(drafts, draft.shares())
+}
+
+/// Whether each `enter` among the statements has a `next`.
+fn goes_on(drafts: &[Draft]) -> bool
+    ensures { IsTrue result → EachGoesOn drafts.now drafts.now }
+{
+    let mut rest = drafts;
+    while let Some((draft, others)) = rest.split_first() {
+        if !keeps_on(drafts, draft) {
+            return false;
+        }
+        rest = others;
+    }
+    true
 }
 
 /// Whether a statement of the kind is not finished when it is added: a `switch` or an `apply`.
@@ -446,6 +527,19 @@ impl Noted {
             && are_free(self.graph.drafts(), new)
     }
 
+    /// Whether each port of the last statement is linked.
+    fn is_last_full(&self) -> bool
+        ensures { IsTrue result → IsLastFull self.now.graph }
+    {
+        let last = self.graph.len() as u16;
+        let drafts = self.graph.drafts();
+        let links = self.graph.links();
+        match draft_at(drafts, last) {
+            Some(draft) => is_full(links, last, draft),
+            None => true,
+        }
+    }
+
     /// Whether a statement of the kind may be added to what is not finished: one that is not finished itself only where
     /// there is no other.
     fn may_open(&self, kind: &Kind) -> bool
@@ -464,8 +558,8 @@ impl Noted {
     /// Adds a statement other than `next` in a place. A `switch` gets what chooses its side.
     ///
     /// # Errors
-    /// `Misplaced` where it may not stand there, or, of a `switch` and an `apply`, where another one is not finished;
-    /// those of `Graph::put`. Nothing is added.
+    /// `Misplaced` where it may not stand there, where a port of the last statement is not linked, or, of a `switch` and
+    /// an `apply`, where another one is not finished; those of `Graph::put`. Nothing is added.
     pub fn put(&mut self, place: &Place, kind: &Kind, control: u16) -> Result<u16, Full>
         ensures { MatchResult result
             (λ number. (number ≡ length self.old.graph.statements + 1)
@@ -475,7 +569,7 @@ impl Noted {
     {
         let number = self.graph.len() as u16 + 1;
         let new = Draft::new(place.region(), *kind, number);
-        if !self.may_open(kind) || !self.fits(&new, place) {
+        if !self.may_open(kind) || !self.is_last_full() || !self.fits(&new, place) {
             return Err(Full::Misplaced);
         }
         let unfinished = self.unfinished_with(kind, number);
@@ -496,7 +590,8 @@ impl Noted {
     /// Adds a `next` of an `enter` in a place.
     ///
     /// # Errors
-    /// `Misplaced` where it may not stand there; those of `Graph::put_next`. Nothing is added.
+    /// `Misplaced` where it may not stand there, or where a port of the last statement is not linked; those of
+    /// `Graph::put_next`. Nothing is added.
     pub fn put_next(&mut self, place: &Place, enter: u16) -> Result<u16, Full>
         ensures { MatchResult result
             (λ number. (number ≡ length self.old.graph.statements + 1)
@@ -507,7 +602,7 @@ impl Noted {
         // Brings in that it is a graph.
         let _ = self.graph.len();
         let new = Draft::new(place.region(), Kind::Next, enter);
-        if !self.fits(&new, place) {
+        if !self.is_last_full() || !self.fits(&new, place) {
             return Err(Full::Misplaced);
         }
         let note = Note::new(place.copy(self.alloc)?, 0);
@@ -663,12 +758,18 @@ impl Noted {
     /// The graph as a block of version 2 with this name. It is determinate.
     ///
     /// # Errors
-    /// Those of `Graph::complete`; `Misplaced` where a statement is not finished.
+    /// Those of `Graph::complete`; `Misplaced` where a statement is not finished, a port is not linked, or an `enter` has
+    /// no `next`.
     pub fn complete(self, name: BlockName) -> Result<Block, Full>
         ensures block { IfOk result (λ b. IsBlockOf (limits_of versions.Two) b) }
         ensures determinate { IfOk result (λ b. IsDeterminateBlock b) }
+        ensures linked { IfOk result (λ _. EachIsFull self.graph) }
+        ensures next { IfOk result (λ _. EachGoesOn self.graph.statements self.graph.statements) }
     {
         if self.unfinished != 0 {
+            return Err(Full::Misplaced);
+        }
+        if !self.is_last_full() || !goes_on(self.graph.drafts()) {
             return Err(Full::Misplaced);
         }
         let Noted { graph, alloc, .. } = self;

@@ -2,7 +2,7 @@ use Rattle.std.proofs.Common.{◌≡◌, ℕ, ◌+◌, List, [], ◌∷◌, ◌+
 use Rattle.u_compile.specs.Drafts.{DraftParts, draft}
 use Rattle.u_compile.specs.Graphs.{GraphParts, graph}
 use Rattle.u_compile.specs.Scoped.{PlaceParts}
-use Rattle.u_compile.specs.Placed.{PlacedParts, NoteParts, note, placed, IsPlaced, FitsIn, opens}
+use Rattle.u_compile.specs.Placed.{PlacedParts, NoteParts, note, placed, IsPlaced, FitsIn, opens, IsLastFull}
 use Rattle.u_compile.proofs.PlacedLaws.{put_placed}
 use Rattle.u_compile.proofs.placed.Noted.put.Goals as goal
 
@@ -19,7 +19,8 @@ invariant_of-self-in-Ok c =
     c.new-new.ensures ∙ (ap (λ (r : ℕ). draft r kind (c.len.result + 1)) c.region.ensures ∙ ap (λ (n : ℕ). draft at.region kind (n + 1)) many) in
     let fits : FitsIn here x at = subst (λ (p : PlacedParts). FitsIn p x at) (sym c.self.view_is) (subst (λ (v : DraftParts). FitsIn c.args.self.now v at) is-x (c.fits.ensures c.if-not-fits.false)) in
     let zero : opens kind ≡ true → s.unfinished ≡ 0 = subst (λ (p : PlacedParts). opens kind ≡ true → p.unfinished ≡ 0) (sym c.self.view_is) (c.may_open.ensures c.if-not-may_open.false) in
-    let well = put_placed here c.len.ensures.graph c.self.invariant x at c.args.control fits zero in
+    let last : IsLastFull g = subst (λ (p : PlacedParts). IsLastFull p.graph) (sym c.self.view_is) (c.is_last_full.ensures c.if-not-is_last_full.false) in
+    let well = put_placed here c.len.ensures.graph c.self.invariant x at c.args.control fits last zero in
     let new = graph g.loops (g.statements ++ (x ∷ [])) g.links in
     let is-new : c.put.new.self ≡ new =
     c.in-Ok.ensures.1 ∙ (ap (λ (r : ℕ). graph g.loops (g.statements ++ (draft r kind c.in-Ok.added ∷ [])) g.links) c.region-2.ensures ∙ ap (λ (n : ℕ). graph g.loops (g.statements ++ (draft at.region kind n ∷ [])) g.links) c.in-Ok.ensures.0) in
