@@ -4,7 +4,8 @@
 Of each source and argument: the answer that a plain function of this file gives, or that there is none; what
 tests/notation.py says comes of it; and, where a program of the same name is written by hand, its verdict and answer,
 and at most 1.15 times its firings, and no more than its firings in the mean of all. Each source is determinate. A
-page of docs/programs that names a source shows it. Each source of tests/sources/refused.txt is refused with the line
+page of docs/programs that names a source shows it. Each limit of a source is looked at from both sides: the largest
+source has an answer, and the next one is refused. Each source of tests/sources/refused.txt is refused with the line
 that stands above it, by `u` and by tests/notation.py, and these lines have all texts of docs/NOTATION.md. The last
 line is 'N passed, M failed'.
 
@@ -134,6 +135,31 @@ OTHERS = (("factorial", 21, "faulted"), ("factorial", 64, "faulted"), ("wavefron
           ("no_writer", 0, "none"), ("two_writers", 0, "clashed"), ("double", 2 ** 63 - 1, "faulted"),
           ("gcd", -(2 ** 63), "answer -1"))
 
+# Limits: the largest source, an argument and its answer, and the next source and the line that refuses it. <N TIMES TEXT>
+# stands for N copies of the text, with their numbers in place of @.
+SIZES = (
+    ("def main(n) { f0(n) } <63 TIMES def f@(n) { n } >", 5, 5,
+     "def main(n) { f0(n) } <64 TIMES def f@(n) { n } >", "line 1 column 1088: more than 64 procedures"),
+    ("def main(n) { n<935 TIMES  + n> }", 2, 1872,
+     "def main(n) { n<936 TIMES  + n> }", "line 1 column 1: more than 999 statements in a procedure"),
+    ("def main(n) { <99 TIMES loop i = n while 0 < i { next i = i - 1; } >n }", 2, 2,
+     "def main(n) { <100 TIMES loop i = n while 0 < i { next i = i - 1; } >n }",
+     "line 1 column 4272: more than 99 loops in a procedure"),
+    ("def main(n) { <60 TIMES (>n<60 TIMES )> }", 7, 7,
+     "def main(n) { <61 TIMES (>n<61 TIMES )> }", "line 1 column 75: nested too deep"),
+    ("def main(n) { <60 TIMES if n < 9 { >n<60 TIMES  } else { 0 }> }", 7, 7,
+     "def main(n) { <61 TIMES if n < 9 { >n<61 TIMES  } else { 0 }> }", "line 1 column 675: nested too deep"),
+    ("def main(n) { abcdefghijklmnop = n; abcdefghijklmnop }", 3, 3,
+     "def main(n) { abcdefghijklmnopq = n; abcdefghijklmnopq }", "line 1 column 15: name has more than 16 bytes"),
+    ("def main(n) { abcdefghijklmnop(n) } def abcdefghijklmnop(n) { n }", 3, 3,
+     "def main(n) { n } def abcdefghijklmnopq(n) { n }", "line 1 column 23: name has more than 16 bytes"),
+    ("def main(n) { f(n, n, n, n) } def f(a, b, c, d) { a + b + c + d }", 3, 12,
+     "def main(n) { n } def f(a, b, c, d, e) { a }", "line 1 column 35: more than 4 parameters"),
+    ("def main(n) { g = f; g(n, n, n, 1) } def f(a, b, c, d) { a + b + c - d }", 3, 8,
+     "def main(n) { g = f; g(n, n, n, 1, 1) } def f(a, b, c, d) { a + b + c - d }",
+     "line 1 column 34: more than 4 arguments"),
+)
+
 
 def run(path, argument):
     """The verdict of a run, and how many firings it has."""
@@ -186,12 +212,30 @@ def look_at_pages(tally):
             tally.expect(f"{page} shows the source", True, "\n".join(lines) + "\n\n" in read(page))
 
 
+def look_at_sizes(tally):
+    """Compiles the sources that are as large as they may be, and the next ones."""
+    for largest, argument, answer, larger, line in SIZES:
+        source = grown(largest)
+        compiled = subprocess.run([BINARY, "compile", "stdin"], input=source, capture_output=True, text=True, check=False)
+        told = subprocess.run([BINARY, "run", "stdin", str(argument)], input=compiled.stdout, capture_output=True, text=True,
+                              check=False).stdout.splitlines()
+        tally.expect(f"the answer of {largest}", [f"verdict answer {answer}"], told[-1:])
+        outcome = evaluate(check(source.encode()), argument, 10 ** 6)
+        tally.expect(f"the answer of {largest} by its meaning", ("answer", str(answer)), (outcome.verdict, outcome.answer))
+        look_at_refusal(tally, f"u: source {line}", grown(larger))
+
+
+def grown(text):
+    """The text with its copies."""
+    return re.sub(r"<(\d+) TIMES (.*?)>", copies, text)
+
+
 def refused_sources():
     """The line and the source of each case of tests/sources/refused.txt."""
     for case in read("tests/sources/refused.txt").split("\nu: ")[1:]:
         line, *source = case.split("\n")
         text = "\n".join(row[4:] for row in source if row.startswith("    "))
-        yield f"u: {line}", re.sub(r"<(\d+) TIMES (.*?)>", copies, text)
+        yield f"u: {line}", grown(text)
 
 
 def copies(found):
@@ -199,19 +243,24 @@ def copies(found):
     return "".join(found[2].replace("@", str(number)) for number in range(int(found[1])))
 
 
+def look_at_refusal(tally, line, source):
+    """Compares the line of a refused source with what `u` and the plain checker say."""
+    words = [BINARY, "compile", "stdin"]
+    done = subprocess.run(words, input=source, capture_output=True, text=True, check=False)
+    tally.expect(f"what is refused in {source[:200]}", (2, "", line + "\n"), (done.returncode, done.stdout, done.stderr))
+    try:
+        check(source.encode())
+        plain = line if line.endswith(LIMITS) else "it is a source"
+    except Refused as refused:
+        plain = f"u: {refused}"
+    tally.expect(f"what is refused by the plain checker in {source[:200]}", line, plain)
+
+
 def look_at_refusals(tally):
     """Compares the lines of refused sources."""
     told = set()
     for line, source in refused_sources():
-        words = [BINARY, "compile", "stdin"]
-        done = subprocess.run(words, input=source, capture_output=True, text=True, check=False)
-        tally.expect(f"what is refused in {source[:200]}", (2, "", line + "\n"), (done.returncode, done.stdout, done.stderr))
-        try:
-            check(source.encode())
-            plain = line if line.endswith(LIMITS) else "it is a source"
-        except Refused as refused:
-            plain = f"u: {refused}"
-        tally.expect(f"what is refused by the plain checker in {source[:200]}", line, plain)
+        look_at_refusal(tally, line, source)
         told.add(text_of(line.split(": ", 2)[2]))
     table = read("docs/NOTATION.md").split("## Errors")[1].split("\n## ")[0]
     texts = {text_of(text) for row in table.splitlines() if row.startswith("| `")
@@ -266,6 +315,7 @@ def main():
             ratio = f"{ratios[-1]:.2f}" if by_hand is not None else ""
             print(f"{name} {arguments[-1]}: {firings} {by_hand or ''} {ratio}".rstrip())
     look_at_pages(tally)
+    look_at_sizes(tally)
     look_at_refusals(tally)
     mean = sum(ratios) / len(ratios)
     if asked.figures:
