@@ -4,16 +4,17 @@ ghost use Rattle.std.specs.Prelude.{◌≤◌};
 ghost use Rattle.u_words.specs.Numbers.{IsOneToEight, IsPort};
 
 use crate::fault::Fault;
+use crate::inputs::{Input, program_at, read_file, read_path, read_program, read_source};
 use crate::telling::Telling;
 use std::io::{Read, Write};
 use std::sync::Wait;
 use std::thread::Threads;
 use std::{fs, io};
 use u_cli::{
-    Asked, Bus, CommandError, JobTexts, Plan, STORED_PROGRAM, SourceFault, WorldPlan,
-    blame_watched_text, check_text, compile_text, draw_world_text, explain_text, fleet_text,
-    is_source, lift_text, program_of, read_input, restore_watched_text, run_text, run_watched_text,
-    save_watched_text, share_text, trace_watched_text, waits_watched_text, world_watched_text,
+    Asked, Bus, CommandError, Form, JobTexts, Plan, STORED_PROGRAM, WorldPlan, blame_placed_text,
+    check_text, compile_text, draw_world_text, explain_source_text, explain_text, fleet_text,
+    is_source, lift_text, restore_watched_text, run_text, run_watched_text, save_watched_text,
+    share_text, trace_placed_text, waits_placed_text, world_watched_text, write_placed,
 };
 use u_pictures::{draw_run_text, draw_story_text, draw_text};
 
@@ -45,13 +46,18 @@ pub fn check(rt: &HostRuntime, file: &str, asked: Asked) -> Result<u8, Fault> {
 /// `explain FILE`, and why the program is not strict, if that is asked for. Where FILE can't be read, its
 /// path and the system's own words for the cause stand behind `not readable`.
 pub fn explain(rt: &HostRuntime, file: &str, strict: bool) -> Result<u8, Fault> {
-    match read_program(rt, file) {
-        Ok(program) => {
-            let status = explain_text(rt.alloc(), &program, strict, &mut io::writer(rt))?;
-            Ok(status)
-        }
-        Err(Fault::Command(CommandError::NotReadable)) if file != "stdin" => not_readable(rt, file),
-        Err(fault) => Err(fault),
+    let bytes = match read_file(rt, file) {
+        Ok(bytes) => bytes,
+        Err(CommandError::NotReadable) if file != "stdin" => return not_readable(rt, file),
+        Err(fault) => return Err(Fault::Command(fault)),
+    };
+    if !is_source(file, &bytes) {
+        let status = explain_text(rt.alloc(), &bytes, strict, &mut io::writer(rt))?;
+        return Ok(status);
+    }
+    match explain_source_text(rt.alloc(), &bytes, strict, &mut io::writer(rt)) {
+        Ok(status) => Ok(status),
+        Err(fault) => Err(Fault::Source(fault)),
     }
 }
 
@@ -91,8 +97,10 @@ pub fn compile(rt: &HostRuntime, file: &str, map: bool) -> Result<u8, Fault> {
 
 /// `draw FILE`.
 pub fn draw(rt: &HostRuntime, file: &str) -> Result<u8, Fault> {
-    let program = read_program(rt, file)?;
-    let status = draw_text(rt.alloc(), &program, &mut io::writer(rt))?;
+    let input = read_source(rt, file)?;
+    let mut text = Vec::new(rt.alloc());
+    let status = kept(draw_text(rt.alloc(), &input.program, &mut text))?;
+    tell(rt, &input, Form::Picture, &text)?;
     Ok(status)
 }
 
@@ -101,10 +109,12 @@ pub fn draw(rt: &HostRuntime, file: &str) -> Result<u8, Fault> {
 pub fn draw_run(rt: &HostRuntime, file: &str, argument: &str, firings: usize) -> Result<u8, Fault>
     requires { firings ≤ 1000000 }
 {
-    let program = read_program(rt, file)?;
+    let input = read_source(rt, file)?;
     let argument = argument.as_bytes();
-    let mut out = io::writer(rt);
-    let (status, left) = draw_run_text(rt.alloc(), &program, argument, firings, &mut out)?;
+    let mut text = Vec::new(rt.alloc());
+    let drawn = draw_run_text(rt.alloc(), &input.program, argument, firings, &mut text);
+    let (status, left) = kept(drawn)?;
+    tell(rt, &input, Form::Picture, &text)?;
     if left > 0 {
         let _ = eprintln!(rt; "u: the picture leaves out {left} firings");
     }
@@ -121,16 +131,17 @@ pub fn draw_story(
 ) -> Result<u8, Fault>
     requires { firings ≤ 1000000 }
 {
-    let program = read_program(rt, file)?;
-    let mut out = io::writer(rt);
-    let status = draw_story_text(
+    let input = read_source(rt, file)?;
+    let mut text = Vec::new(rt.alloc());
+    let status = kept(draw_story_text(
         rt.alloc(),
-        &program,
+        &input.program,
         argument.as_bytes(),
         entry.as_bytes(),
         firings,
-        &mut out,
-    )?;
+        &mut text,
+    ))?;
+    tell(rt, &input, Form::Picture, &text)?;
     Ok(status)
 }
 
@@ -192,15 +203,12 @@ pub fn trace(
 ) -> Result<u8, Fault>
     requires { firings ≤ 1000000 }
 {
-    let program = read_program(rt, file)?;
-    let texts = JobTexts {
-        program: &program,
-        argument: argument.as_bytes(),
-    };
+    let input = read_source(rt, file)?;
+    let texts = input.texts(argument);
     let mut watch = Telling::new(rt);
     let entry = entry.as_bytes();
     let mut out = io::writer(rt);
-    let status = trace_watched_text(rt.alloc(), texts, entry, firings, &mut watch, &mut out)?;
+    let status = trace_placed_text(rt.alloc(), texts, entry, firings, &mut watch, &mut out)?;
     Ok(status)
 }
 
@@ -214,15 +222,12 @@ pub fn blame(
 ) -> Result<u8, Fault>
     requires { IsPort port }
 {
-    let program = read_program(rt, file)?;
-    let texts = JobTexts {
-        program: &program,
-        argument: argument.as_bytes(),
-    };
+    let input = read_source(rt, file)?;
+    let texts = input.texts(argument);
     let mut watch = Telling::new(rt);
     let activity = activity.as_bytes();
     let mut out = io::writer(rt);
-    let status = blame_watched_text(rt.alloc(), texts, activity, port, &mut watch, &mut out)?;
+    let status = blame_placed_text(rt.alloc(), texts, activity, port, &mut watch, &mut out)?;
     Ok(status)
 }
 
@@ -230,13 +235,10 @@ pub fn blame(
 pub fn waits(rt: &HostRuntime, file: &str, argument: &str, firings: usize) -> Result<u8, Fault>
     requires { firings ≤ 1000000 }
 {
-    let program = read_program(rt, file)?;
-    let texts = JobTexts {
-        program: &program,
-        argument: argument.as_bytes(),
-    };
+    let input = read_source(rt, file)?;
+    let texts = input.texts(argument);
     let mut watch = Telling::new(rt);
-    let status = waits_watched_text(rt.alloc(), texts, firings, &mut watch, &mut io::writer(rt))?;
+    let status = waits_placed_text(rt.alloc(), texts, firings, &mut watch, &mut io::writer(rt))?;
     Ok(status)
 }
 
@@ -328,40 +330,18 @@ fn write_report(rt: &HostRuntime, path: Option<&str>, text: &[u8]) -> Result<(),
     }
 }
 
-/// The text of the program in FILE, or in standard input at the word `stdin`: where FILE is that of a source, of the
-/// program that it compiles to.
-fn read_program(rt: &HostRuntime, file: &str) -> Result<Vec<u8>, Fault> {
-    if file == "stdin" {
-        let program = read_input(rt.alloc(), rt.stdin())?;
-        return Ok(program);
-    }
-    program_at(rt, file)
-}
-
-/// The text of the program in the file with this path, or of that which the source there compiles to.
-fn program_at(rt: &HostRuntime, path: &str) -> Result<Vec<u8>, Fault> {
-    let bytes = read_path(rt, path)?;
-    if !is_source(path, &bytes) {
-        return Ok(bytes);
-    }
-    match program_of(rt.alloc(), &bytes) {
-        Ok(program) => Ok(program),
-        Err(error) => Err(Fault::Source(SourceFault::Refused(error))),
+/// What came of a command that writes to memory: where that is refused, there is no memory.
+fn kept<T>(told: Result<T, CommandError>) -> Result<T, CommandError> {
+    match told {
+        Ok(value) => Ok(value),
+        Err(CommandError::NotWritten) => Err(CommandError::NoMemory),
+        Err(fault) => Err(fault),
     }
 }
 
-/// All bytes of FILE, or of standard input at the word `stdin`.
-fn read_file(rt: &HostRuntime, file: &str) -> Result<Vec<u8>, CommandError> {
-    if file == "stdin" {
-        return read_input(rt.alloc(), rt.stdin());
-    }
-    read_path(rt, file)
-}
-
-/// All bytes of the file with this path.
-fn read_path(rt: &HostRuntime, path: &str) -> Result<Vec<u8>, CommandError> {
-    match fs::open(rt, path) {
-        Ok(opened) => read_input(rt.alloc(), opened),
-        Err(_) => Err(CommandError::NotReadable),
-    }
+/// Writes what a command tells of a program: of that of a source with the place of each statement of which
+/// it speaks.
+fn tell(rt: &HostRuntime, input: &Input, form: Form, text: &[u8]) -> Result<(), CommandError> {
+    let mut out = io::writer(rt);
+    write_placed(rt.alloc(), input.origins.as_deref(), form, text, &mut out)
 }

@@ -1,4 +1,7 @@
 //! Why the program ends without what was asked for.
+ghost use Rattle.std.specs.Prelude.{◌≡◌};
+ghost use Rattle.u.specs.Statuses.{exit_status};
+
 use thiserror::Error;
 use u_cli::{CommandError, SourceFault};
 
@@ -21,7 +24,9 @@ impl From<CommandError> for Fault {
 
 impl Fault {
     /// The exit status.
-    pub fn status(&self) -> u8 {
+    pub fn status(&self) -> u8
+        ensures { result ≡ exit_status self.now }
+    {
         match self {
             Fault::Command(error) => error.status(),
             Fault::Source(fault) => fault.status(),

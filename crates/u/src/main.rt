@@ -6,6 +6,7 @@ ghost use Rattle.u_words.specs.Requests.{IsInRange};
 
 mod commands;
 mod fault;
+mod inputs;
 mod telling;
 
 use fault::Fault;

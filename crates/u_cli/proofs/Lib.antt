@@ -1,3 +1,7 @@
 pub mod AllDone
+pub mod Appends
 pub mod Gathering
+pub mod PlaceLaws
+pub mod RefusalLaws
+pub mod ToldLaws
 pub mod WorldLaws

@@ -1,53 +1,31 @@
 //! The command `compile`, and sources in place of programs.
-ghost use Rattle.std.specs.Prelude.{◌≡◌, ◌∷◌, [], IfOk, IsTrue};
-ghost use Rattle.u_cli.specs.Compiles.{IsCompiledText, IsCompileText, CompileTextAnswer};
-ghost use Rattle.u_cli.specs.declared.compiling.SourceFault.TheVariants as faults;
+ghost use Rattle.std.specs.Prelude.{◌↔◌, IfOk, IsTrue};
+ghost use Rattle.u_cli.specs.Compiles.{IsCompiledText, IsMapped, IsMapText, IsCompileText, IsSource};
+ghost use Rattle.u_cli.specs.Compiles.{CompileTextAnswer};
+ghost use Rattle.u_cli.specs.Maps.{AreOrigins};
 
+use crate::map_reading::{Unread, read_map};
+use crate::map_text::map_text;
+use crate::origins::BlockOrigins;
+use crate::refusals::SourceFault;
 use std::alloc::Global;
 use std::io::Write;
-use thiserror::Error;
 use u_commands::write_whole;
-use u_compile::{CompileError, compile};
+use u_compile::{CompileError, CompileProblem, Compiled, compile};
+use u_source::Place;
 
 /// How the name of a source's file ends.
-const ENDING: &str = ".ul";
+const ENDING: &[u8] = b".ul";
 
 /// How the text of a program begins.
 const HEAD: &[u8] = b"u-program";
 
-/// Why a source gives no whole output.
-#[derive(Debug, Drop, PartialEq, Eq, Error)]
-pub enum SourceFault {
-    /// The source is refused, or there is no memory.
-    #[error("{0}")]
-    Refused(CompileError),
-    /// The output could not be written; what was written is a prefix of it.
-    #[error("not written")]
-    NotWritten,
-}
-
-impl From<CompileError> for SourceFault {
-    ghost from_gives = { λ error e. e ≡ faults.Refused error };
-
-    fn from(error: CompileError) -> SourceFault {
-        SourceFault::Refused(error)
-    }
-}
-
-impl SourceFault {
-    /// The exit status: 2 where a source is refused, 5 where memory or writing fails.
-    pub fn status(&self) -> u8 {
-        match self {
-            SourceFault::Refused(CompileError::NoMemory) | SourceFault::NotWritten => 5,
-            SourceFault::Refused(_) => 2,
-        }
-    }
-}
-
-/// Whether a file with that path and these bytes is a source: its name ends in `.ul`, and it does not begin as a
-/// program does.
-pub fn is_source(path: &str, bytes: &[u8]) -> bool {
-    path.ends_with(ENDING) && !bytes.starts_with(HEAD)
+/// Whether a file with that path and these bytes is a source: its name ends in `.ul`, and it does not begin
+/// as a program does.
+pub fn is_source(path: &str, bytes: &[u8]) -> bool
+    ensures { IsTrue result ↔ IsSource path.now bytes.now }
+{
+    path.as_bytes().ends_with(ENDING) && !bytes.starts_with(HEAD)
 }
 
 /// The text of the program of the source.
@@ -63,14 +41,52 @@ pub fn program_of(alloc: Global, source: &[u8]) -> Result<Vec<u8>, CompileError>
     Ok(text)
 }
 
+/// The program of a source, and what its statements stand for.
+#[derive(Drop)]
+pub struct Mapped {
+    /// The text of the program.
+    pub program: Vec<u8>,
+    /// Where the statements of its blocks come from.
+    pub origins: Vec<BlockOrigins>,
+}
+
+/// Where the statements of a program come from. What is told of a map that is none of the program, of which
+/// no source is known, is what is told of a tree that the parser does not make.
+fn origins_of(alloc: Global, compiled: &Compiled) -> Result<Vec<BlockOrigins>, CompileError>
+    ensures { IfOk result (λ v. AreOrigins compiled.now.blocks v.items) }
+{
+    let mut text = Vec::new(alloc);
+    compiled.write_map(&mut text)?;
+    match read_map(alloc, compiled.program(), &text) {
+        Ok(origins) => Ok(origins),
+        Err(Unread::Broken) => Err(CompileError::Refused(Place::start(), CompileProblem::Broken)),
+        Err(Unread::NoMemory) => Err(CompileError::NoMemory),
+    }
+}
+
+/// The program of the source, and what its statements stand for.
+///
+/// # Errors
+/// As `u_compile::compile`.
+pub fn mapped_program_of(alloc: Global, source: &[u8]) -> Result<Mapped, CompileError>
+    ensures { IfOk result (λ m. IsMapped m.program.items m.origins.items) }
+{
+    let compiled = compile(alloc, source)?;
+    let origins = origins_of(alloc, &compiled)?;
+    let mut program = Vec::new(alloc);
+    compiled.program().write_text(&mut program)?;
+    Ok(Mapped { program, origins })
+}
+
 /// The map of the source: what its program's statements stand for.
 ///
 /// # Errors
 /// As `u_compile::compile`.
-fn map_of(alloc: Global, source: &[u8]) -> Result<Vec<u8>, CompileError> {
-    let compiled = compile(alloc, source)?;
-    let mut text = Vec::new(alloc);
-    compiled.write_map(&mut text)?;
+fn map_of(alloc: Global, source: &[u8]) -> Result<Vec<u8>, CompileError>
+    ensures { IfOk result (λ v. IsMapText v.items) }
+{
+    let mapped = mapped_program_of(alloc, source)?;
+    let text = map_text(alloc, &mapped.origins)?;
     Ok(text)
 }
 
@@ -88,12 +104,12 @@ fn text_of(alloc: Global, source: &[u8], map: bool) -> Result<Vec<u8>, CompileEr
     }
 }
 
-/// Compiles the source and writes the text of its program; if `map` is true, in place of that the map: which place of
-/// the source each statement stands for. Returns the exit status, 0.
+/// Compiles the source and writes the text of its program; if `map` is true, in place of that the map: which
+/// place of the source each statement stands for. Returns the exit status, 0.
 ///
 /// # Errors
-/// `Refused` as `u_compile::compile` refuses the source: nothing is written. `NotWritten`: a prefix of the text is
-/// written.
+/// `Refused` as `u_compile::compile` refuses the source: nothing is written. `NotWritten`: a prefix of the
+/// text is written.
 pub fn compile_text<W: Write>(
     alloc: Global,
     source: &[u8],

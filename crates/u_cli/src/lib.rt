@@ -6,13 +6,23 @@
 mod compiling;
 mod drawing;
 mod fleets;
+mod map_reading;
+mod map_text;
+mod origins;
+mod placing;
+mod refusals;
 mod sharing;
+mod telling;
 mod worlds;
 
-pub use compiling::{SourceFault, compile_text, is_source, program_of};
+pub use compiling::{Mapped, compile_text, is_source, mapped_program_of, program_of};
 pub use drawing::draw_world_text;
 pub use fleets::{FLEET_BUDGET, FLEET_FIRINGS, fleet_text};
+pub use origins::{BlockOrigins, Origin, Role};
+pub use placing::{Form, write_placed};
+pub use refusals::{SourceFault, explain_source_text};
 pub use sharing::{SHARED_FIRINGS, member_plan, share_text};
+pub use telling::{PlacedTexts, blame_placed_text, trace_placed_text, waits_placed_text};
 pub use u_commands::{
     Asked, CommandError, FIRING_LIMIT, INPUT_LIMIT, JobTexts, Progress, STORED_PROGRAM, Unwatched,
     Unwritten, Watch, argument_of, blame_text, blame_watched_text, check_text, explain_text,

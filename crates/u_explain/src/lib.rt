@@ -44,6 +44,7 @@ mod words_of_kinds;
 pub use explaining::explain;
 pub use line_causes::Refused;
 pub use lines::refused_at;
+pub use source::show_marked;
 pub use telling_loose::explain_loose;
 pub use telling_meeting::explain_meeting;
 pub use text_place::{TextPlace, line_left};
