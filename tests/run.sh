@@ -49,6 +49,7 @@ make_files() {
     head -c 69 programs/double.u >"$temp/without_last_newline"
     head -n 2 programs/double.u >"$temp/cut_after_line_2"
     : >"$temp/empty"
+    printf 'def main(n) {\n' >"$temp/cut_short.ul"
     cp programs/double.u "$temp/stdin"
     {
         echo 'u-program 1'
