@@ -4,3 +4,4 @@ pub mod ValueLaws
 pub mod CheckLaws
 pub mod KnownLaws
 pub mod MeaningLaws
+pub mod CountingLaws

@@ -62,7 +62,7 @@ define_only : (h : Here) (x : List ℕ) (v : Bool) → Only (defined h x v)
 define_only h x v m e = defined_only x (named h.tokens x h.procedures) (known h.tokens x v h.scopes) m e
 
 variable_only : (h : Here) (x : List ℕ) → Only (variable_meaning h x)
-variable_only h x m e = with_next_only x (has_next h.tokens x 0 h.behind) (defined h x true) (define_only h x true) m e
+variable_only h x m e = with_next_only x (has_next h.tokens x 0 false h.behind) (defined h x true) (define_only h x true) m e
 
 no_name : (k : ℕ) → means.Name k ≡ means.Nothing → ⊥
 no_name k e = cc

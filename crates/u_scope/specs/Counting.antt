@@ -1,5 +1,5 @@
 -- What stands behind a name.
-use Rattle.std.specs.Prelude.{ℕ, suc, ◌-◌, Bool, true, false, cond, ◌&&◌, ◌==◌, nat_le, List, [], ◌∷◌}
+use Rattle.std.specs.Prelude.{ℕ, suc, ◌-◌, Bool, true, false, cond, not, ◌&&◌, ◌||◌, ◌==◌, nat_le, List, [], ◌∷◌}
 use Rattle.u_source.specs.declared.form.Node.{Node}
 use Rattle.u_source.specs.Tokens.{TokenParts}
 use Rattle.u_scope.specs.declared.entry.Event.{Event}
@@ -51,15 +51,6 @@ abbrev pub is_loop_end : Event → Bool
 is_loop_end LoopEnd = true
 is_loop_end e = false
 
-abbrev pub is_next : Event → Bool
-is_next Next = true
-is_next e = false
-
--- before the loop ends, a `next` of the name x stands in a block one level deeper, where d levels were begun
-abbrev pub has_next : List TokenParts → List ℕ → ℕ → List Node → Bool
-has_next ts x d [] = false
-has_next ts x d (n ∷ ns) = cond (is_loop_end (event_of n.form) && d == 0) false (cond (is_next (event_of n.form) && d == 1 && is_declared ts x Next n.token) true (has_next ts x (deeper (event_of n.form) d) ns))
-
 -- how many blocks have begun behind a node and not ended
 abbrev pub blocks_behind : Event → ℕ → ℕ
 blocks_behind Block d = suc d
@@ -85,3 +76,17 @@ ends_loops e = true
 abbrev pub is_loops : List Node → Bool
 is_loops [] = false
 is_loops (n ∷ ns) = ends_loops (event_of n.form)
+
+-- a `next` of the name x stands in the block that is one level deeper and has not ended, behind a node before which d
+-- levels were begun and that was so or not
+abbrev pub stands_behind : List TokenParts → List ℕ → ℕ → Bool → Event → ℕ → Bool
+stands_behind ts x d b Next t = (d == 1 && is_declared ts x Next t) || b
+stands_behind ts x d b BlockEnd t = b && not (d == 1)
+stands_behind ts x d b e t = b
+
+-- before the loop ends, a block that is its own ends, and a `next` of the name x stands in it; d levels were begun, and
+-- in the block one level deeper that has not ended one stood already or not. A block in the header of the loop, or behind
+-- its `give`, is a side of an `if`, and so not the loop's own
+abbrev pub has_next : List TokenParts → List ℕ → ℕ → Bool → List Node → Bool
+has_next ts x d b [] = false
+has_next ts x d b (n ∷ ns) = cond (is_loop_end (event_of n.form) && d == 0) false (cond (is_block_end (event_of n.form) && d == 1 && b && is_loops ns) true (has_next ts x (deeper (event_of n.form) d) (stands_behind ts x d b (event_of n.form) n.token) ns))

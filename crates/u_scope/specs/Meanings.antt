@@ -105,7 +105,7 @@ with_next x false (Ok m) = Err (NoNext x)
 
 -- a variable of a loop is not one of the list already, and has a next value
 abbrev pub variable_meaning : Here → List ℕ → Verdict
-variable_meaning h x = with_next x (has_next h.tokens x 0 h.behind) (defined h x true)
+variable_meaning h x = with_next x (has_next h.tokens x 0 false h.behind) (defined h x true)
 
 abbrev pub first_next : List ℕ → Found → Option ℕ → Verdict
 first_next x k (Some line) = Err (SecondNext x line)

@@ -1,5 +1,5 @@
 //! What stands behind a name.
-ghost use Rattle.std.specs.Prelude.{◌≡◌, ◌≤◌, length};
+ghost use Rattle.std.specs.Prelude.{◌≡◌, ◌≤◌, false, length};
 ghost use Rattle.u_scope.specs.Counting.{commas, given, has_next, behind_block, is_loops};
 ghost use Rattle.u_scope.specs.Finding.{is_declared};
 
@@ -55,16 +55,25 @@ pub(crate) fn given(nodes: &[Node]) -> usize
     count
 }
 
-/// Whether the variable of a loop with this name has a next value in the loop's block.
+/// Whether the variable of a loop with this name has a next value in the loop's own block. One in the loop's header, or
+/// behind its `give`, stands in a block of an `if`.
 pub(crate) fn has_next(tokens: &[Token], name: BlockName, nodes: &[Node]) -> bool
-    ensures { result ≡ has_next tokens.now name 0 nodes.now }
+    ensures { result ≡ has_next tokens.now name 0 false nodes.now }
 {
     let mut depth: usize = 0;
+    let mut stands = false;
     let mut rest = nodes;
     while let Some((node, others)) = rest.split_first() {
         match event_of(node.form) {
-            Event::Variables | Event::Block => depth += 1,
-            Event::BlockEnd => depth = depth.saturating_sub(1),
+            Event::Variables => depth += 1,
+            Event::Block => depth += 1,
+            Event::BlockEnd => {
+                if depth == 1 && stands && is_loops(others) {
+                    return true;
+                }
+                stands = stands && depth != 1;
+                depth = depth.saturating_sub(1);
+            }
             Event::LoopEnd => {
                 if depth == 0 {
                     break;
@@ -73,7 +82,7 @@ pub(crate) fn has_next(tokens: &[Token], name: BlockName, nodes: &[Node]) -> boo
             }
             Event::Next => {
                 if depth == 1 && is_declared(tokens, name, Event::Next, node.token) {
-                    return true;
+                    stands = true;
                 }
             }
             _ => {}

@@ -161,6 +161,30 @@ const REFUSED: &[Row] = &[
         "1 column 20: loop variable `i` has no `next`",
     ),
     (
+        "def main(n) { loop i = if true { next i = n; 1 } else { n } while 0 < i { } give i }",
+        "1 column 20: loop variable `i` has no `next`",
+    ),
+    (
+        "def main(n) { loop i = n while if n { next i = 0; true } else { false } { } give i }",
+        "1 column 20: loop variable `i` has no `next`",
+    ),
+    (
+        "def main(n) { loop i = n while 0 < i { } give if n { next i = 0; 1 } else { 2 } }",
+        "1 column 20: loop variable `i` has no `next`",
+    ),
+    (
+        "def main(n) { for w in 0 .. 1, t = if true { next t = n; 1 } else { n } { } give t }",
+        "1 column 32: loop variable `t` has no `next`",
+    ),
+    (
+        "def main(n) { loop i = loop j = if n { next i = 0; next j = 0; 1 } else { 2 } while 0 < j { } give j while 0 < i { next i = 0; } give i }",
+        "1 column 29: loop variable `j` has no `next`",
+    ),
+    (
+        "def main(n) { loop i = if n { next i = 0; 1 } else { 2 } while 0 < i { next i = 0; } give i }",
+        "1 column 36: `next` stands outside a loop's own block",
+    ),
+    (
         "def main(n) { loop i = n while 0 < i { next i = 0; for j in 0 .. i { next i = 0; } } give i }",
         "1 column 75: `i` is no variable of this loop",
     ),
