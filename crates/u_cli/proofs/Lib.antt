@@ -1,6 +1,7 @@
 pub mod AllDone
 pub mod Appends
 pub mod Gathering
+pub mod MapLaws
 pub mod PlaceLaws
 pub mod RefusalLaws
 pub mod ToldLaws

@@ -4,7 +4,7 @@ use Rattle.std.proofs.Common.{append_assoc, ap, ◌∙◌, sym}
 use Rattle.std.specs.List.{ends_with}
 use Rattle.u_text.specs.Pieces.{PiecesAndRest, pieces, IsCutInto}
 use Rattle.u_text.specs.Spaced.{ended}
-use Rattle.u_cli.specs.declared.origins.BlockOrigins.{BlockOrigins}
+use Rattle.u_compile.specs.declared.origins.BlockOrigins.{BlockOrigins}
 use Rattle.u_cli.specs.declared.placing.Form.{Form}
 use Rattle.u_cli.specs.Places.{tipped, quoted_each, placed_line, placed_text}
 

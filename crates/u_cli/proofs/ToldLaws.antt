@@ -5,7 +5,7 @@ use Rattle.std.specs.Io.KnownBytes.{Keeps}
 use Rattle.u_commands.specs.Blaming.{Blames, NotBlamed, BlameTextAnswer}
 use Rattle.u_commands.specs.declared.command_error.CommandError.{CommandError}
 use Rattle.u_commands.specs.declared.command_error.CommandError.TheVariants as faults
-use Rattle.u_cli.specs.declared.origins.BlockOrigins.{BlockOrigins}
+use Rattle.u_compile.specs.declared.origins.BlockOrigins.{BlockOrigins}
 use Rattle.u_cli.specs.declared.placing.Form.TheVariants.{Lines}
 use Rattle.u_cli.specs.Places.{told_text}
 use Rattle.u_cli.specs.Placed.{PlacedAnswer, PlacedTextAnswer, at_success, kept}

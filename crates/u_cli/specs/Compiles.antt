@@ -7,8 +7,8 @@ use Rattle.u_program.specs.Text.{program_text}
 use Rattle.u_check.specs.Rules.{IsChecked}
 use Rattle.u_determinate.specs.Determinate.{IsDeterminate}
 use Rattle.u_commands.specs.Outputs.{WritesAll, WritesPrefix}
-use Rattle.u_cli.specs.Maps.{map_text, AreOrigins}
-use Rattle.u_cli.specs.declared.origins.BlockOrigins.{BlockOrigins}
+use Rattle.u_compile.specs.Maps.{map_text, AreOrigins}
+use Rattle.u_compile.specs.declared.origins.BlockOrigins.{BlockOrigins}
 use Rattle.u_cli.specs.declared.refusals.SourceFault.{SourceFault}
 use Rattle.u_cli.specs.declared.refusals.SourceFault.TheVariants as faults
 

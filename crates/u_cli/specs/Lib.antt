@@ -1,7 +1,6 @@
 pub mod Compiles
 pub mod DrawnWorlds
 pub mod Fleets
-pub mod Maps
 pub mod Placed
 pub mod Places
 pub mod Refusals

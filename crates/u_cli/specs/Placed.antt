@@ -2,7 +2,7 @@
 use Rattle.std.specs.Prelude.{◌≡◌, ◌⊎◌, ℕ, List, Option, Result, Ok, Err}
 use Rattle.std.specs.Io.KnownBytes.{Keeps}
 use Rattle.u_commands.specs.Outputs.{WritesAll, WritesPrefix}
-use Rattle.u_cli.specs.declared.origins.BlockOrigins.{BlockOrigins}
+use Rattle.u_compile.specs.declared.origins.BlockOrigins.{BlockOrigins}
 use Rattle.u_cli.specs.declared.placing.Form.TheVariants.{Lines}
 use Rattle.u_cli.specs.Places.{told_text}
 use Rattle.u_commands.specs.declared.command_error.CommandError.{CommandError}

@@ -10,12 +10,12 @@ use Rattle.u_text.specs.Spaced.{ended}
 use Rattle.u_name.specs.BlockText.{block_at}
 use Rattle.u_name.specs.Name.{Activity}
 use Rattle.u_name.specs.NameReader.{name_steps}
-use Rattle.u_cli.specs.declared.origins.Origin.{Origin}
-use Rattle.u_cli.specs.declared.origins.BlockOrigins.{BlockOrigins}
+use Rattle.u_compile.specs.declared.origins.Origin.{Origin}
+use Rattle.u_compile.specs.declared.origins.BlockOrigins.{BlockOrigins}
 use Rattle.u_cli.specs.declared.placing.Located.{Located}
 use Rattle.u_cli.specs.declared.placing.Form.{Form}
 use Rattle.u_cli.specs.declared.placing.Form.TheVariants.{Lines, Picture}
-use Rattle.u_cli.specs.Maps.{statement_text, role_words, name_part}
+use Rattle.u_compile.specs.Maps.{statement_text, role_words, name_part}
 
 -- a block, and the number of a statement in it
 abbrev pub Named : Type 0

@@ -2,17 +2,12 @@
 ghost use Rattle.std.specs.Prelude.{◌↔◌, IfOk, IsTrue};
 ghost use Rattle.u_cli.specs.Compiles.{IsCompiledText, IsMapped, IsMapText, IsCompileText, IsSource};
 ghost use Rattle.u_cli.specs.Compiles.{CompileTextAnswer};
-ghost use Rattle.u_cli.specs.Maps.{AreOrigins};
 
-use crate::map_reading::{Unread, read_map};
-use crate::map_text::map_text;
-use crate::origins::BlockOrigins;
 use crate::refusals::SourceFault;
 use std::alloc::Global;
 use std::io::Write;
 use u_commands::write_whole;
-use u_compile::{CompileError, CompileProblem, Compiled, compile};
-use u_source::Place;
+use u_compile::{BlockOrigins, CompileError, compile};
 
 /// How the name of a source's file ends.
 const ENDING: &[u8] = b".ul";
@@ -50,20 +45,6 @@ pub struct Mapped {
     pub origins: Vec<BlockOrigins>,
 }
 
-/// Where the statements of a program come from. What is told of a map that is none of the program, of which
-/// no source is known, is what is told of a tree that the parser does not make.
-fn origins_of(alloc: Global, compiled: &Compiled) -> Result<Vec<BlockOrigins>, CompileError>
-    ensures { IfOk result (λ v. AreOrigins compiled.now.blocks v.items) }
-{
-    let mut text = Vec::new(alloc);
-    compiled.write_map(&mut text)?;
-    match read_map(alloc, compiled.program(), &text) {
-        Ok(origins) => Ok(origins),
-        Err(Unread::Broken) => Err(CompileError::Refused(Place::start(), CompileProblem::Broken)),
-        Err(Unread::NoMemory) => Err(CompileError::NoMemory),
-    }
-}
-
 /// The program of the source, and what its statements stand for.
 ///
 /// # Errors
@@ -72,9 +53,9 @@ pub fn mapped_program_of(alloc: Global, source: &[u8]) -> Result<Mapped, Compile
     ensures { IfOk result (λ m. IsMapped m.program.items m.origins.items) }
 {
     let compiled = compile(alloc, source)?;
-    let origins = origins_of(alloc, &compiled)?;
     let mut program = Vec::new(alloc);
     compiled.program().write_text(&mut program)?;
+    let origins = compiled.into_origins();
     Ok(Mapped { program, origins })
 }
 
@@ -82,11 +63,13 @@ pub fn mapped_program_of(alloc: Global, source: &[u8]) -> Result<Mapped, Compile
 ///
 /// # Errors
 /// As `u_compile::compile`.
+#[tactic(auto, using(crate::proofs::MapLaws::map_of_compiled))]
 fn map_of(alloc: Global, source: &[u8]) -> Result<Vec<u8>, CompileError>
     ensures { IfOk result (λ v. IsMapText v.items) }
 {
-    let mapped = mapped_program_of(alloc, source)?;
-    let text = map_text(alloc, &mapped.origins)?;
+    let compiled = compile(alloc, source)?;
+    let mut text = Vec::new(alloc);
+    compiled.write_map(&mut text)?;
     Ok(text)
 }
 

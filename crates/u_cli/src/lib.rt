@@ -6,9 +6,6 @@
 mod compiling;
 mod drawing;
 mod fleets;
-mod map_reading;
-mod map_text;
-mod origins;
 mod placing;
 mod refusals;
 mod sharing;
@@ -18,7 +15,6 @@ mod worlds;
 pub use compiling::{Mapped, compile_text, is_source, mapped_program_of, program_of};
 pub use drawing::draw_world_text;
 pub use fleets::{FLEET_BUDGET, FLEET_FIRINGS, fleet_text};
-pub use origins::{BlockOrigins, Origin, Role};
 pub use placing::{Form, write_placed};
 pub use refusals::{SourceFault, explain_source_text};
 pub use sharing::{SHARED_FIRINGS, member_plan, share_text};
@@ -30,6 +26,6 @@ pub use u_commands::{
     save_text, save_watched_text, trace_text, trace_watched_text, waits_text, waits_watched_text,
     write_whole,
 };
-pub use u_compile::CompileError;
+pub use u_compile::{BlockOrigins, CompileError, Origin, Role};
 pub use u_share::{Bus, Plan};
 pub use worlds::{WorldPlan, world_text, world_watched_text};

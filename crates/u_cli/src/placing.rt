@@ -10,11 +10,10 @@ ghost use Rattle.std.specs.Option.{option_copied};
 ghost use Rattle.u_cli.specs.Placed.{PlacedAnswer};
 ghost use Rattle.u_cli.specs.declared.placing.Form.TheVariants as forms;
 
-use crate::map_text::{push_name, push_statement};
-use crate::origins::{BlockOrigins, Origin};
 use std::alloc::{AllocError, Global};
 use std::io::Write;
 use u_commands::{CommandError, push_numbered, write_whole};
+use u_compile::{BlockOrigins, Origin, push_name, push_statement};
 use u_name::{BlockName, front_block, front_name};
 use u_text::{Words, after, cut, number_word};
 

@@ -9,13 +9,13 @@ ghost use Rattle.u_commands.specs.Blaming.{Blames, NotBlamed};
 ghost use Rattle.u_rule.specs.Parts.{most_ports};
 ghost use Rattle.u_cli.specs.Placed.{PlacedTextAnswer, at_success, kept};
 
-use crate::origins::BlockOrigins;
 use crate::placing::{Form, write_placed};
 use std::alloc::Global;
 use std::io::Write;
 use u_commands::{
     CommandError, JobTexts, Watch, blame_watched_text, trace_watched_text, waits_watched_text,
 };
+use u_compile::BlockOrigins;
 
 /// The text of a program and the word of an argument, and where the program's statements come from, if it is
 /// that of a source.

@@ -13,3 +13,4 @@ pub mod Entries
 pub mod PlacedLaws
 pub mod PlacedTests
 pub mod FinishedLaws
+pub mod Appends

@@ -4,3 +4,5 @@ pub mod Blocks
 pub mod Fanning
 pub mod Scoped
 pub mod Placed
+pub mod Maps
+pub mod Compiled

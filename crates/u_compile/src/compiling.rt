@@ -2,12 +2,15 @@
 ghost use Rattle.std.specs.Prelude.{◌≡◌, IfOk};
 ghost use Rattle.u_check.specs.Rules.{IsChecked};
 ghost use Rattle.u_determinate.specs.Determinate.{IsDeterminate};
+ghost use Rattle.u_compile.specs.Maps.{AreOrigins};
 
 use crate::compile_error::{CompileError, CompileProblem};
 use crate::compiled::Compiled;
 use crate::graph::Full;
 use crate::lowering::Lowering;
-use crate::origins::{Origins, place_in};
+use crate::mapping::origins_of;
+use crate::notes::{Notes, place_in};
+use crate::origins::BlockOrigins;
 use crate::tree::Tree;
 use std::alloc::Global;
 use u_check::check;
@@ -25,13 +28,13 @@ struct Stopped {
     pub full: Full,
 }
 
-/// A program that was not looked at, and where the statements of its blocks come from.
+/// A program that was not looked at, and what was noted of its statements.
 #[derive(Drop)]
 struct Lowered {
     /// The program.
     pub program: Program,
-    /// Where the statements come from, block by block.
-    pub origins: Vec<Origins>,
+    /// What was noted of the statements, block by block.
+    pub notes: Vec<Notes>,
 }
 
 /// Goes through the nodes.
@@ -47,7 +50,7 @@ fn go_through(lowering: &mut Lowering<'_>, tree: &Tree<'_>) -> Result<(), Stoppe
     Ok(())
 }
 
-/// The program of the nodes, which is determinate, and where the statements of its blocks come from.
+/// The program of the nodes, which is determinate, and what was noted of its statements.
 fn lower(alloc: Global, tree: &Tree<'_>) -> Result<Lowered, Stopped>
     ensures { IfOk result (λ l. IsDeterminate l.program.blocks) }
 {
@@ -61,13 +64,9 @@ fn lower(alloc: Global, tree: &Tree<'_>) -> Result<Lowered, Stopped>
         }
     };
     go_through(&mut lowering, tree)?;
-    let Lowering {
-        blocks,
-        origins,
-        ..
-    } = lowering;
+    let Lowering { blocks, notes, .. } = lowering;
     match blocks.program() {
-        Some(program) => Ok(Lowered { program, origins }),
+        Some(program) => Ok(Lowered { program, notes }),
         None => Err(Stopped {
             place: Place::start(),
             full: Full::Misplaced,
@@ -90,15 +89,29 @@ fn program_of(alloc: Global, source: &Source, checked: &Checked) -> Result<Lower
 }
 
 /// The program as a checked one.
-fn checked_of(program: Program, origins: &[Origins]) -> Result<u_check::Checked, CompileError>
+fn checked_of(program: Program, notes: &[Notes]) -> Result<u_check::Checked, CompileError>
     ensures { IfOk result (λ c. c ≡ program) }
 {
     match check(program) {
         Ok(checked) => Ok(checked),
         Err(refused) => Err(CompileError::Refused(
-            place_in(origins, refused.breach.block, refused.breach.statement),
+            place_in(notes, refused.breach.block, refused.breach.statement),
             CompileProblem::NotChecked,
         )),
+    }
+}
+
+/// Where the statements of the program's blocks come from. Of no source it is known that one comes from nowhere.
+fn mapped(
+    alloc: Global,
+    program: &Program,
+    notes: &[Notes],
+) -> Result<Vec<BlockOrigins>, CompileError>
+    ensures { IfOk result (λ v. AreOrigins program.now.blocks v.items) }
+{
+    match origins_of(alloc, program.blocks(), notes) {
+        Ok(origins) => Ok(origins),
+        Err(full) => Err(CompileError::at(place_in(notes, 1, 1), full)),
     }
 }
 
@@ -116,15 +129,17 @@ fn checked_of(program: Program, origins: &[Origins]) -> Result<u_check::Checked,
 /// statements or has more than 99 loops, with a place in it; or where the tree or the program is not what it should
 /// be, as above. `NoMemory` where there is no memory.
 pub fn compile(alloc: Global, bytes: &[u8]) -> Result<Compiled, CompileError>
-    ensures checked { IfOk result (λ c. IsChecked c.blocks) }
-    ensures determinate { IfOk result (λ c. IsDeterminate c.blocks) }
+    ensures checked { IfOk result (λ c. IsChecked c.program.blocks) }
+    ensures determinate { IfOk result (λ c. IsDeterminate c.program.blocks) }
+    ensures each { IfOk result (λ c. AreOrigins c.program.blocks c.origins) }
 {
     let source = Source::read(alloc, bytes)?;
     let names = Checked::check(alloc, &source)?;
     check_kinds(alloc, &source, &names)?;
-    let Lowered { program, origins } = program_of(alloc, &source, &names)?;
-    let checked = checked_of(program, &origins)?;
+    let Lowered { program, notes } = program_of(alloc, &source, &names)?;
+    let checked = checked_of(program, &notes)?;
     // Brings in that it is checked.
-    let _ = checked.program();
+    let program = checked.program();
+    let origins = mapped(alloc, program, &notes)?;
     Ok(Compiled::new(checked, origins))
 }

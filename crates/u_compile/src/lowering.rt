@@ -8,7 +8,7 @@ use crate::blocks::Blocks;
 use crate::drawing::{Drawing, Scope, Way};
 use crate::graph::{Full, Output};
 use crate::naming::Names;
-use crate::origins::Origins;
+use crate::notes::Notes;
 use crate::tree::Tree;
 use std::alloc::Global;
 use u_name::BlockName;
@@ -91,19 +91,19 @@ pub(crate) struct Lowering<'a> {
     pub scope: usize,
     /// The blocks of the procedures before.
     pub blocks: Blocks,
-    /// Where their statements come from.
-    pub origins: Vec<Origins>,
+    /// What was noted of their statements.
+    pub notes: Vec<Notes>,
     /// Where memory comes from.
     pub alloc: Global,
 }
 
-/// A procedure's block, and where its statements come from.
+/// A procedure's block, and what was noted of its statements.
 fn finished(
     drawing: Drawing,
     names: Names,
     value: usize,
     name: BlockName,
-) -> Result<(Block, Origins), Full>
+) -> Result<(Block, Notes), Full>
     ensures block { IfOk result (λ r. IsBlockOf (limits_of versions.Two) r.0) }
     ensures determinate { IfOk result (λ r. IsDeterminateBlock r.0) }
 {
@@ -112,7 +112,7 @@ fn finished(
     drawing.end(value)?;
     names.note(&drawing)?;
     let block = drawing.finish(name)?;
-    Ok((block, names.into_origins()))
+    Ok((block, names.into_notes()))
 }
 
 impl<'a> Lowering<'a> {
@@ -127,7 +127,7 @@ impl<'a> Lowering<'a> {
             starts: Vec::new(alloc),
             scope: 0,
             blocks: Blocks::new(alloc),
-            origins: Vec::new(alloc),
+            notes: Vec::new(alloc),
             alloc,
         })
     }
@@ -201,9 +201,9 @@ impl Lowering<'_> {
         let name = self.pop_name()?;
         let drawing = std::mem::replace(&mut self.drawing, Drawing::new(self.alloc, 0)?);
         let names = std::mem::replace(&mut self.names, Names::new(self.alloc));
-        let (block, origins) = finished(drawing, names, value, name)?;
+        let (block, notes) = finished(drawing, names, value, name)?;
         self.blocks.push(block)?;
-        self.origins.push(origins)?;
+        self.notes.push(notes)?;
         Ok(())
     }
 

@@ -1,29 +1,31 @@
-//! The map: where each statement of a program comes from.
+//! Where the statements of a finished program come from, by what was noted as they were drawn.
+ghost use Rattle.std.specs.Prelude.{◌≡◌, IfOk, length};
+ghost use Rattle.u_compile.specs.Maps.{AreOrigins};
 
-use crate::origins::Origins;
-use std::alloc::AllocError;
-use u_name::BlockName;
+use crate::graph::Full;
+use crate::notes::Notes;
+use crate::origins::{BlockOrigins, Origin, Role};
+use std::alloc::Global;
 use u_program::{Block, Destination, Kind, Statement};
-use u_source::Place;
-use u_text::push_long;
 
-/// The word for what a statement does. A `pass` that was added for long lists is a fan.
-fn role(kind: &Kind, is_fan: bool) -> &'static [u8] {
+/// What a statement does. A `pass` that was added for long lists is a fan.
+fn role_of(kind: &Kind, is_fan: bool) -> Role {
     match kind {
-        Kind::Begin | Kind::Param(_) => b"param",
-        Kind::Const(_) => b"const",
-        Kind::Pass => { if is_fan { b"fan" } else { b"test" } }
-        Kind::Unary(_) | Kind::Binary(_) | Kind::Alloc | Kind::Fetch => b"op",
-        Kind::Select => b"if",
-        Kind::Switch => b"gate",
-        Kind::Enter(_) => b"enter",
-        Kind::Next => b"next",
-        Kind::Last => b"last",
-        Kind::Leave => b"leave",
-        Kind::Apply(_, _) => b"call",
-        Kind::Back => b"result",
-        Kind::Store => b"write",
-        Kind::End => b"end",
+        Kind::Begin | Kind::Param(_) => Role::Parameter,
+        Kind::Const(_) => Role::Constant,
+        Kind::Pass => { if is_fan { Role::Fan } else { Role::Test } }
+        Kind::Unary(_) | Kind::Binary(_) | Kind::Alloc => Role::Operator,
+        Kind::Fetch => Role::Read,
+        Kind::Select => Role::Choice,
+        Kind::Switch => Role::Gate,
+        Kind::Enter(_) => Role::Enter,
+        Kind::Next => Role::Next,
+        Kind::Last => Role::Last,
+        Kind::Leave => Role::Leave,
+        Kind::Apply(_, _) => Role::Call,
+        Kind::Back => Role::Outcome,
+        Kind::Store => Role::Write,
+        Kind::End => Role::End,
     }
 }
 
@@ -63,61 +65,58 @@ fn owner(statements: &[Statement], count: usize, number: usize) -> Option<usize>
     None
 }
 
-/// Appends the name of a block and the number of a statement.
-fn push_statement(out: &mut Vec<u8>, name: &BlockName, number: usize) -> Result<(), AllocError> {
-    out.extend_from_slice(name.as_bytes())?;
-    out.push(b'.')?;
-    push_long(out, number as u64)
-}
-
-/// Appends a place, behind a space.
-fn push_place(out: &mut Vec<u8>, place: Place) -> Result<(), AllocError> {
-    out.push(b' ')?;
-    push_long(out, place.line as u64)?;
-    out.push(b':')?;
-    push_long(out, place.column as u64)?;
-    out.push(b' ')?;
-    Ok(())
-}
-
-/// Appends the name under which a value flows, behind a space, if there is one, and the end of the line.
-fn push_name(out: &mut Vec<u8>, name: Option<&BlockName>) -> Result<(), AllocError> {
-    if let Some(name) = name {
-        out.push(b' ')?;
-        out.extend_from_slice(name.as_bytes())?;
-    }
-    out.push(b'\n')?;
-    Ok(())
-}
-
-/// Appends the place, the role and the name of a statement of a block.
-fn push_origin(
-    out: &mut Vec<u8>,
+/// Where the statement with this number comes from.
+fn origin_of(
+    statements: &[Statement],
+    notes: &Notes,
+    number: usize,
     kind: &Kind,
-    origins: &Origins,
-    owner: usize,
-    is_fan: bool,
-) -> Result<(), AllocError> {
-    if let Some(place) = origins.place_of(owner) {
-        push_place(out, place)?;
-    }
-    out.extend_from_slice(role(kind, is_fan))?;
-    push_name(out, origins.name_of(owner))
+) -> Option<Origin> {
+    let owner = owner(statements, notes.len(), number)?;
+    Some(Origin {
+        place: notes.place_of(owner)?,
+        role: role_of(kind, owner != number),
+        name: notes.name_of(owner),
+    })
 }
 
-/// Appends the lines of a block, the statements of which come from there.
-pub(crate) fn push_block(
-    out: &mut Vec<u8>,
-    block: &Block,
-    origins: &Origins,
-) -> Result<(), AllocError> {
+/// Where the statements of the block come from.
+///
+/// # Errors
+/// `Misplaced` where one comes from nowhere, `NoMemory` where there is no memory.
+fn block_origins(alloc: Global, block: &Block, notes: &Notes) -> Result<Vec<Origin>, Full>
+    ensures { IfOk result (λ v. length v.items ≡ length block.now.statements) }
+{
     let statements = block.statements();
+    let mut origins = Vec::new(alloc);
     for (before, statement) in statements.iter().enumerate() {
-        let number = before + 1;
-        if let Some(owner) = owner(statements, origins.len(), number) {
-            push_statement(out, block.name(), number)?;
-            push_origin(out, statement.kind(), origins, owner, owner != number)?;
+        match origin_of(statements, notes, before + 1, statement.kind()) {
+            Some(origin) => origins.push(origin)?,
+            None => return Err(Full::Misplaced),
         }
     }
-    Ok(())
+    Ok(origins)
+}
+
+/// Where the statements of the blocks come from, by the notes of each.
+///
+/// # Errors
+/// `Misplaced` where one comes from nowhere, `NoMemory` where there is no memory.
+pub(crate) fn origins_of(
+    alloc: Global,
+    blocks: &[Block],
+    notes: &[Notes],
+) -> Result<Vec<BlockOrigins>, Full>
+    ensures { IfOk result (λ v. AreOrigins blocks.now v.items) }
+{
+    let mut found: Vec<BlockOrigins> = Vec::new(alloc);
+    for block in blocks {
+        let Some(noted) = notes.get(found.len()) else {
+            return Err(Full::Misplaced);
+        };
+        let origins = block_origins(alloc, block, noted)?;
+        let name = *block.name();
+        found.push(BlockOrigins { name, origins })?;
+    }
+    Ok(found)
 }

@@ -2,7 +2,7 @@
 
 use crate::drawing::{Drawing, Way};
 use crate::graph::Full;
-use crate::origins::Origins;
+use crate::notes::Notes;
 use std::alloc::Global;
 use u_name::BlockName;
 use u_program::{Constant, Kind};
@@ -55,7 +55,7 @@ pub(crate) struct Names {
     aliases: Vec<Alias>,
     constants: Vec<ConstantBinding>,
     spellings: Vec<Spelling>,
-    origins: Origins,
+    notes: Notes,
     place: Place,
 }
 
@@ -137,15 +137,15 @@ impl Names {
             aliases: Vec::new(alloc),
             constants: Vec::new(alloc),
             spellings: Vec::new(alloc),
-            origins: Origins::new(alloc),
+            notes: Notes::new(alloc),
             place: Place::start(),
         }
     }
 
-    /// Where its statements come from.
-    pub fn into_origins(self) -> Origins {
-        let Names { origins, .. } = self;
-        origins
+    /// What was noted of its statements.
+    pub fn into_notes(self) -> Notes {
+        let Names { notes, .. } = self;
+        notes
     }
 
     /// The place from which statements come from now on.
@@ -160,22 +160,34 @@ impl Names {
 
     /// Lets the statements that were added come from the place.
     pub fn note(&mut self, drawing: &Drawing) -> Result<(), Full> {
-        self.origins.note(drawing.len(), self.place)?;
+        self.notes.note(drawing.len(), self.place)?;
         Ok(())
     }
 
     /// Lets the statements that were added come from the place, under the name that is known from that node.
     pub fn note_as(&mut self, drawing: &Drawing, name: usize) -> Result<(), Full> {
-        let first = self.origins.len();
+        let first = self.notes.len();
         self.note(drawing)?;
         let Some(text) = spelled(&self.spellings, name) else {
             return Ok(());
         };
-        self.origins.name_from(first, &text)?;
+        self.notes.name_from(first, &text)?;
         Ok(())
     }
 
-    /// Gives the statement that gives a value a name, if it has none.
+    /// Lets the statement that was added last, which reads a cell, come from the place, under the name of the structure:
+    /// if that is no name, it gets none.
+    pub fn note_read(
+        &mut self,
+        drawing: &Drawing,
+        structure: Option<BlockName>,
+    ) -> Result<(), Full> {
+        self.note(drawing)?;
+        self.notes.settle(drawing.len(), structure)?;
+        Ok(())
+    }
+
+    /// Gives the statement that gives a value a name, if its name is not settled.
     fn name_value(
         &mut self,
         drawing: &Drawing,
@@ -183,7 +195,7 @@ impl Names {
         text: &BlockName,
     ) -> Result<(), Full> {
         if let Some(output) = drawing.only_output(value)? {
-            self.origins.name(output.statement as usize, text)?;
+            self.notes.settle(output.statement as usize, Some(*text))?;
         }
         Ok(())
     }

@@ -168,13 +168,32 @@ impl Lowering<'_> {
         self.add_binary(&Kind::Binary(BinaryOperator::Sub), zero, value)
     }
 
+    /// The name that waits before the index of a cell, if it is a name that waits there.
+    fn structure(&self) -> Result<Option<BlockName>, Full> {
+        let Some(before) = self.operands.len().checked_sub(2) else {
+            return Err(Full::Misplaced);
+        };
+        match self.operand(before)? {
+            Operand::Atom(number) if self.tree.form(number)? == Form::Name => {
+                Ok(Some(self.tree.name_of(number)?))
+            }
+            _ => Ok(None),
+        }
+    }
+
     /// A cell that is read. The array and the index of one that is written wait on.
     fn index(&mut self, number: usize) -> Result<(), Full> {
         let parent = self.tree.parent(number)?;
         if self.tree.form(parent)? == Form::Write && number.checked_add(1) != Some(parent) {
             return Ok(());
         }
-        self.binary(&Kind::Fetch)
+        let structure = self.structure()?;
+        let (array, index) = self.pop_two()?;
+        let value = self
+            .drawing
+            .add_binary(self.scope, &Kind::Fetch, array, index)?;
+        self.names.note_read(&self.drawing, structure)?;
+        self.push(value)
     }
 
     /// A cell that is written.

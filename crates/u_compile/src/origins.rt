@@ -1,104 +1,115 @@
-//! Where statements come from.
+//! What the statements of a program of a source stand for.
+ghost use Rattle.std.specs.Prelude.{◌≡◌};
+ghost use Rattle.u_compile.specs.Maps.{role_word, role_words};
 
-use std::alloc::{AllocFailed, Global};
 use u_name::BlockName;
 use u_source::Place;
 
-/// The name under which the value of a statement flows or is defined.
+/// What a statement does for its source.
+#[derive(Clone, Copy, Debug, PartialEq, Eq)]
+pub enum Role {
+    /// It has a parameter.
+    Parameter,
+    /// It has a constant.
+    Constant,
+    /// It has what an operator gives.
+    Operator,
+    /// It reads a cell.
+    Read,
+    /// It chooses one of two names or constants.
+    Choice,
+    /// It calls a procedure.
+    Call,
+    /// It has what a call gives.
+    Outcome,
+    /// It writes a cell.
+    Write,
+    /// It lets a value into a side or a turn.
+    Gate,
+    /// It lets a value into a loop.
+    Enter,
+    /// It lets a value into the next turn.
+    Next,
+    /// It takes a value out of the last turn.
+    Last,
+    /// It lets a value out of a loop.
+    Leave,
+    /// It stands before what controls a choice.
+    Test,
+    /// It passes a value on to some of many.
+    Fan,
+    /// It ends the procedure.
+    End,
+}
+
+/// Where a statement comes from.
 #[derive(Clone, Copy)]
-pub(crate) struct Named {
-    /// The number of the statement.
-    pub statement: usize,
-    /// The name.
-    pub text: BlockName,
+pub struct Origin {
+    /// The place of the source that asks for it.
+    pub place: Place,
+    /// What it does there.
+    pub role: Role,
+    /// The name that its value has or flows under, if there is one; of a read that of its structure, if that is a name.
+    pub name: Option<BlockName>,
 }
 
-/// Where the statements of a procedure come from, in their order.
+/// Where the statements of a block of a program come from.
 #[derive(Drop)]
-pub(crate) struct Origins {
-    places: Vec<Place>,
-    names: Vec<Named>,
+pub struct BlockOrigins {
+    /// The name of the block.
+    pub name: BlockName,
+    /// Those of its statements, the first being number 1.
+    pub origins: Vec<Origin>,
 }
 
-/// The name of the statement with this number, if it has one.
-fn name_in(names: &[Named], number: usize) -> Option<&BlockName> {
-    for named in names {
-        if named.statement == number {
-            return Some(&named.text);
-        }
-    }
-    None
-}
-
-impl Origins {
-    /// Those of no statement.
-    pub fn new(alloc: Global) -> Origins {
-        Origins {
-            places: Vec::new(alloc),
-            names: Vec::new(alloc),
-        }
-    }
-
-    /// How many statements come from somewhere.
-    pub fn len(&self) -> usize {
-        self.places.len()
-    }
-
-    /// The place from which the statement with this number comes.
-    pub fn place_of(&self, number: usize) -> Option<Place> {
-        let Some(before) = number.checked_sub(1) else {
-            return None;
-        };
-        match self.places.get(before) {
-            Some(place) => Some(*place),
-            None => None,
+impl Role {
+    /// The word of the map for it.
+    #[tactic(auto, unfolding(crate::specs::Maps::role_word))]
+    pub fn word(self) -> &'static [u8]
+        ensures { result.now ≡ role_word self }
+    {
+        match self {
+            Role::Parameter => b"param",
+            Role::Constant => b"const",
+            Role::Operator => b"op",
+            Role::Read => b"read",
+            Role::Choice => b"if",
+            Role::Call => b"call",
+            Role::Outcome => b"result",
+            Role::Write => b"write",
+            Role::Gate => b"gate",
+            Role::Enter => b"enter",
+            Role::Next => b"next",
+            Role::Last => b"last",
+            Role::Leave => b"leave",
+            Role::Test => b"test",
+            Role::Fan => b"fan",
+            Role::End => b"end",
         }
     }
 
-    /// The name of the statement with this number, if it has one.
-    pub fn name_of(&self, number: usize) -> Option<&BlockName> {
-        name_in(&self.names, number)
-    }
-
-    /// Lets the statements up to this number come from there, but those that come from somewhere already.
-    pub fn note(&mut self, number: usize, place: Place) -> Result<(), AllocFailed<Place>> {
-        for _ in self.places.len()..number {
-            self.places.push(place)?;
+    /// The words for people.
+    #[tactic(auto, unfolding(crate::specs::Maps::role_words))]
+    pub fn words(self) -> &'static [u8]
+        ensures { result.now ≡ role_words self }
+    {
+        match self {
+            Role::Parameter => b"parameter",
+            Role::Constant => b"constant",
+            Role::Operator => b"operator",
+            Role::Read => b"read",
+            Role::Choice => b"choice",
+            Role::Call => b"call",
+            Role::Outcome => b"result",
+            Role::Write => b"write",
+            Role::Gate => b"gate",
+            Role::Enter => b"entry",
+            Role::Next => b"next value",
+            Role::Last => b"last value",
+            Role::Leave => b"exit",
+            Role::Test => b"test",
+            Role::Fan => b"fan",
+            Role::End => b"end",
         }
-        Ok(())
-    }
-
-    /// Gives the statement with this number a name, if it has none.
-    pub fn name(&mut self, number: usize, text: &BlockName) -> Result<(), AllocFailed<Named>> {
-        if name_in(&self.names, number).is_none() {
-            self.names.push(Named {
-                statement: number,
-                text: *text,
-            })?;
-        }
-        Ok(())
-    }
-
-    /// Gives the statements behind so many this name, if they have none.
-    pub fn name_from(&mut self, first: usize, text: &BlockName) -> Result<(), AllocFailed<Named>> {
-        for before in first..self.places.len() {
-            self.name(before + 1, text)?;
-        }
-        Ok(())
-    }
-}
-
-/// The place from which a statement comes, by the numbers, from 1, of its block and of it, or that of the first byte
-/// where there is none.
-pub(crate) fn place_in(origins: &[Origins], block: usize, statement: usize) -> Place {
-    let Some(before) = block.checked_sub(1) else {
-        return Place::start();
-    };
-    let Some(block) = origins.get(before) else {
-        return Place::start();
-    };
-    match block.place_of(statement) {
-        Some(place) => place,
-        None => Place::start(),
     }
 }

@@ -107,9 +107,10 @@ loop 1 0
 ];
 
 /// Sources, and their maps.
-const MAPS: &[Row] = &[(
-    "def main(n) {\n  s = -n;\n  loop i = s while i < 0 { next i = i + 1; } give i\n}",
-    "\
+const MAPS: &[Row] = &[
+    (
+        "def main(n) {\n  s = -n;\n  loop i = s while i < 0 { next i = i + 1; } give i\n}",
+        "\
 u-map 1
 main.1 1:10 param n
 main.2 2:8 const
@@ -125,7 +126,33 @@ main.11 3:26 last i
 main.12 3:26 leave i
 main.13 1:1 end
 ",
-)];
+    ),
+    (
+        "def main(n) {\n  a = array n;\n  a[0] = a[1];\n  b = a[2];\n  c = b[3][4];\n  f(a)[c]\n}\ndef f(x) {x}",
+        "\
+u-map 1
+main.1 1:10 param n
+main.2 2:7 op a
+main.3 3:12 const
+main.4 3:11 read a
+main.5 3:5 const
+main.6 3:8 write
+main.7 4:9 const
+main.8 4:8 read a
+main.9 5:9 const
+main.10 5:8 read b
+main.11 5:12 const
+main.12 5:11 read
+main.13 6:3 const
+main.14 6:4 call
+main.15 6:4 result
+main.16 6:7 read
+main.17 1:1 end
+f.1 8:7 param x
+f.2 8:1 end
+",
+    ),
+];
 
 /// Sources that are refused, and with which words.
 const REFUSED: &[Row] = &[

@@ -1,6 +1,6 @@
 use Rattle.std.proofs.Common.{◌≡◌, ◌+◌, ◌-◌, ◌≤◌, ◌++◌, length}
-use Rattle.u_cli.specs.Maps.{block_lines}
-use Rattle.u_cli.proofs.map_text.push_block.Given as goal
+use Rattle.u_compile.specs.Maps.{block_lines}
+use Rattle.u_compile.proofs.map_text.push_block.Given as goal
 
 abbrev pub invariant-loop-origin : goal.invariant-loop-origin
 invariant-loop-origin l =

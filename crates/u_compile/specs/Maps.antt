@@ -1,16 +1,17 @@
 -- Maps: which place of a source each statement of its program stands for, and the texts of maps.
 use Rattle.std.specs.Prelude.{◌≡◌, ℕ, suc, List, [], ◌∷◌, ◌++◌, length, map, Option, Some, None, codes, decimal}
 use Rattle.u_program.specs.Parts.{BlockParts}
-use Rattle.u_cli.specs.declared.origins.Role.{Role}
-use Rattle.u_cli.specs.declared.origins.Role.TheVariants as roles
-use Rattle.u_cli.specs.declared.origins.Origin.{Origin}
-use Rattle.u_cli.specs.declared.origins.BlockOrigins.{BlockOrigins}
+use Rattle.u_compile.specs.declared.origins.Role.{Role}
+use Rattle.u_compile.specs.declared.origins.Role.TheVariants as roles
+use Rattle.u_compile.specs.declared.origins.Origin.{Origin}
+use Rattle.u_compile.specs.declared.origins.BlockOrigins.{BlockOrigins}
 
 -- the word of a map for what a statement does
 unfoldable pub role_word : Role → List ℕ
 role_word roles.Parameter = codes "param"
 role_word roles.Constant = codes "const"
 role_word roles.Operator = codes "op"
+role_word roles.Read = codes "read"
 role_word roles.Choice = codes "if"
 role_word roles.Call = codes "call"
 role_word roles.Outcome = codes "result"
@@ -29,6 +30,7 @@ unfoldable pub role_words : Role → List ℕ
 role_words roles.Parameter = codes "parameter"
 role_words roles.Constant = codes "constant"
 role_words roles.Operator = codes "operator"
+role_words roles.Read = codes "read"
 role_words roles.Choice = codes "choice"
 role_words roles.Call = codes "call"
 role_words roles.Outcome = codes "result"

@@ -1,19 +1,18 @@
 //! The texts of maps, written.
 ghost use Rattle.std.specs.Prelude.{◌≡◌, ◌++◌, ◌∷◌, [], IfOk};
-ghost use Rattle.u_cli.specs.Maps.{name_part, statement_text, map_line, block_lines, map_lines, map_text};
+ghost use Rattle.u_compile.specs.Maps.{name_part, statement_text, map_line, block_lines, map_lines, map_text};
 
 use crate::origins::{BlockOrigins, Origin};
-use std::alloc::{AllocError, Global};
+use std::alloc::AllocError;
 use u_name::BlockName;
 use u_text::{push_long_behind, push_spaced};
 
-/// Appends the name of a block and the number of a statement.
+/// Appends `BLOCK.STATEMENT`, the name of a block and the number of a statement.
+///
+/// # Errors
+/// `AllocError` where there is no memory. Then part of it may stand there.
 #[tactic(auto, unfolding(crate::specs::Maps::statement_text), using(crate::proofs::Appends::join2))]
-pub(crate) fn push_statement(
-    out: &mut Vec<u8>,
-    block: &BlockName,
-    number: u64,
-) -> Result<(), AllocError>
+pub fn push_statement(out: &mut Vec<u8>, block: &BlockName, number: u64) -> Result<(), AllocError>
     ensures { IfOk result
         (λ u. out.new.items ≡ out.old.items ++ statement_text block.now number) }
 {
@@ -22,8 +21,11 @@ pub(crate) fn push_statement(
 }
 
 /// Appends these bytes and the name behind them, if there is one.
+///
+/// # Errors
+/// `AllocError` where there is no memory. Then these bytes may stand there.
 #[tactic(auto, using(crate::proofs::Appends::join2, crate::proofs::Appends::join_nothing))]
-pub(crate) fn push_name(
+pub fn push_name(
     out: &mut Vec<u8>,
     before: &[u8],
     name: Option<BlockName>,
@@ -86,13 +88,11 @@ fn push_blocks(out: &mut Vec<u8>, blocks: &[BlockOrigins]) -> Result<(), AllocEr
     Ok(())
 }
 
-/// The text of a map: a line for each statement.
+/// Appends a map: its first line, and a line for each statement.
 #[tactic(auto, unfolding(crate::specs::Maps::map_text), using(crate::proofs::Appends::join2))]
-pub(crate) fn map_text(alloc: Global, blocks: &[BlockOrigins]) -> Result<Vec<u8>, AllocError>
-    ensures { IfOk result (λ v. v.items ≡ map_text blocks.now) }
+pub(crate) fn push_map(out: &mut Vec<u8>, blocks: &[BlockOrigins]) -> Result<(), AllocError>
+    ensures { IfOk result (λ u. out.new.items ≡ out.old.items ++ map_text blocks.now) }
 {
-    let mut text = Vec::new(alloc);
-    text.extend_from_slice(b"u-map 1\n")?;
-    push_blocks(&mut text, blocks)?;
-    Ok(text)
+    out.extend_from_slice(b"u-map 1\n")?;
+    push_blocks(out, blocks)
 }
