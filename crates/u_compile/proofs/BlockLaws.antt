@@ -1,8 +1,10 @@
 -- The block of a graph lies within the limits of a block.
-use Rattle.std.proofs.Common.{◌≡◌, ℕ, suc, inl, inr, ◌≤◌, refl, sym, ap, ◌∙◌, subst, arith, Bool, true, false, cond, not, ◌&&◌, ◌||◌, ◌==◌, List, [], ◌∷◌, ◌++◌, ◌<◌, length, Some, Option}
-use Rattle.std.specs.Prelude.{slice_get}
+use Rattle.std.proofs.Common.{◌≡◌, ℕ, zero, suc, ◌⊎◌, inl, inr, ◌≤◌, refl, sym, ap, ◌∙◌, subst, arith, Bool, true, false, cond, not, ◌&&◌, ◌||◌, ◌==◌, List, [], ◌∷◌, ◌++◌, ◌<◌, length, Some, Option}
+use Rattle.std.specs.Prelude.{slice_get, take}
 use Rattle.std.specs.List.{AllByRecursion}
-use Rattle.std.proofs.lemmas.List.{length-append}
+use Rattle.std.proofs.lemmas.List.{length-append, take-append-le}
+use Rattle.std.proofs.lemmas.Option.{slice_get_within}
+use Rattle.std.proofs.Math.Seq.{take-append_seam}
 use Rattle.std.proofs.lemmas.List.Elements.{Contains-push_cases}
 use Rattle.std.proofs.lemmas.Bool.{false≢true, and_left, and_right, eqb-true}
 use Rattle.u_name.specs.Block.{IsBlock}
@@ -13,11 +15,13 @@ use Rattle.u_program.specs.declared.program.Version.TheVariants.{Two}
 use Rattle.u_program.specs.Parts.{BlockParts}
 use Rattle.u_program.proofs.Steps.{all_append}
 use Rattle.u_program.specs.Limits.{has_list, has_otherwise, HasKind, HasPorts, IsListed, Ascending, rank, IsStatement, IsBlockOf, IsProgram, limits_of}
+use Rattle.u_check.specs.Rules.{names_block}
 use Rattle.u_determinate.specs.Determinate.{IsDeterminateBlock}
 use Rattle.u_compile.specs.declared.graph.Link.{Link}
 use Rattle.u_compile.specs.Drafts.{DraftParts}
 use Rattle.u_compile.specs.Graphs.{GraphParts, output, destinations, draft_at, has_output, is_next, is_enter, enters, IsGraph}
 use Rattle.u_compile.specs.Blocks.{statement_of, statements_of, block_of, AreBlocks}
+use Rattle.u_compile.specs.Kept.{KeepsItself, TakesOne, NamesDiffer}
 use Rattle.u_compile.specs.Fanning.{AreFew, IsFinished}
 use Rattle.u_compile.proofs.Numbers.{test_stands}
 use Rattle.u_compile.proofs.Links.{sends_some}
@@ -122,16 +126,42 @@ block_is name g named is few some =
 pub finished_within : (name : List ℕ) (g : GraphParts) (b : BlockParts) → IsFinished name g b → IsBlockOf (limits_of Two) b
 finished_within name g b f = f.within
 
+-- the names of some blocks differ, and so do they with one more whose name none of them has
+get_either : (bs : List BlockParts) (b : BlockParts) (n : ℕ) (c : BlockParts) → slice_get (bs ++ (b ∷ [])) n ≡ Some c → (slice_get bs n ≡ Some c) ⊎ ((n ≡ length bs) × (c ≡ b))
+get_either [] b zero c e = inr (refl, cc)
+get_either [] b (suc n) c e = cc
+get_either (x ∷ bs) b zero c e = inl e
+get_either (x ∷ bs) b (suc n) c e = elim (get_either bs b n c e) [ inl h ↦ inl h | inr h ↦ inr (ap suc h.0, h.1) ]
+
+differ_more : (bs : List BlockParts) (b : BlockParts) → NamesDiffer bs → names_block bs b.name ≡ false → NamesDiffer (bs ++ (b ∷ []))
+differ_more bs b differ new n c at = elim (get_either bs b n c at) [
+  | inl old ↦
+      let w = slice_get_within bs n c old in
+      ap (λ (v : List BlockParts). names_block v c.name) (take-append-le n bs (b ∷ []) (omega (arith, w))) ∙ differ n c old
+  | inr last ↦
+      ap (λ (m : ℕ). names_block (take m (bs ++ (b ∷ []))) c.name) last.0
+      ∙ (ap (λ (v : List BlockParts). names_block v c.name) (take-append_seam bs (b ∷ []))
+      ∙ (ap (λ (v : BlockParts). names_block bs v.name) last.1 ∙ new))
+]
+
 -- one block more
-pub one_more_block : (bs : List BlockParts) (b : BlockParts) → AreBlocks bs → length bs < 64 → IsBlockOf (limits_of Two) b → IsDeterminateBlock b → AreBlocks (bs ++ (b ∷ []))
-one_more_block bs b are few is sure = record {
+pub one_more_block : (bs : List BlockParts) (b : BlockParts) → AreBlocks bs → length bs < 64 → IsBlockOf (limits_of Two) b → IsDeterminateBlock b → KeepsItself b → TakesOne b → names_block bs b.name ≡ false → AreBlocks (bs ++ (b ∷ []))
+one_more_block bs b are few is sure keeps one new = record {
   each = all_append (IsBlockOf (limits_of Two)) bs b are.each is;
   few = let l = length-append bs (b ∷ []) in omega (arith, l, few);
   determinate = λ c has. elim (Contains-push_cases bs b c has) [ inl h ↦ are.determinate c h | inr e ↦ subst IsDeterminateBlock e sure ];
+  kept = λ c has. elim (Contains-push_cases bs b c has) [ inl h ↦ are.kept c h | inr e ↦ subst (λ (v : BlockParts). KeepsItself v × TakesOne v) e (keeps, one) ];
+  differ = differ_more bs b are.differ new;
 }
 
 pub no_blocks : AreBlocks []
-no_blocks = record { each = tt; few = omega arith; determinate = λ b has. let h = has.1 in absurd (omega (arith, h)) }
+no_blocks = record {
+  each = tt;
+  few = omega arith;
+  determinate = λ b has. let h = has.1 in absurd (omega (arith, h));
+  kept = λ b has. let h = has.1 in absurd (omega (arith, h));
+  differ = λ n b at. cc;
+}
 
 -- blocks are those of a program, if there are any
 pub are_program : (bs : List BlockParts) → AreBlocks bs → 1 ≤ length bs → IsProgram (limits_of Two) bs

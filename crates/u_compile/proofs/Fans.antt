@@ -7,10 +7,11 @@ use Rattle.u_program.specs.declared.program.Kind.{Kind}
 use Rattle.u_program.specs.declared.program.Kind.TheVariants.{Enter, Leave, Pass}
 use Rattle.u_program.specs.declared.program.Destination.{Destination}
 use Rattle.u_program.specs.Limits.{AreLoops, Ascending}
+use Rattle.u_check.specs.Kinds.{is_last}
 use Rattle.u_compile.specs.declared.graph.Output.{Output}
 use Rattle.u_compile.specs.Drafts.{DraftParts, draft}
 use Rattle.u_compile.specs.Graphs.{GraphParts, graph, output, link, same_output, destinations, draft_at, has_output, has_port, is_output, enters_one, IsGraph, AllBefore}
-use Rattle.u_compile.specs.Fanning.{holder, region_behind, moved, with_pass, fanned_at, fanned, FansOut, none, one_more, AreFew}
+use Rattle.u_compile.specs.Fanning.{holder, region_behind, moved, with_pass, fanned_at, fanned, FansOut, none, one_more, IsNoFullLast, AreFew}
 use Rattle.u_compile.proofs.Numbers.{at_within, at_last, test_more, test_stands}
 use Rattle.u_compile.proofs.Links.{same_is, same_not, destinations-append, none_from, none_later, sends_some, leads_nowhere, none_at_zero, before_later, before_take, ascending_take, ascending_drop, leads_yes, leads_no, same_own}
 use Rattle.u_compile.proofs.GraphLaws.{own_links, with_draft, with_link}
@@ -122,11 +123,11 @@ stands_some g o is some =
     (s.0, s.1)
 
 -- either nothing is done, or one `pass` is put behind the output
-pub fans_more : (g h : GraphParts) (o : Output) → IsGraph h → FansOut g h → FansOut g (fanned o h)
-fans_more g h o is f = elim (cases_lt 16 (length (destinations o h.links))) [
+pub fans_more : (g h : GraphParts) (o : Output) → IsGraph h → IsNoFullLast o h → FansOut g h → FansOut g (fanned o h)
+fans_more g h o is bare f = elim (cases_lt 16 (length (destinations o h.links))) [
   | inl many ↦
       let s = stands_some h o is (omega (arith, many)) in
-      subst (FansOut g) (sym (fanned_many h o s.0 s.1 many)) (one_more h o s.0 f s.1 many)
+      subst (FansOut g) (sym (fanned_many h o s.0 s.1 many)) (one_more h o s.0 f s.1 many (bare s.0 s.1 many))
   | inr few ↦ subst (FansOut g) (sym (fanned_few h o is few)) f
 ]
 
@@ -224,7 +225,19 @@ all_few g n is past few o = elim (cases_lt o.statement n) [
 -- no statement is taken away
 pub fans_grow : (g h : GraphParts) → FansOut g h → length g.statements ≤ length h.statements
 fans_grow g h none = omega arith
-fans_grow g h (one_more i o d f at many) =
+fans_grow g h (one_more i o d f at many other) =
     let r = fans_grow g i f in
     let l = length-append i.statements (pass_of d i ∷ []) in
     omega (arith, r, l)
+
+-- what keeps the output of a `last` from having too many links
+pub few_no_last : (o : Output) (g : GraphParts) → length (destinations o g.links) ≤ 16 → IsNoFullLast o g
+few_no_last o g few d at many = absurd (omega (arith, few, many))
+
+pub none_no_last : (o : Output) (g : GraphParts) → draft_at g.statements o.statement ≡ None → IsNoFullLast o g
+none_no_last o g lacks d at many = let e = sym lacks ∙ at in cc
+
+pub other_no_last : (o : Output) (g : GraphParts) (e : DraftParts) → draft_at g.statements o.statement ≡ Some e → is_last e.kind ≡ false → IsNoFullLast o g
+other_no_last o g e stands other d at many =
+    let q : e ≡ d = (let r = sym stands ∙ at in cc) in
+    ap (λ (v : DraftParts). is_last v.kind) (sym q) ∙ other

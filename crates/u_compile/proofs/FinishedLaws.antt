@@ -14,7 +14,7 @@ use Rattle.u_compile.proofs.DeterminateLaws.{determinate}
 -- with more `pass` statements a graph is one, and lies well, in a layout of its own
 pub fans_scoped : (y : Layout) (g h : GraphParts) → IsGraph g → IsScoped y g → FansOut g h → length h.statements ≤ 999 → IsGraph h × ((z : Layout) × IsScoped z h)
 fans_scoped y g h is s none few = (is, (y, s))
-fans_scoped y g h is s (one_more i o d f at many) few =
+fans_scoped y g h is s (one_more i o d f at many other) few =
     let l = length-append i.statements (pass_of d i ∷ []) in
     let r = fans_scoped y g i is s f (omega (arith, l, few)) in
     (with_pass_is i o d r.0 (omega (arith, l, few)) at many, (fanned_layout r.1.0 o d (length i.statements + 1), scoped_fan r.1.0 i r.0 r.1.1 o d at many))

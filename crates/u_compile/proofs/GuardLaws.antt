@@ -38,7 +38,7 @@ stands_from g n k s =
     let d = draft_from g.links g.statements n s.it s.stands in
     (d.0, d.1, ap (λ (v : StatementParts). v.kind) d.2 ∙ s.kind)
 
-next_is : (k : Kind) → is_next k ≡ true → k ≡ Next
+pub next_is : (k : Kind) → is_next k ≡ true → k ≡ Next
 next_is Next e = refl
 next_is k e = absurd (false≢true e)
 

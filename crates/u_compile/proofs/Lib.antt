@@ -13,4 +13,10 @@ pub mod Entries
 pub mod PlacedLaws
 pub mod PlacedTests
 pub mod FinishedLaws
+pub mod OrderlyTests
+pub mod OrderlyLaws
+pub mod RuleLaws
+pub mod StandLaws
+pub mod KeptLaws
+pub mod ProgramLaws
 pub mod Appends

@@ -14,10 +14,12 @@ use Rattle.u_compile.specs.Drafts.{DraftParts}
 use Rattle.u_compile.specs.Graphs.{graph, link, draft_at, is_next, IsGraph}
 use Rattle.u_compile.specs.Fanning.{holder}
 use Rattle.u_compile.specs.Scoped.{PlaceParts, guard, IsOf, GoesWell, AreApart, IsControlled, IsCalled, IsScoped}
+use Rattle.u_compile.specs.Orderly.{LeavesWell}
 use Rattle.u_compile.specs.Placed.{entry, NoteParts, note, no_note, no_place, a_test, test_of, PlacedParts, layout_of, IsScopedBut, IsPlaced, OneSends, MayCome, with_link, with_statement, with_loop, with_test, finished, IsUntested, FitsIn, stands_against, names_back, opens, IsFull, IsLastFull, EachIsFull}
 use Rattle.u_compile.proofs.Numbers.{at_within, at_cases}
 use Rattle.u_compile.proofs.Entries.{entry_more, entry_last}
 use Rattle.u_compile.proofs.ScopedSteps as steps
+use Rattle.u_compile.proofs.OrderlyLaws.{none_orderly, statement_orderly, link_orderly}
 
 -- the regions that hold loops are those of the places that hold them
 pub held_by : (arounds : List PlaceParts) (l : ℕ) → (entry no_place arounds l).region ≡ holder (map (λ (a : PlaceParts). a.region) arounds) l
@@ -92,6 +94,7 @@ none_placed = record {
   notes = refl;
   loops = refl;
   forward = λ l i. absurd i;
+  orderly = none_orderly;
   full = λ n d h low. none n d h;
   scoped = record {
     region = λ n d h. none n d h;
@@ -152,6 +155,7 @@ module _ (p : PlacedParts) (is : IsGraph p.graph) (b : IsPlaced p) (x : DraftPar
         notes = omega (arith, one, two, a);
         loops = b.loops;
         forward = b.forward;
+        orderly = statement_orderly p.graph.statements p.graph.links x b.orderly f.stands;
         scoped = steps.held_is unfinished (layout_of p) (layout_of (with_statement p x at control unfinished)) p.graph is (scoped_with p unfinished b stays) (still_agree p x at control unfinished b.notes) (λ n d h q. refl) x (comes p x at control unfinished f b.notes) switch apply (λ l. held_by p.arounds l ∙ ap (λ (ls : List ℕ). holder ls l) (sym b.loops));
         full = full_before;
       }
@@ -171,6 +175,7 @@ put_placed p is b x at control f last before = by (opens x.kind) refl
         (λ n q. absurd (false≢true (sym e ∙ named_opens x.kind n q)))
 
 module _ (p : PlacedParts) (b : IsPlaced p) (o : Output) (port : ℕ) (m : MayCome p o (record { statement = length p.graph.statements; port = port }))
+    (leaves : LeavesWell p.graph.statements o.statement (length p.graph.statements))
     (settled : (d : DraftParts) → draft_at p.graph.statements (length p.graph.statements) ≡ Some d → d.kind ≡ Switch → length p.graph.statements ≡ p.unfinished) where
   abbrev new : Link
   new = link o (length p.graph.statements) port
@@ -205,6 +210,7 @@ module _ (p : PlacedParts) (b : IsPlaced p) (o : Output) (port : ℕ) (m : MayCo
     notes = b.notes;
     loops = b.loops;
     forward = steps.forward_more p.graph.links new b.forward m.earlier;
+    orderly = link_orderly p.graph.statements p.graph.links o (length p.graph.statements) port b.orderly leaves;
     scoped = steps.linked_well p.unfinished (layout_of p) p.graph b.scoped b.forward new refl goes meets settled;
     full = λ n d h low out port one most.
         let w = b.full n d h low out port one most in
@@ -234,6 +240,7 @@ module _ (p : PlacedParts) (is : IsGraph p.graph) (b : IsPlaced p) (around : Pla
         notes = b.notes;
         loops = e;
         forward = b.forward;
+        orderly = b.orderly;
         full = b.full;
         scoped = steps.relaid p.unfinished (layout_of p) (layout_of (with_loop p around)) p.graph is b.scoped
             (record { at = λ n low. refl; around = same_loop; control = λ n low. refl; order = λ n low. refl })
@@ -253,6 +260,7 @@ test_placed p is b region control free = record {
   notes = b.notes;
   loops = b.loops;
   forward = b.forward;
+  orderly = b.orderly;
   full = b.full;
   scoped = steps.relaid p.unfinished (layout_of p) (layout_of (with_test p region control)) p.graph is b.scoped
       (record { at = λ n low. refl; around = λ l low. refl; control = λ n low. refl; order = λ n low. refl })
@@ -267,6 +275,7 @@ finished_placed p b switch back = record {
   notes = b.notes;
   loops = b.loops;
   forward = b.forward;
+  orderly = b.orderly;
   full = b.full;
   scoped = steps.but_one 0 (layout_of p) p.graph (steps.and_that p.unfinished (layout_of p) p.graph b.scoped switch back);
 }

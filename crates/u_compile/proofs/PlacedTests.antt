@@ -2,7 +2,7 @@
 use Rattle.std.proofs.Common.{length, arith, ◌≤◌, ◌+◌, ◌≡◌, ℕ, zero, suc, ◌<◌, ◌⊎◌, inl, inr, refl, sym, ap, ◌∙◌, subst, true, false, not, List, [], ◌∷◌, Some, None, Ok, Err, Result}
 use Rattle.std.specs.Prelude.{IfOk, MatchResult}
 use Rattle.u_program.specs.declared.program.Destination.{Destination}
-use Rattle.u_program.specs.declared.program.Kind.TheVariants.{Switch, Next, Last}
+use Rattle.u_program.specs.declared.program.Kind.TheVariants.{Switch, Next, Last, Back}
 use Rattle.u_program.specs.Parts.{BlockParts}
 use Rattle.u_check.specs.Kinds.{comes_from_outside, back_named}
 use Rattle.u_determinate.specs.Determinate.{IsDeterminateBlock}
@@ -12,7 +12,9 @@ use Rattle.u_compile.specs.declared.place.Guard.{Guard}
 use Rattle.u_compile.specs.Drafts.{DraftParts}
 use Rattle.u_compile.specs.Graphs.{GraphParts, draft_at, link, enters}
 use Rattle.u_compile.specs.Scoped.{PlaceParts, place, guard, sent_by, IsOf, AreGuards, HandsOn, it, IsControlled, IsCalled, Layout, IsScoped}
-use Rattle.u_compile.specs.Placed.{PlacedParts, NoteParts, note, entry, layout_of, IsSender, IsArrived, OneSends, MeetsWell, MayTake, MayCome, IsAlone, AreFree, IsUntested, stands_against, IsPlaced, finished, IsLinked, IsFull, IsLastFull, HasNext, EachGoesOn}
+use Rattle.u_compile.specs.Orderly.{IsOrderly}
+use Rattle.u_compile.specs.Kept.{KeepsItself}
+use Rattle.u_compile.specs.Placed.{PlacedParts, NoteParts, note, entry, layout_of, IsSender, IsArrived, OneSends, MeetsWell, MayTake, MayCome, IsAlone, AreFree, IsUntested, stands_against, IsPlaced, finished, IsLinked, IsFull, IsLastFull, EachIsFull, HasNext, EachGoesOn}
 use Rattle.u_compile.proofs.ScopedSteps.{same_or_not, less}
 use Rattle.u_compile.proofs.PlacedLaws.{finished_placed, is_scoped}
 
@@ -105,10 +107,11 @@ controlled p n o d at s alone e c is only = record {
   source = subst (λ (k : ℕ). HandsOn p.graph k o.statement) (sym c ∙ ap (λ (v : NoteParts). v.control) e) it;
 }
 
-pub called : (p : PlacedParts) (m n : ℕ) (d : DraftParts) (one other : NoteParts) → draft_at p.graph.statements n ≡ Some d → one ≡ entry (note (place 0 []) 0) p.notes m → other ≡ entry (note (place 0 []) 0) p.notes n → one.place ≡ other.place → m < n → IsCalled (layout_of p) p.graph.statements m n
-called p m n d one other stands e f same before = record {
+pub called : (p : PlacedParts) (m n : ℕ) (d : DraftParts) (one other : NoteParts) → draft_at p.graph.statements n ≡ Some d → d.kind ≡ Back → one ≡ entry (note (place 0 []) 0) p.notes m → other ≡ entry (note (place 0 []) 0) p.notes n → one.place ≡ other.place → m < n → IsCalled (layout_of p) p.graph.statements m n
+called p m n d one other stands kind e f same before = record {
   back = d;
   stands = stands;
+  kind = kind;
   beside = ap (λ (v : NoteParts). v.place) (sym e) ∙ (same ∙ ap (λ (v : NoteParts). v.place) f);
   earlier = before;
 }
@@ -129,6 +132,11 @@ switch_finished p is switch c = finished_placed p is
 pub determinate_of : {E : Type 0} (r : Result BlockParts E) (p : PlacedParts) → IsPlaced p → p.unfinished ≡ 0 → IfOk r (λ b. (y : Layout) → IsScoped y p.graph → IsDeterminateBlock b) → IfOk r (λ b. IsDeterminateBlock b)
 determinate_of (Ok b) p is e h = h (layout_of p) (is_scoped p is e)
 determinate_of (Err f) p is e h = h
+
+-- and so does what holds for each layout of a graph each port of which is linked
+pub kept_of : {E : Type 0} (r : Result BlockParts E) (p : PlacedParts) → IsPlaced p → p.unfinished ≡ 0 → EachIsFull p.graph → IfOk r (λ b. (y : Layout) → IsScoped y p.graph → EachIsFull p.graph → IsOrderly p.graph.statements p.graph.links → KeepsItself b) → IfOk r (λ b. KeepsItself b)
+kept_of (Ok b) p is e full h = h (layout_of p) (is_scoped p is e) full is.orderly
+kept_of (Err f) p is e full h = h
 
 -- the graph changed, or it did not
 pub either_placed : {T E : Type 0} (r : Result T E) (p : PlacedParts) (g h : GraphParts) → IsPlaced p → IsPlaced (record p { graph = g }) → MatchResult r (λ _. h ≡ g) (λ _. h ≡ p.graph) → IsPlaced (record p { graph = h })

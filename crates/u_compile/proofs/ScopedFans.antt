@@ -21,7 +21,7 @@ use Rattle.u_compile.proofs.ArcLaws.{link_at, place_of, one_place}
 use Rattle.u_compile.proofs.GuardLaws.{one_draft}
 
 -- one of two lists put together is one of one of them
-of_either : {A : Type 0} (xs ys : List A) (x : A) → IsOf (xs ++ ys) x → IsOf xs x ⊎ IsOf ys x
+pub of_either : {A : Type 0} (xs ys : List A) (x : A) → IsOf (xs ++ ys) x → IsOf xs x ⊎ IsOf ys x
 of_either [] ys x is = inr is
 of_either (z ∷ xs) ys x (inl e) = inl (inl e)
 of_either (z ∷ xs) ys x (inr is) = elim (of_either xs ys x is) [ inl l ↦ inl (inr l) | inr r ↦ inr r ]
@@ -34,7 +34,7 @@ of_more : (o : Output) (b : ℕ) (x : Link) (ls : List Link) (m : Link) → IsOf
 of_more o b x ls m (inl is) = inl (inr is)
 of_more o b x ls m (inr w) = inr (w.0, inr w.1, w.2, w.3)
 
-of_moved : (o : Output) (k b : ℕ) (ls : List Link) (m : Link) → IsOf (moved o k b ls) m → IsOf ls m ⊎ Moved o b ls m
+pub of_moved : (o : Output) (k b : ℕ) (ls : List Link) (m : Link) → IsOf (moved o k b ls) m → IsOf ls m ⊎ Moved o b ls m
 of_moved o zero b [] m is = absurd is
 of_moved o (suc k) b [] m is = absurd is
 of_moved o zero b (x ∷ ls) m is = by (same_output o x.from) refl is (of_moved o zero b ls m)
@@ -53,7 +53,7 @@ of_moved o (suc k) b (x ∷ ls) m is = by (same_output o x.from) is (of_moved o 
     by false (inr w) one two = of_more o b x ls m (two w)
 
 -- a link stays or moves
-stays_or_moves : (o : Output) (k b : ℕ) (ls : List Link) (l : Link) → IsOf ls l → IsOf (moved o k b ls) l ⊎ ((l.from ≡ o) × IsOf (moved o k b ls) (from_behind b l))
+pub stays_or_moves : (o : Output) (k b : ℕ) (ls : List Link) (l : Link) → IsOf ls l → IsOf (moved o k b ls) l ⊎ ((l.from ≡ o) × IsOf (moved o k b ls) (from_behind b l))
 stays_or_moves o k b [] l is = absurd is
 stays_or_moves o zero b (x ∷ ls) l is = by (same_output o x.from) refl is (stays_or_moves o zero b ls l)
   where
@@ -70,12 +70,12 @@ stays_or_moves o (suc k) b (x ∷ ls) l is = by (same_output o x.from) is (stays
     by false (inl q) one two = inl (inl q)
     by false (inr i) one two = elim (two i) [ inl j ↦ inl (inr j) | inr w ↦ inr (w.0, inr w.1) ]
 
-of_left : {A : Type 0} (xs ys : List A) (x : A) → IsOf xs x → IsOf (xs ++ ys) x
+pub of_left : {A : Type 0} (xs ys : List A) (x : A) → IsOf xs x → IsOf (xs ++ ys) x
 of_left [] ys x is = absurd is
 of_left (z ∷ xs) ys x (inl e) = inl e
 of_left (z ∷ xs) ys x (inr is) = inr (of_left xs ys x is)
 
-of_right : {A : Type 0} (xs ys : List A) (x : A) → IsOf ys x → IsOf (xs ++ ys) x
+pub of_right : {A : Type 0} (xs ys : List A) (x : A) → IsOf ys x → IsOf (xs ++ ys) x
 of_right [] ys x is = is
 of_right (z ∷ xs) ys x is = inr (of_right xs ys x is)
 
@@ -490,6 +490,7 @@ module _ (y : Layout) (g : GraphParts) (is : IsGraph g) (s : IsScoped y g) (o : 
       record {
         back = c.back;
         stands = at_more g.statements new n c.back c.stands;
+        kind = c.kind;
         beside = at_old m (within m e w) ∙ (c.beside ∙ sym (at_old n (within n c.back c.stands)));
         earlier = omega (arith, a, b, o_c);
       }

@@ -52,7 +52,7 @@ within g n e h = (at_within g.statements n e h).1
 in_loops : (g : GraphParts) → IsGraph g → (n : ℕ) (e : DraftParts) → draft_at g.statements n ≡ Some e → e.region ≤ length g.loops
 in_loops g is n e h = (is.drafts n e h).region
 
-entered_loop : (k l : ℕ) (c : Kind) → c ≡ Enter l → enters_one k c ≡ true → l ≤ k
+pub entered_loop : (k l : ℕ) (c : Kind) → c ≡ Enter l → enters_one k c ≡ true → l ≤ k
 entered_loop k l c q h = leb-true l k (ap (enters_one k) (sym q) ∙ h)
 
 pub same_or_not : (n k : ℕ) → (n ≡ k) ⊎ (n ≡ k → ⊥)
@@ -208,6 +208,7 @@ module _ (k : ℕ) (y z : Layout) (g : GraphParts) (is : IsGraph g) (s : IsScope
         record {
           back = c.back;
           stands = c.stands;
+          kind = c.kind;
           beside = a.at i low ∙ (c.beside ∙ sym (a.at n high));
           earlier = omega (arith, before, behind, r);
         };
@@ -357,6 +358,7 @@ module _ (k : ℕ) (y z : Layout) (g : GraphParts) (is : IsGraph g) (s : IsScope
           record {
             back = c.back;
             stands = at_more g.statements x n c.back c.stands;
+            kind = c.kind;
             beside = a.at i low ∙ (c.beside ∙ sym (a.at n high));
             earlier = omega (arith, before, behind, r);
           }

@@ -2,6 +2,7 @@
 use Rattle.std.specs.Prelude.{◌≡◌, ℕ, zero, suc, ◌+◌, ◌<◌, ◌≤◌, false, cond, List, [], ◌∷◌, ◌++◌, length, Option, Some, None, slice_get, unwrap_or, nat_le}
 use Rattle.u_program.specs.declared.program.Kind.{Kind}
 use Rattle.u_program.specs.declared.program.Kind.TheVariants.{Enter, Leave, Pass}
+use Rattle.u_check.specs.Kinds.{is_last}
 use Rattle.u_compile.specs.Drafts.{DraftParts, draft}
 use Rattle.u_program.specs.declared.program.Version.TheVariants.{Two}
 use Rattle.u_program.specs.Parts.{BlockParts}
@@ -35,10 +36,15 @@ with_pass o d g =
     let pass = length g.statements + 1 in
     graph g.loops (g.statements ++ (draft (region_behind g.loops d.region d.kind) Pass pass ∷ [])) (moved o 15 pass g.links ++ (link o pass 1 ∷ []))
 
--- A graph that some `pass` statements make of another: each stands behind an output that had more than 16 links.
+-- A graph that some `pass` statements make of another: each stands behind an output that had more than 16 links, and is
+-- not that of a `last`.
 pub data FansOut (g : GraphParts) : GraphParts → Type 0 where
   none : FansOut g g
-  one_more : (h : GraphParts) (o : Output) (d : DraftParts) → FansOut g h → draft_at h.statements o.statement ≡ Some d → 16 < length (destinations o h.links) → FansOut g (with_pass o d h)
+  one_more : (h : GraphParts) (o : Output) (d : DraftParts) → FansOut g h → draft_at h.statements o.statement ≡ Some d → 16 < length (destinations o h.links) → is_last d.kind ≡ false → FansOut g (with_pass o d h)
+
+-- the output does not have more than 16 links where it is that of a `last`
+abbrev pub IsNoFullLast : Output → GraphParts → Type 0
+IsNoFullLast o g = (d : DraftParts) → draft_at g.statements o.statement ≡ Some d → 16 < length (destinations o g.links) → is_last d.kind ≡ false
 
 -- no output has more than 16 links
 abbrev pub AreFew : List Link → Type 0

@@ -1,8 +1,10 @@
 pub mod Drafts
 pub mod Graphs
+pub mod Kept
 pub mod Blocks
 pub mod Fanning
 pub mod Scoped
+pub mod Orderly
 pub mod Placed
 pub mod Maps
 pub mod Compiled

@@ -1,5 +1,5 @@
 -- Graphs with what was noted of their statements and loops: the layout is what was noted.
-use Rattle.std.specs.Prelude.{◌≡◌, ℕ, zero, suc, ◌<◌, ◌≤◌, ◌⊎◌, Bool, true, false, not, ◌&&◌, ◌==◌, List, [], ◌∷◌, ◌++◌, map, length, Option, Some, None, get_or, cond}
+use Rattle.std.specs.Prelude.{◌≡◌, ℕ, zero, suc, ◌+◌, ◌<◌, ◌≤◌, ◌⊎◌, Bool, true, false, not, ◌&&◌, ◌==◌, List, [], ◌∷◌, ◌++◌, map, length, Option, Some, None, get_or, cond}
 use Rattle.u_program.specs.declared.program.Destination.{Destination}
 use Rattle.u_program.specs.declared.program.Kind.{Kind}
 use Rattle.u_program.specs.declared.program.Kind.TheVariants.{Switch, Enter, Next, Last, Leave, Apply, Back, End}
@@ -11,6 +11,7 @@ use Rattle.u_compile.specs.Drafts.{DraftParts}
 use Rattle.u_compile.specs.Graphs.{GraphParts, graph, link, draft_at, is_next, enters}
 use Rattle.u_compile.specs.Fanning.{holder}
 use Rattle.u_compile.specs.Scoped.{PlaceParts, place, guard, IsOf, AreGuards, Layout, sent_by, GoesWell, AreApart, IsControlled, IsCalled}
+use Rattle.u_compile.specs.Orderly.{StandsWell, IsOrderly}
 
 -- the one of that number, which counts from 1, or else that one
 abbrev pub entry : {A : Type 0} → A → List A → ℕ → A
@@ -104,12 +105,13 @@ pub record IsScopedBut (k : ℕ) (y : Layout) (g : GraphParts) : Type 0 where
   pub one_end : (m n : ℕ) (d e : DraftParts) → draft_at g.statements m ≡ Some d → draft_at g.statements n ≡ Some e → d.kind ≡ End → e.kind ≡ End → m ≡ n
 
 -- Everything was noted; the statements and links lie well, but for what is wanted of the statement that is not finished;
--- and each port of a statement before the last one is linked.
+-- they stand well, wherever they lie; and each port of a statement before the last one is linked.
 pub record IsPlaced (p : PlacedParts) : Type 0 where
   pub notes : length p.notes ≡ length p.graph.statements
   pub loops : p.graph.loops ≡ map (λ (a : PlaceParts). a.region) p.arounds
   pub forward : IsForward p.graph.links
   pub scoped : IsScopedBut p.unfinished (layout_of p) p.graph
+  pub orderly : IsOrderly p.graph.statements p.graph.links
   pub full : (n : ℕ) (d : DraftParts) → draft_at p.graph.statements n ≡ Some d → n < length p.graph.statements → IsFull p.graph.links n d
 
 -- the two options have one number
@@ -194,6 +196,7 @@ pub record FitsIn (p : PlacedParts) (x : DraftParts) (at : PlaceParts) : Type 0 
   pub region : x.region ≡ at.region
   pub lies : LiesWell p x at
   pub against : AreFree p.graph.statements x
+  pub stands : StandsWell p.graph.statements (length p.graph.statements + 1) x
 
 -- with one link more
 abbrev pub with_link : PlacedParts → Output → ℕ → PlacedParts

@@ -104,10 +104,11 @@ pub record IsControlled (y : Layout) (g : GraphParts) (n : ℕ) : Type 0 where
   pub only : OnlyFrom g.links from n 2
   pub source : HandsOn g (y.control n) from.statement
 
--- statement n is there, in the place of statement m and behind it
+-- statement n is a `back`, in the place of statement m and behind it
 pub record IsCalled (y : Layout) (ds : List DraftParts) (m n : ℕ) : Type 0 where
   pub back : DraftParts
   pub stands : draft_at ds n ≡ Some back
+  pub kind : back.kind ≡ Back
   pub beside : y.at m ≡ y.at n
   pub earlier : y.order m < y.order n
 

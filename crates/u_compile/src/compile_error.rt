@@ -16,11 +16,9 @@ pub enum CompileProblem {
     MoreStatements,
     /// A procedure has more than 99 loops.
     MoreLoops,
-    /// The syntax tree is none that the grammar gives, or a statement or a link has no place. No source is known that
-    /// shows it.
+    /// The syntax tree is none that the grammar gives, or a statement, a link or a block has no place. No source is known
+    /// that shows it.
     Broken,
-    /// The program breaks a rule of the checker. No source is known that shows it.
-    NotChecked,
 }
 
 impl fmt::Display for CompileProblem {
@@ -31,7 +29,6 @@ impl fmt::Display for CompileProblem {
             ),
             CompileProblem::MoreLoops => f.write_str("more than 99 loops in a procedure"),
             CompileProblem::Broken => f.write_str("the source is not what the parser makes"),
-            CompileProblem::NotChecked => f.write_str("the program is not allowed"),
         }
     }
 }

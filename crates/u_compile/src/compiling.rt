@@ -4,12 +4,12 @@ ghost use Rattle.u_check.specs.Rules.{IsChecked};
 ghost use Rattle.u_determinate.specs.Determinate.{IsDeterminate};
 ghost use Rattle.u_compile.specs.Maps.{AreOrigins};
 
-use crate::compile_error::{CompileError, CompileProblem};
+use crate::compile_error::CompileError;
 use crate::compiled::Compiled;
 use crate::graph::Full;
 use crate::lowering::Lowering;
 use crate::mapping::origins_of;
-use crate::notes::{Notes, place_in};
+use crate::notes::Notes;
 use crate::origins::BlockOrigins;
 use crate::tree::Tree;
 use std::alloc::Global;
@@ -28,7 +28,7 @@ struct Stopped {
     pub full: Full,
 }
 
-/// A program that was not looked at, and what was noted of its statements.
+/// A program, and what was noted of its statements.
 #[derive(Drop)]
 struct Lowered {
     /// The program.
@@ -50,9 +50,11 @@ fn go_through(lowering: &mut Lowering<'_>, tree: &Tree<'_>) -> Result<(), Stoppe
     Ok(())
 }
 
-/// The program of the nodes, which is determinate, and what was noted of its statements.
+/// The program of the nodes, which is determinate and keeps the rules of the checker, and what was noted of its
+/// statements.
 fn lower(alloc: Global, tree: &Tree<'_>) -> Result<Lowered, Stopped>
-    ensures { IfOk result (λ l. IsDeterminate l.program.blocks) }
+    ensures determinate { IfOk result (λ l. IsDeterminate l.program.blocks) }
+    ensures checked { IfOk result (λ l. IsChecked l.program.blocks) }
 {
     let mut lowering = match Lowering::new(alloc, tree) {
         Ok(lowering) => lowering,
@@ -74,9 +76,10 @@ fn lower(alloc: Global, tree: &Tree<'_>) -> Result<Lowered, Stopped>
     }
 }
 
-/// The program of a source whose names and kinds are allowed. It is determinate.
+/// The program of a source whose names and kinds are allowed. It is determinate and keeps the rules of the checker.
 fn program_of(alloc: Global, source: &Source, checked: &Checked) -> Result<Lowered, CompileError>
-    ensures { IfOk result (λ l. IsDeterminate l.program.blocks) }
+    ensures determinate { IfOk result (λ l. IsDeterminate l.program.blocks) }
+    ensures checked { IfOk result (λ l. IsChecked l.program.blocks) }
 {
     let tree = match Tree::new(alloc, source.tokens(), source.nodes(), checked.meanings()) {
         Ok(tree) => tree,
@@ -88,16 +91,14 @@ fn program_of(alloc: Global, source: &Source, checked: &Checked) -> Result<Lower
     }
 }
 
-/// The program as a checked one.
-fn checked_of(program: Program, notes: &[Notes]) -> Result<u_check::Checked, CompileError>
-    ensures { IfOk result (λ c. c ≡ program) }
+/// The program as a checked one: it keeps the rules of the checker.
+fn checked_of(program: Program) -> u_check::Checked
+    requires { IsChecked program.blocks }
+    ensures { result ≡ program }
 {
     match check(program) {
-        Ok(checked) => Ok(checked),
-        Err(refused) => Err(CompileError::Refused(
-            place_in(notes, refused.breach.block, refused.breach.statement),
-            CompileProblem::NotChecked,
-        )),
+        Ok(checked) => checked,
+        Err(_) => unreachable!(),
     }
 }
 
@@ -111,7 +112,7 @@ fn mapped(
 {
     match origins_of(alloc, program.blocks(), notes) {
         Ok(origins) => Ok(origins),
-        Err(full) => Err(CompileError::at(place_in(notes, 1, 1), full)),
+        Err(full) => Err(CompileError::at(Place::start(), full)),
     }
 }
 
@@ -119,15 +120,14 @@ fn mapped(
 /// no rule of the checker and is determinate: in a run of it a port has two values only if a cell has two writes.
 ///
 /// The text is read, then its names and then its kinds are checked. Then each procedure becomes a block of version 2,
-/// which is determinate since each statement and each link has its place: none is added where it may not stand. At
-/// last the program is looked at by the checker. Of no source it is known that its names and kinds are allowed, and
-/// that a statement or a link has no place or that the checker refuses its program; tests have found none, but there
-/// is no proof.
+/// which is determinate and keeps the rules of the checker since each statement and each link has its place: none is
+/// added where it may not stand. Of no source it is known that its names and kinds are allowed, and that a statement, a
+/// link or a block has no place; tests have found none, but there is no proof.
 ///
 /// # Errors
 /// `Source`, `Check` or `Kinds` with what is not allowed first. `Refused` where a procedure takes more than 999
-/// statements or has more than 99 loops, with a place in it; or where the tree or the program is not what it should
-/// be, as above. `NoMemory` where there is no memory.
+/// statements or has more than 99 loops, with a place in it; or where the tree is not what it should be, or a statement,
+/// a link or a block has no place, as above. `NoMemory` where there is no memory.
 pub fn compile(alloc: Global, bytes: &[u8]) -> Result<Compiled, CompileError>
     ensures checked { IfOk result (λ c. IsChecked c.program.blocks) }
     ensures determinate { IfOk result (λ c. IsDeterminate c.program.blocks) }
@@ -137,7 +137,7 @@ pub fn compile(alloc: Global, bytes: &[u8]) -> Result<Compiled, CompileError>
     let names = Checked::check(alloc, &source)?;
     check_kinds(alloc, &source, &names)?;
     let Lowered { program, notes } = program_of(alloc, &source, &names)?;
-    let checked = checked_of(program, &notes)?;
+    let checked = checked_of(program);
     // Brings in that it is checked.
     let program = checked.program();
     let origins = mapped(alloc, program, &notes)?;

@@ -2,6 +2,9 @@
 ghost use Rattle.std.specs.Prelude.{◌≡◌, ◌+◌, ◌<◌, ◌≤◌, ◌++◌, ◌∷◌, [], true, false, length, IfOk, IsTrue, MatchResult};
 ghost use Rattle.u_compile.specs.Drafts.{draft};
 ghost use Rattle.u_compile.specs.Scoped.{Layout, IsScoped};
+ghost use Rattle.u_compile.specs.Orderly.{IsOrderly};
+ghost use Rattle.u_compile.specs.Placed.{EachIsFull};
+ghost use Rattle.u_compile.specs.Kept.{KeepsItself};
 ghost use Rattle.u_determinate.specs.Determinate.{IsDeterminateBlock};
 ghost use Rattle.u_program.specs.declared.program.Kind.TheVariants as kinds;
 ghost use Rattle.u_program.specs.Limits.{IsConstant, IsKind, IsBlockOf, limits_of, has_list, has_otherwise, rank};
@@ -241,6 +244,8 @@ impl Graph {
         ensures block { IfOk result (λ b. IsBlockOf (limits_of versions.Two) b) }
         ensures determinate { IfOk result
             (λ b. (y : Layout) → IsScoped y self → IsDeterminateBlock b) }
+        ensures kept { IfOk result (λ b. (y : Layout) → IsScoped y self → EachIsFull self
+            → IsOrderly self.statements self.links → KeepsItself b) }
     {
         if self.len() == 0 {
             return Err(Full::Misplaced);

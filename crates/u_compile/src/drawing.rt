@@ -3,6 +3,7 @@ ghost use Rattle.std.specs.Prelude.{IfOk};
 ghost use Rattle.u_program.specs.Limits.{IsBlockOf, limits_of};
 ghost use Rattle.u_program.specs.declared.program.Version.TheVariants as versions;
 ghost use Rattle.u_determinate.specs.Determinate.{IsDeterminateBlock};
+ghost use Rattle.u_compile.specs.Kept.{KeepsItself};
 
 use crate::graph::{Full, Output, STATEMENTS};
 use crate::place::{Guard, Place};
@@ -468,10 +469,11 @@ impl Drawing {
         Ok(())
     }
 
-    /// The procedure as a block with this name. It is determinate.
+    /// The procedure as a block with this name. It is determinate, and keeps the rules of the checker.
     pub fn finish(self, name: BlockName) -> Result<Block, Full>
         ensures block { IfOk result (λ b. IsBlockOf (limits_of versions.Two) b) }
         ensures determinate { IfOk result (λ b. IsDeterminateBlock b) }
+        ensures kept { IfOk result (λ b. KeepsItself b) }
     {
         let Drawing { graph, .. } = self;
         graph.complete(name)

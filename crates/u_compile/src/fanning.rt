@@ -2,7 +2,7 @@
 ghost use Rattle.std.specs.Prelude.{◌≡◌, ◌+◌, ◌<◌, ◌≤◌, ◌^◌, ◌++◌, ◌∷◌, [], length, IfOk, MatchResult};
 ghost use Rattle.std.specs.Option.{option_copied};
 ghost use Rattle.u_compile.specs.Graphs.{link, destinations, draft_at, IsGraph};
-ghost use Rattle.u_compile.specs.Fanning.{holder, region_behind, moved, fanned, FansOut, AreFew};
+ghost use Rattle.u_compile.specs.Fanning.{holder, region_behind, moved, fanned, FansOut, IsNoFullLast, AreFew};
 
 use crate::graph::{Draft, Full, Graph, Link, Output, STATEMENTS};
 use std::alloc::{AllocFailed, Global};
@@ -117,10 +117,13 @@ fn passed(
 }
 
 impl Graph {
-    /// Puts a `pass` behind the output where it has more than 16 links.
+    /// Puts a `pass` behind the output where it has more than 16 links. That of a `last` does not get one: it leads to
+    /// `leave` statements alone.
+    #[tactic(auto, using(crate::proofs::Fans::few_no_last, crate::proofs::Fans::none_no_last, crate::proofs::Fans::other_no_last))]
     fn fan_out(&mut self, alloc: Global, output: Output) -> Result<(), Full>
         ensures fanned { MatchResult result (λ _. self.new ≡ fanned output self.old)
             (λ _. self.new ≡ self.old) }
+        ensures last { IfOk result (λ _. IsNoFullLast output self.old) }
         ensures graph { IsGraph self.old }
     {
         if count_from(&self.links, output) <= DESTINATIONS {
@@ -129,6 +132,9 @@ impl Graph {
         let Some(draft) = draft_at(&self.statements, output.statement) else {
             return Ok(());
         };
+        if matches!(draft.kind(), Kind::Last) {
+            return Err(Full::Misplaced);
+        }
         let region = region_behind(&self.loops, draft.region(), draft.kind());
         if self.statements.len() >= STATEMENTS {
             return Err(Full::Statements);
@@ -143,7 +149,8 @@ impl Graph {
     /// Puts `pass` statements behind outputs until none has more than 16 links.
     ///
     /// # Errors
-    /// `Statements` where there are too many then, `NoMemory` where there is no memory.
+    /// `Statements` where there are too many then, `NoMemory` where there is no memory, `Misplaced` where a `last` has
+    /// more than 16 links.
     pub(crate) fn fan_out_all(&mut self, alloc: Global) -> Result<(), Full>
         ensures { MatchResult result (λ _. FansOut self.old self.new × AreFew self.new.links)
             (λ _. FansOut self.old self.new) }

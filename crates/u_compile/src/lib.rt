@@ -15,6 +15,7 @@ mod mapping;
 mod naming;
 mod notes;
 mod operands;
+mod orderly;
 mod origins;
 mod place;
 mod placed;

@@ -3,6 +3,7 @@ ghost use Rattle.std.specs.Prelude.{IfOk};
 ghost use Rattle.u_program.specs.Limits.{IsBlockOf, limits_of};
 ghost use Rattle.u_program.specs.declared.program.Version.TheVariants as versions;
 ghost use Rattle.u_determinate.specs.Determinate.{IsDeterminateBlock};
+ghost use Rattle.u_compile.specs.Kept.{KeepsItself};
 
 use crate::blocks::Blocks;
 use crate::drawing::{Drawing, Scope, Way};
@@ -106,6 +107,7 @@ fn finished(
 ) -> Result<(Block, Notes), Full>
     ensures block { IfOk result (λ r. IsBlockOf (limits_of versions.Two) r.0) }
     ensures determinate { IfOk result (λ r. IsDeterminateBlock r.0) }
+    ensures kept { IfOk result (λ r. KeepsItself r.0) }
 {
     let mut drawing = drawing;
     let mut names = names;

@@ -94,18 +94,3 @@ impl Notes {
         Ok(())
     }
 }
-
-/// The place from which a statement comes, by the numbers, from 1, of its block and of it, or that of the first byte
-/// where there is none.
-pub(crate) fn place_in(notes: &[Notes], block: usize, statement: usize) -> Place {
-    let Some(before) = block.checked_sub(1) else {
-        return Place::start();
-    };
-    let Some(block) = notes.get(before) else {
-        return Place::start();
-    };
-    match block.place_of(statement) {
-        Some(place) => place,
-        None => Place::start(),
-    }
-}

@@ -7,11 +7,13 @@ ghost use Rattle.u_program.specs.Limits.{IsBlockOf, limits_of};
 ghost use Rattle.u_program.specs.declared.program.Version.TheVariants as versions;
 ghost use Rattle.u_determinate.specs.Determinate.{IsDeterminateBlock};
 ghost use Rattle.u_program.specs.declared.program.Kind.TheVariants as kinds;
+ghost use Rattle.u_compile.specs.Kept.{KeepsItself};
 ghost use Rattle.u_compile.specs.Scoped.{place, sent_by, IsOf, IsControlled, IsCalled};
 ghost use Rattle.u_compile.specs.Placed.{entry, note, test_of, placed, layout_of, IsSender, IsArrived, OneSends, MayTake, MayCome, MeetsWell, IsAlone, LiesWell, FitsIn, AreFree, IsUntested, stands_against, opens, with_link, with_statement, with_loop, with_test, finished, IsLinked, AreLinked, IsFull, IsLastFull, EachIsFull, HasNext, EachGoesOn};
 
 use crate::fanning::draft_at;
 use crate::graph::{Draft, Full, Graph, Link, Output};
+use crate::orderly::{leaves_well, stands_well};
 use crate::place::{Place, are_guards, opposite};
 use std::alloc::{AllocError, Global};
 use std::marker::Model;
@@ -493,7 +495,10 @@ impl Noted {
             statement: self.graph.len() as u16,
             port,
         };
-        if !self.is_unfinished() || !self.may_come(from, to)? {
+        if !self.is_unfinished()
+            || !leaves_well(self.graph.drafts(), from.statement, to.statement)
+            || !self.may_come(from, to)?
+        {
             return Err(Full::Misplaced);
         }
         match self.graph.lead(from, to) {
@@ -522,9 +527,11 @@ impl Noted {
     fn fits(&self, new: &Draft, place: &Place) -> bool
         ensures { IsTrue result → FitsIn self.now new.now place.now }
     {
+        let drafts = self.graph.drafts();
         new.region() == place.region()
             && self.lies_well(new, place)
-            && are_free(self.graph.drafts(), new)
+            && are_free(drafts, new)
+            && stands_well(drafts, self.graph.len() as u16 + 1, new, self.unfinished)
     }
 
     /// Whether each port of the last statement is linked.
@@ -698,18 +705,21 @@ impl Noted {
         }
     }
 
-    /// Whether the `back` stands in the place of the statement that is not finished, behind it.
+    /// Whether it is a `back` in the place of the statement that is not finished, behind it.
     fn is_called(&self, back: u16) -> bool
         ensures { IsTrue result → IsCalled (layout_of self.now) self.now.graph.statements
             self.now.unfinished back }
     {
-        let (Some(one), Some(other), Some(_)) = (
+        let (Some(one), Some(other), Some(draft)) = (
             note_at(&self.notes, self.unfinished),
             note_at(&self.notes, back),
             draft_at(self.graph.drafts(), back),
         ) else {
             return false;
         };
+        if !matches!(draft.kind(), Kind::Back) {
+            return false;
+        }
         self.unfinished < back && one.place().is(other.place())
     }
 
@@ -755,7 +765,7 @@ impl Noted {
         Ok(())
     }
 
-    /// The graph as a block of version 2 with this name. It is determinate.
+    /// The graph as a block of version 2 with this name. It is determinate, and keeps the rules of the checker.
     ///
     /// # Errors
     /// Those of `Graph::complete`; `Misplaced` where a statement is not finished, a port is not linked, or an `enter` has
@@ -765,6 +775,7 @@ impl Noted {
         ensures determinate { IfOk result (λ b. IsDeterminateBlock b) }
         ensures linked { IfOk result (λ _. EachIsFull self.graph) }
         ensures next { IfOk result (λ _. EachGoesOn self.graph.statements self.graph.statements) }
+        ensures kept { IfOk result (λ b. KeepsItself b) }
     {
         if self.unfinished != 0 {
             return Err(Full::Misplaced);

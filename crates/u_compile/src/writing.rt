@@ -6,6 +6,9 @@ ghost use Rattle.u_compile.specs.Blocks.{statement_of, block_of};
 ghost use Rattle.u_determinate.specs.Determinate.{IsDeterminateBlock};
 ghost use Rattle.u_compile.specs.Fanning.{IsFinished};
 ghost use Rattle.u_compile.specs.Scoped.{Layout, IsScoped};
+ghost use Rattle.u_compile.specs.Orderly.{IsOrderly};
+ghost use Rattle.u_compile.specs.Placed.{EachIsFull};
+ghost use Rattle.u_compile.specs.Kept.{KeepsItself};
 
 use crate::graph::{Draft, Full, Graph, Link, Output};
 use std::alloc::{AllocError, AllocFailed, Global};
@@ -82,15 +85,19 @@ impl Graph {
 
     /// The graph as a block of version 2 with this name. A list with more than 16 destinations gets a `pass` in the
     /// place of the 16th, which sends where that one and those behind it were sent, and so on. Where the graph's links
-    /// keep to a layout, the block is determinate.
+    /// keep to a layout, the block is determinate; and where each port is linked too, and what stands in the graph stands
+    /// well, it keeps the rules of the checker.
     ///
     /// # Errors
-    /// `Statements` where there are more than 999 then, `NoMemory` where there is no memory.
+    /// `Statements` where there are more than 999 then, `NoMemory` where there is no memory, `Misplaced` where a
+    /// `last` has more than 16 links.
     pub fn finish(self, alloc: Global, name: BlockName) -> Result<Block, Full>
         requires { 1 ≤ length self.statements }
         ensures finished { IfOk result (λ b. IsFinished name self b) }
         ensures determinate { IfOk result
             (λ b. (y : Layout) → IsScoped y self → IsDeterminateBlock b) }
+        ensures kept { IfOk result (λ b. (y : Layout) → IsScoped y self → EachIsFull self
+            → IsOrderly self.statements self.links → KeepsItself b) }
     {
         // Brings in that it is a graph.
         let _ = self.len();

@@ -4,4 +4,4 @@ use Rattle.u_determinate.specs.Determinate.{IsDeterminate}
 use Rattle.u_compile.proofs.compiling.compile.Goals as goal
 
 pub new-requires-clause-determinate : goal.new-requires-clause-determinate
-new-requires-clause-determinate c = subst (λ (p : ProgramParts). IsDeterminate p.blocks) (sym c.in_ok-checked.ensures) c.in_ok-program.ensures
+new-requires-clause-determinate c = subst (λ (p : ProgramParts). IsDeterminate p.blocks) (sym c.checked_of-checked.ensures) c.in_ok-program.ensures.determinate

@@ -4,6 +4,7 @@ use Rattle.u_program.specs.Limits.{IsBlockOf, limits_of}
 use Rattle.u_compile.specs.Fanning.{IsFinished}
 use Rattle.u_compile.proofs.BlockLaws.{block_is}
 use Rattle.u_compile.proofs.FinishedLaws.{finished_determinate}
+use Rattle.u_compile.proofs.KeptLaws.{finished_keeps}
 use Rattle.u_compile.proofs.Fans.{fans_grow}
 use Rattle.u_compile.proofs.graph.Graph.finish.Goals as goal
 
@@ -24,4 +25,5 @@ returns-in-Ok c =
     record {
       finished = finished;
       determinate = λ y s. finished_determinate c.args.name c.args.self c.in-Ok.block y c.len.ensures.graph finished s;
+      kept = λ y s full stands. finished_keeps c.args.name c.args.self c.in-Ok.block y c.len.ensures.graph finished s full stands;
     }
