@@ -135,7 +135,7 @@ fn blame_job<V: Watch>(
 }
 
 /// Runs the program with this text on the argument that the word gives, with 100,000 firings at most,
-/// and writes what is to blame for the two least values at that port, 1 to 3, of the activity with that
+/// and writes what is to blame for the two least values at that port, 1 to 5, of the activity with that
 /// name: the least cell that has two writes in the stories of the two tokens, as two lines for each of its
 /// two least writes, or `no cell`, which is never so if the program is strict or determinate. Returns
 /// the exit status, 0.
