@@ -15,7 +15,7 @@ use Rattle.u_program.specs.declared.program.Version.TheVariants.{Two}
 use Rattle.u_program.specs.Parts.{BlockParts}
 use Rattle.u_program.proofs.Steps.{all_append}
 use Rattle.u_program.specs.Limits.{has_list, has_otherwise, HasKind, HasPorts, IsListed, Ascending, rank, IsStatement, IsBlockOf, IsProgram, limits_of}
-use Rattle.u_check.specs.Rules.{names_block}
+use Rattle.u_check.specs.Rules.{names_block, main_name}
 use Rattle.u_determinate.specs.Determinate.{IsDeterminateBlock}
 use Rattle.u_compile.specs.declared.graph.Link.{Link}
 use Rattle.u_compile.specs.Drafts.{DraftParts}
@@ -163,6 +163,11 @@ no_blocks = record {
   differ = λ n b at. cc;
 }
 
--- blocks are those of a program, if there are any
-pub are_program : (bs : List BlockParts) → AreBlocks bs → 1 ≤ length bs → IsProgram (limits_of Two) bs
-are_program bs are some = record { each = are.each; few = are.few; some = some }
+-- blocks of which one is called that are some
+pub some_named : (bs : List BlockParts) (name : List ℕ) → names_block bs name ≡ true → 1 ≤ length bs
+some_named [] name has = cc
+some_named (b ∷ bs) name has = omega arith
+
+-- blocks of which one is called `main` are those of a program
+pub are_program : (bs : List BlockParts) → AreBlocks bs → names_block bs main_name ≡ true → IsProgram (limits_of Two) bs
+are_program bs are main = record { each = are.each; few = are.few; some = some_named bs main_name main }

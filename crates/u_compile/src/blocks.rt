@@ -157,9 +157,6 @@ impl Blocks {
         ensures determinate { IfSome result (λ p. IsDeterminate p.blocks) }
         ensures checked { IfSome result (λ p. IsChecked p.blocks) }
     {
-        if self.list.is_empty() {
-            return None;
-        }
         if !self.is_whole() {
             return None;
         }

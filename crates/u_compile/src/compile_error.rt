@@ -1,5 +1,7 @@
 //! Why a source is not compiled.
 ghost use Rattle.std.specs.Prelude.{◌≡◌};
+ghost use Rattle.u_compile.specs.Compiled.{IsToldLast};
+ghost use Rattle.u_compile.specs.declared.compile_error.CompileError.TheVariants as errors;
 
 use crate::graph::Full;
 use std::alloc::AllocError;
@@ -55,7 +57,9 @@ pub enum CompileError {
 
 impl CompileError {
     /// What a graph that does not grow says of a source, at this place.
-    pub(crate) fn at(place: Place, full: Full) -> CompileError {
+    pub(crate) fn at(place: Place, full: Full) -> CompileError
+        ensures { IsToldLast result }
+    {
         match full {
             Full::Statements => CompileError::Refused(place, CompileProblem::MoreStatements),
             Full::Loops => CompileError::Refused(place, CompileProblem::MoreLoops),
@@ -65,25 +69,9 @@ impl CompileError {
     }
 }
 
-impl From<SourceError> for CompileError {
-    fn from(error: SourceError) -> CompileError {
-        CompileError::Source(error)
-    }
-}
-
-impl From<CheckError> for CompileError {
-    fn from(error: CheckError) -> CompileError {
-        CompileError::Check(error)
-    }
-}
-
-impl From<KindError> for CompileError {
-    fn from(error: KindError) -> CompileError {
-        CompileError::Kinds(error)
-    }
-}
-
 impl From<AllocError> for CompileError {
+    ghost from_gives = { λ _ told. told ≡ errors.NoMemory };
+
     fn from(_: AllocError) -> CompileError {
         CompileError::NoMemory
     }

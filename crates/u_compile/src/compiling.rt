@@ -1,8 +1,11 @@
 //! From the text of a source to a program.
-ghost use Rattle.std.specs.Prelude.{◌≡◌, IfOk};
+ghost use Rattle.std.specs.Prelude.{◌≡◌, IfOk, IfErr, MatchResult, List};
 ghost use Rattle.u_check.specs.Rules.{IsChecked};
 ghost use Rattle.u_determinate.specs.Determinate.{IsDeterminate};
+ghost use Rattle.u_source.specs.Sources.{SourceParts};
+ghost use Rattle.u_scope.specs.declared.checked.Meaning.{Meaning};
 ghost use Rattle.u_compile.specs.Maps.{AreOrigins};
+ghost use Rattle.u_compile.specs.Compiled.{IsAllowed, IsSomeAllowed, IsCompileError, IsToldOf, MayBeTold, IsToldLast};
 
 use crate::compile_error::CompileError;
 use crate::compiled::Compiled;
@@ -80,6 +83,7 @@ fn lower(alloc: Global, tree: &Tree<'_>) -> Result<Lowered, Stopped>
 fn program_of(alloc: Global, source: &Source, checked: &Checked) -> Result<Lowered, CompileError>
     ensures determinate { IfOk result (λ l. IsDeterminate l.program.blocks) }
     ensures checked { IfOk result (λ l. IsChecked l.program.blocks) }
+    ensures last { IfErr result (λ error. IsToldLast error) }
 {
     let tree = match Tree::new(alloc, source.tokens(), source.nodes(), checked.meanings()) {
         Ok(tree) => tree,
@@ -108,12 +112,58 @@ fn mapped(
     program: &Program,
     notes: &[Notes],
 ) -> Result<Vec<BlockOrigins>, CompileError>
-    ensures { IfOk result (λ v. AreOrigins program.now.blocks v.items) }
+    ensures each { IfOk result (λ v. AreOrigins program.now.blocks v.items) }
+    ensures last { IfErr result (λ error. IsToldLast error) }
 {
     match origins_of(alloc, program.blocks(), notes) {
         Ok(origins) => Ok(origins),
         Err(full) => Err(CompileError::at(Place::start(), full)),
     }
+}
+
+/// A source whose names and kinds are allowed, and what its names mean.
+#[derive(Drop)]
+struct Allowed {
+    /// The source.
+    pub source: Source,
+    /// What its names mean.
+    pub names: Checked,
+}
+
+/// Reads a source, and checks its names and then its kinds.
+fn read_allowed(alloc: Global, bytes: &[u8]) -> Result<Allowed, CompileError>
+    ensures answer { MatchResult result (λ a. IsAllowed bytes.now a.source a.names)
+        (λ error. IsCompileError bytes.now error) }
+    ensures back { (s : SourceParts) (ms : List Meaning) → IsAllowed bytes.now s ms
+        → IfErr result (λ error. MayBeTold error) }
+{
+    let source = match Source::read(alloc, bytes) {
+        Ok(source) => source,
+        Err(error) => return Err(CompileError::Source(error)),
+    };
+    let names = match Checked::check(alloc, &source) {
+        Ok(names) => names,
+        Err(error) => return Err(CompileError::Check(error)),
+    };
+    match check_kinds(alloc, &source, &names) {
+        Ok(()) => Ok(Allowed { source, names }),
+        Err(error) => Err(CompileError::Kinds(error)),
+    }
+}
+
+/// The program of an allowed source, and where its statements come from.
+fn compiled_of(alloc: Global, allowed: &Allowed) -> Result<Compiled, CompileError>
+    ensures checked { IfOk result (λ c. IsChecked c.program.blocks) }
+    ensures determinate { IfOk result (λ c. IsDeterminate c.program.blocks) }
+    ensures each { IfOk result (λ c. AreOrigins c.program.blocks c.origins) }
+    ensures last { IfErr result (λ error. IsToldLast error) }
+{
+    let Lowered { program, notes } = program_of(alloc, &allowed.source, &allowed.names)?;
+    let checked = checked_of(program);
+    // Brings in that it is checked.
+    let program = checked.program();
+    let origins = mapped(alloc, program, &notes)?;
+    Ok(Compiled::new(checked, origins))
 }
 
 /// Compiles a source: the text of procedures in the notation with names. What is returned is a program that breaks
@@ -132,14 +182,11 @@ pub fn compile(alloc: Global, bytes: &[u8]) -> Result<Compiled, CompileError>
     ensures checked { IfOk result (λ c. IsChecked c.program.blocks) }
     ensures determinate { IfOk result (λ c. IsDeterminate c.program.blocks) }
     ensures each { IfOk result (λ c. AreOrigins c.program.blocks c.origins) }
+    ensures answer { MatchResult result (λ _. IsSomeAllowed bytes.now)
+        (λ error. IsToldOf bytes.now error) }
 {
-    let source = Source::read(alloc, bytes)?;
-    let names = Checked::check(alloc, &source)?;
-    check_kinds(alloc, &source, &names)?;
-    let Lowered { program, notes } = program_of(alloc, &source, &names)?;
-    let checked = checked_of(program);
-    // Brings in that it is checked.
-    let program = checked.program();
-    let origins = mapped(alloc, program, &notes)?;
-    Ok(Compiled::new(checked, origins))
+    match read_allowed(alloc, bytes) {
+        Ok(allowed) => compiled_of(alloc, &allowed),
+        Err(error) => Err(error),
+    }
 }

@@ -735,6 +735,13 @@ impl Noted {
         }
     }
 
+    /// Whether no statement is unfinished.
+    fn is_finished(&self) -> bool
+        ensures { IsTrue result → self.now.unfinished ≡ 0 }
+    {
+        self.unfinished == 0
+    }
+
     /// Finishes a `switch`, whose side that output chooses.
     ///
     /// # Errors
@@ -777,7 +784,7 @@ impl Noted {
         ensures next { IfOk result (λ _. EachGoesOn self.graph.statements self.graph.statements) }
         ensures kept { IfOk result (λ b. KeepsItself b) }
     {
-        if self.unfinished != 0 {
+        if !self.is_finished() {
             return Err(Full::Misplaced);
         }
         if !self.is_last_full() || !goes_on(self.graph.drafts()) {

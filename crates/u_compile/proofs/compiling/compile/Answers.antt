@@ -1,7 +1,7 @@
-use Rattle.std.proofs.Common.{sym, subst}
-use Rattle.u_program.specs.Parts.{ProgramParts}
-use Rattle.u_determinate.specs.Determinate.{IsDeterminate}
 use Rattle.u_compile.proofs.compiling.compile.Goals as goal
 
-pub new-requires-clause-determinate : goal.new-requires-clause-determinate
-new-requires-clause-determinate c = subst (λ (p : ProgramParts). IsDeterminate p.blocks) (sym c.checked_of-checked.ensures) c.in_ok-program.ensures.determinate
+pub returns-in-Err-clause-answer : goal.returns-in-Err-clause-answer
+returns-in-Err-clause-answer c = record {
+  why = c.in-Err.ensures.answer;
+  rightly = λ some. c.in-Err.ensures.back some.source some.meanings some.allowed;
+}

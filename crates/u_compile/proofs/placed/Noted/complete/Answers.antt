@@ -1,4 +1,4 @@
-use Rattle.std.proofs.Common.{◌≡◌, ◌∙◌, List, arith, sym, ap, subst}
+use Rattle.std.proofs.Common.{◌≡◌, ◌∙◌, List, sym, ap, subst}
 use Rattle.u_compile.specs.Drafts.{DraftParts}
 use Rattle.u_compile.specs.Placed.{PlacedParts, placed, IsLastFull, EachIsFull, EachGoesOn}
 use Rattle.u_compile.proofs.PlacedLaws.{each_full}
@@ -8,7 +8,7 @@ use Rattle.u_compile.proofs.placed.Noted.complete.Goals as goal
 pub returns-clause-determinate : goal.returns-clause-determinate
 returns-clause-determinate c =
     let here = placed c.self.inside.graph c.self.inside.notes.items c.self.inside.arounds.items c.self.inside.tests.items c.self.inside.unfinished in
-    let finished : c.self.inside.unfinished ≡ 0 = omega (arith, c.if-self-ne0.false) in
+    let finished : c.self.inside.unfinished ≡ 0 = ap (λ (p : PlacedParts). p.unfinished) c.self.view_is ∙ c.is_finished.ensures c.if-not-is_finished.false in
     determinate_of c.complete.result here c.self.invariant finished c.complete.ensures.determinate
 
 pub returns-clause-linked : goal.returns-clause-linked
@@ -29,7 +29,7 @@ pub returns-clause-kept : goal.returns-clause-kept
 returns-clause-kept c =
     let s = c.self.inside in
     let here = placed s.graph s.notes.items s.arounds.items s.tests.items s.unfinished in
-    let finished : s.unfinished ≡ 0 = omega (arith, c.if-self-ne0.false) in
+    let finished : s.unfinished ≡ 0 = ap (λ (p : PlacedParts). p.unfinished) c.self.view_is ∙ c.is_finished.ensures c.if-not-is_finished.false in
     let last : IsLastFull c.args.self.graph = c.is_last_full.ensures c.if-not-is_last_full.false in
     let all : EachIsFull s.graph = each_full here c.self.invariant (subst (λ (p : PlacedParts). IsLastFull p.graph) (sym c.self.view_is) last) in
     kept_of c.complete.result here c.self.invariant finished all c.complete.ensures.kept
