@@ -4,17 +4,19 @@ ghost use Rattle.std.specs.Prelude.{◌≤◌};
 ghost use Rattle.u_words.specs.Numbers.{IsOneToEight, IsPort};
 
 use crate::fault::Fault;
-use crate::inputs::{Input, program_at, read_file, read_path, read_program, read_source};
+use crate::inputs::{
+    Input, job_texts, program_at, read_file, read_path, read_program, read_source,
+};
 use crate::telling::Telling;
 use std::io::{Read, Write};
 use std::sync::Wait;
 use std::thread::Threads;
 use std::{fs, io};
 use u_cli::{
-    Asked, Bus, CommandError, Form, JobTexts, Plan, STORED_PROGRAM, WorldPlan, blame_placed_text,
-    check_text, compile_text, draw_world_text, explain_source_text, explain_text, fleet_text,
-    is_source, lift_text, restore_watched_text, run_text, run_watched_text, save_watched_text,
-    share_text, trace_placed_text, waits_placed_text, world_watched_text, write_placed,
+    Asked, Bus, CommandError, Form, Plan, STORED_PROGRAM, WorldPlan, blame_placed_text, check_text,
+    compile_text, draw_world_text, explain_source_text, explain_text, fleet_text, is_source,
+    lift_text, restore_watched_text, run_text, run_watched_text, save_watched_text, share_text,
+    trace_placed_text, waits_placed_text, world_watched_text, write_placed,
 };
 use u_pictures::{draw_run_text, draw_story_text, draw_text};
 
@@ -150,10 +152,7 @@ pub fn run(rt: &HostRuntime, file: &str, argument: &str, firings: usize) -> Resu
     requires { firings ≤ 1000000 }
 {
     let program = read_program(rt, file)?;
-    let texts = JobTexts {
-        program: &program,
-        argument: argument.as_bytes(),
-    };
+    let texts = job_texts(&program, argument);
     let mut watch = Telling::new(rt);
     let status = run_watched_text(rt.alloc(), texts, firings, &mut watch, &mut io::writer(rt))?;
     Ok(status)
@@ -164,10 +163,7 @@ pub fn save(rt: &HostRuntime, file: &str, argument: &str, firings: usize) -> Res
     requires { firings ≤ 1000000 }
 {
     let program = read_program(rt, file)?;
-    let texts = JobTexts {
-        program: &program,
-        argument: argument.as_bytes(),
-    };
+    let texts = job_texts(&program, argument);
     let mut watch = Telling::new(rt);
     let status = save_watched_text(rt.alloc(), texts, firings, &mut watch, &mut io::writer(rt))?;
     Ok(status)
@@ -183,10 +179,7 @@ pub fn restore(
 ) -> Result<u8, Fault> {
     let program = read_program(rt, file)?;
     let saved = read_path(rt, checkpoint)?;
-    let texts = JobTexts {
-        program: &program,
-        argument: argument.as_bytes(),
-    };
+    let texts = job_texts(&program, argument);
     let mut watch = Telling::new(rt);
     let mut out = io::writer(rt);
     let status = restore_watched_text(rt.alloc(), texts, &saved, firings, &mut watch, &mut out)?;
@@ -247,10 +240,7 @@ pub fn world(rt: &HostRuntime, file: &str, argument: &str, plan: WorldPlan) -> R
     requires { IsOneToEight plan.replicas }
 {
     let program = read_program(rt, file)?;
-    let texts = JobTexts {
-        program: &program,
-        argument: argument.as_bytes(),
-    };
+    let texts = job_texts(&program, argument);
     let mut watch = Telling::new(rt);
     let status = world_watched_text(rt.alloc(), texts, plan, &mut watch, &mut io::writer(rt))?;
     Ok(status)

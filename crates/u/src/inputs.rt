@@ -3,8 +3,8 @@
 use crate::fault::Fault;
 use std::fs;
 use u_cli::{
-    BlockOrigins, CommandError, Mapped, PlacedTexts, SourceFault, is_source, mapped_program_of,
-    program_of, read_input,
+    BlockOrigins, CommandError, JobTexts, Mapped, PlacedTexts, SourceFault, is_source,
+    mapped_program_of, program_of, read_input,
 };
 
 /// The text of a program, and if it is that of a source, where its statements come from.
@@ -16,12 +16,19 @@ pub struct Input {
     pub origins: Option<Vec<BlockOrigins>>,
 }
 
+/// The texts of the job of the program with that text on that argument.
+pub fn job_texts<'a>(program: &'a [u8], argument: &'a str) -> JobTexts<'a> {
+    JobTexts {
+        program,
+        argument: argument.as_bytes(),
+    }
+}
+
 impl Input {
-    /// The texts of a run on that argument.
+    /// The texts of the job of the program on that argument, and where the program's statements come from.
     pub fn texts<'a>(&'a self, argument: &'a str) -> PlacedTexts<'a> {
         PlacedTexts {
-            program: &self.program,
-            argument: argument.as_bytes(),
+            job: job_texts(&self.program, argument),
             origins: self.origins.as_deref(),
         }
     }

@@ -2,13 +2,16 @@
 use Rattle.std.specs.Prelude.{ℕ, Bool, List, Option, Result, Ok, Err, refl}
 use Rattle.std.proofs.Common.{inr}
 use Rattle.u_compile.specs.declared.compile_error.CompileError.{CompileError}
+use Rattle.u_compile.specs.Compiled.{IsToldOf}
 use Rattle.u_cli.specs.declared.refusals.SourceFault.{SourceFault}
 use Rattle.u_cli.specs.declared.refusals.SourceFault.TheVariants as faults
 use Rattle.u_cli.specs.Refusals.{ExplainRefusalAnswer, ExplainSourceAnswer}
 
 pub refusal_told :
-    (error : CompileError) (strict : Bool) (old new : Option (List ℕ)) (r : Result ℕ SourceFault)
-    → ExplainRefusalAnswer error old r new → ExplainSourceAnswer strict old r new
-refusal_told error strict old new (Ok status) (two, (written, all)) = (written, inr two, all)
-refusal_told error strict old new (Err (faults.Refused fault)) h = h
-refusal_told error strict old new (Err faults.NotWritten) (written, front) = (written, 2, inr refl, front)
+    (error : CompileError) (strict : Bool) (source : List ℕ) (old new : Option (List ℕ)) (r : Result ℕ SourceFault)
+    → IsToldOf source error → ExplainRefusalAnswer error old r new → ExplainSourceAnswer strict source old r new
+refusal_told error strict source old new (Ok status) why (two, shown, (written, all)) =
+    (written, inr (record { error = error; told = why; shown = shown; two = two }), all)
+refusal_told error strict source old new (Err (faults.Refused fault)) why h = h
+refusal_told error strict source old new (Err faults.NotWritten) why (shown, (written, front)) =
+    (written, 2, inr (record { error = error; told = why; shown = shown; two = refl }), front)

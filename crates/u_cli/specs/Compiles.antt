@@ -7,6 +7,7 @@ use Rattle.u_program.specs.Text.{program_text}
 use Rattle.u_check.specs.Rules.{IsChecked}
 use Rattle.u_determinate.specs.Determinate.{IsDeterminate}
 use Rattle.u_commands.specs.Outputs.{WritesAll, WritesPrefix}
+use Rattle.u_compile.specs.Compiled.{IsSomeAllowed, IsToldOf}
 use Rattle.u_compile.specs.Maps.{map_text, AreOrigins}
 use Rattle.u_compile.specs.declared.origins.BlockOrigins.{BlockOrigins}
 use Rattle.u_cli.specs.declared.refusals.SourceFault.{SourceFault}
@@ -44,10 +45,15 @@ abbrev pub IsCompileText : Bool → List ℕ → Type 0
 IsCompileText false text = IsCompiledText text
 IsCompileText true text = IsMapText text
 
--- what stands before and after, for each answer
-abbrev pub CompileTextAnswer : Bool → Option (List ℕ) → Result ℕ SourceFault → Option (List ℕ) → Type 0
-CompileTextAnswer map old (Ok status) new =
-    (status ≡ 0) × ((text : List ℕ) × IsCompileText map text × WritesAll old new text)
-CompileTextAnswer map old (Err (faults.Refused error)) new = Keeps old new
-CompileTextAnswer map old (Err faults.NotWritten) new =
-    (text : List ℕ) × IsCompileText map text × WritesPrefix old new text
+-- the bytes are an allowed source, and this is what is written of it
+pub record Compiles (map : Bool) (source text : List ℕ) : Type 0 where
+  pub allowed : IsSomeAllowed source
+  pub is : IsCompileText map text
+
+-- what stands before and after, for each answer to a source
+abbrev pub CompileTextAnswer : Bool → List ℕ → Option (List ℕ) → Result ℕ SourceFault → Option (List ℕ) → Type 0
+CompileTextAnswer map source old (Ok status) new =
+    (status ≡ 0) × ((text : List ℕ) × Compiles map source text × WritesAll old new text)
+CompileTextAnswer map source old (Err (faults.Refused error)) new = IsToldOf source error × Keeps old new
+CompileTextAnswer map source old (Err faults.NotWritten) new =
+    (text : List ℕ) × Compiles map source text × WritesPrefix old new text

@@ -7,6 +7,7 @@ use Rattle.u_scope.specs.declared.check_error.CheckError.TheVariants as check_er
 use Rattle.u_kinds.specs.declared.kind_error.KindError.TheVariants as kind_errors
 use Rattle.u_compile.specs.declared.compile_error.CompileError.{CompileError}
 use Rattle.u_compile.specs.declared.compile_error.CompileError.TheVariants as errors
+use Rattle.u_compile.specs.Compiled.{IsSomeAllowed, IsToldOf}
 use Rattle.u_commands.specs.Outputs.{WritesAll, WritesPrefix}
 use Rattle.u_commands.specs.Explains.{Explains}
 use Rattle.u_cli.specs.Compiles.{IsCompiledText}
@@ -33,30 +34,44 @@ abbrev pub status_of_fault : SourceFault → ℕ
 status_of_fault (faults.Refused error) = status_at (place_of error)
 status_of_fault faults.NotWritten = 5
 
--- what is told of the program that a source compiles to
-pub record ExplainsCompiled (strict : Bool) (written : List ℕ) (status : ℕ) : Type 0 where
+-- a place of the source shows why it is refused
+pub record IsShown (error : CompileError) : Type 0 where
+  pub place : Place
+  pub is : place_of error ≡ Some place
+
+-- what is told of the program that an allowed source compiles to
+pub record ExplainsCompiled (strict : Bool) (source written : List ℕ) (status : ℕ) : Type 0 where
+  pub allowed : IsSomeAllowed source
   pub program : List ℕ
   pub compiled : IsCompiledText program
   pub told : Explains program strict written status
 
--- that, or why the source is refused
-abbrev pub ExplainsSource : Bool → List ℕ → ℕ → Type 0
-ExplainsSource strict written status = ExplainsCompiled strict written status ⊎ (status ≡ 2)
+-- it is told why a source is refused
+pub record ExplainsRefused (source : List ℕ) (status : ℕ) : Type 0 where
+  pub error : CompileError
+  pub told : IsToldOf source error
+  pub shown : IsShown error
+  pub two : status ≡ 2
 
--- what stands before and after, for each answer
-abbrev pub ExplainSourceAnswer : Bool → Option (List ℕ) → Result ℕ SourceFault → Option (List ℕ) → Type 0
-ExplainSourceAnswer strict old (Ok status) new =
-    (written : List ℕ) × ExplainsSource strict written status × WritesAll old new written
-ExplainSourceAnswer strict old (Err (faults.Refused error)) new =
+-- the one or the other
+abbrev pub ExplainsSource : Bool → List ℕ → List ℕ → ℕ → Type 0
+ExplainsSource strict source written status =
+    ExplainsCompiled strict source written status ⊎ ExplainsRefused source status
+
+-- what stands before and after, for each answer to a source
+abbrev pub ExplainSourceAnswer : Bool → List ℕ → Option (List ℕ) → Result ℕ SourceFault → Option (List ℕ) → Type 0
+ExplainSourceAnswer strict source old (Ok status) new =
+    (written : List ℕ) × ExplainsSource strict source written status × WritesAll old new written
+ExplainSourceAnswer strict source old (Err (faults.Refused error)) new =
     (place_of error ≡ None) × Keeps old new
-ExplainSourceAnswer strict old (Err faults.NotWritten) new =
-    (written : List ℕ) × (status : ℕ) × ExplainsSource strict written status × WritesPrefix old new written
+ExplainSourceAnswer strict source old (Err faults.NotWritten) new =
+    (written : List ℕ) × (status : ℕ) × ExplainsSource strict source written status × WritesPrefix old new written
 
 -- the same of a source that is refused with this error
 abbrev pub ExplainRefusalAnswer : CompileError → Option (List ℕ) → Result ℕ SourceFault → Option (List ℕ) → Type 0
 ExplainRefusalAnswer error old (Ok status) new =
-    (status ≡ 2) × ((written : List ℕ) × WritesAll old new written)
+    (status ≡ 2) × IsShown error × ((written : List ℕ) × WritesAll old new written)
 ExplainRefusalAnswer error old (Err (faults.Refused fault)) new =
     (place_of fault ≡ None) × Keeps old new
 ExplainRefusalAnswer error old (Err faults.NotWritten) new =
-    (written : List ℕ) × WritesPrefix old new written
+    IsShown error × ((written : List ℕ) × WritesPrefix old new written)

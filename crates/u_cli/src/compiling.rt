@@ -1,5 +1,6 @@
 //! The command `compile`, and sources in place of programs.
-ghost use Rattle.std.specs.Prelude.{◌↔◌, IfOk, IsTrue};
+ghost use Rattle.std.specs.Prelude.{◌↔◌, IfOk, MatchResult, IsTrue};
+ghost use Rattle.u_compile.specs.Compiled.{IsSomeAllowed, IsToldOf};
 ghost use Rattle.u_cli.specs.Compiles.{IsCompiledText, IsMapped, IsMapText, IsCompileText, IsSource};
 ghost use Rattle.u_cli.specs.Compiles.{CompileTextAnswer};
 
@@ -28,7 +29,9 @@ pub fn is_source(path: &str, bytes: &[u8]) -> bool
 /// # Errors
 /// As `u_compile::compile`.
 pub fn program_of(alloc: Global, source: &[u8]) -> Result<Vec<u8>, CompileError>
-    ensures { IfOk result (λ v. IsCompiledText v.items) }
+    ensures text { IfOk result (λ v. IsCompiledText v.items) }
+    ensures told { MatchResult result (λ _. IsSomeAllowed source.now)
+        (λ error. IsToldOf source.now error) }
 {
     let compiled = compile(alloc, source)?;
     let mut text = Vec::new(alloc);
@@ -50,7 +53,9 @@ pub struct Mapped {
 /// # Errors
 /// As `u_compile::compile`.
 pub fn mapped_program_of(alloc: Global, source: &[u8]) -> Result<Mapped, CompileError>
-    ensures { IfOk result (λ m. IsMapped m.program.items m.origins.items) }
+    ensures mapped { IfOk result (λ m. IsMapped m.program.items m.origins.items) }
+    ensures told { MatchResult result (λ _. IsSomeAllowed source.now)
+        (λ error. IsToldOf source.now error) }
 {
     let compiled = compile(alloc, source)?;
     let mut program = Vec::new(alloc);
@@ -65,7 +70,9 @@ pub fn mapped_program_of(alloc: Global, source: &[u8]) -> Result<Mapped, Compile
 /// As `u_compile::compile`.
 #[tactic(auto, using(crate::proofs::MapLaws::map_of_compiled))]
 fn map_of(alloc: Global, source: &[u8]) -> Result<Vec<u8>, CompileError>
-    ensures { IfOk result (λ v. IsMapText v.items) }
+    ensures text { IfOk result (λ v. IsMapText v.items) }
+    ensures told { MatchResult result (λ _. IsSomeAllowed source.now)
+        (λ error. IsToldOf source.now error) }
 {
     let compiled = compile(alloc, source)?;
     let mut text = Vec::new(alloc);
@@ -78,7 +85,9 @@ fn map_of(alloc: Global, source: &[u8]) -> Result<Vec<u8>, CompileError>
 /// # Errors
 /// As `u_compile::compile`.
 fn text_of(alloc: Global, source: &[u8], map: bool) -> Result<Vec<u8>, CompileError>
-    ensures { IfOk result (λ v. IsCompileText map v.items) }
+    ensures text { IfOk result (λ v. IsCompileText map v.items) }
+    ensures told { MatchResult result (λ _. IsSomeAllowed source.now)
+        (λ error. IsToldOf source.now error) }
 {
     if map {
         map_of(alloc, source)
@@ -99,7 +108,8 @@ pub fn compile_text<W: Write>(
     map: bool,
     writer: &mut W,
 ) -> Result<u8, SourceFault>
-    ensures { CompileTextAnswer map (W.contents writer.old) result (W.contents writer.new) }
+    ensures { CompileTextAnswer map source.now
+        (W.contents writer.old) result (W.contents writer.new) }
 {
     let text = text_of(alloc, source, map)?;
     match write_whole(writer, &text) {

@@ -128,7 +128,8 @@ pub fn explain_source_text<W: Write>(
     strict: bool,
     writer: &mut W,
 ) -> Result<u8, SourceFault>
-    ensures { ExplainSourceAnswer strict (W.contents writer.old) result (W.contents writer.new) }
+    ensures { ExplainSourceAnswer strict source.now
+        (W.contents writer.old) result (W.contents writer.new) }
 {
     let program = match program_of(alloc, source) {
         Ok(program) => program,

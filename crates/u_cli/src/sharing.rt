@@ -15,7 +15,9 @@ pub const SHARED_FIRINGS: usize = 1_000_000;
 
 /// How a member takes part that fires so many firings at most between two reads.
 pub fn member_plan(burst: usize, follows: bool) -> Plan
-    ensures { result.limit ≡ most_shared }
+    ensures limit { result.limit ≡ most_shared }
+    ensures burst { result.burst ≡ burst }
+    ensures follows { result.follows ≡ follows }
 {
     Plan {
         limit: SHARED_FIRINGS,

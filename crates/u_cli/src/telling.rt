@@ -17,14 +17,11 @@ use u_commands::{
 };
 use u_compile::BlockOrigins;
 
-/// The text of a program and the word of an argument, and where the program's statements come from, if it is
-/// that of a source.
+/// The texts of a job, and where the program's statements come from, if it is that of a source.
 #[derive(Clone, Copy)]
 pub struct PlacedTexts<'a> {
-    /// The text of the program.
-    pub program: &'a [u8],
-    /// The word of the argument.
-    pub argument: &'a [u8],
+    /// The texts of the job.
+    pub job: JobTexts<'a>,
     /// Where the program's statements come from.
     pub origins: Option<&'a [BlockOrigins]>,
 }
@@ -54,17 +51,13 @@ pub fn waits_placed_text<V: Watch, W: Write>(
 ) -> Result<u8, CommandError>
     requires { firings ≤ 1000000 }
     ensures { PlacedTextAnswer
-        (WaitsOf texts.entry.program.now texts.entry.argument.now firings)
-        (JobRefused texts.entry.program.now texts.entry.argument.now)
+        (WaitsOf texts.entry.job.program.now texts.entry.job.argument.now firings)
+        (JobRefused texts.entry.job.program.now texts.entry.job.argument.now)
         (option_copied texts.entry.origins) (W.contents writer.old) result
         (W.contents writer.new) }
 {
-    let job = JobTexts {
-        program: texts.program,
-        argument: texts.argument,
-    };
     let mut told = Vec::new(alloc);
-    let status = match waits_watched_text(alloc, job, firings, watch, &mut told) {
+    let status = match waits_watched_text(alloc, texts.job, firings, watch, &mut told) {
         Ok(status) => status,
         Err(fault) => return Err(kept(fault)),
     };
@@ -89,17 +82,14 @@ pub fn trace_placed_text<V: Watch, W: Write>(
 ) -> Result<u8, CommandError>
     requires { firings ≤ 1000000 }
     ensures { PlacedTextAnswer
-        (at_success (Traces texts.entry.program.now texts.entry.argument.now entry.now firings))
-        (NotTraced texts.entry.program.now texts.entry.argument.now entry.now firings)
+        (at_success
+        (Traces texts.entry.job.program.now texts.entry.job.argument.now entry.now firings))
+        (NotTraced texts.entry.job.program.now texts.entry.job.argument.now entry.now firings)
         (option_copied texts.entry.origins) (W.contents writer.old) result
         (W.contents writer.new) }
 {
-    let job = JobTexts {
-        program: texts.program,
-        argument: texts.argument,
-    };
     let mut told = Vec::new(alloc);
-    let status = match trace_watched_text(alloc, job, entry, firings, watch, &mut told) {
+    let status = match trace_watched_text(alloc, texts.job, entry, firings, watch, &mut told) {
         Ok(status) => status,
         Err(fault) => return Err(kept(fault)),
     };
@@ -124,17 +114,13 @@ pub fn blame_placed_text<V: Watch, W: Write>(
 ) -> Result<u8, CommandError>
     requires { IsBetween 1 port most_ports }
     ensures { PlacedTextAnswer
-        (at_success (Blames texts.entry.program.now texts.entry.argument.now name.now port))
-        (NotBlamed texts.entry.program.now texts.entry.argument.now name.now port)
+        (at_success (Blames texts.entry.job.program.now texts.entry.job.argument.now name.now port))
+        (NotBlamed texts.entry.job.program.now texts.entry.job.argument.now name.now port)
         (option_copied texts.entry.origins) (W.contents writer.old) result
         (W.contents writer.new) }
 {
-    let job = JobTexts {
-        program: texts.program,
-        argument: texts.argument,
-    };
     let mut told = Vec::new(alloc);
-    let status = match blame_watched_text(alloc, job, name, port, watch, &mut told) {
+    let status = match blame_watched_text(alloc, texts.job, name, port, watch, &mut told) {
         Ok(status) => status,
         Err(fault) => return Err(kept(fault)),
     };
