@@ -20,3 +20,4 @@ pub mod StandLaws
 pub mod KeptLaws
 pub mod ProgramLaws
 pub mod Appends
+pub mod ProcedureLaws

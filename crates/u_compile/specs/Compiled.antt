@@ -1,6 +1,6 @@
 -- What a source is compiled to.
 use Rattle.std.specs.Prelude.{◌≡◌, ℕ, List}
-use Rattle.u_program.specs.Parts.{ProgramParts}
+use Rattle.u_program.specs.Parts.{ProgramParts, BlockParts}
 use Rattle.u_determinate.specs.Determinate.{IsDeterminate}
 use Rattle.u_source.specs.Sources.{SourceParts, IsSource, IsSourceError}
 use Rattle.u_source.specs.declared.source_error.SourceError.{SourceError}
@@ -16,6 +16,7 @@ use Rattle.u_compile.specs.declared.compile_error.CompileError.{CompileError}
 use Rattle.u_compile.specs.declared.compile_error.CompileError.TheVariants.{Source, Check, Kinds, Refused, NoMemory}
 use Rattle.u_compile.specs.declared.origins.BlockOrigins.{BlockOrigins}
 use Rattle.u_compile.specs.Maps.{AreOrigins}
+use Rattle.u_compile.specs.Procedures.{AreProcedures}
 
 -- a program, and where the statements of its blocks come from
 pub record CompiledParts : Type 0 where
@@ -41,6 +42,13 @@ pub record IsSomeAllowed (bytes : List ℕ) : Type 0 where
   pub source : SourceParts
   pub meanings : List Meaning
   pub allowed : IsAllowed bytes source meanings
+
+-- the bytes are such a source, and the blocks are its procedures
+pub record HasProcedures (bytes : List ℕ) (blocks : List BlockParts) : Type 0 where
+  pub source : SourceParts
+  pub meanings : List Meaning
+  pub allowed : IsAllowed bytes source meanings
+  pub are : AreProcedures source.tokens source.nodes blocks
 
 -- the bytes are a source, and why its names are refused
 pub record HasRefusedNames (bytes : List ℕ) (e : CheckError) : Type 0 where

@@ -7,4 +7,5 @@ pub mod Scoped
 pub mod Orderly
 pub mod Placed
 pub mod Maps
+pub mod Procedures
 pub mod Compiled

@@ -5,7 +5,9 @@ ghost use Rattle.u_determinate.specs.Determinate.{IsDeterminate};
 ghost use Rattle.u_source.specs.Sources.{SourceParts};
 ghost use Rattle.u_scope.specs.declared.checked.Meaning.{Meaning};
 ghost use Rattle.u_compile.specs.Maps.{AreOrigins};
-ghost use Rattle.u_compile.specs.Compiled.{IsAllowed, IsSomeAllowed, IsCompileError, IsToldOf, MayBeTold, IsToldLast};
+ghost use Rattle.u_compile.specs.Compiled.{IsAllowed, IsSomeAllowed, HasProcedures};
+ghost use Rattle.u_compile.specs.Compiled.{IsCompileError, IsToldOf, MayBeTold, IsToldLast};
+ghost use Rattle.u_compile.specs.Procedures.{AreProcedures};
 
 use crate::compile_error::CompileError;
 use crate::compiled::Compiled;
@@ -14,6 +16,7 @@ use crate::lowering::Lowering;
 use crate::mapping::origins_of;
 use crate::notes::Notes;
 use crate::origins::BlockOrigins;
+use crate::procedures::are_procedures;
 use crate::tree::Tree;
 use std::alloc::Global;
 use u_check::check;
@@ -156,9 +159,15 @@ fn compiled_of(alloc: Global, allowed: &Allowed) -> Result<Compiled, CompileErro
     ensures checked { IfOk result (λ c. IsChecked c.program.blocks) }
     ensures determinate { IfOk result (λ c. IsDeterminate c.program.blocks) }
     ensures each { IfOk result (λ c. AreOrigins c.program.blocks c.origins) }
+    ensures procedures { IfOk result (λ c. AreProcedures allowed.now.source.tokens
+        allowed.now.source.nodes c.program.blocks) }
     ensures last { IfErr result (λ error. IsToldLast error) }
 {
     let Lowered { program, notes } = program_of(alloc, &allowed.source, &allowed.names)?;
+    let source = &allowed.source;
+    if !are_procedures(source.tokens(), source.nodes(), program.blocks()) {
+        return Err(CompileError::at(Place::start(), Full::Misplaced));
+    }
     let checked = checked_of(program);
     // Brings in that it is checked.
     let program = checked.program();
@@ -182,6 +191,7 @@ pub fn compile(alloc: Global, bytes: &[u8]) -> Result<Compiled, CompileError>
     ensures checked { IfOk result (λ c. IsChecked c.program.blocks) }
     ensures determinate { IfOk result (λ c. IsDeterminate c.program.blocks) }
     ensures each { IfOk result (λ c. AreOrigins c.program.blocks c.origins) }
+    ensures procedures { IfOk result (λ c. HasProcedures bytes.now c.program.blocks) }
     ensures answer { MatchResult result (λ _. IsSomeAllowed bytes.now)
         (λ error. IsToldOf bytes.now error) }
 {

@@ -19,6 +19,7 @@ mod orderly;
 mod origins;
 mod place;
 mod placed;
+mod procedures;
 mod sides;
 mod tree;
 mod turns;
