@@ -12,6 +12,9 @@ pub mod ScopedSteps
 pub mod Entries
 pub mod PlacedLaws
 pub mod PlacedTests
+pub mod DrawingLaws
+pub mod LeadLaws
+pub mod GateLaws
 pub mod FinishedLaws
 pub mod OrderlyTests
 pub mod OrderlyLaws

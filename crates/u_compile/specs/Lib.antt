@@ -6,6 +6,7 @@ pub mod Fanning
 pub mod Scoped
 pub mod Orderly
 pub mod Placed
+pub mod Drawings
 pub mod Maps
 pub mod Procedures
 pub mod Compiled

@@ -1,14 +1,20 @@
 //! A procedure under construction: its graph, its scopes and its values.
-ghost use Rattle.std.specs.Prelude.{IfOk};
+ghost use Rattle.std.specs.Prelude.{◌≡◌, ◌+◌, ◌≤◌, [], ◌∷◌, length, slice_get, get_or, false, Some, IfOk, OnOk, IfSome};
 ghost use Rattle.u_program.specs.Limits.{IsBlockOf, limits_of};
 ghost use Rattle.u_program.specs.declared.program.Version.TheVariants as versions;
 ghost use Rattle.u_determinate.specs.Determinate.{IsDeterminateBlock};
 ghost use Rattle.u_compile.specs.Kept.{KeepsItself};
+ghost use Rattle.u_program.specs.declared.program.Kind.{Kind as a_kind};
+ghost use Rattle.u_program.specs.declared.program.Kind.TheVariants as kinds;
+ghost use Rattle.u_compile.specs.Graphs.{output};
+ghost use Rattle.u_compile.specs.Scoped.{IsOf};
+ghost use Rattle.u_compile.specs.Drawings.{Adds, AreValues, Calls, Chooses, EachIsFed, Gives, Grows, IsGate, IsGated, IsValue, LeadsOn, Leaves, Merges, a_gate, input_links, links_to, with_links, with_scope, with_value};
 
 use crate::graph::{Full, Output, STATEMENTS};
 use crate::place::{Guard, Place};
 use crate::placed::Noted;
 use std::alloc::Global;
+use std::marker::Model;
 use u_name::BlockName;
 use u_program::{Arguments, Block, Kind, Parameter};
 
@@ -62,24 +68,57 @@ pub(crate) struct Carried {
 
 /// The outputs that give a value: one of them gives it.
 #[derive(Drop)]
-struct Value {
-    /// The outputs.
-    pub outputs: Vec<Output>,
+struct Outputs {
+    list: Vec<Output>,
 }
 
-/// A procedure under construction. Scopes and values are numbered from 0; scope 0 is the procedure's.
+impl Model for Outputs {
+    ghost use Rattle.std.specs.Prelude.{List};
+    ghost use Rattle.u_compile.specs.declared.graph.Output.{Output};
+
+    ghost Value = { List Output };
+
+    ghost view = { λ o. o.list.items };
+}
+
+impl Outputs {
+    /// The outputs, in their order.
+    fn list(&self) -> &[Output]
+        ensures { result.now ≡ self.now }
+    {
+        &self.list
+    }
+}
+
+/// A procedure under construction. Scopes and values are numbered from 0; scope 0 is the procedure's. It is broken once
+/// not all outputs of a value could be linked: then it never ends.
 #[derive(Drop)]
 pub(crate) struct Drawing {
     graph: Noted,
     scopes: Vec<Scope>,
-    values: Vec<Value>,
+    values: Vec<Outputs>,
     gates: Vec<Gate>,
     carried: Vec<Carried>,
+    broken: bool,
     alloc: Global,
 }
 
+impl Model for Drawing {
+    ghost use Rattle.u_compile.specs.Drawings.{DrawingParts, drawing, IsDrawn};
+
+    ghost Value = { DrawingParts };
+
+    ghost view = { λ d. drawing d.graph.graph.statements d.graph.graph.links d.scopes.items
+        d.values.items d.gates.items d.carried.items };
+
+    ghost invariant = { λ d. IsDrawn d.graph.graph.statements d.graph.graph.links
+        d.values.items d.gates.items d.broken };
+}
+
 /// The list of a statement that is no `switch`, or that of a `switch` on true.
-fn output_of(statement: u16) -> Output {
+fn output_of(statement: u16) -> Output
+    ensures { result ≡ output statement false }
+{
     Output {
         statement,
         on_false: false,
@@ -87,27 +126,69 @@ fn output_of(statement: u16) -> Output {
 }
 
 /// The outputs of the value with this number.
-fn outputs_of(values: &[Value], value: usize) -> Result<&[Output], Full> {
+fn outputs_of(values: &[Outputs], value: usize) -> Result<&[Output], Full>
+    ensures { IfOk result (λ os. slice_get values.now value ≡ Some os.now) }
+{
     match values.get(value) {
-        Some(value) => Ok(&value.outputs),
+        Some(outputs) => Ok(outputs.list()),
         None => Err(Full::Misplaced),
     }
 }
 
 /// Links each of the outputs to a port of the last statement.
-fn lead_all(graph: &mut Noted, outputs: &[Output], port: u8) -> Result<(), Full> {
-    for output in outputs {
+fn lead_all(graph: &mut Noted, outputs: &[Output], port: u8) -> Result<(), Full>
+    ensures ok { let last = length graph.old.graph.statements in
+        OnOk result (graph.new ≡ with_links graph.old (links_to last port outputs.now)) }
+    ensures some { LeadsOn graph.old graph.new }
+{
+    let mut rest = outputs;
+    while let Some((output, others)) = rest.split_first() {
         graph.lead(*output, port)?;
+        rest = others;
+    }
+    Ok(())
+}
+
+/// Links a value to a port of the last statement.
+fn lead_value(graph: &mut Noted, values: &[Outputs], value: usize, port: u8) -> Result<(), Full>
+    ensures ok { let last = length graph.old.graph.statements in
+        OnOk result (graph.new ≡ with_links graph.old
+        (links_to last port (get_or values.now value []))) }
+    ensures value { OnOk result (IsValue values.now value) }
+    ensures some { LeadsOn graph.old graph.new }
+{
+    lead_all(graph, outputs_of(values, value)?, port)
+}
+
+/// Links values to the ports of the last statement, one to each, from the first on.
+fn lead_values(graph: &mut Noted, values: &[Outputs], inputs: &[usize]) -> Result<(), Full>
+    requires { length inputs.now ≤ 5 }
+    ensures ok { let last = length graph.old.graph.statements in
+        OnOk result (graph.new ≡ with_links graph.old
+        (input_links values.now last 1 inputs.now)) }
+    ensures values { OnOk result (AreValues values.now inputs.now) }
+    ensures some { LeadsOn graph.old graph.new }
+{
+    let mut rest = inputs;
+    let mut port: u8 = 1;
+    while let Some((value, others)) = rest.split_first() {
+        lead_value(graph, values, *value, port)?;
+        port += 1;
+        rest = others;
     }
     Ok(())
 }
 
 /// The `switch` of the gate of a value under a control.
-fn gate_of(gates: &[Gate], control: Output, value: usize) -> Option<u16> {
-    for gate in gates {
+fn gate_of(gates: &[Gate], control: Output, value: usize) -> Option<u16>
+    ensures { IfSome result (λ s. IsOf gates.now (a_gate control value s)) }
+{
+    let mut rest = gates;
+    while let Some((gate, others)) = rest.split_first() {
         if gate.control.is(control) && gate.value == value {
             return Some(gate.switch);
         }
+        rest = others;
     }
     None
 }
@@ -123,7 +204,9 @@ fn has_gate(gates: &[Gate], control: Output) -> bool {
 }
 
 /// The number of the `back` behind an `apply` that comes behind so many statements.
-fn back_behind(statements: usize) -> Result<u16, Full> {
+fn back_behind(statements: usize) -> Result<u16, Full>
+    ensures { IfOk result (λ n. n ≡ statements + 2) }
+{
     if statements < STATEMENTS - 1 {
         Ok(statements as u16 + 2)
     } else {
@@ -132,7 +215,9 @@ fn back_behind(statements: usize) -> Result<u16, Full> {
 }
 
 /// How many arguments an `apply` has, of 1 to 4.
-fn count_of(arguments: &[usize]) -> Result<Arguments, Full> {
+fn count_of(arguments: &[usize]) -> Result<Arguments, Full>
+    ensures { OnOk result (length arguments.now ≤ 4) }
+{
     match arguments.len() {
         1 => Ok(Arguments::One),
         2 => Ok(Arguments::Two),
@@ -158,17 +243,22 @@ impl Drawing {
             values: Vec::new(alloc),
             gates: Vec::new(alloc),
             carried: Vec::new(alloc),
+            broken: false,
             alloc,
         })
     }
 
     /// How many statements it has.
-    pub fn len(&self) -> usize {
+    pub fn len(&self) -> usize
+        ensures { result ≡ length self.now.statements }
+    {
         self.graph.len()
     }
 
     /// The scope with this number.
-    pub fn scope(&self, number: usize) -> Result<Scope, Full> {
+    pub fn scope(&self, number: usize) -> Result<Scope, Full>
+        ensures { IfOk result (λ s. slice_get self.now.scopes number ≡ Some s) }
+    {
         match self.scopes.get(number) {
             Some(scope) => Ok(*scope),
             None => Err(Full::Misplaced),
@@ -184,7 +274,9 @@ impl Drawing {
     }
 
     /// Adds a scope, and returns its number.
-    pub fn add_scope(&mut self, scope: Scope) -> Result<usize, Full> {
+    pub fn add_scope(&mut self, scope: Scope) -> Result<usize, Full>
+        ensures { OnOk result (self.new ≡ with_scope self.old scope) }
+    {
         let number = self.scopes.len();
         self.scopes.push(scope)?;
         Ok(number)
@@ -209,69 +301,116 @@ impl Drawing {
     }
 
     /// Adds a loop, which stands in that scope, and returns its number.
-    pub fn add_loop(&mut self, around: usize) -> Result<u8, Full> {
+    pub fn add_loop(&mut self, around: usize) -> Result<u8, Full>
+        ensures { OnOk result (self.new ≡ self.old) }
+    {
         let place = self.place(around)?;
-        self.graph.put_loop(&place)
+        let number = self.graph.put_loop(&place)?;
+        Ok(number)
     }
 
     /// Lets a control say whether the loop with these turns goes on.
-    pub fn set_test(&mut self, turn: usize, control: Output) -> Result<(), Full> {
+    pub fn set_test(&mut self, turn: usize, control: Output) -> Result<(), Full>
+        ensures { OnOk result (self.new ≡ self.old) }
+    {
         let region = self.region(turn)?;
-        self.graph.set_test(region, control.statement)
+        self.graph.set_test(region, control.statement)?;
+        Ok(())
     }
 
     /// Adds a value with these outputs, and returns its number.
-    fn add_outputs(&mut self, outputs: Vec<Output>) -> Result<usize, Full> {
+    fn add_outputs(&mut self, list: Vec<Output>) -> Result<usize, Full>
+        ensures { IfOk result (λ v. (v ≡ length self.old.values)
+            × (self.new ≡ with_value self.old list.items)) }
+    {
         let number = self.values.len();
-        self.values.push(Value { outputs })?;
+        self.values.push(Outputs { list })?;
         Ok(number)
     }
 
     /// Adds a value with one output, and returns its number.
-    fn add_value(&mut self, output: Output) -> Result<usize, Full> {
-        let mut outputs = Vec::new(self.alloc);
-        outputs.push(output)?;
-        self.add_outputs(outputs)
+    fn add_value(&mut self, output: Output) -> Result<usize, Full>
+        ensures { IfOk result (λ v. (v ≡ length self.old.values)
+            × (self.new ≡ with_value self.old (output ∷ []))) }
+    {
+        let mut list = Vec::new(self.alloc);
+        list.push(output)?;
+        self.add_outputs(list)
     }
 
     /// The one output of a value.
-    pub fn only_output(&self, value: usize) -> Result<Option<Output>, Full> {
+    pub fn only_output(&self, value: usize) -> Result<Option<Output>, Full>
+        ensures { IfOk result (λ o. IfSome o
+            (λ one. slice_get self.now.values value ≡ Some (one ∷ []))) }
+    {
         match outputs_of(&self.values, value)? {
             [output] => Ok(Some(*output)),
             _ => Ok(None),
         }
     }
 
-    /// Adds a statement in a scope, and returns its number.
-    fn put(&mut self, scope: usize, kind: &Kind) -> Result<u16, Full> {
-        let place = self.place(scope)?;
-        self.graph.put(&place, kind, 0)
+    /// Adds a statement in a place, and links values to its ports, one to each. Returns its number. A `switch` gets what
+    /// chooses its side.
+    fn add(
+        &mut self,
+        place: &Place,
+        kind: &Kind,
+        control: u16,
+        inputs: &[usize],
+    ) -> Result<u16, Full>
+        requires { length inputs.now ≤ 5 }
+        ensures number { IfOk result (λ n. n ≡ length self.old.statements + 1) }
+        ensures adds { OnOk result (Adds self.old self.new kind.now inputs.now) }
+    {
+        let statement = self.graph.put(place, kind, control)?;
+        if let Err(full) = lead_values(&mut self.graph, &self.values, inputs) {
+            self.broken = true;
+            return Err(full);
+        }
+        Ok(statement)
     }
 
-    /// Links a value to a port of the last statement.
-    fn link(&mut self, value: usize, port: u8) -> Result<(), Full> {
-        let outputs = outputs_of(&self.values, value)?;
-        lead_all(&mut self.graph, outputs, port)
+    /// Adds a `next` of an `enter` in a place, to which the value leads.
+    fn add_going_on(&mut self, place: &Place, enter: u16, value: usize) -> Result<(), Full>
+        ensures { OnOk result (Adds self.old self.new kinds.Next (value ∷ [])) }
+    {
+        self.graph.put_next(place, enter)?;
+        if let Err(full) = lead_values(&mut self.graph, &self.values, &[value]) {
+            self.broken = true;
+            return Err(full);
+        }
+        Ok(())
+    }
+
+    /// Adds a statement in a scope, and links values to its ports, one to each. Returns what it gives.
+    fn add_giving(&mut self, scope: usize, kind: &Kind, inputs: &[usize]) -> Result<usize, Full>
+        requires { length inputs.now ≤ 5 }
+        ensures { IfOk result (λ v. Gives self.old self.new kind.now inputs.now v) }
+    {
+        let place = self.place(scope)?;
+        let statement = self.add(&place, kind, 0, inputs)?;
+        self.add_value(output_of(statement))
     }
 
     /// Adds the next parameter, and returns its value.
-    pub fn add_parameter(&mut self) -> Result<usize, Full> {
-        let kind = match self.graph.len() {
+    pub fn add_parameter(&mut self) -> Result<usize, Full>
+        ensures { IfOk result (λ v. (k : a_kind) × Gives self.old self.new k [] v) }
+    {
+        let kind = match self.len() {
             0 => Kind::Begin,
             1 => Kind::Param(Parameter::Second),
             2 => Kind::Param(Parameter::Third),
             3 => Kind::Param(Parameter::Fourth),
             _ => return Err(Full::Misplaced),
         };
-        let statement = self.put(0, &kind)?;
-        self.add_value(output_of(statement))
+        self.add_giving(0, &kind, &[])
     }
 
     /// Adds a statement of one port, and returns its value.
-    pub fn add_unary(&mut self, scope: usize, kind: &Kind, value: usize) -> Result<usize, Full> {
-        let statement = self.put(scope, kind)?;
-        self.link(value, 1)?;
-        self.add_value(output_of(statement))
+    pub fn add_unary(&mut self, scope: usize, kind: &Kind, value: usize) -> Result<usize, Full>
+        ensures { IfOk result (λ v. Gives self.old self.new kind.now (value ∷ []) v) }
+    {
+        self.add_giving(scope, kind, &[value])
     }
 
     /// Adds a statement of two ports, and returns its value.
@@ -281,11 +420,10 @@ impl Drawing {
         kind: &Kind,
         left: usize,
         right: usize,
-    ) -> Result<usize, Full> {
-        let statement = self.put(scope, kind)?;
-        self.link(left, 1)?;
-        self.link(right, 2)?;
-        self.add_value(output_of(statement))
+    ) -> Result<usize, Full>
+        ensures { IfOk result (λ v. Gives self.old self.new kind.now (left ∷ right ∷ []) v) }
+    {
+        self.add_giving(scope, kind, &[left, right])
     }
 
     /// Adds a statement of three ports, and returns its value.
@@ -296,22 +434,20 @@ impl Drawing {
         first: usize,
         second: usize,
         third: usize,
-    ) -> Result<usize, Full> {
-        let statement = self.put(scope, kind)?;
-        self.link(first, 1)?;
-        self.link(second, 2)?;
-        self.link(third, 3)?;
-        self.add_value(output_of(statement))
+    ) -> Result<usize, Full>
+        ensures { IfOk result
+            (λ v. Gives self.old self.new kind.now (first ∷ second ∷ third ∷ []) v) }
+    {
+        self.add_giving(scope, kind, &[first, second, third])
     }
 
-    /// Links values to the ports of the last statement behind the first.
-    fn link_arguments(&mut self, arguments: &[usize]) -> Result<(), Full> {
-        let mut port: u8 = 2;
-        for argument in arguments {
-            self.link(*argument, port)?;
-            port = port.saturating_add(1);
-        }
-        Ok(())
+    /// Adds the `back` behind the last statement, which is an `apply`, and returns its value.
+    fn add_back(&mut self, place: &Place) -> Result<usize, Full>
+        ensures { IfOk result (λ v. Gives self.old self.new kinds.Back [] v) }
+    {
+        let back = self.add(place, &Kind::Back, 0, &[])?;
+        self.graph.finish_call(back)?;
+        self.add_value(output_of(back))
     }
 
     /// Adds a call of one to four arguments, and returns its result.
@@ -320,43 +456,75 @@ impl Drawing {
         scope: usize,
         procedure: usize,
         arguments: &[usize],
-    ) -> Result<usize, Full> {
+    ) -> Result<usize, Full>
+        ensures { IfOk result (λ v. Calls self.old self.new procedure arguments.now v) }
+    {
         let count = count_of(arguments)?;
-        let back = back_behind(self.graph.len())?;
-        self.put(scope, &Kind::Apply(back, count))?;
-        self.link(procedure, 1)?;
-        self.link_arguments(arguments)?;
-        let back = self.put(scope, &Kind::Back)?;
-        self.graph.finish_call(back)?;
-        self.add_value(output_of(back))
+        let back = back_behind(self.len())?;
+        let place = self.place(scope)?;
+        let mut inputs = Vec::new(self.alloc);
+        inputs.push(procedure)?;
+        inputs.extend_from_slice(arguments)?;
+        self.add(&place, &Kind::Apply(back, count), 0, &inputs)?;
+        self.add_back(&place)
     }
 
     /// The value that comes from one of two sides.
-    pub fn merge(&mut self, left: usize, right: usize) -> Result<usize, Full> {
+    pub fn merge(&mut self, left: usize, right: usize) -> Result<usize, Full>
+        ensures { IfOk result (λ v. Merges self.old self.new left right v) }
+    {
         let mut outputs = Vec::new(self.alloc);
         outputs.extend_from_slice(outputs_of(&self.values, left)?)?;
         outputs.extend_from_slice(outputs_of(&self.values, right)?)?;
         self.add_outputs(outputs)
     }
 
-    /// The one output of a value that chooses a side: its own, or that of a `pass` behind it. A value that a loop
-    /// carries, and one that comes from one of two sides, get a `pass`.
-    pub fn control(&mut self, scope: usize, value: usize) -> Result<Output, Full> {
-        if let Some(output) = self.only_output(value)? {
-            if !self.graph.is_entered(output) {
-                return Ok(output);
+    /// The one output of a value that no loop carries, if it has one.
+    fn own_output(&self, value: usize) -> Result<Option<Output>, Full>
+        ensures { IfOk result (λ o. IfSome o
+            (λ one. slice_get self.now.values value ≡ Some (one ∷ []))) }
+    {
+        match self.only_output(value)? {
+            Some(output) => {
+                if self.graph.is_entered(output) {
+                    return Ok(None);
+                }
+                Ok(Some(output))
             }
+            None => Ok(None),
         }
-        let statement = self.put(scope, &Kind::Pass)?;
-        self.link(value, 1)?;
+    }
+
+    /// Adds a `pass` to which the value leads.
+    fn add_pass(&mut self, scope: usize, value: usize) -> Result<Output, Full>
+        ensures { IfOk result (λ o. (Adds self.old self.new kinds.Pass (value ∷ []))
+            × (o ≡ output (length self.old.statements + 1) false)) }
+    {
+        let place = self.place(scope)?;
+        let statement = self.add(&place, &Kind::Pass, 0, &[value])?;
         Ok(output_of(statement))
     }
 
+    /// The one output of a value that chooses a side: its own, or that of a `pass` behind it. A value that a loop
+    /// carries, and one that comes from one of two sides, get a `pass`.
+    pub fn control(&mut self, scope: usize, value: usize) -> Result<Output, Full>
+        ensures { IfOk result (λ o. Chooses self.old self.new value o) }
+    {
+        let one = self.own_output(value)?;
+        match one {
+            Some(output) => Ok(output),
+            None => self.add_pass(scope, value),
+        }
+    }
+
     /// Adds a gate of a value in a scope under a control, and returns its `switch`.
-    fn add_gate(&mut self, scope: usize, control: Output, value: usize) -> Result<u16, Full> {
+    fn add_gate(&mut self, scope: usize, control: Output, value: usize) -> Result<u16, Full>
+        ensures grows { OnOk result (Grows self.old self.new) }
+        ensures gate { IfOk result (λ s. IsGate self.new.statements self.new.links
+            self.new.values (a_gate control value s)) }
+    {
         let place = self.place(scope)?;
-        let switch = self.graph.put(&place, &Kind::Switch, control.statement)?;
-        self.link(value, 1)?;
+        let switch = self.add(&place, &Kind::Switch, control.statement, &[value])?;
         self.graph.lead(control, 2)?;
         self.graph.finish_switch(control)?;
         self.gates.push(Gate {
@@ -368,13 +536,30 @@ impl Drawing {
     }
 
     /// Gives a control a gate of its own value, if it has no gate.
-    pub fn keep_gate(&mut self, scope: usize, control: Output) -> Result<(), Full> {
+    pub fn keep_gate(&mut self, scope: usize, control: Output) -> Result<(), Full>
+        ensures { OnOk result (Grows self.old self.new) }
+    {
         if has_gate(&self.gates, control) {
             return Ok(());
         }
         let value = self.add_value(control)?;
         self.add_gate(scope, control, value)?;
         Ok(())
+    }
+
+    /// The `switch` of the gate of a value into a side, which is added if there is none.
+    fn gate(&mut self, side: usize, control: Output, value: usize) -> Result<u16, Full>
+        ensures grows { OnOk result (Grows self.old self.new) }
+        ensures gate { IfOk result (λ s. IsGate self.new.statements self.new.links
+            self.new.values (a_gate control value s)) }
+    {
+        match gate_of(&self.gates, control, value) {
+            Some(switch) => Ok(switch),
+            None => {
+                let around = self.scope(side)?.around;
+                self.add_gate(around, control, value)
+            }
+        }
     }
 
     /// What the gate of a value sends into a side.
@@ -384,14 +569,11 @@ impl Drawing {
         control: Output,
         on: bool,
         value: usize,
-    ) -> Result<usize, Full> {
-        let switch = match gate_of(&self.gates, control, value) {
-            Some(switch) => switch,
-            None => {
-                let around = self.scope(side)?.around;
-                self.add_gate(around, control, value)?
-            }
-        };
+    ) -> Result<usize, Full>
+        ensures grows { OnOk result (Grows self.old self.new) }
+        ensures gated { IfOk result (λ w. IsGated self.new control on value w) }
+    {
+        let switch = self.gate(side, control, value)?;
         self.add_value(Output {
             statement: switch,
             on_false: !on,
@@ -405,10 +587,12 @@ impl Drawing {
         number: u8,
         name: usize,
         value: usize,
-    ) -> Result<usize, Full> {
+    ) -> Result<usize, Full>
+        ensures { IfOk result (λ v. Gives self.old self.new (kinds.Enter number) (value ∷ []) v) }
+    {
         let around = self.scope(turn)?.around;
-        let enter = self.put(around, &Kind::Enter(number))?;
-        self.link(value, 1)?;
+        let place = self.place(around)?;
+        let enter = self.add(&place, &Kind::Enter(number), 0, &[value])?;
         self.carried.push(Carried {
             turn,
             name,
@@ -432,7 +616,9 @@ impl Drawing {
     }
 
     /// Lets a variable of the loop with these turns have that value in the next turn.
-    pub fn set_next(&mut self, turn: usize, name: usize, value: usize) -> Result<(), Full> {
+    pub fn set_next(&mut self, turn: usize, name: usize, value: usize) -> Result<(), Full>
+        ensures { self.new ≡ record self.old { carried = self.new.carried } }
+    {
         for carried in self.carried.iter_mut() {
             if carried.turn == turn && carried.name == name && carried.next.is_none() {
                 carried.next = Some(value);
@@ -442,39 +628,58 @@ impl Drawing {
         Err(Full::Misplaced)
     }
 
+    /// Notes that what is carried under this number has that value in the next turn.
+    fn keep_next(&mut self, number: usize, value: usize)
+        ensures { self.new ≡ record self.old { carried = self.new.carried } }
+    {
+        if let Some(carried) = self.carried.get_mut(number) {
+            carried.next = Some(value);
+        }
+    }
+
     /// Adds the `next` of what is carried under this number, which gets a value that the block of its loop has.
-    pub fn add_next(&mut self, block: usize, number: usize, value: usize) -> Result<(), Full> {
+    pub fn add_next(&mut self, block: usize, number: usize, value: usize) -> Result<(), Full>
+        ensures { OnOk result (Adds self.old self.new kinds.Next (value ∷ [])) }
+    {
         let Some(carried) = self.carried(number) else {
             return Err(Full::Misplaced);
         };
         let place = self.place(block)?;
-        self.graph.put_next(&place, carried.enter)?;
-        self.link(value, 1)?;
-        if let Some(carried) = self.carried.get_mut(number) {
-            carried.next = Some(value);
-        }
+        self.add_going_on(&place, carried.enter, value)?;
+        self.keep_next(number, value);
         Ok(())
     }
 
     /// The last value, which comes in the scope where a loop ends, outside of the loop.
-    pub fn leave(&mut self, end: usize, value: usize) -> Result<usize, Full> {
+    pub fn leave(&mut self, end: usize, value: usize) -> Result<usize, Full>
+        ensures { IfOk result (λ v. Leaves self.old self.new value v) }
+    {
         let last = self.add_unary(end, &Kind::Last, value)?;
         let turn = self.scope(end)?.around;
         self.add_unary(turn, &Kind::Leave, last)
     }
 
     /// Lets the procedure give that value.
-    pub fn end(&mut self, value: usize) -> Result<(), Full> {
-        self.add_unary(0, &Kind::End, value)?;
+    pub fn end(&mut self, value: usize) -> Result<(), Full>
+        ensures { OnOk result (Adds self.old self.new kinds.End (value ∷ [])) }
+    {
+        let place = self.place(0)?;
+        self.add(&place, &Kind::End, 0, &[value])?;
         Ok(())
     }
 
-    /// The procedure as a block with this name. It is determinate, and keeps the rules of the checker.
+    /// The procedure as a block with this name. It is determinate, and keeps the rules of the checker. Each port is led to
+    /// by what one value gives, and by nothing else.
     pub fn finish(self, name: BlockName) -> Result<Block, Full>
         ensures block { IfOk result (λ b. IsBlockOf (limits_of versions.Two) b) }
         ensures determinate { IfOk result (λ b. IsDeterminateBlock b) }
         ensures kept { IfOk result (λ b. KeepsItself b) }
+        ensures arcs { OnOk result (EachIsFed self.statements self.links self.values) }
     {
+        let broken = self.broken;
+        if broken {
+            return Err(Full::Misplaced);
+        }
         let Drawing { graph, .. } = self;
         graph.complete(name)
     }

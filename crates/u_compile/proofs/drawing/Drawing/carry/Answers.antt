@@ -1,0 +1,18 @@
+use Rattle.std.proofs.Common.{[], ◌∷◌, sym, ap, ◌∙◌, subst}
+use Rattle.std.proofs.lemmas.Result.{IfOk-weaker}
+use Rattle.u_program.specs.declared.program.Kind.TheVariants.{Enter}
+use Rattle.u_compile.specs.declared.graph.Output.{Output}
+use Rattle.u_compile.specs.Drawings.{DrawingParts, Adds, drawing, with_value}
+use Rattle.u_compile.proofs.DrawingLaws.{adds_again, gives_value}
+use Rattle.u_compile.proofs.drawing.Drawing.carry.Goals as goal
+
+pub returns : goal.returns
+returns c =
+    let s = c.self.inside in
+    let d = c.args.self.now in
+    let ds = s.graph.graph.statements in
+    let ls = s.graph.graph.links in
+    let e = drawing ds ls s.scopes.items s.values.items s.gates.items c.push.new.self.items in
+    let ins = c.args.value ∷ [] in
+    let a = adds_again d ds ls s.scopes.items s.values.items s.gates.items s.gates.items s.carried.items c.push.new.self.items (Enter c.args.number) ins (subst (λ (f : DrawingParts). Adds d f (Enter c.args.number) ins) (sym c.self.view_is) c.in_ok-enter.ensures.adds) in
+    IfOk-weaker c.add_value.result _ _ (λ v h. gives_value d e (Enter c.args.number) ins c.in_ok-enter.enter v c.add_value.new.self a c.in_ok-enter.ensures.number h.0 (h.1 ∙ ap (λ (o : Output). with_value e (o ∷ [])) c.output_of.ensures)) c.add_value.ensures

@@ -1,0 +1,10 @@
+use Rattle.std.proofs.Common.{length}
+use Rattle.u_compile.specs.declared.drawing.Gate.{Gate}
+use Rattle.u_compile.specs.Scoped.{IsOf}
+use Rattle.u_compile.proofs.drawing.gate_of.Given as goal
+
+abbrev pub invariant-loop-gate : goal.invariant-loop-gate
+invariant-loop-gate l = (g : Gate) → IsOf l.rest g → IsOf l.gates g
+
+abbrev pub decreases-loop-gate : goal.decreases-loop-gate
+decreases-loop-gate l = length l.rest

@@ -1,0 +1,189 @@
+-- Procedures under construction: which values lead to which ports, and what comes from what.
+use Rattle.std.specs.Prelude.{◌≡◌, ℕ, ◌+◌, ◌<◌, ◌≤◌, ◌⊎◌, Bool, true, false, not, ◌&&◌, ◌==◌, cond, List, [], ◌∷◌, ◌++◌, length, Some, slice_get, get_or}
+use Rattle.u_program.specs.declared.program.Arguments.{Arguments}
+use Rattle.u_program.specs.declared.program.Kind.{Kind}
+use Rattle.u_program.specs.declared.program.Kind.TheVariants.{Pass, Switch, Enter, Last, Leave, Apply, Back}
+use Rattle.u_compile.specs.declared.graph.Link.{Link}
+use Rattle.u_compile.specs.declared.graph.Output.{Output}
+use Rattle.u_compile.specs.declared.drawing.Scope.{Scope}
+use Rattle.u_compile.specs.declared.drawing.Gate.{Gate}
+use Rattle.u_compile.specs.declared.drawing.Carried.{Carried}
+use Rattle.u_compile.specs.Drafts.{DraftParts}
+use Rattle.u_compile.specs.Graphs.{graph, link, output, draft_at}
+use Rattle.u_compile.specs.Scoped.{IsOf}
+use Rattle.u_compile.specs.Placed.{PlacedParts}
+
+abbrev pub leads_to : ℕ → ℕ → Link → Bool
+leads_to n port l = l.to.statement == n && l.to.port == port
+
+-- the outputs that lead to a port of statement n, in the order of their links
+abbrev pub feeders : ℕ → ℕ → List Link → List Output
+feeders n port [] = []
+feeders n port (l ∷ ls) = cond (leads_to n port l) (l.from ∷ feeders n port ls) (feeders n port ls)
+
+-- A procedure under construction: its statements and links, its scopes, the outputs of each of its values, its gates, and
+-- what its loops carry.
+pub record DrawingParts : Type 0 where
+  pub statements : List DraftParts
+  pub links : List Link
+  pub scopes : List Scope
+  pub values : List (List Output)
+  pub gates : List Gate
+  pub carried : List Carried
+
+abbrev pub drawing : List DraftParts → List Link → List Scope → List (List Output) → List Gate → List Carried → DrawingParts
+drawing statements links scopes values gates carried = record { statements = statements; links = links; scopes = scopes; values = values; gates = gates; carried = carried }
+
+-- statement n is of that kind
+abbrev pub IsOfKind : List DraftParts → ℕ → Kind → Type 0
+IsOfKind ds n kind = (d : DraftParts) × (draft_at ds n ≡ Some d) × (d.kind ≡ kind)
+
+-- exactly the outputs of value v lead to that port of statement n
+abbrev pub IsFedBy : List Link → List (List Output) → ℕ → ℕ → ℕ → Type 0
+IsFedBy ls vs n port v = slice_get vs v ≡ Some (feeders n port ls)
+
+-- Those values lead to the ports from that one on, one to each, and nothing leads to the ports behind these.
+abbrev pub AreFed : List Link → List (List Output) → ℕ → ℕ → List ℕ → Type 0
+AreFed ls vs n port [] = (p : ℕ) → port ≤ p → feeders n p ls ≡ []
+AreFed ls vs n port (v ∷ rest) = IsFedBy ls vs n port v × AreFed ls vs n (port + 1) rest
+
+-- Nothing leads to that port of statement n, or exactly the outputs of a value do. Or it is port 2 of a `switch`, and
+-- exactly one output leads to it.
+pub data IsFed (ds : List DraftParts) (ls : List Link) (vs : List (List Output)) (n port : ℕ) : Type 0 where
+  from_nothing : feeders n port ls ≡ [] → IsFed ds ls vs n port
+  from_value : (v : ℕ) → IsFedBy ls vs n port v → IsFed ds ls vs n port
+  from_control : (o : Output) → IsOfKind ds n Switch → port ≡ 2 → feeders n port ls ≡ o ∷ [] → IsFed ds ls vs n port
+
+-- each port of each statement is so
+abbrev pub EachIsFed : List DraftParts → List Link → List (List Output) → Type 0
+EachIsFed ds ls vs = (n port : ℕ) → IsFed ds ls vs n port
+
+-- Its statement is a `switch`. Exactly the outputs of its value lead to port 1 of it, and exactly its control to port 2.
+pub record IsGate (ds : List DraftParts) (ls : List Link) (vs : List (List Output)) (g : Gate) : Type 0 where
+  pub switch : IsOfKind ds g.switch Switch
+  pub value : IsFedBy ls vs g.switch 1 g.value
+  pub control : feeders g.switch 2 ls ≡ g.control ∷ []
+
+-- Nothing leads to a statement that is not there; each port is led to by what one value gives, unless a value was linked
+-- in part; and the gates are gates.
+pub record IsDrawn (ds : List DraftParts) (ls : List Link) (vs : List (List Output)) (gs : List Gate) (broken : Bool) : Type 0 where
+  pub there : (n port : ℕ) → length ds < n → feeders n port ls ≡ []
+  pub fed : broken ≡ false → EachIsFed ds ls vs
+  pub gates : (g : Gate) → IsOf gs g → IsGate ds ls vs g
+
+-- the second list goes on where the first one ends
+abbrev pub GoesOn : {A : Type 0} → List A → List A → Type 0
+GoesOn {A} xs ys = (more : List A) × (ys ≡ xs ++ more)
+
+-- Statements, links, scopes and values are only added, and what led to the ports of the statements that were there leads
+-- to them as before.
+pub record Grows (d e : DrawingParts) : Type 0 where
+  pub statements : GoesOn d.statements e.statements
+  pub links : GoesOn d.links e.links
+  pub scopes : GoesOn d.scopes e.scopes
+  pub values : GoesOn d.values e.values
+  pub fed : (n port : ℕ) → n ≤ length d.statements → feeders n port e.links ≡ feeders n port d.links
+
+-- One statement is added, of that kind. Exactly those values lead to its ports, one to each.
+pub record Adds (d e : DrawingParts) (kind : Kind) (inputs : List ℕ) : Type 0 where
+  pub grows : Grows d e
+  pub one : length e.statements ≡ length d.statements + 1
+  pub stands : IsOfKind e.statements (length d.statements + 1) kind
+  pub fed : AreFed e.links e.values (length d.statements + 1) 1 inputs
+
+-- One statement is added so, and value v is what it gives.
+pub record Gives (d e : DrawingParts) (kind : Kind) (inputs : List ℕ) (v : ℕ) : Type 0 where
+  pub adds : Adds d e kind inputs
+  pub value : slice_get e.values v ≡ Some (output (length d.statements + 1) false ∷ [])
+
+-- with a value of these outputs
+abbrev pub with_value : DrawingParts → List Output → DrawingParts
+with_value d os = record d { values = d.values ++ (os ∷ []) }
+
+-- An `apply` is added that names the statement behind it, which is the `back`. The procedure leads to port 1 of it, and
+-- the arguments to those behind. Value v is what comes back.
+pub record Calls (d e : DrawingParts) (procedure : ℕ) (arguments : List ℕ) (v : ℕ) : Type 0 where
+  pub count : Arguments
+  pub between : DrawingParts
+  pub apply : Adds d between (Apply (length d.statements + 2) count) (procedure ∷ arguments)
+  pub back : Gives between e Back [] v
+
+-- a `last` takes the value, and value v is what a `leave` gives that takes what that gives
+pub record Leaves (d e : DrawingParts) (value v : ℕ) : Type 0 where
+  pub between : DrawingParts
+  pub given : ℕ
+  pub last : Gives d between Last (value ∷ []) given
+  pub leave : Gives between e Leave (given ∷ []) v
+
+-- Output o gives what the value gives: it is the value's one output, or that of a `pass` which takes the value.
+pub data Chooses (d e : DrawingParts) (value : ℕ) (o : Output) : Type 0 where
+  own : Grows d e → slice_get e.values value ≡ Some (o ∷ []) → Chooses d e value o
+  pass : Adds d e Pass (value ∷ []) → o ≡ output (length d.statements + 1) false → Chooses d e value o
+
+-- value v has the outputs of both
+pub record Merges (d e : DrawingParts) (left right v : ℕ) : Type 0 where
+  pub grows : Grows d e
+  pub ones : List Output
+  pub others : List Output
+  pub has_left : slice_get d.values left ≡ Some ones
+  pub has_right : slice_get d.values right ≡ Some others
+  pub both : slice_get e.values v ≡ Some (ones ++ others)
+
+abbrev pub a_gate : Output → ℕ → ℕ → Gate
+a_gate control value switch = record { control = control; value = value; switch = switch }
+
+-- value w is what the gate of value v under the control sends where that gives that truth value
+pub record IsGated (d : DrawingParts) (control : Output) (on : Bool) (v w : ℕ) : Type 0 where
+  pub switch : ℕ
+  pub gate : IsGate d.statements d.links d.values (a_gate control v switch)
+  pub sends : slice_get d.values w ≡ Some (output switch (not on) ∷ [])
+
+-- value w is what an `enter` gives to which exactly value v leads
+pub record IsEntered (d : DrawingParts) (v w : ℕ) : Type 0 where
+  pub enter : ℕ
+  pub number : ℕ
+  pub stands : IsOfKind d.statements enter (Enter number)
+  pub fed : IsFedBy d.links d.values enter 1 v
+  pub sends : slice_get d.values w ≡ Some (output enter false ∷ [])
+
+-- Value w is value v, or comes from it through gates and into loops.
+pub data Comes (d : DrawingParts) (v : ℕ) : ℕ → Type 0 where
+  it : Comes d v v
+  gated : (u w : ℕ) (control : Output) (on : Bool) → IsGated d control on u w → Comes d v u → Comes d v w
+  entered : (u w : ℕ) → IsEntered d u w → Comes d v u → Comes d v w
+
+-- links from these outputs to that port of statement n
+abbrev pub links_to : ℕ → ℕ → List Output → List Link
+links_to n port [] = []
+links_to n port (o ∷ os) = link o n port ∷ links_to n port os
+
+-- links from those values to the ports of statement n from that one on
+abbrev pub input_links : List (List Output) → ℕ → ℕ → List ℕ → List Link
+input_links vs n port [] = []
+input_links vs n port (v ∷ rest) = links_to n port (get_or vs v []) ++ input_links vs n (port + 1) rest
+
+-- that is the number of a value
+abbrev pub IsValue : List (List Output) → ℕ → Type 0
+IsValue vs v = (os : List Output) × (slice_get vs v ≡ Some os)
+
+-- each is
+abbrev pub AreValues : List (List Output) → List ℕ → Type 0
+AreValues vs [] = Unit {0}
+AreValues vs (v ∷ rest) = IsValue vs v × AreValues vs rest
+
+abbrev pub with_links : PlacedParts → List Link → PlacedParts
+with_links p ms = record p { graph = graph p.graph.loops p.graph.statements (p.graph.links ++ ms) }
+
+-- these links lead to statement n alone
+abbrev pub OnlyTo : ℕ → List Link → Type 0
+OnlyTo n ms = (m port : ℕ) → (m ≡ n → ⊥) → feeders m port ms ≡ []
+
+-- links to the last statement are added
+pub record LeadsOn (p q : PlacedParts) : Type 0 where
+  pub more : List Link
+  pub is : q ≡ with_links p more
+  pub only : OnlyTo (length p.graph.statements) more
+
+-- with one scope more
+abbrev pub with_scope : DrawingParts → Scope → DrawingParts
+with_scope d s = record d { scopes = d.scopes ++ (s ∷ []) }
