@@ -15,6 +15,7 @@ pub mod PlacedTests
 pub mod DrawingLaws
 pub mod LeadLaws
 pub mod GateLaws
+pub mod ComesLaws
 pub mod FinishedLaws
 pub mod OrderlyTests
 pub mod OrderlyLaws

@@ -7,6 +7,7 @@ pub mod Scoped
 pub mod Orderly
 pub mod Placed
 pub mod Drawings
+pub mod Namings
 pub mod Maps
 pub mod Procedures
 pub mod Compiled

@@ -1,4 +1,8 @@
 //! The values of names and constants in scopes.
+ghost use Rattle.std.specs.Prelude.{◌≡◌, [], ◌∷◌, ◌++◌, IfOk, IfSome, OnOk};
+ghost use Rattle.u_compile.specs.Scoped.{IsOf};
+ghost use Rattle.u_compile.specs.Drawings.{Grows};
+ghost use Rattle.u_compile.specs.Namings.{AddsNamed, Brings, IsNamed, IsWithin, a_binding};
 
 use crate::drawing::{Drawing, Way};
 use crate::graph::Full;
@@ -70,11 +74,15 @@ fn constant_of(aliases: &[Alias], name: usize) -> Option<Constant> {
 }
 
 /// The value that a name has in a scope itself.
-fn bound(bindings: &[Binding], scope: usize, name: usize) -> Option<usize> {
-    for binding in bindings {
+fn bound(bindings: &[Binding], scope: usize, name: usize) -> Option<usize>
+    ensures { IfSome result (λ v. IsOf bindings.now (a_binding scope name v)) }
+{
+    let mut rest = bindings;
+    while let Some((binding, others)) = rest.split_first() {
         if binding.scope == scope && binding.name == name {
             return Some(binding.value);
         }
+        rest = others;
     }
     None
 }
@@ -105,9 +113,12 @@ fn home(
     drawing: &Drawing,
     scope: usize,
     name: usize,
-) -> Result<(usize, usize), Full> {
+) -> Result<(usize, usize), Full>
+    ensures bound { IfOk result (λ r. IsOf bindings.now (a_binding r.0 name r.1)) }
+    ensures within { IfOk result (λ r. IsWithin drawing.now.scopes r.0 scope) }
+{
     let mut at = scope;
-    for _ in 0..=scope {
+    'outwards: for _ in 0..=scope {
         if let Some(value) = bound(bindings, at, name) {
             return Ok((at, value));
         }
@@ -159,13 +170,17 @@ impl Names {
     }
 
     /// Lets the statements that were added come from the place.
-    pub fn note(&mut self, drawing: &Drawing) -> Result<(), Full> {
+    pub fn note(&mut self, drawing: &Drawing) -> Result<(), Full>
+        ensures { self.new.bindings ≡ self.old.bindings }
+    {
         self.notes.note(drawing.len(), self.place)?;
         Ok(())
     }
 
     /// Lets the statements that were added come from the place, under the name that is known from that node.
-    pub fn note_as(&mut self, drawing: &Drawing, name: usize) -> Result<(), Full> {
+    pub fn note_as(&mut self, drawing: &Drawing, name: usize) -> Result<(), Full>
+        ensures { self.new.bindings ≡ self.old.bindings }
+    {
         let first = self.notes.len();
         self.note(drawing)?;
         let Some(text) = spelled(&self.spellings, name) else {
@@ -188,12 +203,9 @@ impl Names {
     }
 
     /// Gives the statement that gives a value a name, if its name is not settled.
-    fn name_value(
-        &mut self,
-        drawing: &Drawing,
-        value: usize,
-        text: &BlockName,
-    ) -> Result<(), Full> {
+    fn name_value(&mut self, drawing: &Drawing, value: usize, text: &BlockName) -> Result<(), Full>
+        ensures { self.new.bindings ≡ self.old.bindings }
+    {
         if let Some(output) = drawing.only_output(value)? {
             self.notes.settle(output.statement as usize, Some(*text))?;
         }
@@ -201,7 +213,10 @@ impl Names {
     }
 
     /// Gives a name its value in a scope.
-    fn bind(&mut self, scope: usize, name: usize, value: usize) -> Result<(), Full> {
+    fn bind(&mut self, scope: usize, name: usize, value: usize) -> Result<(), Full>
+        ensures { OnOk result (self.new.bindings.items
+            ≡ self.old.bindings.items ++ (a_binding scope name value ∷ [])) }
+    {
         self.bindings.push(Binding { scope, name, value })?;
         Ok(())
     }
@@ -219,7 +234,10 @@ impl Names {
         scope: usize,
         name: usize,
         value: usize,
-    ) -> Result<(), Full> {
+    ) -> Result<(), Full>
+        ensures { OnOk result (self.new.bindings.items
+            ≡ self.old.bindings.items ++ (a_binding scope name value ∷ [])) }
+    {
         if let Some(text) = spelled(&self.spellings, name) {
             self.name_value(drawing, value, &text)?;
         }
@@ -247,7 +265,11 @@ impl Names {
         turn: usize,
         name: usize,
         value: usize,
-    ) -> Result<usize, Full> {
+    ) -> Result<usize, Full>
+        ensures brings { IfOk result (λ inner. Brings drawing.old drawing.new value inner) }
+        ensures bound { IfOk result (λ inner. self.new.bindings.items
+            ≡ self.old.bindings.items ++ (a_binding turn name inner ∷ [])) }
+    {
         let Way::Turn(number) = drawing.scope(turn)?.way else {
             return Err(Full::Misplaced);
         };
@@ -264,7 +286,11 @@ impl Names {
         side: usize,
         name: usize,
         value: usize,
-    ) -> Result<usize, Full> {
+    ) -> Result<usize, Full>
+        ensures brings { IfOk result (λ inner. Brings drawing.old drawing.new value inner) }
+        ensures bound { IfOk result (λ inner. self.new.bindings.items
+            ≡ self.old.bindings.items ++ (a_binding side name inner ∷ [])) }
+    {
         let Way::Side(control, on) = drawing.scope(side)?.way else {
             return Err(Full::Misplaced);
         };
@@ -281,7 +307,11 @@ impl Names {
         scope: usize,
         name: usize,
         value: usize,
-    ) -> Result<usize, Full> {
+    ) -> Result<usize, Full>
+        ensures brings { IfOk result (λ inner. Brings drawing.old drawing.new value inner) }
+        ensures bound { IfOk result (λ inner. self.new.bindings.items
+            ≡ self.old.bindings.items ++ (a_binding scope name inner ∷ [])) }
+    {
         match drawing.scope(scope)?.way {
             Way::Procedure => Err(Full::Misplaced),
             Way::Side(_, _) => self.gate(drawing, scope, name, value),
@@ -295,9 +325,15 @@ impl Names {
         drawing: &mut Drawing,
         scope: usize,
         name: usize,
-    ) -> Result<usize, Full> {
+    ) -> Result<usize, Full>
+        ensures grows { OnOk result (Grows drawing.old drawing.new) }
+        ensures named { IfOk result
+            (λ v. IsNamed drawing.new self.old.bindings.items scope name v) }
+        ensures adds { OnOk result (AddsNamed drawing.new self.old.bindings.items
+            self.new.bindings.items scope name) }
+    {
         let (mut at, mut value) = home(&self.bindings, drawing, scope, name)?;
-        for _ in 0..=scope {
+        'inwards: for _ in 0..=scope {
             if at == scope {
                 return Ok(value);
             }

@@ -1,0 +1,19 @@
+use Rattle.u_compile.proofs.DrawingLaws.{grows_self, grows_then}
+use Rattle.u_compile.proofs.ComesLaws.{adds_none, adds_then, named_first, named_then}
+use Rattle.u_compile.proofs.naming.Names.value_of.Goals as goal
+
+pub inwards-init : goal.inwards-init
+inwards-init c =
+    let is = rw c.deref.ensures.value at c.in_ok-at.ensures.bound in
+    record {
+      grows = grows_self c.args.drawing.now;
+      named = named_first _ _ _ _ _ _ is c.in_ok-at.ensures.within;
+      adds = adds_none _ _ _ _;
+    }
+
+pub inwards-preserved : goal.inwards-preserved
+inwards-preserved c = record {
+  grows = grows_then _ _ _ c.inwards.invariant.grows c.in_ok-value.ensures.brings.grows;
+  named = named_then _ _ _ _ _ _ _ c.inwards.invariant.named c.in_ok-value.ensures.brings;
+  adds = adds_then _ _ _ _ _ _ _ _ _ _ c.inwards.invariant.adds c.inwards.invariant.named c.in_ok-value.ensures.brings c.in_ok-value.ensures.bound;
+}
