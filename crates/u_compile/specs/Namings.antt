@@ -2,6 +2,8 @@
 use Rattle.std.specs.Prelude.{◌≡◌, ℕ, List, [], ◌∷◌, ◌++◌, Some, slice_get}
 use Rattle.u_program.specs.declared.program.Constant.{Constant}
 use Rattle.u_program.specs.declared.program.Kind.TheVariants.{Const}
+use Rattle.u_scope.specs.declared.checked.Meaning.{Meaning}
+use Rattle.u_scope.specs.declared.checked.Meaning.TheVariants.{Name}
 use Rattle.u_compile.specs.declared.drawing.Scope.{Scope}
 use Rattle.u_compile.specs.declared.naming.Binding.{Binding}
 use Rattle.u_compile.specs.Scoped.{IsOf}
@@ -33,3 +35,10 @@ pub record AddsNamed (d : DrawingParts) (bs cs : List Binding) (scope name : ℕ
 pub record Brings (d e : DrawingParts) (v w : ℕ) : Type 0 where
   pub grows : Grows d e
   pub comes : Comes e v w
+
+-- The node is a name that is used in that scope, where these are the meanings of the nodes: value v comes from one that
+-- was bound to what it means.
+pub record IsUsed (ms : List Meaning) (d : DrawingParts) (bs : List Binding) (scope node v : ℕ) : Type 0 where
+  pub name : ℕ
+  pub means : slice_get ms node ≡ Some (Name name)
+  pub named : IsNamed d bs scope name v

@@ -4,6 +4,7 @@ ghost use Rattle.u_program.specs.Limits.{IsBlockOf, limits_of};
 ghost use Rattle.u_program.specs.declared.program.Version.TheVariants as versions;
 ghost use Rattle.u_determinate.specs.Determinate.{IsDeterminateBlock};
 ghost use Rattle.u_compile.specs.Kept.{KeepsItself};
+ghost use Rattle.u_compile.specs.Namings.{IsNamed};
 
 use crate::blocks::Blocks;
 use crate::drawing::{Drawing, Scope, Way};
@@ -164,7 +165,10 @@ impl Lowering<'_> {
     }
 
     /// The value of a name in a scope.
-    pub fn value_of(&mut self, scope: usize, name: usize) -> Result<usize, Full> {
+    pub fn value_of(&mut self, scope: usize, name: usize) -> Result<usize, Full>
+        ensures { IfOk result (λ v. IsNamed self.new.drawing
+            self.old.names.bindings.items scope name v) }
+    {
         self.names.value_of(&mut self.drawing, scope, name)
     }
 

@@ -1,4 +1,6 @@
 //! The lowering of operators, calls, cells and definitions.
+ghost use Rattle.std.specs.Prelude.{IfOk};
+ghost use Rattle.u_compile.specs.Namings.{IsUsed};
 
 use crate::graph::Full;
 use crate::lowering::{Frame, Lowering, Operand};
@@ -93,14 +95,22 @@ impl Lowering<'_> {
         }
     }
 
+    /// The value of a name that is used in the scope, and is no constant.
+    fn value_of_use(&mut self, number: usize) -> Result<usize, Full>
+        ensures { IfOk result (λ v. IsUsed self.old.tree.now.meanings.now self.new.drawing
+            self.old.names.bindings.items self.old.scope number v) }
+    {
+        match self.tree.meaning(number)? {
+            Meaning::Name(name) => self.value_of(self.scope, name),
+            _ => Err(Full::Misplaced),
+        }
+    }
+
     /// The value of an atom in the scope.
     fn value_of_atom(&mut self, number: usize) -> Result<usize, Full> {
         match self.constant(number)? {
             Some(constant) => self.value_of_constant(&constant),
-            None => match self.tree.meaning(number)? {
-                Meaning::Name(name) => self.value_of(self.scope, name),
-                _ => Err(Full::Misplaced),
-            },
+            None => self.value_of_use(number),
         }
     }
 

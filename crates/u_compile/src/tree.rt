@@ -1,4 +1,5 @@
 //! What stands around the nodes of a syntax tree.
+ghost use Rattle.std.specs.Prelude.{◌≡◌, slice_get, Some, IfOk};
 
 use crate::graph::Full;
 use std::alloc::Global;
@@ -192,7 +193,9 @@ impl<'a> Tree<'a> {
     }
 
     /// What the node with this number means.
-    pub fn meaning(&self, number: usize) -> Result<Meaning, Full> {
+    pub fn meaning(&self, number: usize) -> Result<Meaning, Full>
+        ensures { IfOk result (λ m. slice_get self.now.meanings.now number ≡ Some m) }
+    {
         match self.meanings.get(number) {
             Some(meaning) => Ok(*meaning),
             None => Err(Full::Misplaced),
