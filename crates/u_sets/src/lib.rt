@@ -11,9 +11,10 @@ mod listed_set;
 mod ordered_set;
 mod placed_set;
 mod rising;
+mod tree_set;
 
 pub use keyed_set::KeyedSet;
 pub use listed_set::ListedSet;
-pub use ordered_set::OrderedSet;
+pub use ordered_set::{OrderedKeys, OrderedSet};
 pub use placed_set::PlacedSet;
 pub use rising::{has, place_in, put_in_order};

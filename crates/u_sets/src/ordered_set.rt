@@ -1,31 +1,98 @@
 //! Sets that are kept in order.
-ghost use Rattle.std.specs.Prelude.{◌≡◌, ◌↔◌, ◌+◌, [], ◌∷◌, OnOk, OnErr, IfOk, IfErr, IfSome, IfNone, Contains, IsTrue, IsFalse, length, slice_get};
+ghost use Rattle.std.specs.Prelude.{◌≡◌, ◌↔◌, ◌+◌, [], ◌∷◌, OnOk, OnErr, IfOk, IfErr, IfSome, IfNone, Contains, IsTrue, IsFalse, length, slice_get, None};
 ghost use Rattle.std.specs.Option.{option_copied};
-ghost use Rattle.std.specs.Map.Iter.{ShowsInOrder, deref};
+ghost use Rattle.std.specs.Iterator.{at_most};
+ghost use Rattle.std.specs.Map.Iter.{ShowsInOrder, TakesFirst, deref};
 ghost use Rattle.u_sets.specs.Rising.{Rises};
 ghost use Rattle.u_sets.specs.Members.{IsWith, IsWithout};
+ghost use Rattle.u_sets.specs.Single.{behind, IsAlone};
 
-use std::alloc::{AllocFailed, Global};
-use std::collections::BTreeSet;
+use crate::tree_set::TreeSet;
+use std::alloc::{AllocError, AllocFailed, Global};
 use std::collections::btree_set::Iter;
+use std::iter::Iterator;
 use std::marker::Model;
 use u_order::ExactOrd;
 
-/// A set of keys in ascending order. Contracts see the ascending list of its keys.
+/// A set of keys in ascending order. A single key stands in place, and several in a tree. Contracts see
+/// the ascending list of its keys.
 #[derive(Drop)]
 pub struct OrderedSet<K: ExactOrd + Drop> {
-    keys: BTreeSet<K>,
+    /// The only key, unless it stands in the tree.
+    single: Option<K>,
+    others: TreeSet<K>,
 }
 
 impl<K: ExactOrd + Drop> Model for OrderedSet<K> {
     ghost use Rattle.std.specs.Prelude.{List};
-    ghost use Rattle.u_sets.specs.Rising.{Rises};
+    ghost use Rattle.u_sets.specs.Single.{behind, IsAlone};
 
     ghost Value = { List K };
 
-    ghost view = { λ s. s.keys.keys };
+    ghost view = { λ s. behind s.single s.others };
 
-    ghost invariant = { λ s. Rises K.cmp s.keys.keys };
+    ghost invariant = { λ s. IsAlone s.single s.others };
+}
+
+/// The keys of a set, in order.
+#[derive(Drop)]
+pub struct OrderedKeys<'a, K> {
+    single: Option<&'a K>,
+    others: Iter<'a, K>,
+}
+
+impl<'a, K> Model for OrderedKeys<'a, K> {
+    ghost use Rattle.std.specs.Prelude.{List};
+    ghost use Rattle.std.specs.Option.{option_copied};
+    ghost use Rattle.u_sets.specs.Single.{behind};
+
+    ghost Value = { List K };
+
+    ghost view = { λ k. behind (option_copied k.single) k.others };
+}
+
+impl<'a, K> Iterator for OrderedKeys<'a, K> {
+    type Item = &'a K;
+
+    ghost next_gives = { TakesFirst deref };
+
+    ghost remaining = { λ s. at_most (length s) };
+
+    fn next(&mut self) -> Option<&'a K> {
+        match self.single.take() {
+            Some(single) => Some(single),
+            None => self.others.next(),
+        }
+    }
+}
+
+/// Whether the two keys are one.
+fn is_same<K: ExactOrd>(left: &K, right: &K) -> bool
+    ensures { IsTrue result ↔ (left.now ≡ right.now) }
+{
+    left.cmp(right).is_eq()
+}
+
+/// Puts a single key into the tree.
+fn move_over<K: ExactOrd + Drop>(
+    single: &mut Option<K>,
+    others: &mut TreeSet<K>,
+) -> Result<(), AllocError>
+    requires { IsAlone single.old others.old }
+    ensures none { OnOk result (single.new ≡ None) }
+    ensures ok { OnOk result (others.new ≡ behind single.old others.old) }
+    ensures err { OnErr result ((single.new ≡ single.old) × (others.new ≡ others.old)) }
+{
+    let Some(key) = single.take() else {
+        return Ok(());
+    };
+    match others.insert(key) {
+        Ok(_) => Ok(()),
+        Err(failed) => {
+            *single = Some(failed.value);
+            Err(AllocError)
+        }
+    }
 }
 
 impl<K: ExactOrd + Drop> OrderedSet<K> {
@@ -34,7 +101,8 @@ impl<K: ExactOrd + Drop> OrderedSet<K> {
         ensures { result ≡ [] }
     {
         OrderedSet {
-            keys: BTreeSet::new(alloc),
+            single: None,
+            others: TreeSet::new(alloc),
         }
     }
 
@@ -43,14 +111,20 @@ impl<K: ExactOrd + Drop> OrderedSet<K> {
         ensures len { result ≡ length self.now }
         ensures rises { Rises K.cmp self.now }
     {
-        self.keys.len()
+        match &self.single {
+            Some(_) => 1,
+            None => self.others.len(),
+        }
     }
 
     /// Whether the key is there.
     pub fn contains(&self, key: &K) -> bool
         ensures { IsTrue result ↔ Contains self.now key.now }
     {
-        self.keys.contains(key)
+        match &self.single {
+            Some(single) => is_same(single, key),
+            None => self.others.contains(key),
+        }
     }
 
     /// Puts the key in. Returns whether it was new.
@@ -66,7 +140,14 @@ impl<K: ExactOrd + Drop> OrderedSet<K> {
         ensures rises { Rises K.cmp self.new }
         ensures count { IfOk result (λ b. IsTrue b → length self.new ≡ length self.old + 1) }
     {
-        let added = self.keys.insert(key)?;
+        if self.len() == 0 {
+            self.single = Some(key);
+            return Ok(true);
+        }
+        let Ok(()) = move_over(&mut self.single, &mut self.others) else {
+            return Err(AllocFailed { value: key });
+        };
+        let added = self.others.insert(key)?;
         Ok(added)
     }
 
@@ -78,14 +159,26 @@ impl<K: ExactOrd + Drop> OrderedSet<K> {
         ensures rises { Rises K.cmp self.new }
         ensures count { IsTrue result → length self.old ≡ length self.new + 1 }
     {
-        self.keys.remove(key)
+        match &self.single {
+            Some(single) => {
+                if !is_same(single, key) {
+                    return false;
+                }
+                self.single = None;
+                true
+            }
+            None => self.others.remove(key),
+        }
     }
 
     /// The least key.
     pub fn first(&self) -> Option<&K>
         ensures { option_copied result ≡ slice_get self.now 0 }
     {
-        self.keys.first()
+        match &self.single {
+            Some(single) => Some(single),
+            None => self.others.first(),
+        }
     }
 
     /// Takes the least key out.
@@ -95,7 +188,10 @@ impl<K: ExactOrd + Drop> OrderedSet<K> {
         ensures none { IfNone result ((self.old ≡ []) × (self.new ≡ [])) }
         ensures rises { Rises K.cmp self.new }
     {
-        self.keys.pop_first()
+        match self.single.take() {
+            Some(single) => Some(single),
+            None => self.others.pop_first(),
+        }
     }
 
     /// Takes out a key that is there. The only key is found without comparing.
@@ -105,25 +201,36 @@ impl<K: ExactOrd + Drop> OrderedSet<K> {
         ensures rises { Rises K.cmp self.new }
         ensures count { length self.old ≡ length self.new + 1 }
     {
-        if self.keys.len() == 1 {
-            self.keys.clear();
+        if let Some(_) = &self.single {
+            self.single = None;
             return;
         }
-        self.remove(key);
+        self.others.take_out(key);
     }
 
     /// The keys, in order.
-    pub fn iter(&self) -> Iter<'_, K>
+    pub fn iter(&self) -> OrderedKeys<'_, K>
         ensures rest { result ≡ self.now }
         ensures runs { ShowsInOrder (deref {X = K}) }
     {
-        self.keys.iter()
+        OrderedKeys {
+            single: self.single.as_ref(),
+            others: self.others.iter(),
+        }
     }
 
     /// The key at that place, counted from 0 in ascending order. It goes over those before it.
     pub fn nth(&self, place: usize) -> Option<&K>
         ensures { option_copied result ≡ slice_get self.now place }
     {
-        self.keys.iter().nth(place)
+        match &self.single {
+            Some(single) => {
+                if place == 0 {
+                    return Some(single);
+                }
+                None
+            }
+            None => self.others.nth(place),
+        }
     }
 }

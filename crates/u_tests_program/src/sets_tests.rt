@@ -27,9 +27,22 @@ fn ordered_set_has(alloc: Global) -> Result<bool, AllocError> {
     Ok(whole && set.nth(0) == Some(&5) && set.remove(&5) && set.nth(0) == Some(&6))
 }
 
+/// Whether an ordered set of one key shows it, and lets it go.
+fn single_key_is_shown(alloc: Global) -> Result<bool, AllocError> {
+    let mut set = OrderedSet::new(alloc);
+    let is_new = set.insert(7_u32)?;
+    let is_known = !set.insert(7)?;
+    let whole = set.len() == 1 && set.iter().count() == 1 && set.contains(&7) && !set.contains(&8);
+    let places = set.nth(0) == Some(&7) && set.nth(1) == None && set.first() == Some(&7);
+    let stays = !set.remove(&8) && set.len() == 1;
+    let goes = set.remove(&7) && set.len() == 0 && set.pop_first() == None;
+    Ok(is_new && is_known && whole && places && stays && goes)
+}
+
 #[test]
 fn sets_have_what_was_put_in(rt: HostRuntime) -> Result<(), Fail> {
     assert!(rt; list_has(rt.alloc())?);
     assert!(rt; ordered_set_has(rt.alloc())?);
+    assert!(rt; single_key_is_shown(rt.alloc())?);
     Ok(())
 }

@@ -1,6 +1,6 @@
 use Rattle.std.proofs.Common.{◌∙◌, sym}
 use Rattle.u_sets.proofs.Keys.{found, finds, removes, rises_without}
-use Rattle.u_sets.proofs.ordered_set.OrderedSet.remove.Goals as goal
+use Rattle.u_sets.proofs.tree_set.TreeSet.remove.Goals as goal
 
 pub invariant_of-self : goal.invariant_of-self
 invariant_of-self g c = rw c.remove.ensures.keys (rises_without g.K.Ord.cmp g.met.K.Ord.total g.met.K.ExactOrd.exact c.self.inside.keys.keys c.args.key.now c.self.invariant)
