@@ -10,7 +10,7 @@ use Rattle.u_rule.specs.EntryOrder.{FiringList, firing_cmp}
 use Rattle.u_machine.specs.declared.parts.Parts.{Parts}
 use Rattle.u_machine.specs.State.{Taken, state, count_of}
 use Rattle.u_machine.specs.Calls.{Takes}
-use Rattle.u_machine.specs.Invariant.{Invariant, IsLogged, IsPartitioned, HasLate, NeedsNoLate, state_of}
+use Rattle.u_machine.specs.Invariant.{Invariant, IsLogged, IsPartitioned, HasLate, NeedsNoLate, state_of, woken_of}
 use Rattle.u_machine.proofs.Steps.{parks, parks_takes, begins, log_taken, taken_more}
 use Rattle.u_machine.proofs.Sorting.{takes_ready}
 use Rattle.u_machine.proofs.LateTokens.{made_is_ready, without, takes_ready_late}
@@ -39,19 +39,19 @@ module _ (m : Parts) (k : Invariant m) (f : Firing) (was : Contains m.ready f) w
         subst (λ (l : FiringList). IsLogged m.job.now m.limit l m.applied_count parked m.matcher) (sym e)
         (begins _ _ _ _ _ _ (parks _ _ _ _ _ _ k.logged f parked new_if_ready (k.partitioned.fit f in_all).0.0 room p r more) f ((p f).1 (inr refl)) (λ h. new_if_ready (log_taken _ _ _ _ _ _ k.logged f h)) (k.partitioned.fit f in_all).0)
 
-    pub begun_partitioned : IsPartitioned m.job.now log (take m.applied_count log ++ parked) others m.woken.items m.matcher
+    pub begun_partitioned : IsPartitioned m.job.now log (take m.applied_count log ++ parked) others (woken_of m) m.matcher
     begun_partitioned =
         let s = same_applied in
-        subst (λ (l : FiringList). IsPartitioned m.job.now l (take m.applied_count l ++ parked) others m.woken.items m.matcher) (sym e)
+        subst (λ (l : FiringList). IsPartitioned m.job.now l (take m.applied_count l ++ parked) others (woken_of m) m.matcher) (sym e)
         (rw s (takes_ready _ _ _ _ _ _ k.partitioned f (take m.applied_count m.log.items ++ parked) others (k.idle settled) in_all (taken_more _ _ _ _ _ _ k.logged f parked p) (without f k.all_ready).1))
 
-    pub begun_late : NeedsNoLate m f → HasLate m.job.now (take m.applied_count log ++ parked) others less m.woken.items m.late m.matcher
+    pub begun_late : NeedsNoLate m f → HasLate m.job.now (take m.applied_count log ++ parked) others less (woken_of m) m.late m.matcher
     begun_late free =
         let s = same_applied in
-        subst (λ (l : FiringList). HasLate m.job.now (take m.applied_count l ++ parked) others less m.woken.items m.late m.matcher) (sym e)
+        subst (λ (l : FiringList). HasLate m.job.now (take m.applied_count l ++ parked) others less (woken_of m) m.late m.matcher) (sym e)
         (rw s (takes_ready_late _ _ _ _ _ _ _ k.late f (take m.applied_count m.log.items ++ parked) less others (k.idle settled) (λ (x, i, n). free x i n.0) (taken_more _ _ _ _ _ _ k.logged f parked p) w (without f k.all_ready).1))
 
-    pub begun_idle : m.applied_count ≡ length log → m.woken.items ≡ []
+    pub begun_idle : m.applied_count ≡ length log → woken_of m ≡ []
     begun_idle q = let x = length-append m.log.items (f ∷ []) in let y = ap length e in absurd (omega (arith, q, settled))
 
     pub begun_takes : Takes (state_of m) f (state m.job.now m.limit (take m.applied_count log) parked m.matcher)

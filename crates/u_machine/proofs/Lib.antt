@@ -22,3 +22,4 @@ pub mod LateTokens
 pub mod Making
 pub mod Picking
 pub mod Fronted
+pub mod Turned

@@ -1,6 +1,6 @@
 -- How a machine is kept: its log runs ahead of what was applied, and the firings that an entry enabled
 -- are sorted out one after another.
-use Rattle.std.specs.Prelude.{◌≡◌, ◌↔◌, ℕ, ◌≤◌, ◌<◌, [], ◌∷◌, ◌++◌, Some, ◌⊎◌, length, take, drop, Contains, slice_get}
+use Rattle.std.specs.Prelude.{◌≡◌, ◌↔◌, ℕ, ◌≤◌, ◌<◌, [], ◌∷◌, ◌++◌, Some, ◌⊎◌, length, reverse, take, drop, Contains, slice_get}
 use Rattle.std.specs.declared.cmp.Ordering.TheVariants.{Less}
 use Rattle.u_check.specs.Jobs.{JobParts}
 use Rattle.u_rule.specs.Rule.{system_of}
@@ -26,7 +26,7 @@ taken_of p = take p.applied_count p.log.items ++ p.parked
 
 -- the firings that the last entry woke and that are still to be sorted out
 abbrev pub woken_of : Parts → FiringList
-woken_of p = p.woken.items
+woken_of p = reverse p.woken.items
 
 -- f is the first of them
 abbrev pub IsNext : Parts → Firing → Type 0

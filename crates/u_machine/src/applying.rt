@@ -16,24 +16,13 @@ ghost use Rattle.u_machine.specs.Calls.{Applies};
 ghost use Rattle.u_machine.specs.Invariant.{state_of, woken_of, IsNext, Invariant, Gives, HasEntered, EnteredBefore, GoesOn, SameButApplied, Lengthens};
 
 use crate::parts::Parts;
-use crate::room::{push_into_room, put_before};
-use std::alloc::{AllocError, Global};
-use std::collections::VecDeque;
+use crate::room::{first_of, push_into_room, put_first, take_first, turned};
+use std::alloc::AllocError;
+use std::mem;
 use u_check::Job;
 use u_match::Entered;
 use u_rule::{Entry, Firing, given_by};
 use u_sets::OrderedSet;
-
-/// Takes all firings out of the set. A single one leaves its room to the next.
-fn empty(alloc: Global, set: &mut OrderedSet<Firing>)
-    ensures { set.new ≡ [] }
-{
-    if set.len() == 1 {
-        set.pop_first();
-        return;
-    }
-    *set = OrderedSet::new(alloc);
-}
 
 impl<'a> Parts<'a> {
     /// Whether a firing is parked that is not being applied, since it waits for its needs.
@@ -61,7 +50,7 @@ impl<'a> Parts<'a> {
             return Ok(());
         }
         let found = self.matcher.enter(self.job, entry)?;
-        self.woken = VecDeque::from(found);
+        self.woken = turned(found);
         Ok(())
     }
 
@@ -79,10 +68,11 @@ impl<'a> Parts<'a> {
         if self.has_waiting() {
             return self.put_made(entry);
         }
-        match self.matcher.enter_few(self.job, entry)? {
+        let room = mem::replace(&mut self.woken, Vec::new(self.alloc));
+        match self.matcher.enter_few(self.job, entry, room)? {
             Entered::Known => Ok(()),
             Entered::Woken(woken) => {
-                self.woken = VecDeque::from(woken);
+                self.woken = turned(woken);
                 Ok(())
             }
             Entered::Many => self.put_late(entry),
@@ -100,7 +90,7 @@ impl<'a> Parts<'a> {
         ensures ok { OnOk result (length (woken_of self.new) < length (woken_of self.old)) }
     {
         self.log.reserve(1)?;
-        let Some(firing) = self.woken.pop_front() else {
+        let Some(firing) = take_first(&mut self.woken) else {
             unreachable!();
         };
         push_into_room(&mut self.log, firing);
@@ -117,13 +107,13 @@ impl<'a> Parts<'a> {
         ensures goes { GoesOn self.old self.new }
         ensures ok { OnOk result (length (woken_of self.new) < length (woken_of self.old)) }
     {
-        let Some(firing) = self.woken.pop_front() else {
+        let Some(firing) = take_first(&mut self.woken) else {
             unreachable!();
         };
         match self.ready.insert(firing) {
             Ok(_) => Ok(()),
             Err(refused) => {
-                put_before(&mut self.woken, refused.value);
+                put_first(&mut self.woken, refused.value);
                 Err(AllocError)
             }
         }
@@ -153,7 +143,7 @@ impl<'a> Parts<'a> {
         ensures goes { GoesOn self.old self.new }
         ensures ok { OnOk result (length (woken_of self.new) < length (woken_of self.old)) }
     {
-        let Some(firing) = self.woken.front() else {
+        let Some(firing) = first_of(&self.woken) else {
             unreachable!();
         };
         if self.is_parked(firing) {
@@ -256,7 +246,7 @@ impl<'a> Parts<'a> {
         ensures still { SameButApplied self.old self.new }
         ensures applied_count { self.new.applied_count ≡ length self.old.log.items }
     {
-        empty(self.alloc, &mut self.parked);
+        self.parked = OrderedSet::new(self.alloc);
         self.applied_count = self.log.len();
     }
 

@@ -11,7 +11,6 @@ ghost use Rattle.u_machine.specs.Invariant.{state_of, Invariant};
 
 use crate::ready_set::ReadySet;
 use std::alloc::{AllocError, Global};
-use std::collections::VecDeque;
 use u_check::Job;
 use u_match::Matcher;
 use u_rule::{Entry, Firing, start};
@@ -34,8 +33,9 @@ pub(crate) struct Parts<'a> {
     pub(crate) ready: ReadySet<Firing>,
     /// The tokens that were put off: the firings that they wake are enabled, and not made.
     pub(crate) late: OrderedSet<Entry>,
-    /// The firings that the last entry woke and that are still to be sorted out, in order.
-    pub(crate) woken: VecDeque<Firing>,
+    /// The firings that the last entry woke and that are still to be sorted out, the last one first. Once
+    /// they are, the list's room is used for what the next entry wakes.
+    pub(crate) woken: Vec<Firing>,
     /// The history, with what each of its entries may meet.
     pub(crate) matcher: Matcher,
 }
@@ -72,7 +72,7 @@ impl<'a> Parts<'a> {
             parked: OrderedSet::new(alloc),
             ready,
             late: OrderedSet::new(alloc),
-            woken: VecDeque::new(alloc),
+            woken: Vec::new(alloc),
             matcher,
         })
     }

@@ -6,7 +6,7 @@ ghost use Rattle.u_rule.specs.Rule.{system_of};
 ghost use Rattle.u_machine.specs.State.{Taken, count_of};
 ghost use Rattle.u_machine.specs.Calls.{Takes, TakeAnswer};
 ghost use Rattle.u_machine.specs.Taking.{AreFirings, IsFirstOther, AreNew, HasSoManyNew, GainsNew, Fits, IsTooLong, TakeAllAnswer};
-ghost use Rattle.u_machine.specs.Invariant.{state_of, Invariant, Begins, NeedsNoLate};
+ghost use Rattle.u_machine.specs.Invariant.{state_of, woken_of, Invariant, Begins, NeedsNoLate};
 ghost use Rattle.u_rule.specs.declared.firing.Firing.{Firing};
 ghost use Rattle.u_machine.specs.declared.answer.Took.TheVariants as answers;
 
@@ -54,10 +54,9 @@ fn is_among(firings: &[Firing], firing: &Firing) -> bool
 impl<'a> Parts<'a> {
     /// Whether the firing was woken and is still to be sorted out.
     fn is_woken(&self, firing: &Firing) -> bool
-        ensures { IsTrue result ↔ Contains self.now.woken.items firing.now }
+        ensures { IsTrue result ↔ Contains (woken_of self.now) firing.now }
     {
-        let (first, rest) = self.woken.as_slices();
-        is_among(first, firing) || is_among(rest, firing)
+        is_among(&self.woken, firing)
     }
 
     /// Whether the firing was applied or is being applied. Each firing that has all that it needs is in

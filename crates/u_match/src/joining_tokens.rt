@@ -27,12 +27,12 @@ use u_value::Value;
 /// What the firings of one activity are made over: the job, the history, and the activity; and how many
 /// there may be at most.
 #[derive(Clone, Copy)]
-struct Joining<'a> {
-    alloc: Global,
-    job: &'a Job,
-    history: &'a History,
-    activity: &'a Name,
-    most: usize,
+pub(crate) struct Joining<'a> {
+    pub(crate) alloc: Global,
+    pub(crate) job: &'a Job,
+    pub(crate) history: &'a History,
+    pub(crate) activity: &'a Name,
+    pub(crate) most: usize,
 }
 
 impl Joining<'_> {
@@ -242,77 +242,62 @@ impl Joining<'_> {
         }
         Ok(())
     }
-}
 
-/// The firings of the job that the token wakes where it enters the history, in no order. What lies at a
-/// port is asked of the history only where the activity has that port.
-fn gathered(
-    alloc: Global,
-    job: &Job,
-    history: &History,
-    token: &Token,
-    most: usize,
-) -> Result<Vec<Firing>, Halt>
-    ensures exact { IfOk result
-        (λ v. AreThose
-        (IsWokenBy job.now (token_entry token.now) (HasOr history.now (token_entry token.now)))
-        v.items) }
-    ensures many { IfErr result
-        (λ e. e ≡ Halt.TooMany → WakesSome job.now (token_entry token.now)
-        (HasOr history.now (token_entry token.now))) }
-{
-    let mut found = Vec::new(alloc);
-    let activity = token.activity();
-    let ports = ports_at(job, activity);
-    if ports < usize::from(token.port()) {
-        return Ok(found);
+    /// The firings of the job that the token wakes where it enters the history, in no order. They go into
+    /// the empty list. What lies at a port is asked of the history only where the activity has that port.
+    fn gathered(&self, token: &Token, mut found: Vec<Firing>) -> Result<Vec<Firing>, Halt>
+        requires activity { self.now.activity.now ≡ token.now.activity }
+        requires empty { found.items ≡ [] }
+        ensures exact { IfOk result
+            (λ v. AreThose
+            (IsWokenBy self.now.job.now (token_entry token.now)
+            (HasOr self.now.history.now (token_entry token.now)))
+            v.items) }
+        ensures many { IfErr result
+            (λ e. e ≡ Halt.TooMany → WakesSome self.now.job.now (token_entry token.now)
+            (HasOr self.now.history.now (token_entry token.now))) }
+    {
+        let ports = ports_at(self.job, self.activity);
+        if ports < usize::from(token.port()) {
+            return Ok(found);
+        }
+        if ports > 2 {
+            let lists = met_at_each(self.alloc, self.history, token, ports)?;
+            let mut chosen = Vec::new(self.alloc);
+            self.add_all(&lists, &mut chosen, &mut found)?;
+            return Ok(found);
+        }
+        let firsts = met_at(self.history, token, 1);
+        if ports == 1 {
+            self.add_ones(firsts, &mut found)?;
+            return Ok(found);
+        }
+        let seconds = met_at(self.history, token, 2);
+        self.add_twos(firsts, seconds, &mut found)?;
+        Ok(found)
     }
-    let joining = Joining {
-        alloc,
-        job,
-        history,
-        activity,
-        most,
-    };
-    if ports > 2 {
-        let lists = met_at_each(alloc, history, token, ports)?;
-        let mut chosen = Vec::new(alloc);
-        joining.add_all(&lists, &mut chosen, &mut found)?;
-        return Ok(found);
-    }
-    let firsts = met_at(history, token, 1);
-    if ports == 1 {
-        joining.add_ones(firsts, &mut found)?;
-        return Ok(found);
-    }
-    let seconds = met_at(history, token, 2);
-    joining.add_twos(firsts, seconds, &mut found)?;
-    Ok(found)
-}
 
-/// The firings of the job that the token wakes where it enters the history. They stand in order, each
-/// once.
-///
-/// # Errors
-/// `TooMany` where there are more than `most`, and it gives up on the first that is one too many.
-/// `NoMemory` where there is no memory.
-pub(crate) fn woken_by_token(
-    alloc: Global,
-    job: &Job,
-    history: &History,
-    token: &Token,
-    most: usize,
-) -> Result<Vec<Firing>, Halt>
-    ensures exact { IfOk result
-        (λ v. AreThose
-        (IsWokenBy job.now (token_entry token.now) (HasOr history.now (token_entry token.now)))
-        v.items) }
-    ensures rises { IfOk result (λ v. Rises firing_cmp v.items) }
-    ensures many { IfErr result
-        (λ e. e ≡ Halt.TooMany → WakesSome job.now (token_entry token.now)
-        (HasOr history.now (token_entry token.now))) }
-{
-    let mut found = gathered(alloc, job, history, token, most)?;
-    put_in_order(&mut found);
-    Ok(found)
+    /// The firings of the job that the token, one of the activity, wakes where it enters the history. They
+    /// stand in order, each once, in the list, which was empty.
+    ///
+    /// # Errors
+    /// `TooMany` where there are more than `most`, and it gives up on the first that is one too many.
+    /// `NoMemory` where there is no memory.
+    pub(crate) fn woken_by(&self, token: &Token, room: Vec<Firing>) -> Result<Vec<Firing>, Halt>
+        requires activity { self.now.activity.now ≡ token.now.activity }
+        requires empty { room.items ≡ [] }
+        ensures exact { IfOk result
+            (λ v. AreThose
+            (IsWokenBy self.now.job.now (token_entry token.now)
+            (HasOr self.now.history.now (token_entry token.now)))
+            v.items) }
+        ensures rises { IfOk result (λ v. Rises firing_cmp v.items) }
+        ensures many { IfErr result
+            (λ e. e ≡ Halt.TooMany → WakesSome self.now.job.now (token_entry token.now)
+            (HasOr self.now.history.now (token_entry token.now))) }
+    {
+        let mut found = self.gathered(token, room)?;
+        put_in_order(&mut found);
+        Ok(found)
+    }
 }

@@ -11,7 +11,7 @@ ghost use Rattle.u_match.specs.Waking.{IsWokenBy, WakesSome, EnterAnswer};
 
 use crate::enabling::has_all_of;
 use crate::halt::Halt;
-use crate::joining_tokens::woken_by_token;
+use crate::joining_tokens::Joining;
 use crate::meeting::Reads;
 use crate::noting_reads::note;
 use crate::waking_reads::Entering;
@@ -101,8 +101,15 @@ impl Matcher {
     }
 
     /// The firings that the entry wakes where it enters. Of those that a token wakes there may be so many
-    /// at most.
-    fn woken(&self, job: &Job, entry: &Entry, most: usize) -> Result<Vec<Firing>, Halt>
+    /// at most, and they go into the empty list.
+    fn woken(
+        &self,
+        job: &Job,
+        entry: &Entry,
+        most: usize,
+        room: Vec<Firing>,
+    ) -> Result<Vec<Firing>, Halt>
+        requires { room.items ≡ [] }
         ensures exact { IfOk result
             (λ v. AreThose (IsWokenBy job.now entry.now (HasOr self.now entry.now)) v.items) }
         ensures rises { IfOk result (λ v. Rises firing_cmp v.items) }
@@ -110,7 +117,16 @@ impl Matcher {
             (λ e. e ≡ Halt.TooMany → WakesSome job.now entry.now (HasOr self.now entry.now)) }
     {
         match entry {
-            Entry::Token(token) => woken_by_token(self.alloc, job, &self.history, token, most),
+            Entry::Token(token) => {
+                let joining = Joining {
+                    alloc: self.alloc,
+                    job,
+                    history: &self.history,
+                    activity: token.activity(),
+                    most,
+                };
+                joining.woken_by(token, room)
+            }
             Entry::Write(write) => {
                 let entering = Entering {
                     alloc: self.alloc,
@@ -121,8 +137,8 @@ impl Matcher {
                 let found = entering.woken_by_write(&self.reads, write)?;
                 Ok(found)
             }
-            Entry::Fault(_fault) => Ok(Vec::new(self.alloc)),
-            Entry::Answer(_value) => Ok(Vec::new(self.alloc)),
+            Entry::Fault(_fault) => Ok(room),
+            Entry::Answer(_value) => Ok(room),
         }
     }
 
@@ -132,7 +148,7 @@ impl Matcher {
             (λ v. AreThose (IsWokenBy job.now entry.now (HasOr self.now entry.now)) v.items) }
         ensures rises { IfOk result (λ v. Rises firing_cmp v.items) }
     {
-        match self.woken(job, entry, usize::MAX) {
+        match self.woken(job, entry, usize::MAX, Vec::new(self.alloc)) {
             Ok(found) => Ok(found),
             Err(_) => Err(AllocError),
         }
@@ -173,14 +189,21 @@ impl Matcher {
 
     /// Lets the entry enter the set, unless it is there already or is a token that wakes more than 16
     /// firings. Of these no more than that are made before it answers `Many`, and the token did not enter
-    /// then. What a write wakes is always made.
+    /// then. What a write wakes is always made. The list is emptied, and its room is used for the
+    /// firings that a token wakes.
     ///
     /// # Errors
     /// `AllocError` where there is no memory; the set stays as it was.
-    pub fn enter_few(&mut self, job: &Job, entry: &Entry) -> Result<Entered, AllocError>
+    pub fn enter_few(
+        &mut self,
+        job: &Job,
+        entry: &Entry,
+        mut room: Vec<Firing>,
+    ) -> Result<Entered, AllocError>
         ensures { EnterAnswer job.now self.old entry.now result self.new }
     {
-        let found = match self.woken(job, entry, MOST_AT_ONCE) {
+        room.clear();
+        let found = match self.woken(job, entry, MOST_AT_ONCE, room) {
             Ok(found) => found,
             Err(Halt::TooMany) => {
                 if self.contains(entry) {

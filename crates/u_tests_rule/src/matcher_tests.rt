@@ -272,6 +272,7 @@ fn crowded(alloc: Global, crowd: &[Numbered]) -> Result<Matcher, AllocError> {
 
 /// Whether the entry, which was put off, enters alone, and then wakes those firings.
 fn wakes_later(
+    alloc: Global,
     matcher: &mut Matcher,
     job: &Job,
     entry: &Entry,
@@ -285,13 +286,18 @@ fn wakes_later(
         return Ok(false);
     }
     let found = matcher.woken_by(job, entry)?;
-    Ok(found.as_slice() == wanted && is_known(matcher, job, entry)?)
+    Ok(found.as_slice() == wanted && is_known(alloc, matcher, job, entry)?)
 }
 
 /// Whether the entry is known, and stays so.
-fn is_known(matcher: &mut Matcher, job: &Job, entry: &Entry) -> Result<bool, AllocError> {
+fn is_known(
+    alloc: Global,
+    matcher: &mut Matcher,
+    job: &Job,
+    entry: &Entry,
+) -> Result<bool, AllocError> {
     let len = matcher.len();
-    let came = matcher.enter_few(job, entry)?;
+    let came = matcher.enter_few(job, entry, Vec::new(alloc))?;
     Ok(matches!(came, Entered::Known) && matcher.len() == len)
 }
 
@@ -306,22 +312,26 @@ fn woken_in(
     matcher.enter(job, entry)
 }
 
-/// Whether the entry is put off exactly where it has to be, and wakes what is wanted.
+/// Whether the entry is put off, if it wakes what is wanted.
 fn comes_with(
+    alloc: Global,
     matcher: &mut Matcher,
     job: &Job,
     entry: &Entry,
     wanted: &[Firing],
-    is_put_off: bool,
-) -> Result<bool, AllocError> {
-    match matcher.enter_few(job, entry)? {
-        Entered::Known => Ok(false),
-        Entered::Woken(found) => {
-            let same = found.as_slice() == wanted;
-            Ok(same && !is_put_off && is_known(matcher, job, entry)?)
-        }
-        Entered::Many => Ok(is_put_off && wakes_later(matcher, job, entry, wanted)?),
+) -> Result<Option<bool>, AllocError> {
+    let (is_right, is_put_off) = match matcher.enter_few(job, entry, Vec::new(alloc))? {
+        Entered::Known => (false, false),
+        Entered::Woken(found) => (
+            found.as_slice() == wanted && is_known(alloc, matcher, job, entry)?,
+            false,
+        ),
+        Entered::Many => (wakes_later(alloc, matcher, job, entry, wanted)?, true),
+    };
+    if is_right {
+        return Ok(Some(is_put_off));
     }
+    Ok(None)
 }
 
 /// Whether the entry is put off where it has to be, and wakes what it wakes in another matcher.
@@ -329,7 +339,8 @@ fn comes_so(alloc: Global, job: &Job, crowd: &Crowd) -> Result<bool, AllocError>
     let entry = entry_of(alloc, crowd.1)?;
     let wanted = woken_in(alloc, job, crowd.0, &entry)?;
     let mut matcher = crowded(alloc, crowd.0)?;
-    comes_with(&mut matcher, job, &entry, &wanted, crowd.2)
+    let came = comes_with(alloc, &mut matcher, job, &entry, &wanted)?;
+    Ok(came == Some(crowd.2))
 }
 
 #[test]

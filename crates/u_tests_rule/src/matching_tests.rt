@@ -68,12 +68,13 @@ fn is_right(
 
 /// Whether the entry, which enters alone if it wakes many, wakes those firings.
 fn wakes(
+    alloc: Global,
     job: &Job,
     matcher: &mut Matcher,
     entry: &Entry,
     wanted: &[Firing],
 ) -> Result<bool, AllocError> {
-    let woken = match matcher.enter_few(job, entry)? {
+    let woken = match matcher.enter_few(job, entry, Vec::new(alloc))? {
         Entered::Known => return Ok(false),
         Entered::Woken(found) => found,
         Entered::Many => {
@@ -102,7 +103,7 @@ fn entries_agree(
         if !is_right(alloc, job, matcher, entry, all, &answer)? {
             return Ok(false);
         }
-        if !wakes(job, &mut other, entry, &answer)? {
+        if !wakes(alloc, job, &mut other, entry, &answer)? {
             return Ok(false);
         }
     }

@@ -1,4 +1,4 @@
-use Rattle.std.proofs.Common.{◌≡◌, ap, length, arith, length-append, [], ◌∷◌, ◌++◌, sym, subst, take, ◌∙◌}
+use Rattle.std.proofs.Common.{◌≡◌, ap, length, arith, length-append, [], ◌∷◌, ◌++◌, sym, subst, take, reverse, ◌∙◌}
 use Rattle.std.proofs.lemmas.List.{take-append-le}
 use Rattle.u_rule.specs.EntryOrder.{FiringList}
 use Rattle.std.proofs.lemmas.List.Elements.{Contains-append_right}
@@ -18,8 +18,8 @@ returns-clause-kept c =
     let k = c.requires.kept in
     let m = c.args.self.now in
     let f = c.in-Some.firing in
-    let rest = c.pop_front.new.self.items in
-    let n = c.in-Some.ensures.items in
+    let rest = reverse c.take_first.new.turned.items in
+    let n = c.in-Some.ensures.some in
     let l = logs c in
     let s : take m.applied_count (m.log.items ++ f ∷ []) ≡ take m.applied_count m.log.items = take-append-le m.applied_count m.log.items (f ∷ []) k.logged.place in
     record {

@@ -31,9 +31,9 @@ returns-in-Woken-clause-kept c =
     record {
       all_ready = k.all_ready;
       logged = entered _ _ _ _ _ _ k.logged f e more (slice_get_Contains _ _ f place) g w;
-      partitioned = subst (λ (fs : FiringList). IsPartitioned m.job.now m.log.items (taken_of m) k.all_ready fs more) (sym c.from.ensures.0)
+      partitioned = subst (λ (fs : FiringList). IsPartitioned m.job.now m.log.items (taken_of m) k.all_ready fs more) (sym c.turned.ensures)
           (woken_more _ _ _ _ _ _ k.partitioned e more found c.requires.idle fresh w exact order);
-      late = subst (λ (fs : FiringList). HasLate m.job.now (taken_of m) k.all_ready m.ready fs m.late more) (sym c.from.ensures.0)
+      late = subst (λ (fs : FiringList). HasLate m.job.now (taken_of m) k.all_ready m.ready fs m.late more) (sym c.turned.ensures)
           (enters_late _ _ _ _ _ _ _ k.late e more c.requires.idle fresh w (λ h i. (k.partitioned.fit h i).0) found exact (λ h x i t _. untaken_new m k few e fresh h ((exact h).0 i).0 t));
       idle = λ q. let b = slice_get_below m.log.items at f place in absurd (omega (arith, b, q, from));
     }

@@ -27,9 +27,9 @@ returns-clause-kept c =
     record {
       all_ready = k.all_ready;
       logged = entered _ _ _ _ _ _ k.logged f e more (slice_get_Contains _ _ f place) g w;
-      partitioned = subst (λ (fs : FiringList). IsPartitioned p.job.now p.log.items (taken_of p) k.all_ready fs more) (sym c.from.ensures.0)
+      partitioned = subst (λ (fs : FiringList). IsPartitioned p.job.now p.log.items (taken_of p) k.all_ready fs more) (sym c.turned.ensures)
           (woken_more _ _ _ _ _ _ k.partitioned e more found none fresh w c.in_ok-found.ensures.exact c.in_ok-found.ensures.order);
-      late = subst (λ (fs : FiringList). HasLate p.job.now (taken_of p) k.all_ready p.ready fs p.late more) (sym c.from.ensures.0)
+      late = subst (λ (fs : FiringList). HasLate p.job.now (taken_of p) k.all_ready p.ready fs p.late more) (sym c.turned.ensures)
           (enters_late _ _ _ _ _ _ _ k.late e more none fresh w (λ h i. (k.partitioned.fit h i).0) found c.in_ok-found.ensures.exact (λ h x _ _ i. Contains-nil x (rw c.in_ok-make_all.ensures.ok at i)));
       idle = λ q. let b = slice_get_below p.log.items at f place in absurd (omega (arith, b, q, from));
     }

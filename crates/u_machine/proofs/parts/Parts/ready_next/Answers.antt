@@ -1,4 +1,4 @@
-use Rattle.std.proofs.Common.{◌∷◌}
+use Rattle.std.proofs.Common.{◌∷◌, reverse}
 use Rattle.u_machine.proofs.Settled.{parked_first, not_idle}
 use Rattle.u_machine.proofs.Sorting.{sorts_ready}
 use Rattle.u_machine.proofs.LateTokens.{with_first, sorts_ready_late}
@@ -9,8 +9,8 @@ returns-in-Ok-clause-kept c =
     let k = c.requires.kept in
     let m = c.args.self.now in
     let f = c.in-Some.firing in
-    let rest = c.pop_front.new.self.items in
-    let n = c.in-Some.ensures.items in
+    let rest = reverse c.take_first.new.turned.items in
+    let n = c.in-Some.ensures.some in
     record {
       all_ready = f ∷ k.all_ready;
       logged = k.logged;

@@ -9,19 +9,19 @@ use Rattle.u_match.proofs.matcher.Matcher.woken.Goals as goal
 
 pub returns-in-Token-clause-exact : goal.returns-in-Token-clause-exact
 returns-in-Token-clause-exact c =
-    rw (← c.self.view_is) (subst (λ (e : Entry). IfOk c.woken_by_token.result (λ v. AreThose (IsWokenBy c.args.job.now e (HasOr c.self.inside.history e)) v.items)) (sym c.in-Token.is) c.woken_by_token.ensures.exact)
+    rw (← c.self.view_is) (subst (λ (e : Entry). IfOk c.woken_by.result (λ v. AreThose (IsWokenBy c.args.job.now e (HasOr c.self.inside.history e)) v.items)) (sym c.in-Token.is) c.woken_by.ensures.exact)
 
 pub returns-in_ok-found-in-Write-clause-exact : goal.returns-in_ok-found-in-Write-clause-exact
 returns-in_ok-found-in-Write-clause-exact c = rw (← c.self.view_is) c.in_ok-found-in-Write.ensures.exact
 
 pub returns-in-Token-clause-many : goal.returns-in-Token-clause-many
 returns-in-Token-clause-many c =
-    rw (← c.self.view_is) (subst (λ (e : Entry). IfErr c.woken_by_token.result (λ h. h ≡ TooMany → WakesSome c.args.job.now e (HasOr c.self.inside.history e))) (sym c.in-Token.is) c.woken_by_token.ensures.many)
+    rw (← c.self.view_is) (subst (λ (e : Entry). IfErr c.woken_by.result (λ h. h ≡ TooMany → WakesSome c.args.job.now e (HasOr c.self.inside.history e))) (sym c.in-Token.is) c.woken_by.ensures.many)
 
 pub returns-in-Fault-clause-exact : goal.returns-in-Fault-clause-exact
 returns-in-Fault-clause-exact c =
-    wakes_none c.args.job.now (HasOr c.args.self.now c.args.entry.now) c.args.entry.now (λ t e. let h = sym c.in-Fault.is ∙ e in absurd (cc)) (λ w e. let h = sym c.in-Fault.is ∙ e in absurd (cc)) c.new.result.items c.new.ensures.items
+    wakes_none c.args.job.now (HasOr c.args.self.now c.args.entry.now) c.args.entry.now (λ t e. let h = sym c.in-Fault.is ∙ e in absurd (cc)) (λ w e. let h = sym c.in-Fault.is ∙ e in absurd (cc)) c.args.room.items c.requires
 
 pub returns-in-Answer-clause-exact : goal.returns-in-Answer-clause-exact
 returns-in-Answer-clause-exact c =
-    wakes_none c.args.job.now (HasOr c.args.self.now c.args.entry.now) c.args.entry.now (λ t e. let h = sym c.in-Answer.is ∙ e in absurd (cc)) (λ w e. let h = sym c.in-Answer.is ∙ e in absurd (cc)) c.new-in-Answer.result.items c.new-in-Answer.ensures.items
+    wakes_none c.args.job.now (HasOr c.args.self.now c.args.entry.now) c.args.entry.now (λ t e. let h = sym c.in-Answer.is ∙ e in absurd (cc)) (λ w e. let h = sym c.in-Answer.is ∙ e in absurd (cc)) c.args.room.items c.requires

@@ -1,4 +1,4 @@
-use Rattle.u_match.proofs.joining_tokens.woken_by_token.Goals as goal
+use Rattle.u_match.proofs.joining_tokens.Joining.woken_by.Goals as goal
 
 pub returns-clause-exact : goal.returns-clause-exact
 returns-clause-exact c f =
