@@ -23,7 +23,9 @@ fn save_job<V: Watch>(
     ensures memory { IfErr result (λ e. e ≡ faults.NoMemory) }
 {
     let (replica, _) = replica_ran(alloc, job, firings, watch)?;
-    let checkpoint = replica.save()?;
+    let Ok(checkpoint) = replica.save() else {
+        return Err(CommandError::NoMemory);
+    };
     Ok(checkpoint)
 }
 
