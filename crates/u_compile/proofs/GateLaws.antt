@@ -15,7 +15,8 @@ use Rattle.u_compile.specs.Drawings.{feeders, DrawingParts, IsOfKind, IsFed, fro
 use Rattle.u_compile.proofs.DrawingLaws.{feeders_none, feeders_first, links_here, links_away, on_self, on_then, fed_kept, fed_by_kept, gate_kept, grows_then}
 use Rattle.u_compile.proofs.LeadLaws.{as_drawn, seen}
 
-of_append : {A : Type 0} (xs ys : List A) (x : A) → IsOf (xs ++ ys) x → IsOf xs x ⊎ IsOf ys x
+-- what is in both
+pub of_append : {A : Type 0} (xs ys : List A) (x : A) → IsOf (xs ++ ys) x → IsOf xs x ⊎ IsOf ys x
 of_append [] ys x h = inr h
 of_append (y ∷ xs) ys x (inl e) = inl (inl e)
 of_append (y ∷ xs) ys x (inr h) = elim (of_append xs ys x h) [ inl i ↦ inl (inr i) | inr i ↦ inr i ]

@@ -15,7 +15,7 @@ use Rattle.u_compile.specs.Graphs.{graph, link, output, draft_at}
 use Rattle.u_compile.specs.Scoped.{IsOf, PlaceParts}
 use Rattle.u_compile.specs.Placed.{PlacedParts, with_link, with_statement}
 use Rattle.u_compile.specs.Drawings.{feeders, DrawingParts, drawing, IsOfKind, IsFedBy, IsFed, from_nothing, from_value, from_control, IsGate, IsDrawn, GoesOn, Grows, Adds, links_to, input_links, AreValues, OnlyTo, with_links, LeadsOn, a_gate}
-use Rattle.u_compile.proofs.Numbers.{at_within}
+use Rattle.u_compile.proofs.Numbers.{at_within, at_last}
 use Rattle.u_compile.proofs.DrawingLaws.{feeders_none, feeders_first, links_here, links_away, only_links, only_both, on_self, on_one, on_then, fed_kept, gate_kept, drawn_inputs, drawn_broken, adds_inputs, grows_then}
 
 no_more : (p : PlacedParts) → with_links p [] ≡ p
@@ -108,6 +108,12 @@ all_added p q r x at c u scopes vs gs carried b ins d is e f all same =
     subst (λ (v : DrawingParts). Adds v (seen r scopes vs gs carried) x.kind ins) same
     (subst (λ (v : PlacedParts). Adds (seen p scopes vs gs carried) (seen v scopes vs gs carried) x.kind ins) (sym (whole p q r x at c u vs ins e f))
     (adds_inputs (seen p scopes vs gs carried) gs b is x ins all))
+
+-- it stands as it was put
+pub all_stands : (p q r : PlacedParts) (x : DraftParts) (at : PlaceParts) (c u : ℕ) (scopes : List Scope) (vs : List (List Output)) (gs : List Gate) (carried : List Carried) (ins : List ℕ) (d : DrawingParts) → q ≡ with_statement p x at c u → r ≡ with_links q (input_links vs (length q.graph.statements) 1 ins) → seen p scopes vs gs carried ≡ d → draft_at r.graph.statements (length d.statements + 1) ≡ Some x
+all_stands p q r x at c u scopes vs gs carried ins d e f same =
+    subst (λ (v : DrawingParts). draft_at r.graph.statements (length v.statements + 1) ≡ Some x) same
+    (subst (λ (v : PlacedParts). draft_at v.graph.statements (length p.graph.statements + 1) ≡ Some x) (sym (whole p q r x at c u vs ins e f)) (at_last p.graph.statements x))
 
 -- at the beginning nothing leads anywhere
 pub new_drawn : (p : PlacedParts) (vs : List (List Output)) (gs : List Gate) (b : Bool) → p.graph.statements ≡ [] → p.graph.links ≡ [] → gs ≡ [] → as_drawn p vs gs b

@@ -16,6 +16,10 @@ pub mod DrawingLaws
 pub mod LeadLaws
 pub mod GateLaws
 pub mod ComesLaws
+pub mod KnownLaws
+pub mod OperandLaws
+pub mod DefinitionLaws
+pub mod SideLaws
 pub mod FinishedLaws
 pub mod OrderlyTests
 pub mod OrderlyLaws

@@ -1,15 +1,19 @@
 -- Procedures under construction: which values lead to which ports, and what comes from what.
-use Rattle.std.specs.Prelude.{◌≡◌, ℕ, ◌+◌, ◌<◌, ◌≤◌, ◌⊎◌, Bool, true, false, not, ◌&&◌, ◌==◌, cond, List, [], ◌∷◌, ◌++◌, length, Some, slice_get, get_or}
+use Rattle.std.specs.Prelude.{◌≡◌, ℕ, ◌+◌, ◌<◌, ◌≤◌, ◌⊎◌, Bool, true, false, not, ◌&&◌, ◌==◌, cond, List, [], ◌∷◌, ◌++◌, length, Option, Some, None, slice_get, get_or}
 use Rattle.u_program.specs.declared.program.Arguments.{Arguments}
 use Rattle.u_program.specs.declared.program.Kind.{Kind}
-use Rattle.u_program.specs.declared.program.Kind.TheVariants.{Pass, Switch, Enter, Last, Leave, Apply, Back}
+use Rattle.u_program.specs.declared.program.Kind.TheVariants.{Begin, Param, Pass, Switch, Enter, Next, Last, Leave, Apply, Back}
+use Rattle.u_program.specs.declared.program.Parameter.{Parameter}
+use Rattle.u_program.specs.Limits.{place_of}
 use Rattle.u_compile.specs.declared.graph.Link.{Link}
 use Rattle.u_compile.specs.declared.graph.Output.{Output}
 use Rattle.u_compile.specs.declared.drawing.Scope.{Scope}
+use Rattle.u_compile.specs.declared.drawing.Way.{Way}
+use Rattle.u_compile.specs.declared.drawing.Way.TheVariants.{Side, Turn}
 use Rattle.u_compile.specs.declared.drawing.Gate.{Gate}
 use Rattle.u_compile.specs.declared.drawing.Carried.{Carried}
 use Rattle.u_compile.specs.Drafts.{DraftParts}
-use Rattle.u_compile.specs.Graphs.{graph, link, output, draft_at}
+use Rattle.u_compile.specs.Graphs.{graph, link, output, draft_at, is_enter}
 use Rattle.u_compile.specs.Scoped.{IsOf}
 use Rattle.u_compile.specs.Placed.{PlacedParts}
 
@@ -115,10 +119,41 @@ pub record Leaves (d e : DrawingParts) (value v : ℕ) : Type 0 where
   pub last : Gives d between Last (value ∷ []) given
   pub leave : Gives between e Leave (given ∷ []) v
 
--- Output o gives what the value gives: it is the value's one output, or that of a `pass` which takes the value.
+-- that is the one output of the value, if it has exactly one
+abbrev pub IsOnly : List (List Output) → ℕ → Option Output → Type 0
+IsOnly vs v (Some o) = slice_get vs v ≡ Some (o ∷ [])
+IsOnly vs v None = (o : Output) → slice_get vs v ≡ Some (o ∷ []) → ⊥
+
+-- it is the value's one output, and is not that of an `enter`
+abbrev pub IsOwnOutput : DrawingParts → ℕ → Output → Type 0
+IsOwnOutput d v o = (slice_get d.values v ≡ Some (o ∷ [])) × (is_enter (draft_at d.statements o.statement) ≡ false)
+
+-- that is so, if there is one
+abbrev pub IsOwn : DrawingParts → ℕ → Option Output → Type 0
+IsOwn d v (Some o) = IsOwnOutput d v o
+IsOwn d v None = (o : Output) → IsOwnOutput d v o → ⊥
+
+-- Output o gives what the value gives: it is the value's one output, which is not that of an `enter`. Where there is none, it
+-- is that of a `pass` which takes the value.
 pub data Chooses (d e : DrawingParts) (value : ℕ) (o : Output) : Type 0 where
-  own : Grows d e → slice_get e.values value ≡ Some (o ∷ []) → Chooses d e value o
-  pass : Adds d e Pass (value ∷ []) → o ≡ output (length d.statements + 1) false → Chooses d e value o
+  own : e ≡ d → IsOwnOutput d value o → Chooses d e value o
+  pass : ((p : Output) → IsOwnOutput d value p → ⊥) → Adds d e Pass (value ∷ []) → o ≡ output (length d.statements + 1) false → Chooses d e value o
+
+-- the statement is a `next` of that `enter`
+abbrev pub IsNextOf : List DraftParts → ℕ → ℕ → Type 0
+IsNextOf ds n enter = (d : DraftParts) × (draft_at ds n ≡ Some d) × (d.kind ≡ Next) × (d.shares ≡ enter)
+
+-- the statement that is added is a `next` of the `enter` of what is carried under that number
+abbrev pub IsNextOfCarried : DrawingParts → DrawingParts → ℕ → Type 0
+IsNextOfCarried d e number = (c : Carried) × (slice_get d.carried number ≡ Some c) × IsNextOf e.statements (length d.statements + 1) c.enter
+
+abbrev pub a_carried : ℕ → ℕ → ℕ → Option ℕ → Carried
+a_carried turn name enter next = record { turn = turn; name = name; enter = enter; next = next }
+
+-- a statement of that kind takes the parameter behind so many others
+pub data IsParameter (n : ℕ) (k : Kind) : Type 0 where
+  first : n ≡ 0 → k ≡ Begin → IsParameter n k
+  further : (p : Parameter) → place_of p ≡ n + 1 → k ≡ Param p → IsParameter n k
 
 -- value v has the outputs of both
 pub record Merges (d e : DrawingParts) (left right v : ℕ) : Type 0 where
@@ -138,19 +173,24 @@ pub record IsGated (d : DrawingParts) (control : Output) (on : Bool) (v w : ℕ)
   pub gate : IsGate d.statements d.links d.values (a_gate control v switch)
   pub sends : slice_get d.values w ≡ Some (output switch (not on) ∷ [])
 
--- value w is what an `enter` gives to which exactly value v leads
-pub record IsEntered (d : DrawingParts) (v w : ℕ) : Type 0 where
+-- value w is what an `enter` of that loop gives to which exactly value v leads
+pub record IsEntered (d : DrawingParts) (loop v w : ℕ) : Type 0 where
   pub enter : ℕ
-  pub number : ℕ
-  pub stands : IsOfKind d.statements enter (Enter number)
+  pub stands : IsOfKind d.statements enter (Enter loop)
   pub fed : IsFedBy d.links d.values enter 1 v
   pub sends : slice_get d.values w ≡ Some (output enter false ∷ [])
 
--- Value w is value v, or comes from it through gates and into loops.
-pub data Comes (d : DrawingParts) (v : ℕ) : ℕ → Type 0 where
-  it : Comes d v v
-  gated : (u w : ℕ) (control : Output) (on : Bool) → IsGated d control on u w → Comes d v u → Comes d v w
-  entered : (u w : ℕ) → IsEntered d u w → Comes d v u → Comes d v w
+-- Value w is what value v is behind that way into a scope: what a gate of v sends into the side, or what an `enter` of the
+-- loop gives.
+pub data Enters (d : DrawingParts) (way : Way) (v w : ℕ) : Type 0 where
+  side : (control : Output) (on : Bool) → way ≡ Side control on → IsGated d control on v w → Enters d way v w
+  turn : (loop : ℕ) → way ≡ Turn loop → IsEntered d loop v w → Enters d way v w
+
+-- Value w in that scope is value v of the outer scope: it goes into each scope between the two, one after another, by the
+-- way of that scope.
+pub data Comes (d : DrawingParts) (outer v : ℕ) : ℕ → ℕ → Type 0 where
+  it : Comes d outer v outer v
+  inside : (s : ℕ) (x : Scope) (u w : ℕ) → slice_get d.scopes s ≡ Some x → Enters d x.way u w → Comes d outer v x.around u → Comes d outer v s w
 
 -- links from these outputs to that port of statement n
 abbrev pub links_to : ℕ → ℕ → List Output → List Link

@@ -8,6 +8,10 @@ pub mod Orderly
 pub mod Placed
 pub mod Drawings
 pub mod Namings
+pub mod Operands
+pub mod Definitions
+pub mod Sides
+pub mod Steps
 pub mod Maps
 pub mod Procedures
 pub mod Compiled

@@ -230,8 +230,10 @@ impl Graph {
         self.link(from, to)
     }
 
-    /// The output, unless it is that of an `enter`.
-    pub(crate) fn is_entered(&self, output: Output) -> bool {
+    /// Whether the output is that of an `enter`.
+    pub(crate) fn is_entered(&self, output: Output) -> bool
+        ensures { result ≡ is_enter (draft_at self.now.statements output.statement) }
+    {
         self.is_enter(output.statement)
     }
 

@@ -1,6 +1,6 @@
 //! A procedure under construction: its graph, its scopes and its values.
-ghost use Rattle.std.specs.Prelude.{◌≡◌, ◌+◌, ◌≤◌, [], ◌∷◌, length, slice_get, get_or, false, Some, IfOk, OnOk, IfSome};
-ghost use Rattle.u_program.specs.Limits.{IsBlockOf, limits_of};
+ghost use Rattle.std.specs.Prelude.{◌≡◌, ℕ, ◌+◌, ◌≤◌, [], ◌∷◌, ◌++◌, length, slice_get, get_or, false, Some, None, IfOk, OnOk, IfSome, IfNone};
+ghost use Rattle.u_program.specs.Limits.{IsBlockOf, limits_of, place_of};
 ghost use Rattle.u_program.specs.declared.program.Version.TheVariants as versions;
 ghost use Rattle.u_determinate.specs.Determinate.{IsDeterminateBlock};
 ghost use Rattle.u_compile.specs.Kept.{KeepsItself};
@@ -8,7 +8,7 @@ ghost use Rattle.u_program.specs.declared.program.Kind.{Kind as a_kind};
 ghost use Rattle.u_program.specs.declared.program.Kind.TheVariants as kinds;
 ghost use Rattle.u_compile.specs.Graphs.{output};
 ghost use Rattle.u_compile.specs.Scoped.{IsOf};
-ghost use Rattle.u_compile.specs.Drawings.{Adds, AreValues, Calls, Chooses, EachIsFed, Gives, Grows, IsGate, IsGated, IsValue, LeadsOn, Leaves, Merges, a_gate, input_links, links_to, with_links, with_scope, with_value};
+ghost use Rattle.u_compile.specs.Drawings.{Adds, AreValues, Calls, Chooses, EachIsFed, Gives, Grows, IsGate, IsGated, IsNextOf, IsNextOfCarried, IsOnly, IsOwn, IsParameter, IsValue, LeadsOn, Leaves, Merges, a_carried, a_gate, input_links, links_to, with_links, with_scope, with_value};
 
 use crate::graph::{Full, Output, STATEMENTS};
 use crate::place::{Guard, Place};
@@ -227,6 +227,18 @@ fn count_of(arguments: &[usize]) -> Result<Arguments, Full>
     }
 }
 
+/// The parameter behind so many others, which is not the first.
+fn parameter_behind(count: usize) -> Result<Parameter, Full>
+    ensures { IfOk result (λ p. place_of p ≡ count + 1) }
+{
+    match count {
+        1 => Ok(Parameter::Second),
+        2 => Ok(Parameter::Third),
+        3 => Ok(Parameter::Fourth),
+        _ => Err(Full::Misplaced),
+    }
+}
+
 impl Drawing {
     /// A procedure without statements, whose first parameter is this name.
     pub fn new(alloc: Global, clock: usize) -> Result<Drawing, Full> {
@@ -275,7 +287,8 @@ impl Drawing {
 
     /// Adds a scope, and returns its number.
     pub fn add_scope(&mut self, scope: Scope) -> Result<usize, Full>
-        ensures { OnOk result (self.new ≡ with_scope self.old scope) }
+        ensures number { IfOk result (λ n. n ≡ length self.old.scopes) }
+        ensures adds { OnOk result (self.new ≡ with_scope self.old scope) }
     {
         let number = self.scopes.len();
         self.scopes.push(scope)?;
@@ -340,8 +353,7 @@ impl Drawing {
 
     /// The one output of a value.
     pub fn only_output(&self, value: usize) -> Result<Option<Output>, Full>
-        ensures { IfOk result (λ o. IfSome o
-            (λ one. slice_get self.now.values value ≡ Some (one ∷ []))) }
+        ensures { IfOk result (IsOnly self.now.values value) }
     {
         match outputs_of(&self.values, value)? {
             [output] => Ok(Some(*output)),
@@ -361,6 +373,7 @@ impl Drawing {
         requires { length inputs.now ≤ 5 }
         ensures number { IfOk result (λ n. n ≡ length self.old.statements + 1) }
         ensures adds { OnOk result (Adds self.old self.new kind.now inputs.now) }
+        ensures carried { OnOk result (self.new.carried ≡ self.old.carried) }
     {
         let statement = self.graph.put(place, kind, control)?;
         if let Err(full) = lead_values(&mut self.graph, &self.values, inputs) {
@@ -372,7 +385,9 @@ impl Drawing {
 
     /// Adds a `next` of an `enter` in a place, to which the value leads.
     fn add_going_on(&mut self, place: &Place, enter: u16, value: usize) -> Result<(), Full>
-        ensures { OnOk result (Adds self.old self.new kinds.Next (value ∷ [])) }
+        ensures adds { OnOk result (Adds self.old self.new kinds.Next (value ∷ [])) }
+        ensures of { OnOk result (IsNextOf self.new.statements
+            (length self.old.statements + 1) enter) }
     {
         self.graph.put_next(place, enter)?;
         if let Err(full) = lead_values(&mut self.graph, &self.values, &[value]) {
@@ -394,16 +409,16 @@ impl Drawing {
 
     /// Adds the next parameter, and returns its value.
     pub fn add_parameter(&mut self) -> Result<usize, Full>
-        ensures { IfOk result (λ v. (k : a_kind) × Gives self.old self.new k [] v) }
+        ensures { IfOk result (λ v. (k : a_kind) × IsParameter (length self.old.statements) k
+            × Gives self.old self.new k [] v) }
     {
-        let kind = match self.len() {
-            0 => Kind::Begin,
-            1 => Kind::Param(Parameter::Second),
-            2 => Kind::Param(Parameter::Third),
-            3 => Kind::Param(Parameter::Fourth),
-            _ => return Err(Full::Misplaced),
-        };
-        self.add_giving(0, &kind, &[])
+        if self.len() == 0 {
+            let value = self.add_giving(0, &Kind::Begin, &[])?;
+            return Ok(value);
+        }
+        let parameter = parameter_behind(self.len())?;
+        let value = self.add_giving(0, &Kind::Param(parameter), &[])?;
+        Ok(value)
     }
 
     /// Adds a statement of one port, and returns its value.
@@ -481,8 +496,7 @@ impl Drawing {
 
     /// The one output of a value that no loop carries, if it has one.
     fn own_output(&self, value: usize) -> Result<Option<Output>, Full>
-        ensures { IfOk result (λ o. IfSome o
-            (λ one. slice_get self.now.values value ≡ Some (one ∷ []))) }
+        ensures { IfOk result (IsOwn self.now value) }
     {
         match self.only_output(value)? {
             Some(output) => {
@@ -588,7 +602,10 @@ impl Drawing {
         name: usize,
         value: usize,
     ) -> Result<usize, Full>
-        ensures { IfOk result (λ v. Gives self.old self.new (kinds.Enter number) (value ∷ []) v) }
+        ensures gives { IfOk result
+            (λ v. Gives self.old self.new (kinds.Enter number) (value ∷ []) v) }
+        ensures carried { OnOk result (self.new.carried ≡ self.old.carried
+            ++ (a_carried turn name (length self.old.statements + 1) None ∷ [])) }
     {
         let around = self.scope(turn)?.around;
         let place = self.place(around)?;
@@ -603,7 +620,9 @@ impl Drawing {
     }
 
     /// What is carried, by its number from 0: the first loops first.
-    pub fn carried(&self, number: usize) -> Option<Carried> {
+    pub fn carried(&self, number: usize) -> Option<Carried>
+        ensures { result ≡ slice_get self.now.carried number }
+    {
         match self.carried.get(number) {
             Some(carried) => Some(*carried),
             None => None,
@@ -639,7 +658,8 @@ impl Drawing {
 
     /// Adds the `next` of what is carried under this number, which gets a value that the block of its loop has.
     pub fn add_next(&mut self, block: usize, number: usize, value: usize) -> Result<(), Full>
-        ensures { OnOk result (Adds self.old self.new kinds.Next (value ∷ [])) }
+        ensures adds { OnOk result (Adds self.old self.new kinds.Next (value ∷ [])) }
+        ensures of { OnOk result (IsNextOfCarried self.old self.new number) }
     {
         let Some(carried) = self.carried(number) else {
             return Err(Full::Misplaced);

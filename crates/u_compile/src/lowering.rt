@@ -1,10 +1,14 @@
 //! The lowering: one pass over the nodes of a source.
-ghost use Rattle.std.specs.Prelude.{IfOk};
+ghost use Rattle.std.specs.Prelude.{◌≡◌, IfOk, OnOk};
 ghost use Rattle.u_program.specs.Limits.{IsBlockOf, limits_of};
 ghost use Rattle.u_program.specs.declared.program.Version.TheVariants as versions;
 ghost use Rattle.u_determinate.specs.Determinate.{IsDeterminateBlock};
 ghost use Rattle.u_compile.specs.Kept.{KeepsItself};
-ghost use Rattle.u_compile.specs.Namings.{IsNamed};
+ghost use Rattle.u_compile.specs.Namings.{HasConstant, IsNamed, known};
+ghost use Rattle.u_compile.specs.Operands.{GoesOn, lowering};
+ghost use Rattle.u_compile.specs.Definitions.{TakesParameter};
+ghost use Rattle.u_compile.specs.Steps.{IsWhole};
+ghost use Rattle.u_compile.specs.Sides.{IsFramePopped, IsLastFrame, OpensSide};
 
 use crate::blocks::Blocks;
 use crate::drawing::{Drawing, Scope, Way};
@@ -138,7 +142,9 @@ impl<'a> Lowering<'a> {
 
 impl Lowering<'_> {
     /// What has begun last and not ended.
-    pub fn pop_frame(&mut self) -> Result<Frame, Full> {
+    pub fn pop_frame(&mut self) -> Result<Frame, Full>
+        ensures { IfOk result (IsFramePopped (lowering self.old) (lowering self.new)) }
+    {
         match self.frames.pop() {
             Some(frame) => Ok(frame),
             None => Err(Full::Misplaced),
@@ -146,7 +152,9 @@ impl Lowering<'_> {
     }
 
     /// What has begun last and not ended, which goes on.
-    pub fn last_frame(&self) -> Result<Frame, Full> {
+    pub fn last_frame(&self) -> Result<Frame, Full>
+        ensures { IfOk result (IsLastFrame (lowering self.now)) }
+    {
         match self.frames.last() {
             Some(frame) => Ok(*frame),
             None => Err(Full::Misplaced),
@@ -154,32 +162,46 @@ impl Lowering<'_> {
     }
 
     /// Adds a side of a control in a scope, and returns its number. Its clock is the one around it.
-    pub fn add_side(&mut self, around: usize, control: Output, on: bool) -> Result<usize, Full> {
+    pub fn add_side(&mut self, around: usize, control: Output, on: bool) -> Result<usize, Full>
+        ensures { IfOk result (OpensSide (lowering self.old) (lowering self.new)
+            around control on) }
+    {
         let outer = self.drawing.scope(around)?;
-        self.drawing.add_scope(Scope {
+        let side = self.drawing.add_scope(Scope {
             region: outer.region,
             around,
             way: Way::Side(control, on),
             clock: outer.clock,
-        })
+        })?;
+        Ok(side)
     }
 
     /// The value of a name in a scope.
     pub fn value_of(&mut self, scope: usize, name: usize) -> Result<usize, Full>
-        ensures { IfOk result (λ v. IsNamed self.new.drawing
+        ensures named { IfOk result (λ v. IsNamed self.new.drawing
             self.old.names.bindings.items scope name v) }
+        ensures goes_on { OnOk result (GoesOn (lowering self.old) (lowering self.new)) }
     {
-        self.names.value_of(&mut self.drawing, scope, name)
+        let value = self.names.value_of(&mut self.drawing, scope, name)?;
+        Ok(value)
     }
 
     /// The value of a constant in the scope.
-    pub fn value_of_constant(&mut self, constant: &Constant) -> Result<usize, Full> {
-        self.names
-            .value_of_constant(&mut self.drawing, self.scope, constant)
+    pub fn value_of_constant(&mut self, constant: &Constant) -> Result<usize, Full>
+        ensures constant { IfOk result (λ v. HasConstant self.new.drawing
+            (known self.old.names) self.old.scope constant.now v) }
+        ensures goes_on { OnOk result (GoesOn (lowering self.old) (lowering self.new)) }
+    {
+        let value = self
+            .names
+            .value_of_constant(&mut self.drawing, self.scope, constant)?;
+        Ok(value)
     }
 
     /// Lets the statements that were added come from the node that is looked at.
-    pub fn note(&mut self) -> Result<(), Full> {
+    pub fn note(&mut self) -> Result<(), Full>
+        ensures { lowering self.new ≡ lowering self.old }
+    {
         self.names.note(&self.drawing)
     }
 
@@ -194,11 +216,14 @@ impl Lowering<'_> {
     }
 
     /// A parameter.
-    fn parameter(&mut self, number: usize) -> Result<(), Full> {
+    fn parameter(&mut self, number: usize) -> Result<(), Full>
+        ensures { OnOk result (TakesParameter (lowering self.old) (lowering self.new) number) }
+    {
         self.pop_spelled(number)?;
         let value = self.drawing.add_parameter()?;
         self.names.note_as(&self.drawing, number)?;
-        self.names.define(&self.drawing, 0, number, value)
+        self.names.define(&self.drawing, 0, number, value)?;
+        Ok(())
     }
 
     /// A procedure ends.
@@ -235,7 +260,9 @@ impl Lowering<'_> {
     }
 
     /// Goes on with a node of an `if`, a loop, a block or a procedure.
-    fn advance_whole(&mut self, form: Form, number: usize) -> Result<(), Full> {
+    fn advance_whole(&mut self, form: Form, number: usize) -> Result<(), Full>
+        ensures { OnOk result (IsWhole form number (lowering self.old) (lowering self.new)) }
+    {
         match form {
             Form::NoItems => self.open_block(number),
             Form::Block => self.close_block(number),

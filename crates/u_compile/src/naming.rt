@@ -1,8 +1,8 @@
 //! The values of names and constants in scopes.
-ghost use Rattle.std.specs.Prelude.{◌≡◌, [], ◌∷◌, ◌++◌, IfOk, IfSome, OnOk};
+ghost use Rattle.std.specs.Prelude.{◌≡◌, IfOk, IfSome, OnOk};
 ghost use Rattle.u_compile.specs.Scoped.{IsOf};
 ghost use Rattle.u_compile.specs.Drawings.{Grows};
-ghost use Rattle.u_compile.specs.Namings.{AddsNamed, Brings, IsNamed, IsWithin, a_binding};
+ghost use Rattle.u_compile.specs.Namings.{AddsNamed, Brings, HasConstant, IsNamed, IsRightAround, IsWithin, Learns, a_binding, a_constant, an_alias, known, with_alias, with_binding};
 
 use crate::drawing::{Drawing, Way};
 use crate::graph::Full;
@@ -64,11 +64,15 @@ pub(crate) struct Names {
 }
 
 /// The constant that a name is.
-fn constant_of(aliases: &[Alias], name: usize) -> Option<Constant> {
-    for alias in aliases {
+fn constant_of(aliases: &[Alias], name: usize) -> Option<Constant>
+    ensures { IfSome result (λ k. IsOf aliases.now (an_alias name k)) }
+{
+    let mut rest = aliases;
+    while let Some((alias, others)) = rest.split_first() {
         if alias.name == name {
             return Some(alias.constant);
         }
+        rest = others;
     }
     None
 }
@@ -88,11 +92,15 @@ fn bound(bindings: &[Binding], scope: usize, name: usize) -> Option<usize>
 }
 
 /// The value that a constant has in a scope.
-fn given(constants: &[ConstantBinding], scope: usize, constant: &Constant) -> Option<usize> {
-    for given in constants {
+fn given(constants: &[ConstantBinding], scope: usize, constant: &Constant) -> Option<usize>
+    ensures { IfSome result (λ v. IsOf constants.now (a_constant scope constant.now v)) }
+{
+    let mut rest = constants;
+    while let Some((given, others)) = rest.split_first() {
         if given.scope == scope && given.constant == *constant {
             return Some(given.value);
         }
+        rest = others;
     }
     None
 }
@@ -128,7 +136,9 @@ fn home(
 }
 
 /// Of the scopes in `outer` the one that `scope` is, or that is around it.
-fn towards(drawing: &Drawing, outer: usize, scope: usize) -> Result<usize, Full> {
+fn towards(drawing: &Drawing, outer: usize, scope: usize) -> Result<usize, Full>
+    ensures { IfOk result (λ s. IsRightAround drawing.now.scopes outer s) }
+{
     let mut at = scope;
     for _ in 0..=scope {
         let around = drawing.scope(at)?.around;
@@ -165,13 +175,15 @@ impl Names {
     }
 
     /// Lets statements come from this place from now on.
-    pub fn set_place(&mut self, place: Place) {
+    pub fn set_place(&mut self, place: Place)
+        ensures { known self.new ≡ known self.old }
+    {
         self.place = place;
     }
 
     /// Lets the statements that were added come from the place.
     pub fn note(&mut self, drawing: &Drawing) -> Result<(), Full>
-        ensures { self.new.bindings ≡ self.old.bindings }
+        ensures { known self.new ≡ known self.old }
     {
         self.notes.note(drawing.len(), self.place)?;
         Ok(())
@@ -179,7 +191,7 @@ impl Names {
 
     /// Lets the statements that were added come from the place, under the name that is known from that node.
     pub fn note_as(&mut self, drawing: &Drawing, name: usize) -> Result<(), Full>
-        ensures { self.new.bindings ≡ self.old.bindings }
+        ensures { known self.new ≡ known self.old }
     {
         let first = self.notes.len();
         self.note(drawing)?;
@@ -192,11 +204,9 @@ impl Names {
 
     /// Lets the statement that was added last, which reads a cell, come from the place, under the name of the structure:
     /// if that is no name, it gets none.
-    pub fn note_read(
-        &mut self,
-        drawing: &Drawing,
-        structure: Option<BlockName>,
-    ) -> Result<(), Full> {
+    pub fn note_read(&mut self, drawing: &Drawing, structure: Option<BlockName>) -> Result<(), Full>
+        ensures { known self.new ≡ known self.old }
+    {
         self.note(drawing)?;
         self.notes.settle(drawing.len(), structure)?;
         Ok(())
@@ -204,7 +214,7 @@ impl Names {
 
     /// Gives the statement that gives a value a name, if its name is not settled.
     fn name_value(&mut self, drawing: &Drawing, value: usize, text: &BlockName) -> Result<(), Full>
-        ensures { self.new.bindings ≡ self.old.bindings }
+        ensures { known self.new ≡ known self.old }
     {
         if let Some(output) = drawing.only_output(value)? {
             self.notes.settle(output.statement as usize, Some(*text))?;
@@ -214,15 +224,17 @@ impl Names {
 
     /// Gives a name its value in a scope.
     fn bind(&mut self, scope: usize, name: usize, value: usize) -> Result<(), Full>
-        ensures { OnOk result (self.new.bindings.items
-            ≡ self.old.bindings.items ++ (a_binding scope name value ∷ [])) }
+        ensures { OnOk result (known self.new
+            ≡ with_binding (known self.old) (a_binding scope name value)) }
     {
         self.bindings.push(Binding { scope, name, value })?;
         Ok(())
     }
 
     /// Says how a name is spelled.
-    pub fn spell(&mut self, name: usize, text: &BlockName) -> Result<(), Full> {
+    pub fn spell(&mut self, name: usize, text: &BlockName) -> Result<(), Full>
+        ensures { known self.new ≡ known self.old }
+    {
         self.spellings.push(Spelling { name, text: *text })?;
         Ok(())
     }
@@ -235,8 +247,8 @@ impl Names {
         name: usize,
         value: usize,
     ) -> Result<(), Full>
-        ensures { OnOk result (self.new.bindings.items
-            ≡ self.old.bindings.items ++ (a_binding scope name value ∷ [])) }
+        ensures { OnOk result (known self.new
+            ≡ with_binding (known self.old) (a_binding scope name value)) }
     {
         if let Some(text) = spelled(&self.spellings, name) {
             self.name_value(drawing, value, &text)?;
@@ -245,7 +257,10 @@ impl Names {
     }
 
     /// Lets a name be a constant.
-    pub fn alias(&mut self, name: usize, constant: &Constant) -> Result<(), Full> {
+    pub fn alias(&mut self, name: usize, constant: &Constant) -> Result<(), Full>
+        ensures { OnOk result (known self.new
+            ≡ with_alias (known self.old) (an_alias name constant.now)) }
+    {
         self.aliases.push(Alias {
             name,
             constant: *constant,
@@ -254,7 +269,9 @@ impl Names {
     }
 
     /// The constant that a name is.
-    pub fn constant_of(&self, name: usize) -> Option<Constant> {
+    pub fn constant_of(&self, name: usize) -> Option<Constant>
+        ensures { IfSome result (λ k. IsOf self.now.aliases.items (an_alias name k)) }
+    {
         constant_of(&self.aliases, name)
     }
 
@@ -266,9 +283,9 @@ impl Names {
         name: usize,
         value: usize,
     ) -> Result<usize, Full>
-        ensures brings { IfOk result (λ inner. Brings drawing.old drawing.new value inner) }
-        ensures bound { IfOk result (λ inner. self.new.bindings.items
-            ≡ self.old.bindings.items ++ (a_binding turn name inner ∷ [])) }
+        ensures brings { IfOk result (λ inner. Brings drawing.old drawing.new turn value inner) }
+        ensures bound { IfOk result (λ inner. known self.new
+            ≡ with_binding (known self.old) (a_binding turn name inner)) }
     {
         let Way::Turn(number) = drawing.scope(turn)?.way else {
             return Err(Full::Misplaced);
@@ -287,9 +304,9 @@ impl Names {
         name: usize,
         value: usize,
     ) -> Result<usize, Full>
-        ensures brings { IfOk result (λ inner. Brings drawing.old drawing.new value inner) }
-        ensures bound { IfOk result (λ inner. self.new.bindings.items
-            ≡ self.old.bindings.items ++ (a_binding side name inner ∷ [])) }
+        ensures brings { IfOk result (λ inner. Brings drawing.old drawing.new side value inner) }
+        ensures bound { IfOk result (λ inner. known self.new
+            ≡ with_binding (known self.old) (a_binding side name inner)) }
     {
         let Way::Side(control, on) = drawing.scope(side)?.way else {
             return Err(Full::Misplaced);
@@ -308,9 +325,9 @@ impl Names {
         name: usize,
         value: usize,
     ) -> Result<usize, Full>
-        ensures brings { IfOk result (λ inner. Brings drawing.old drawing.new value inner) }
-        ensures bound { IfOk result (λ inner. self.new.bindings.items
-            ≡ self.old.bindings.items ++ (a_binding scope name inner ∷ [])) }
+        ensures brings { IfOk result (λ inner. Brings drawing.old drawing.new scope value inner) }
+        ensures bound { IfOk result (λ inner. known self.new
+            ≡ with_binding (known self.old) (a_binding scope name inner)) }
     {
         match drawing.scope(scope)?.way {
             Way::Procedure => Err(Full::Misplaced),
@@ -329,8 +346,8 @@ impl Names {
         ensures grows { OnOk result (Grows drawing.old drawing.new) }
         ensures named { IfOk result
             (λ v. IsNamed drawing.new self.old.bindings.items scope name v) }
-        ensures adds { OnOk result (AddsNamed drawing.new self.old.bindings.items
-            self.new.bindings.items scope name) }
+        ensures adds { OnOk result
+            (AddsNamed drawing.new (known self.old) (known self.new) name) }
     {
         let (mut at, mut value) = home(&self.bindings, drawing, scope, name)?;
         'inwards: for _ in 0..=scope {
@@ -343,16 +360,18 @@ impl Names {
         Err(Full::Misplaced)
     }
 
-    /// The value of a constant in a scope.
-    pub fn value_of_constant(
+    /// Adds a constant in a scope, and returns its value. It comes where the scope's clock comes.
+    fn add_constant(
         &mut self,
         drawing: &mut Drawing,
         scope: usize,
         constant: &Constant,
-    ) -> Result<usize, Full> {
-        if let Some(value) = given(&self.constants, scope, constant) {
-            return Ok(value);
-        }
+    ) -> Result<usize, Full>
+        ensures grows { OnOk result (Grows drawing.old drawing.new) }
+        ensures constant { IfOk result
+            (λ v. HasConstant drawing.new (known self.old) scope constant.now v) }
+        ensures learns { OnOk result (Learns drawing.new (known self.old) (known self.new)) }
+    {
         let clock = drawing.scope(scope)?.clock;
         let trigger = self.value_of(drawing, scope, clock)?;
         let value = drawing.add_unary(scope, &Kind::Const(*constant), trigger)?;
@@ -363,5 +382,23 @@ impl Names {
             value,
         })?;
         Ok(value)
+    }
+
+    /// The value of a constant in a scope.
+    pub fn value_of_constant(
+        &mut self,
+        drawing: &mut Drawing,
+        scope: usize,
+        constant: &Constant,
+    ) -> Result<usize, Full>
+        ensures grows { OnOk result (Grows drawing.old drawing.new) }
+        ensures constant { IfOk result
+            (λ v. HasConstant drawing.new (known self.old) scope constant.now v) }
+        ensures learns { OnOk result (Learns drawing.new (known self.old) (known self.new)) }
+    {
+        match given(&self.constants, scope, constant) {
+            Some(value) => Ok(value),
+            None => self.add_constant(drawing, scope, constant),
+        }
     }
 }

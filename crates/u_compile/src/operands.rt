@@ -1,6 +1,11 @@
 //! The lowering of operators, calls, cells and definitions.
-ghost use Rattle.std.specs.Prelude.{IfOk};
+ghost use Rattle.std.specs.Prelude.{◌≡◌, [], ◌∷◌, reverse, Some, IfOk, IfSome, OnOk, pos, neg_ℤ};
+ghost use Rattle.u_program.specs.declared.program.Kind.TheVariants as kinds;
+ghost use Rattle.u_compile.specs.declared.lowering.Operand.TheVariants as operands;
 ghost use Rattle.u_compile.specs.Namings.{IsUsed};
+ghost use Rattle.u_compile.specs.Definitions.{Defines, DefinesConstant, PopsName};
+ghost use Rattle.u_compile.specs.Steps.{IsItem};
+ghost use Rattle.u_compile.specs.Operands.{AreOperands, ArePopped, GoesOn, IsAtom, IsOperand, IsPopped, IsWritten, Negates, Operates, Pops, Pushes, Reads, TakesCall, TakesOne, TakesSwapped, TakesTwo, Writes, lowering, scene, with_operand};
 
 use crate::graph::Full;
 use crate::lowering::{Frame, Lowering, Operand};
@@ -14,7 +19,9 @@ use u_value::{BinaryOperator, UnaryOperator};
 const TOP: u64 = 1 << 63;
 
 /// A number below 2^63.
-fn positive(number: u64) -> Option<i64> {
+fn positive(number: u64) -> Option<i64>
+    ensures { IfSome result (λ i. i ≡ pos number) }
+{
     if number < TOP {
         Some(number as i64)
     } else {
@@ -23,7 +30,9 @@ fn positive(number: u64) -> Option<i64> {
 }
 
 /// A number of at most 2^63 with a minus before it.
-fn negative(number: u64) -> Option<i64> {
+fn negative(number: u64) -> Option<i64>
+    ensures { IfSome result (λ i. i ≡ neg_ℤ (pos number)) }
+{
     if number == TOP {
         return Some(i64::MIN);
     }
@@ -33,17 +42,21 @@ fn negative(number: u64) -> Option<i64> {
     }
 }
 
-/// The constant that is the number, if there is one.
-fn constant_number(number: Option<i64>) -> Result<Option<Constant>, Full> {
+/// The number, which is there.
+fn there(number: Option<i64>) -> Result<i64, Full>
+    ensures { IfOk result (λ i. number ≡ Some i) }
+{
     match number {
-        Some(number) => Ok(Some(Constant::Int(number))),
+        Some(number) => Ok(number),
         None => Err(Full::Misplaced),
     }
 }
 
 impl Lowering<'_> {
     /// What waits last for its use.
-    pub fn pop(&mut self) -> Result<Operand, Full> {
+    pub fn pop(&mut self) -> Result<Operand, Full>
+        ensures { IfOk result (IsPopped (lowering self.old) (lowering self.new)) }
+    {
         match self.operands.pop() {
             Some(operand) => Ok(operand),
             None => Err(Full::Misplaced),
@@ -51,7 +64,10 @@ impl Lowering<'_> {
     }
 
     /// Lets a value wait for its use.
-    pub fn push(&mut self, value: usize) -> Result<(), Full> {
+    pub fn push(&mut self, value: usize) -> Result<(), Full>
+        ensures { OnOk result (lowering self.new
+            ≡ with_operand (lowering self.old) (operands.Value value)) }
+    {
         self.operands.push(Operand::Value(value))?;
         Ok(())
     }
@@ -66,16 +82,22 @@ impl Lowering<'_> {
 
     /// The name that waits last for its use, as that which is known from this node. Statements come from its place from
     /// now on.
-    pub fn pop_spelled(&mut self, name: usize) -> Result<(), Full> {
+    pub fn pop_spelled(&mut self, name: usize) -> Result<(), Full>
+        ensures { OnOk result (PopsName (lowering self.old) (lowering self.new)) }
+    {
         let Operand::Atom(number) = self.pop()? else {
             return Err(Full::Misplaced);
         };
         self.names.set_place(self.tree.place_of(number));
-        self.names.spell(name, &self.tree.name_of(number)?)
+        self.names.spell(name, &self.tree.name_of(number)?)?;
+        Ok(())
     }
 
     /// The constant that a name is.
-    fn constant_of(&self, number: usize) -> Result<Option<Constant>, Full> {
+    fn constant_of(&self, number: usize) -> Result<Option<Constant>, Full>
+        ensures { IfOk result (λ o. IfSome o (IsWritten self.now.tree.now
+            self.now.names.aliases.items number)) }
+    {
         match self.tree.meaning(number)? {
             Meaning::Procedure(_) => Ok(Some(Constant::Proc(self.tree.name_of(number)?))),
             Meaning::Name(name) => Ok(self.names.constant_of(name)),
@@ -84,12 +106,21 @@ impl Lowering<'_> {
     }
 
     /// The constant that an atom is.
-    fn constant(&self, number: usize) -> Result<Option<Constant>, Full> {
+    fn constant(&self, number: usize) -> Result<Option<Constant>, Full>
+        ensures { IfOk result (λ o. IfSome o (IsWritten self.now.tree.now
+            self.now.names.aliases.items number)) }
+    {
         match self.tree.form(number)? {
             Form::True => Ok(Some(Constant::Bool(true))),
             Form::False => Ok(Some(Constant::Bool(false))),
-            Form::Number => constant_number(positive(self.tree.number_of(number)?)),
-            Form::Negative => constant_number(negative(self.tree.number_of(number)?)),
+            Form::Number => {
+                let value = there(positive(self.tree.number_of(number)?))?;
+                Ok(Some(Constant::Int(value)))
+            }
+            Form::Negative => {
+                let value = there(negative(self.tree.number_of(number)?))?;
+                Ok(Some(Constant::Int(value)))
+            }
             Form::Name => self.constant_of(number),
             _ => Err(Full::Misplaced),
         }
@@ -97,25 +128,41 @@ impl Lowering<'_> {
 
     /// The value of a name that is used in the scope, and is no constant.
     fn value_of_use(&mut self, number: usize) -> Result<usize, Full>
-        ensures { IfOk result (λ v. IsUsed self.old.tree.now.meanings.now self.new.drawing
-            self.old.names.bindings.items self.old.scope number v) }
+        ensures used { IfOk result (λ v. IsUsed self.old.tree.now.meanings.now
+            self.new.drawing self.old.names.bindings.items self.old.scope number v) }
+        ensures goes_on { OnOk result (GoesOn (lowering self.old) (lowering self.new)) }
     {
         match self.tree.meaning(number)? {
-            Meaning::Name(name) => self.value_of(self.scope, name),
+            Meaning::Name(name) => {
+                let value = self.value_of(self.scope, name)?;
+                Ok(value)
+            }
             _ => Err(Full::Misplaced),
         }
     }
 
     /// The value of an atom in the scope.
-    fn value_of_atom(&mut self, number: usize) -> Result<usize, Full> {
+    fn value_of_atom(&mut self, number: usize) -> Result<usize, Full>
+        ensures atom { IfOk result (IsAtom (scene self.old) self.new.drawing number) }
+        ensures goes_on { OnOk result (GoesOn (lowering self.old) (lowering self.new)) }
+    {
         match self.constant(number)? {
-            Some(constant) => self.value_of_constant(&constant),
-            None => self.value_of_use(number),
+            Some(constant) => {
+                let value = self.value_of_constant(&constant)?;
+                Ok(value)
+            }
+            None => {
+                let value = self.value_of_use(number)?;
+                Ok(value)
+            }
         }
     }
 
     /// The value of an operand in the scope. The statements that it takes come from the operand's place.
-    pub fn resolve(&mut self, operand: Operand) -> Result<usize, Full> {
+    pub fn resolve(&mut self, operand: Operand) -> Result<usize, Full>
+        ensures is { IfOk result (IsOperand (scene self.old) self.new.drawing operand) }
+        ensures goes_on { OnOk result (GoesOn (lowering self.old) (lowering self.new)) }
+    {
         match operand {
             Operand::Value(value) => Ok(value),
             Operand::Arguments => Err(Full::Misplaced),
@@ -130,13 +177,19 @@ impl Lowering<'_> {
     }
 
     /// The value that waits last for its use.
-    pub fn pop_value(&mut self) -> Result<usize, Full> {
+    pub fn pop_value(&mut self) -> Result<usize, Full>
+        ensures { IfOk result (λ v. Pops (lowering self.old) (lowering self.new) (v ∷ [])) }
+    {
         let operand = self.pop()?;
-        self.resolve(operand)
+        let value = self.resolve(operand)?;
+        Ok(value)
     }
 
     /// The two values that wait last for their use.
-    pub fn pop_two(&mut self) -> Result<(usize, usize), Full> {
+    pub fn pop_two(&mut self) -> Result<(usize, usize), Full>
+        ensures { IfOk result (λ p. Pops (lowering self.old) (lowering self.new)
+            (p.0 ∷ p.1 ∷ [])) }
+    {
         let right = self.pop()?;
         let left = self.pop()?;
         let left = self.resolve(left)?;
@@ -145,37 +198,62 @@ impl Lowering<'_> {
     }
 
     /// A statement of one port.
-    fn unary(&mut self, kind: &Kind) -> Result<(), Full> {
+    fn unary(&mut self, kind: &Kind) -> Result<(), Full>
+        ensures { OnOk result (TakesOne kind.now (lowering self.old) (lowering self.new)) }
+    {
         let value = self.pop_value()?;
-        let value = self.drawing.add_unary(self.scope, kind, value)?;
+        self.add_unary(kind, value)?;
+        Ok(())
+    }
+
+    /// Adds a statement of one port.
+    fn add_unary(&mut self, kind: &Kind, value: usize) -> Result<(), Full>
+        ensures { OnOk result (Pushes (lowering self.old) (lowering self.new) kind.now
+            (value ∷ [])) }
+    {
+        let given = self.drawing.add_unary(self.scope, kind, value)?;
         self.note()?;
-        self.push(value)
+        self.push(given)?;
+        Ok(())
     }
 
     /// Adds a statement of two ports.
-    pub fn add_binary(&mut self, kind: &Kind, left: usize, right: usize) -> Result<(), Full> {
+    pub fn add_binary(&mut self, kind: &Kind, left: usize, right: usize) -> Result<(), Full>
+        ensures { OnOk result (Pushes (lowering self.old) (lowering self.new) kind.now
+            (left ∷ right ∷ [])) }
+    {
         let value = self.drawing.add_binary(self.scope, kind, left, right)?;
         self.note()?;
-        self.push(value)
+        self.push(value)?;
+        Ok(())
     }
 
     /// A statement of two ports.
-    fn binary(&mut self, kind: &Kind) -> Result<(), Full> {
+    fn binary(&mut self, kind: &Kind) -> Result<(), Full>
+        ensures { OnOk result (TakesTwo kind.now (lowering self.old) (lowering self.new)) }
+    {
         let (left, right) = self.pop_two()?;
-        self.add_binary(kind, left, right)
+        self.add_binary(kind, left, right)?;
+        Ok(())
     }
 
     /// A statement of two ports, which gets its operands the other way round.
-    fn swapped(&mut self, kind: &Kind) -> Result<(), Full> {
+    fn swapped(&mut self, kind: &Kind) -> Result<(), Full>
+        ensures { OnOk result (TakesSwapped kind.now (lowering self.old) (lowering self.new)) }
+    {
         let (left, right) = self.pop_two()?;
-        self.add_binary(kind, right, left)
+        self.add_binary(kind, right, left)?;
+        Ok(())
     }
 
     /// A number taken from 0.
-    fn negate(&mut self) -> Result<(), Full> {
+    fn negate(&mut self) -> Result<(), Full>
+        ensures { OnOk result (Negates (lowering self.old) (lowering self.new)) }
+    {
         let value = self.pop_value()?;
         let zero = self.value_of_constant(&Constant::Int(0))?;
-        self.add_binary(&Kind::Binary(BinaryOperator::Sub), zero, value)
+        self.add_binary(&Kind::Binary(BinaryOperator::Sub), zero, value)?;
+        Ok(())
     }
 
     /// The name that waits before the index of a cell, if it is a name that waits there.
@@ -192,40 +270,55 @@ impl Lowering<'_> {
     }
 
     /// A cell that is read. The array and the index of one that is written wait on.
-    fn index(&mut self, number: usize) -> Result<(), Full> {
-        let parent = self.tree.parent(number)?;
-        if self.tree.form(parent)? == Form::Write && number.checked_add(1) != Some(parent) {
+    fn index(&mut self, number: usize) -> Result<(), Full>
+        ensures { OnOk result (Reads number (lowering self.old) (lowering self.new)) }
+    {
+        if self.tree.is_cell_written(number)? {
             return Ok(());
         }
+        self.read()?;
+        Ok(())
+    }
+
+    /// A cell that is read.
+    fn read(&mut self) -> Result<(), Full>
+        ensures { OnOk result (TakesTwo kinds.Fetch (lowering self.old) (lowering self.new)) }
+    {
         let structure = self.structure()?;
         let (array, index) = self.pop_two()?;
+        self.add_read(structure, array, index)?;
+        Ok(())
+    }
+
+    /// Adds a statement that reads a cell of a structure, under its name if it is one.
+    fn add_read(
+        &mut self,
+        structure: Option<BlockName>,
+        array: usize,
+        index: usize,
+    ) -> Result<(), Full>
+        ensures { OnOk result (Pushes (lowering self.old) (lowering self.new) kinds.Fetch
+            (array ∷ index ∷ [])) }
+    {
         let value = self
             .drawing
             .add_binary(self.scope, &Kind::Fetch, array, index)?;
         self.names.note_read(&self.drawing, structure)?;
-        self.push(value)
+        self.push(value)?;
+        Ok(())
     }
 
     /// A cell that is written.
-    fn write(&mut self) -> Result<(), Full> {
+    fn write(&mut self) -> Result<(), Full>
+        ensures { OnOk result (Writes (lowering self.old) (lowering self.new)) }
+    {
         let value = self.pop()?;
         let (array, index) = self.pop_two()?;
         let value = self.resolve(value)?;
         self.drawing
             .add_ternary(self.scope, &Kind::Store, array, index, value)?;
-        self.note()
-    }
-
-    /// How many operands wait behind the last beginning of arguments.
-    fn count_arguments(&self) -> Result<usize, Full> {
-        let mut count: usize = 0;
-        for operand in self.operands.iter().rev() {
-            if matches!(operand, Operand::Arguments) {
-                return Ok(count);
-            }
-            count = count.saturating_add(1);
-        }
-        Err(Full::Misplaced)
+        self.note()?;
+        Ok(())
     }
 
     /// What waits behind so many operands.
@@ -236,37 +329,55 @@ impl Lowering<'_> {
         }
     }
 
-    /// The values of the arguments that wait behind so many operands.
-    fn arguments(&mut self, before: usize) -> Result<Vec<usize>, Full> {
-        let mut arguments: Vec<usize> = Vec::new(self.alloc);
-        for number in before..self.operands.len() {
-            let operand = self.operand(number)?;
-            let argument = self.resolve(operand)?;
-            arguments.push(argument)?;
+    /// The operands that wait behind the last beginning of arguments, the last one first.
+    fn pop_arguments(&mut self) -> Result<Vec<Operand>, Full>
+        ensures { IfOk result (λ os. ArePopped (lowering self.old) (lowering self.new) os.items) }
+    {
+        let mut taken: Vec<Operand> = Vec::new(self.alloc);
+        'taking: for _ in 0..self.operands.len() {
+            let operand = self.pop()?;
+            if let Operand::Arguments = operand {
+                return Ok(taken);
+            }
+            taken.push(operand)?;
         }
-        Ok(arguments)
+        Err(Full::Misplaced)
+    }
+
+    /// The values of operands that were taken, the last one first. The first one is looked at first.
+    fn resolve_all(&mut self, taken: Vec<Operand>) -> Result<Vec<usize>, Full>
+        ensures are { IfOk result (λ vs. AreOperands (scene self.old) self.new.drawing
+            (reverse taken.items) vs.items) }
+        ensures goes_on { OnOk result (GoesOn (lowering self.old) (lowering self.new)) }
+    {
+        let mut waiting = taken;
+        let mut values: Vec<usize> = Vec::new(self.alloc);
+        'resolving: while let Some(operand) = waiting.pop() {
+            let value = self.resolve(operand)?;
+            values.push(value)?;
+        }
+        Ok(values)
     }
 
     /// A call: what is called, and the arguments.
-    fn call(&mut self) -> Result<(), Full> {
-        let count = self.count_arguments()?;
-        let Some(before) = self.operands.len().checked_sub(count) else {
-            return Err(Full::Misplaced);
-        };
-        let Some(callee) = before.checked_sub(2) else {
-            return Err(Full::Misplaced);
-        };
-        let operand = self.operand(callee)?;
-        let procedure = self.resolve(operand)?;
-        let arguments = self.arguments(before)?;
-        self.operands.truncate(callee);
+    fn call(&mut self) -> Result<(), Full>
+        ensures { OnOk result (TakesCall (lowering self.old) (lowering self.new)) }
+    {
+        let taken = self.pop_arguments()?;
+        let callee = self.pop()?;
+        let procedure = self.resolve(callee)?;
+        let arguments = self.resolve_all(taken)?;
         let value = self.drawing.add_call(self.scope, procedure, &arguments)?;
         self.note()?;
-        self.push(value)
+        self.push(value)?;
+        Ok(())
     }
 
     /// A definition of a name that is a constant, if the operand is one.
-    fn define_constant(&mut self, number: usize, operand: Operand) -> Result<bool, Full> {
+    fn define_constant(&mut self, number: usize, operand: Operand) -> Result<bool, Full>
+        ensures { IfOk result (DefinesConstant (lowering self.old) (lowering self.new)
+            number operand) }
+    {
         let Operand::Atom(atom) = operand else {
             return Ok(false);
         };
@@ -280,14 +391,17 @@ impl Lowering<'_> {
     }
 
     /// A definition.
-    fn define(&mut self, number: usize) -> Result<(), Full> {
+    fn define(&mut self, number: usize) -> Result<(), Full>
+        ensures { OnOk result (Defines (lowering self.old) (lowering self.new) number) }
+    {
         let operand = self.pop()?;
         self.pop_spelled(number)?;
         if self.define_constant(number, operand)? {
             return Ok(());
         }
         let value = self.resolve(operand)?;
-        self.names.define(&self.drawing, self.scope, number, value)
+        self.names.define(&self.drawing, self.scope, number, value)?;
+        Ok(())
     }
 
     /// The next value of a loop variable.
@@ -306,7 +420,9 @@ impl Lowering<'_> {
     }
 
     /// Goes on with a node of an operator, if it is one.
-    pub fn advance_operator(&mut self, form: Form) -> Result<(), Full> {
+    pub fn advance_operator(&mut self, form: Form) -> Result<(), Full>
+        ensures { OnOk result (Operates form (lowering self.old) (lowering self.new)) }
+    {
         match form {
             Form::Or => self.binary(&Kind::Binary(BinaryOperator::Or)),
             Form::And => self.binary(&Kind::Binary(BinaryOperator::And)),
@@ -332,13 +448,20 @@ impl Lowering<'_> {
         }
     }
 
+    /// Lets an operand wait for its use.
+    fn wait(&mut self, operand: Operand) -> Result<(), Full>
+        ensures { OnOk result (lowering self.new ≡ with_operand (lowering self.old) operand) }
+    {
+        self.operands.push(operand)?;
+        Ok(())
+    }
+
     /// Goes on with a node of an atom, a cell, a call or an item.
-    pub fn advance_item(&mut self, form: Form, number: usize) -> Result<(), Full> {
+    pub fn advance_item(&mut self, form: Form, number: usize) -> Result<(), Full>
+        ensures { OnOk result (IsItem form number (lowering self.old) (lowering self.new)) }
+    {
         match form {
-            Form::NoArguments => {
-                self.operands.push(Operand::Arguments)?;
-                Ok(())
-            }
+            Form::NoArguments => self.wait(Operand::Arguments),
             Form::Index => self.index(number),
             Form::Call => self.call(),
             Form::Write => self.write(),
@@ -348,10 +471,7 @@ impl Lowering<'_> {
             }
             Form::Define => self.define(number),
             Form::Next => self.next(),
-            _ => {
-                self.operands.push(Operand::Atom(number))?;
-                Ok(())
-            }
+            _ => self.wait(Operand::Atom(number)),
         }
     }
 }

@@ -1,7 +1,7 @@
 //! Graphs with what was noted of their statements and loops: what is put into one lies well.
 ghost use Rattle.std.specs.Prelude.{◌≡◌, ◌⊎◌, ◌+◌, ◌≤◌, ℕ, [], ◌∷◌, ◌++◌, cond, length, Some, IfOk, IfSome, IsTrue, MatchResult, false, true};
 ghost use Rattle.u_compile.specs.Drafts.{DraftParts, draft};
-ghost use Rattle.u_compile.specs.Graphs.{graph, link, draft_at, enters};
+ghost use Rattle.u_compile.specs.Graphs.{graph, link, draft_at, enters, is_enter};
 ghost use Rattle.u_check.specs.Kinds.{comes_from_outside, back_named};
 ghost use Rattle.u_program.specs.Limits.{IsBlockOf, limits_of};
 ghost use Rattle.u_program.specs.declared.program.Version.TheVariants as versions;
@@ -336,7 +336,9 @@ impl Noted {
     }
 
     /// Whether the output is that of an `enter`.
-    pub fn is_entered(&self, output: Output) -> bool {
+    pub fn is_entered(&self, output: Output) -> bool
+        ensures { result ≡ is_enter (draft_at self.now.graph.statements output.statement) }
+    {
         self.graph.is_entered(output)
     }
 

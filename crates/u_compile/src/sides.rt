@@ -1,4 +1,7 @@
 //! The lowering of `if`.
+ghost use Rattle.std.specs.Prelude.{◌≡◌, OnOk};
+ghost use Rattle.u_compile.specs.Operands.{lowering};
+ghost use Rattle.u_compile.specs.Sides.{ClosesElse, ClosesFirst, ClosesIf, ClosesOther, ClosesSide, ClosesSides, Joins, KeepsGate, OpensElse, OpensIf, OpensSides, Selects, left_side};
 
 use crate::graph::Full;
 use crate::lowering::{Frame, Lowering, Sides};
@@ -6,12 +9,22 @@ use u_program::Kind;
 
 impl Lowering<'_> {
     /// The first side of an `if` that ends with node `whole` begins.
-    pub fn open_if(&mut self, number: usize, whole: usize) -> Result<(), Full> {
+    pub fn open_if(&mut self, number: usize, whole: usize) -> Result<(), Full>
+        ensures { OnOk result (OpensIf (lowering self.old) (lowering self.new)) }
+    {
         let value = self.pop_value()?;
         if self.tree.is_choice(number, whole) && self.tree.is_wanted(whole)? {
             self.frames.push(Frame::Choice(value))?;
             return Ok(());
         }
+        self.open_sides(value)?;
+        Ok(())
+    }
+
+    /// The first side of an `if` with scopes of their own begins, where the value is true.
+    fn open_sides(&mut self, value: usize) -> Result<(), Full>
+        ensures { OnOk result (OpensSides value (lowering self.old) (lowering self.new)) }
+    {
         let around = self.scope;
         let control = self.drawing.control(around, value)?;
         self.note()?;
@@ -25,24 +38,36 @@ impl Lowering<'_> {
     }
 
     /// The first side of an `if` ends.
-    pub fn close_first(&mut self, whole: usize) -> Result<(), Full> {
-        match self.pop_frame()? {
-            Frame::Choice(value) => {
-                self.frames.push(Frame::Choice(value))?;
-                Ok(())
-            }
-            Frame::Sides(sides) => self.close_side(sides, whole),
-            _ => Err(Full::Misplaced),
+    pub fn close_first(&mut self, whole: usize) -> Result<(), Full>
+        ensures { OnOk result (ClosesFirst (lowering self.old) (lowering self.new)) }
+    {
+        if let Frame::Choice(_) = self.last_frame()? {
+            return Ok(());
         }
+        let Frame::Sides(sides) = self.pop_frame()? else {
+            return Err(Full::Misplaced);
+        };
+        self.close_side(sides, whole)?;
+        Ok(())
     }
 
     /// The first side of an `if` with scopes of their own ends.
-    fn close_side(&mut self, sides: Sides, whole: usize) -> Result<(), Full> {
-        let first = if self.tree.is_wanted(whole)? {
-            Some(self.pop_value()?)
-        } else {
-            None
-        };
+    fn close_side(&mut self, sides: Sides, whole: usize) -> Result<(), Full>
+        ensures { OnOk result (ClosesSide sides (lowering self.old) (lowering self.new)) }
+    {
+        if self.tree.is_wanted(whole)? {
+            let value = self.pop_value()?;
+            self.leave_side(sides, Some(value))?;
+            return Ok(());
+        }
+        self.leave_side(sides, None)?;
+        Ok(())
+    }
+
+    /// The scope around sides is gone through. The first one has this value, if it is wanted.
+    fn leave_side(&mut self, sides: Sides, first: Option<usize>) -> Result<(), Full>
+        ensures { OnOk result (lowering self.new ≡ left_side (lowering self.old) sides first) }
+    {
         self.frames.push(Frame::Sides(Sides {
             control: sides.control,
             around: sides.around,
@@ -53,7 +78,9 @@ impl Lowering<'_> {
     }
 
     /// An `else` begins.
-    pub fn open_else(&mut self) -> Result<(), Full> {
+    pub fn open_else(&mut self) -> Result<(), Full>
+        ensures { OnOk result (OpensElse (lowering self.old) (lowering self.new)) }
+    {
         match self.last_frame()? {
             Frame::Choice(_) => Ok(()),
             Frame::Sides(sides) => {
@@ -65,48 +92,97 @@ impl Lowering<'_> {
     }
 
     /// An `else` ends, the node with this number.
-    pub fn close_else(&mut self, number: usize) -> Result<(), Full> {
-        let around = match self.last_frame()? {
-            Frame::Choice(_) => return Ok(()),
-            Frame::Sides(sides) => sides.around,
-            _ => return Err(Full::Misplaced),
-        };
+    pub fn close_else(&mut self, number: usize) -> Result<(), Full>
+        ensures { OnOk result (ClosesElse (lowering self.old) (lowering self.new)) }
+    {
+        match self.last_frame()? {
+            Frame::Choice(_) => Ok(()),
+            Frame::Sides(sides) => {
+                self.close_other(sides, number)?;
+                Ok(())
+            }
+            _ => Err(Full::Misplaced),
+        }
+    }
+
+    /// The other side of an `if` with scopes of their own ends, with the `else` that has this number.
+    fn close_other(&mut self, sides: Sides, number: usize) -> Result<(), Full>
+        ensures { OnOk result (ClosesOther sides (lowering self.old) (lowering self.new)) }
+    {
         let whole = self.tree.parent(number)?;
         if self.tree.is_wanted(whole)? {
             let value = self.pop_value()?;
             self.push(value)?;
+            self.scope = sides.around;
+            return Ok(());
         }
-        self.scope = around;
+        self.scope = sides.around;
         Ok(())
     }
 
     /// An `if` ends.
-    pub fn close_if(&mut self) -> Result<(), Full> {
+    pub fn close_if(&mut self) -> Result<(), Full>
+        ensures { OnOk result (ClosesIf (lowering self.old) (lowering self.new)) }
+    {
         match self.pop_frame()? {
-            Frame::Choice(control) => self.close_choice(control),
-            Frame::Sides(sides) => self.close_sides(sides),
+            Frame::Choice(control) => {
+                self.close_choice(control)?;
+                Ok(())
+            }
+            Frame::Sides(sides) => {
+                self.close_sides(sides)?;
+                Ok(())
+            }
             _ => Err(Full::Misplaced),
         }
     }
 
     /// An `if` that chooses one of two values ends.
-    fn close_choice(&mut self, control: usize) -> Result<(), Full> {
+    fn close_choice(&mut self, control: usize) -> Result<(), Full>
+        ensures { OnOk result (Selects control (lowering self.old) (lowering self.new)) }
+    {
         let (left, right) = self.pop_two()?;
         let value = self
             .drawing
             .add_ternary(self.scope, &Kind::Select, control, left, right)?;
         self.note()?;
-        self.push(value)
+        self.push(value)?;
+        Ok(())
     }
 
-    /// An `if` with scopes of their own ends. Its control has a gate, so that it is looked at.
-    fn close_sides(&mut self, sides: Sides) -> Result<(), Full> {
-        if let Some(left) = sides.first {
-            let right = self.pop_value()?;
-            let value = self.drawing.merge(left, right)?;
-            self.push(value)?;
+    /// An `if` with scopes of their own ends.
+    fn close_sides(&mut self, sides: Sides) -> Result<(), Full>
+        ensures { OnOk result (ClosesSides sides (lowering self.old) (lowering self.new)) }
+    {
+        match sides.first {
+            Some(left) => {
+                self.join(left)?;
+                self.keep_gate(sides)?;
+                Ok(())
+            }
+            None => {
+                self.keep_gate(sides)?;
+                Ok(())
+            }
         }
+    }
+
+    /// The value of the first side, and that of the other one, which waits, become one.
+    fn join(&mut self, left: usize) -> Result<(), Full>
+        ensures { OnOk result (Joins left (lowering self.old) (lowering self.new)) }
+    {
+        let right = self.pop_value()?;
+        let value = self.drawing.merge(left, right)?;
+        self.push(value)?;
+        Ok(())
+    }
+
+    /// The control of sides has a gate, so that it is looked at.
+    fn keep_gate(&mut self, sides: Sides) -> Result<(), Full>
+        ensures { OnOk result (KeepsGate (lowering self.old) (lowering self.new)) }
+    {
         self.drawing.keep_gate(sides.around, sides.control)?;
-        self.note()
+        self.note()?;
+        Ok(())
     }
 }

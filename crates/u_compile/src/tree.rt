@@ -1,5 +1,7 @@
 //! What stands around the nodes of a syntax tree.
-ghost use Rattle.std.specs.Prelude.{◌≡◌, slice_get, Some, IfOk};
+ghost use Rattle.std.specs.Prelude.{◌≡◌, ◌↔◌, slice_get, Some, IfOk, IsTrue};
+ghost use Rattle.u_source.specs.declared.token.Word.TheVariants as words;
+ghost use Rattle.u_compile.specs.Operands.{HasForm, IsAtWord, IsCellWritten};
 
 use crate::graph::Full;
 use std::alloc::Global;
@@ -161,7 +163,9 @@ impl<'a> Tree<'a> {
     }
 
     /// The node with this number.
-    pub fn node(&self, number: usize) -> Result<Node, Full> {
+    pub fn node(&self, number: usize) -> Result<Node, Full>
+        ensures { IfOk result (λ n. slice_get self.now.nodes.now number ≡ Some n) }
+    {
         match self.nodes.get(number) {
             Some(node) => Ok(*node),
             None => Err(Full::Misplaced),
@@ -169,7 +173,9 @@ impl<'a> Tree<'a> {
     }
 
     /// The form of the node with this number.
-    pub fn form(&self, number: usize) -> Result<Form, Full> {
+    pub fn form(&self, number: usize) -> Result<Form, Full>
+        ensures { IfOk result (λ form. HasForm self.now number form) }
+    {
         match self.nodes.get(number) {
             Some(node) => Ok(node.form),
             None => Err(Full::Misplaced),
@@ -177,11 +183,22 @@ impl<'a> Tree<'a> {
     }
 
     /// The parent of the node with this number; of the root, the root.
-    pub fn parent(&self, number: usize) -> Result<usize, Full> {
+    pub fn parent(&self, number: usize) -> Result<usize, Full>
+        ensures { IfOk result (λ p. slice_get self.now.parents.items number ≡ Some p) }
+    {
         match self.parents.get(number) {
             Some(parent) => Ok(*parent),
             None => Err(Full::Misplaced),
         }
+    }
+
+    /// Whether the cell that the node is, is written: it is the first child of a write.
+    pub fn is_cell_written(&self, number: usize) -> Result<bool, Full>
+        ensures { IfOk result (λ b. IsTrue b ↔ IsCellWritten self.now number) }
+    {
+        let parent = self.parent(number)?;
+        let form = self.form(parent)?;
+        Ok(form == Form::Write && number.checked_add(1) != Some(parent))
     }
 
     /// Whether the value of the node with this number is wanted, if it is an `if`, a loop or a block.
@@ -254,7 +271,9 @@ impl<'a> Tree<'a> {
     }
 
     /// The name that a node is.
-    pub fn name_of(&self, number: usize) -> Result<BlockName, Full> {
+    pub fn name_of(&self, number: usize) -> Result<BlockName, Full>
+        ensures { IfOk result (λ name. IsAtWord self.now number (words.Name name)) }
+    {
         let node = self.node(number)?;
         match self.tokens.get(node.token) {
             Some(token) => match token.word() {
@@ -266,7 +285,9 @@ impl<'a> Tree<'a> {
     }
 
     /// The number that a node is, without its sign.
-    pub fn number_of(&self, number: usize) -> Result<u64, Full> {
+    pub fn number_of(&self, number: usize) -> Result<u64, Full>
+        ensures { IfOk result (λ n. IsAtWord self.now number (words.Number n)) }
+    {
         let node = self.node(number)?;
         match self.tokens.get(node.token) {
             Some(token) => match token.word() {

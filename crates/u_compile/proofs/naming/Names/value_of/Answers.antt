@@ -7,13 +7,16 @@ inwards-init c =
     let is = rw c.deref.ensures.value at c.in_ok-at.ensures.bound in
     record {
       grows = grows_self c.args.drawing.now;
-      named = named_first _ _ _ _ _ _ is c.in_ok-at.ensures.within;
-      adds = adds_none _ _ _ _;
+      named = named_first _ _ _ _ _ is;
+      adds = adds_none _ _ _;
     }
 
 pub inwards-preserved : goal.inwards-preserved
-inwards-preserved c = record {
-  grows = grows_then _ _ _ c.inwards.invariant.grows c.in_ok-value.ensures.brings.grows;
-  named = named_then _ _ _ _ _ _ _ c.inwards.invariant.named c.in_ok-value.ensures.brings;
-  adds = adds_then _ _ _ _ _ _ _ _ _ _ c.inwards.invariant.adds c.inwards.invariant.named c.in_ok-value.ensures.brings c.in_ok-value.ensures.bound;
-}
+inwards-preserved c =
+    let brings = c.in_ok-value.ensures.brings in
+    let now = named_then _ _ _ _ _ _ _ _ c.inwards.invariant.named c.in_ok-at-2.ensures brings in
+    record {
+      grows = grows_then _ _ _ c.inwards.invariant.grows brings.grows;
+      named = now;
+      adds = adds_then _ _ _ _ _ _ _ _ c.inwards.invariant.adds brings.grows now c.in_ok-value.ensures.bound;
+    }

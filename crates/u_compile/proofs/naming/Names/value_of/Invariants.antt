@@ -1,10 +1,10 @@
 use Rattle.u_compile.specs.Drawings.{Grows}
-use Rattle.u_compile.specs.Namings.{AddsNamed, IsNamed}
+use Rattle.u_compile.specs.Namings.{AddsNamed, IsNamed, known}
 use Rattle.u_compile.proofs.naming.Names.value_of.Given as goal
 
 abbrev pub invariant-inwards : goal.invariant-inwards
 invariant-inwards l = record {
   grows : Grows l.fn.drawing l.drawing;
-  named : IsNamed l.drawing l.fn.self.bindings.items l.scope l.name l.value;
-  adds : AddsNamed l.drawing l.fn.self.bindings.items l.self.bindings.items l.scope l.name;
+  named : IsNamed l.drawing l.fn.self.bindings.items l.at l.name l.value;
+  adds : AddsNamed l.drawing (known l.fn.self) (known l.self) l.name;
 }
