@@ -1,5 +1,5 @@
 -- What comes from what, when procedures grow.
-use Rattle.std.proofs.Common.{◌≡◌, ℕ, ◌+◌, ◌≤◌, ◌⊎◌, inl, inr, refl, sym, ap, ◌∙◌, subst, arith, Bool, false, not, List, [], ◌∷◌, ◌++◌, length, Some, append_assoc}
+use Rattle.std.proofs.Common.{◌≡◌, ℕ, ◌+◌, ◌≤◌, inl, inr, refl, sym, ap, ◌∙◌, subst, Bool, false, not, List, [], ◌∷◌, ◌++◌, length, Some, append_assoc}
 use Rattle.std.specs.Prelude.{slice_get}
 use Rattle.std.proofs.lemmas.List.{append-nil}
 use Rattle.u_program.specs.declared.program.Kind.TheVariants.{Enter}
@@ -10,11 +10,11 @@ use Rattle.u_compile.specs.declared.drawing.Way.TheVariants.{Side, Turn}
 use Rattle.u_compile.specs.declared.naming.Binding.{Binding}
 use Rattle.u_compile.specs.Graphs.{output}
 use Rattle.u_compile.specs.Scoped.{IsOf}
-use Rattle.u_compile.specs.Drawings.{DrawingParts, GoesOn, Grows, Gives, IsGate, IsGated, IsEntered, Enters, side, turn, Comes, it, inside, a_gate}
+use Rattle.u_compile.specs.Drawings.{DrawingParts, Grows, Gives, IsGated, IsEntered, Enters, side, turn, Comes, it, inside, a_gate}
 use Rattle.u_compile.specs.Namings.{KnownParts, a_binding, with_binding, IsRightAround, IsNamed, AddsNamed, Brings}
 use Rattle.u_compile.proofs.Numbers.{at_within}
 use Rattle.u_compile.proofs.GateLaws.{of_append}
-use Rattle.u_compile.proofs.DrawingLaws.{get_goes_on, kind_goes_on, fed_by_kept, gate_kept, grows_then, grows_self}
+use Rattle.u_compile.proofs.DrawingLaws.{get_goes_on, kind_goes_on, fed_by_kept, gate_kept}
 
 pub gated_grows : (d e : DrawingParts) → Grows d e → (c : Output) (on : Bool) (v w : ℕ) → IsGated d c on v w → IsGated e c on v w
 gated_grows d e g c on v w is =

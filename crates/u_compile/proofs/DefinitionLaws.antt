@@ -1,5 +1,5 @@
 -- Definitions that are made step by step.
-use Rattle.std.proofs.Common.{◌≡◌, ℕ, sym, ap, ◌∙◌, subst, Bool, true, false}
+use Rattle.std.proofs.Common.{◌≡◌, ℕ, sym, ◌∙◌, subst, Bool, true, false}
 use Rattle.u_compile.specs.declared.lowering.Operand.{Operand}
 use Rattle.u_compile.specs.Namings.{a_binding, with_binding}
 use Rattle.u_compile.specs.Operands.{LoweringParts, GoesOn, IsOperand, IsPopped}

@@ -1,5 +1,5 @@
 -- What leads to ports when procedures grow.
-use Rattle.std.proofs.Common.{◌≡◌, ℕ, zero, suc, ◌+◌, ◌<◌, ◌≤◌, ◌⊎◌, inl, inr, refl, sym, ap, ◌∙◌, subst, arith, Bool, true, false, cond, ◌==◌, ◌&&◌, List, [], ◌∷◌, ◌++◌, length, Some, append_assoc, length-append}
+use Rattle.std.proofs.Common.{◌≡◌, ℕ, zero, suc, ◌+◌, ◌<◌, ◌≤◌, ◌⊎◌, inl, inr, refl, sym, ap, ◌∙◌, subst, arith, Bool, true, false, cond, ◌==◌, List, [], ◌∷◌, ◌++◌, length, Some, append_assoc, length-append}
 use Rattle.std.specs.Prelude.{slice_get, get_or, not}
 use Rattle.std.proofs.lemmas.Bool.{and_parts, and_from, cond-true, cond-false, cases_Bool, cases_eq, cases_lt, eqb-true, eq-eqb}
 use Rattle.std.proofs.lemmas.List.{append-nil}
@@ -13,9 +13,8 @@ use Rattle.u_compile.specs.declared.drawing.Gate.{Gate}
 use Rattle.u_compile.specs.declared.drawing.Carried.{Carried}
 use Rattle.u_compile.specs.Drafts.{DraftParts}
 use Rattle.u_compile.specs.Graphs.{link, output, draft_at}
-use Rattle.u_compile.specs.Scoped.{IsOf}
-use Rattle.u_compile.specs.Drawings.{leads_to, feeders, DrawingParts, drawing, IsOfKind, IsFedBy, AreFed, IsFed, from_nothing, from_value, from_control, EachIsFed, IsGate, IsDrawn, GoesOn, Grows, Adds, Gives, Merges, IsGated, a_gate, with_value, links_to, input_links, IsValue, AreValues, OnlyTo}
-use Rattle.u_compile.proofs.Numbers.{at_within, at_more, at_last}
+use Rattle.u_compile.specs.Drawings.{leads_to, feeders, DrawingParts, drawing, IsOfKind, IsFedBy, AreFed, IsFed, from_nothing, from_value, from_control, IsGate, IsDrawn, GoesOn, Grows, Adds, Gives, Merges, IsGated, a_gate, with_value, links_to, input_links, AreValues, OnlyTo}
+use Rattle.u_compile.proofs.Numbers.{at_within, at_last}
 
 pub feeders-append : (n port : ℕ) (ls ms : List Link) → feeders n port (ls ++ ms) ≡ feeders n port ls ++ feeders n port ms
 feeders-append n port [] ms = refl

@@ -1,5 +1,5 @@
 -- Gates of procedures under construction.
-use Rattle.std.proofs.Common.{◌≡◌, ℕ, ◌+◌, ◌<◌, ◌≤◌, ◌⊎◌, inl, inr, refl, sym, ap, ◌∙◌, subst, arith, Bool, List, [], ◌∷◌, ◌++◌, length, Some}
+use Rattle.std.proofs.Common.{◌≡◌, ℕ, ◌+◌, ◌⊎◌, inl, inr, refl, sym, ap, ◌∙◌, subst, arith, Bool, List, [], ◌∷◌, ◌++◌, length}
 use Rattle.std.proofs.lemmas.Bool.{cases_eq}
 use Rattle.u_program.specs.declared.program.Kind.TheVariants.{Switch}
 use Rattle.u_compile.specs.declared.graph.Link.{Link}
@@ -8,11 +8,10 @@ use Rattle.u_compile.specs.declared.drawing.Scope.{Scope}
 use Rattle.u_compile.specs.declared.drawing.Gate.{Gate}
 use Rattle.u_compile.specs.declared.drawing.Carried.{Carried}
 use Rattle.u_compile.specs.Drafts.{DraftParts}
-use Rattle.u_compile.specs.Graphs.{same_output}
 use Rattle.u_compile.specs.Scoped.{IsOf}
-use Rattle.u_compile.specs.Placed.{PlacedParts, with_link, finished}
+use Rattle.u_compile.specs.Placed.{PlacedParts, with_link}
 use Rattle.u_compile.specs.Drawings.{feeders, DrawingParts, IsOfKind, IsFed, from_control, IsGate, IsDrawn, Grows, Adds, links_to, a_gate}
-use Rattle.u_compile.proofs.DrawingLaws.{feeders_none, feeders_first, links_here, links_away, on_self, on_then, fed_kept, fed_by_kept, gate_kept, grows_then}
+use Rattle.u_compile.proofs.DrawingLaws.{feeders_none, feeders_first, links_here, links_away, on_self, on_then, fed_kept, fed_by_kept, gate_kept}
 use Rattle.u_compile.proofs.LeadLaws.{as_drawn, seen}
 
 -- what is in both

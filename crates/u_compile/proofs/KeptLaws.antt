@@ -1,20 +1,19 @@
 -- The finished block of a graph whose statements and links lie well and stand well, and of which each port is linked,
 -- keeps the rules of the checker that a block keeps by itself.
-use Rattle.std.proofs.Common.{◌≡◌, ◌==◌, ℕ, suc, ◌+◌, ◌<◌, ◌≤◌, inl, inr, refl, sym, ap, ◌∙◌, subst, arith, Bool, true, false, not, List, [], ◌∷◌, ◌++◌, length, Some, None, Option}
+use Rattle.std.proofs.Common.{◌≡◌, ◌==◌, ℕ, ◌+◌, ◌≤◌, inl, inr, refl, sym, ap, subst, arith, Bool, true, false, not, List, [], ◌∷◌, length, Some, Option}
 use Rattle.std.specs.Prelude.{◌||◌}
-use Rattle.std.proofs.lemmas.Bool.{false≢true}
 use Rattle.u_program.specs.declared.program.Kind.{Kind}
-use Rattle.u_program.specs.declared.program.Kind.TheVariants.{Pass, Enter, Leave}
+use Rattle.u_program.specs.declared.program.Kind.TheVariants.{Enter, Leave}
 use Rattle.u_program.specs.declared.program.Destination.{Destination}
 use Rattle.u_program.specs.Parts.{StatementParts, BlockParts}
-use Rattle.u_check.specs.Kinds.{is_back, is_last, is_leave, is_end, is_of_loop, crosses, comes_from_outside}
+use Rattle.u_check.specs.Kinds.{is_back, is_last, is_leave, is_end, is_of_loop, crosses}
 use Rattle.u_check.specs.Rules.{statement_at, Arc, destination_of, lies_in, lies_in_some, lies_in_entered, enters_inward, held_by, begins_well, names_back, is_applied, leaves_after_last, comes_in_order}
 use Rattle.u_compile.specs.declared.graph.Output.{Output}
 use Rattle.u_compile.specs.Drafts.{DraftParts}
 use Rattle.u_compile.specs.Graphs.{GraphParts, link, draft_at, is_next, IsGraph}
 use Rattle.u_compile.specs.Blocks.{statement_of, block_of}
 use Rattle.u_compile.specs.Fanning.{holder, moved, with_pass, FansOut, none, one_more, IsFinished}
-use Rattle.u_compile.specs.Scoped.{IsOf, Layout, IsScoped}
+use Rattle.u_compile.specs.Scoped.{Layout, IsScoped}
 use Rattle.u_compile.specs.Placed.{EachIsFull}
 use Rattle.u_compile.specs.Orderly.{IsOrderly}
 use Rattle.u_compile.specs.Kept.{KeepsItself}

@@ -1,10 +1,9 @@
 -- What is known of names and constants, when more is known.
-use Rattle.std.proofs.Common.{◌≡◌, ℕ, ◌+◌, ◌≤◌, ◌⊎◌, inl, inr, refl, sym, ap, ◌∙◌, subst, false, List, [], ◌∷◌, ◌++◌, length, Some, append_assoc}
+use Rattle.std.proofs.Common.{◌≡◌, ℕ, ◌+◌, ◌≤◌, inl, inr, sym, ap, ◌∙◌, subst, false, List, [], ◌∷◌, ◌++◌, length, Some, append_assoc}
 use Rattle.std.specs.Prelude.{slice_get}
 use Rattle.std.proofs.lemmas.List.{append-nil}
 use Rattle.u_program.specs.declared.program.Constant.{Constant}
 use Rattle.u_program.specs.declared.program.Kind.TheVariants.{Const}
-use Rattle.u_compile.specs.declared.graph.Output.{Output}
 use Rattle.u_compile.specs.declared.drawing.Scope.{Scope}
 use Rattle.u_compile.specs.declared.naming.Binding.{Binding}
 use Rattle.u_compile.specs.declared.naming.ConstantBinding.{ConstantBinding}
@@ -13,9 +12,9 @@ use Rattle.u_compile.specs.Scoped.{IsOf}
 use Rattle.u_compile.specs.Drawings.{DrawingParts, Grows, Gives, Comes, it, inside}
 use Rattle.u_compile.specs.Namings.{KnownParts, a_constant, with_constant, IsNamed, AddsNamed, IsConstant, HasConstant, noted, made, Learns}
 use Rattle.u_compile.proofs.Numbers.{at_within}
-use Rattle.u_compile.proofs.DrawingLaws.{get_goes_on, kind_goes_on, are_fed_kept, grows_self, grows_then}
+use Rattle.u_compile.proofs.DrawingLaws.{get_goes_on, kind_goes_on, are_fed_kept, grows_then}
 use Rattle.u_compile.proofs.GateLaws.{of_append}
-use Rattle.u_compile.proofs.ComesLaws.{comes_grows, named_grows}
+use Rattle.u_compile.proofs.ComesLaws.{named_grows}
 
 -- from scope to scope
 pub comes_then : (d : DrawingParts) (outer v at u s w : ℕ) → Comes d outer v at u → Comes d at u s w → Comes d outer v s w

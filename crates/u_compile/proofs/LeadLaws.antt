@@ -1,22 +1,19 @@
 -- Links from values to ports, when they are led one by one.
-use Rattle.std.proofs.Common.{◌≡◌, ℕ, zero, suc, ◌+◌, ◌<◌, ◌≤◌, inl, inr, refl, sym, ap, ◌∙◌, subst, arith, Bool, true, false, List, [], ◌∷◌, ◌++◌, length, Some, append_assoc, length-append}
-use Rattle.std.specs.Prelude.{slice_get, get_or}
-use Rattle.std.proofs.lemmas.Bool.{cases_Bool}
+use Rattle.std.proofs.Common.{◌≡◌, ℕ, ◌+◌, refl, sym, ap, ◌∙◌, subst, Bool, true, List, [], ◌∷◌, ◌++◌, length, Some, append_assoc, length-append}
+use Rattle.std.specs.Prelude.{get_or}
 use Rattle.std.proofs.lemmas.List.{append-nil}
-use Rattle.std.proofs.lemmas.Option.{get_or_from_slice_get}
-use Rattle.u_program.specs.declared.program.Kind.TheVariants.{Switch}
 use Rattle.u_compile.specs.declared.graph.Link.{Link}
 use Rattle.u_compile.specs.declared.graph.Output.{Output}
 use Rattle.u_compile.specs.declared.drawing.Scope.{Scope}
 use Rattle.u_compile.specs.declared.drawing.Gate.{Gate}
 use Rattle.u_compile.specs.declared.drawing.Carried.{Carried}
 use Rattle.u_compile.specs.Drafts.{DraftParts}
-use Rattle.u_compile.specs.Graphs.{graph, link, output, draft_at}
-use Rattle.u_compile.specs.Scoped.{IsOf, PlaceParts}
+use Rattle.u_compile.specs.Graphs.{graph, draft_at}
+use Rattle.u_compile.specs.Scoped.{PlaceParts}
 use Rattle.u_compile.specs.Placed.{PlacedParts, with_link, with_statement}
-use Rattle.u_compile.specs.Drawings.{feeders, DrawingParts, drawing, IsOfKind, IsFedBy, IsFed, from_nothing, from_value, from_control, IsGate, IsDrawn, GoesOn, Grows, Adds, links_to, input_links, AreValues, OnlyTo, with_links, LeadsOn, a_gate}
-use Rattle.u_compile.proofs.Numbers.{at_within, at_last}
-use Rattle.u_compile.proofs.DrawingLaws.{feeders_none, feeders_first, links_here, links_away, only_links, only_both, on_self, on_one, on_then, fed_kept, gate_kept, drawn_inputs, drawn_broken, adds_inputs, grows_then}
+use Rattle.u_compile.specs.Drawings.{DrawingParts, drawing, from_nothing, IsDrawn, Adds, links_to, input_links, AreValues, OnlyTo, with_links, LeadsOn}
+use Rattle.u_compile.proofs.Numbers.{at_last}
+use Rattle.u_compile.proofs.DrawingLaws.{only_links, only_both, drawn_inputs, drawn_broken, adds_inputs}
 
 no_more : (p : PlacedParts) → with_links p [] ≡ p
 no_more p = ap (λ (ls : List Link). record p { graph = graph p.graph.loops p.graph.statements ls }) (append-nil p.graph.links)

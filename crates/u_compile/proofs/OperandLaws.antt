@@ -1,14 +1,13 @@
 -- Operands that are taken one after another.
 use Rattle.std.proofs.Common.{◌≡◌, ℕ, refl, sym, ap, ◌∙◌, subst, List, [], ◌∷◌, ◌++◌, reverse, append_assoc}
 use Rattle.std.proofs.lemmas.List.{append-nil, reverse-append}
-use Rattle.u_program.specs.declared.program.Constant.{Constant}
 use Rattle.u_program.specs.declared.program.Kind.{Kind}
 use Rattle.u_program.specs.declared.program.Kind.TheVariants.{Store}
 use Rattle.u_compile.specs.declared.naming.Alias.{Alias}
 use Rattle.u_compile.specs.declared.lowering.Operand.{Operand}
 use Rattle.u_compile.specs.declared.lowering.Operand.TheVariants.{Value, Arguments}
 use Rattle.u_compile.specs.Drawings.{DrawingParts, Grows, Gives, Calls}
-use Rattle.u_compile.specs.Namings.{KnownParts, IsUsed, Learns}
+use Rattle.u_compile.specs.Namings.{KnownParts, Learns}
 use Rattle.u_compile.specs.Operands.{SceneParts, LoweringParts, IsWritten, IsAtom, used, constant, IsOperand, waiting, atom, AreOperands, GoesOn, IsPopped, ArePopped, Pops, Pushes, with_operand, Writes, TakesCall}
 use Rattle.u_compile.proofs.DrawingLaws.{grows_self, grows_then}
 use Rattle.u_compile.proofs.ComesLaws.{named_grows}

@@ -1,8 +1,6 @@
 -- Statements and links of a graph that stand well do so with one more.
-use Rattle.std.proofs.Common.{◌≡◌, ℕ, zero, suc, ◌+◌, ◌<◌, ◌≤◌, ◌⊎◌, inl, inr, refl, sym, ap, ◌∙◌, subst, arith, Bool, true, false, List, [], ◌∷◌, ◌++◌, length, Some}
+use Rattle.std.proofs.Common.{◌≡◌, ℕ, zero, suc, ◌+◌, ◌⊎◌, inl, inr, sym, ap, ◌∙◌, subst, arith, false, List, [], ◌∷◌, ◌++◌, length, Some}
 use Rattle.std.proofs.lemmas.Bool.{false≢true}
-use Rattle.u_program.specs.declared.program.Kind.{Kind}
-use Rattle.u_program.specs.declared.program.Kind.TheVariants.{Pass}
 use Rattle.u_program.specs.declared.program.Parameter.{Parameter}
 use Rattle.u_program.specs.declared.program.Parameter.TheVariants as parameters
 use Rattle.u_check.specs.Kinds.{is_last, is_leave}
@@ -10,7 +8,7 @@ use Rattle.u_compile.specs.declared.graph.Link.{Link}
 use Rattle.u_compile.specs.declared.graph.Output.{Output}
 use Rattle.u_compile.specs.Drafts.{DraftParts}
 use Rattle.u_compile.specs.Graphs.{GraphParts, link, draft_at}
-use Rattle.u_compile.specs.Fanning.{moved, with_pass, FansOut, none, one_more}
+use Rattle.u_compile.specs.Fanning.{moved, FansOut, none, one_more}
 use Rattle.u_compile.specs.Scoped.{IsOf}
 use Rattle.u_compile.specs.Orderly.{IsNamed, EntersLoop, IsParamAt, FollowsParams, ComesInOrder, StandsWell, LeavesWell, IsOrderly}
 use Rattle.u_compile.proofs.Numbers.{at_within, at_more, at_cases, at_last}

@@ -1,10 +1,10 @@
 -- Names of blocks and of procedures, one after another.
-use Rattle.std.proofs.Common.{◌≡◌, ℕ, ◌+◌, true, false, cond, List, [], ◌∷◌, Some, refl, sym, ap, ◌∙◌}
+use Rattle.std.proofs.Common.{◌≡◌, ◌+◌, true, false, List, ◌∷◌, Some}
 use Rattle.u_program.specs.Parts.{BlockParts}
 use Rattle.u_source.specs.declared.form.Node.{Node}
 use Rattle.u_source.specs.Tokens.{TokenParts}
 use Rattle.u_kinds.specs.Clashes.{name_at}
-use Rattle.u_compile.specs.Procedures.{ends_procedure, procedure_names, block_names, AreProcedures}
+use Rattle.u_compile.specs.Procedures.{ends_procedure, AreProcedures}
 
 -- with a node with which no procedure ends
 pub none_more : (ts : List TokenParts) (n : Node) (ns : List Node) (bs : List BlockParts) → ends_procedure n.form ≡ false → AreProcedures ts ns bs → AreProcedures ts (n ∷ ns) bs

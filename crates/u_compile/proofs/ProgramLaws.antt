@@ -12,7 +12,7 @@ use Rattle.u_program.specs.declared.program.Destination.{Destination}
 use Rattle.u_program.specs.Limits.{place_of}
 use Rattle.u_program.specs.Parts.{StatementParts, BlockParts}
 use Rattle.u_check.specs.Kinds.{is_param}
-use Rattle.u_check.specs.Rules.{statement_at, Arc, destination_of, main_name, same_name, names_block, gives_block, is_outer, is_param_in, follows_params, comes_in_order, program_keeps, block_keeps, itself_keeps, destination_keeps, ProgramBreaks, BlockBreaks, InBlockBreaks, ArcBreaks, Breaches, IsChecked}
+use Rattle.u_check.specs.Rules.{statement_at, Arc, destination_of, main_name, same_name, names_block, gives_block, is_outer, is_param_in, follows_params, comes_in_order, program_keeps, block_keeps, itself_keeps, destination_keeps, Breaches, IsChecked}
 use Rattle.u_check.specs.declared.rule.Rule.{Rule}
 use Rattle.u_check.specs.declared.rule.Rule.TheVariants.{BlockNamesDiffer, MainExists, BeginComesFirst, RegionExists}
 use Rattle.u_check.specs.declared.rule.Rule.TheVariants.{DestinationExists, BeginAndBackTakeNothing, EnterReachesItsLoop}

@@ -1,15 +1,15 @@
 -- Which rules of the checker the block of a graph keeps whose statements and links lie well.
-use Rattle.std.proofs.Common.{◌≡◌, ℕ, zero, suc, ◌+◌, ◌-◌, ◌<◌, ◌≤◌, arith, inl, inr, refl, sym, ap, ◌∙◌, subst, Bool, true, false, not, cond, ◌==◌, List, [], ◌∷◌, ◌++◌, length, Some, None, Option}
-use Rattle.std.specs.Prelude.{slice_get, unwrap_or, nat_le, ◌||◌, ◌&&◌}
+use Rattle.std.proofs.Common.{◌≡◌, ℕ, zero, suc, ◌+◌, ◌-◌, ◌<◌, ◌≤◌, arith, inl, inr, refl, sym, ap, ◌∙◌, subst, Bool, true, false, not, ◌==◌, List, [], ◌∷◌, ◌++◌, length, Some, Option}
+use Rattle.std.specs.Prelude.{slice_get, nat_le, ◌||◌, ◌&&◌}
 use Rattle.std.specs.List.{AllByRecursion, list_any, list_all, range_with_len}
 use Rattle.std.proofs.lemmas.Bool.{false≢true, and_parts, and_from, le-leb, eq-eqb, ne_eqb}
 use Rattle.std.proofs.lemmas.Option.{slice_get_within, get_or_from_slice_get, slice_get-get_or, unwrap_or-slice_get}
 use Rattle.std.proofs.lemmas.List.Folds.{list_any-append, list_any_at}
 use Rattle.u_name.specs.Context.{IsBetween}
 use Rattle.u_program.specs.declared.program.Kind.{Kind}
-use Rattle.u_program.specs.declared.program.Kind.TheVariants.{Switch, Enter, Next, Last, Leave}
+use Rattle.u_program.specs.declared.program.Kind.TheVariants.{Enter, Next, Leave}
 use Rattle.u_program.specs.declared.program.Destination.{Destination}
-use Rattle.u_program.specs.Parts.{StatementParts, BlockParts}
+use Rattle.u_program.specs.Parts.{StatementParts}
 use Rattle.u_check.specs.Kinds.{ports_of, comes_from_outside, crosses}
 use Rattle.u_check.specs.Rules.{statement_at, Arc, has_region, reaches, has_port as takes_port, takes_tokens, lies_in, list_of, arc, held_by, holds, sends_to, is_fed, is_whole}
 use Rattle.u_check.proofs.Arcs.{has_number}
@@ -19,8 +19,7 @@ use Rattle.u_strict.proofs.NumberFacts.{arc_stands}
 use Rattle.u_compile.specs.declared.graph.Link.{Link}
 use Rattle.u_compile.specs.declared.graph.Output.{Output}
 use Rattle.u_compile.specs.Drafts.{DraftParts}
-use Rattle.u_compile.specs.Graphs.{GraphParts, draft_at, is_next, is_link, has_port, has_output, enters, IsGraph}
-use Rattle.u_compile.specs.Blocks.{statement_of}
+use Rattle.u_compile.specs.Graphs.{GraphParts, draft_at, is_next, is_link, has_port, has_output, IsGraph}
 use Rattle.u_compile.specs.Fanning.{holder}
 use Rattle.u_compile.specs.Scoped.{PlaceParts, IsOf, Layout, sent_by, GoesWell, IsScoped}
 use Rattle.u_compile.proofs.Numbers.{test_stands}

@@ -1,25 +1,25 @@
 -- Which rules of the checker the block of a graph keeps whose statements and links stand well.
-use Rattle.std.proofs.Common.{◌≡◌, ℕ, zero, suc, ◌+◌, ◌-◌, ◌<◌, ◌≤◌, arith, inl, inr, refl, sym, ap, ◌∙◌, subst, Bool, true, false, not, cond, ◌==◌, List, [], ◌∷◌, length, Some, None, Option}
-use Rattle.std.specs.Prelude.{slice_get, ◌||◌, ◌&&◌, if◌then◌else◌}
+use Rattle.std.proofs.Common.{◌≡◌, ℕ, ◌-◌, arith, refl, sym, ap, ◌∙◌, Bool, true, false, not, ◌==◌, Some}
+use Rattle.std.specs.Prelude.{◌||◌, ◌&&◌, if◌then◌else◌}
 use Rattle.std.specs.List.{list_any}
 use Rattle.std.proofs.lemmas.Bool.{false≢true, and_from, eq-eqb, ne_eqb, eqb-true}
 use Rattle.u_program.specs.declared.program.Kind.{Kind}
-use Rattle.u_program.specs.declared.program.Kind.TheVariants.{Begin, Enter, Next, Last, Leave, Apply, Back, Param, End}
+use Rattle.u_program.specs.declared.program.Kind.TheVariants.{Begin, Enter, Next, Apply, Back, Param, End}
 use Rattle.u_program.specs.declared.program.Parameter.{Parameter}
 use Rattle.u_program.specs.declared.program.Parameter.TheVariants as parameters
 use Rattle.u_program.specs.declared.program.Destination.{Destination}
 use Rattle.u_program.specs.Limits.{place_of}
 use Rattle.u_program.specs.Parts.{StatementParts}
-use Rattle.u_check.specs.Kinds.{is_begin, is_back, is_param, is_last, is_leave, is_end, is_of_loop, back_named}
-use Rattle.u_check.specs.Rules.{statement_at, Arc, begins_well, names_back, is_back_in, applies_to, is_applied, is_outer, leaves_after_last, lies_in, is_param_in, follows_params, comes_in_order}
+use Rattle.u_check.specs.Kinds.{is_begin, is_back, is_last, is_leave, is_end, is_of_loop, back_named}
+use Rattle.u_check.specs.Rules.{statement_at, Arc, begins_well, names_back, is_back_in, applies_to, is_applied, leaves_after_last, lies_in, is_param_in, follows_params, comes_in_order}
 use Rattle.u_check.proofs.Arcs.{has_number}
 use Rattle.u_strict.specs.Arcs.{Leads}
 use Rattle.u_compile.specs.declared.graph.Output.{Output}
 use Rattle.u_compile.specs.Drafts.{DraftParts}
-use Rattle.u_compile.specs.Graphs.{GraphParts, draft_at, is_next, enters, IsGraph}
+use Rattle.u_compile.specs.Graphs.{GraphParts, draft_at, enters, IsGraph}
 use Rattle.u_compile.specs.Blocks.{statement_of}
 use Rattle.u_compile.specs.Scoped.{PlaceParts, Layout, sent_by, IsScoped}
-use Rattle.u_compile.specs.Orderly.{IsNamed, IsParamAt, FollowsParams, ComesInOrder, IsOrderly}
+use Rattle.u_compile.specs.Orderly.{IsNamed, IsParamAt, FollowsParams, IsOrderly}
 use Rattle.u_compile.proofs.ArcLaws.{made_at, IsLinkOf, arc_is}
 use Rattle.u_compile.proofs.GuardLaws.{made, one_draft, Owner, own, other, owner_of}
 use Rattle.u_compile.proofs.RuleLaws.{any_get}

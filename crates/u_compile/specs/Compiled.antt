@@ -3,7 +3,6 @@ use Rattle.std.specs.Prelude.{◌≡◌, ℕ, List}
 use Rattle.u_program.specs.Parts.{ProgramParts, BlockParts}
 use Rattle.u_determinate.specs.Determinate.{IsDeterminate}
 use Rattle.u_source.specs.Sources.{SourceParts, IsSource, IsSourceError}
-use Rattle.u_source.specs.declared.source_error.SourceError.{SourceError}
 use Rattle.u_source.specs.declared.source_error.SourceError.TheVariants as source_error
 use Rattle.u_scope.specs.Verdicts.{IsChecked, IsCheckError}
 use Rattle.u_scope.specs.declared.check_error.CheckError.{CheckError}

@@ -4,7 +4,7 @@ use Rattle.u_program.specs.declared.program.Constant.{Constant}
 use Rattle.u_program.specs.declared.program.Kind.{Kind}
 use Rattle.u_compile.specs.declared.lowering.Operand.{Operand}
 use Rattle.u_compile.specs.declared.lowering.Operand.TheVariants.{Atom}
-use Rattle.u_compile.specs.Drawings.{DrawingParts, Gives, IsParameter}
+use Rattle.u_compile.specs.Drawings.{Gives, IsParameter}
 use Rattle.u_compile.specs.Namings.{KnownParts, a_binding, an_alias, with_alias, with_binding}
 use Rattle.u_compile.specs.Operands.{LoweringParts, GoesOn, IsOperand, IsPopped, IsWritten}
 

@@ -1,5 +1,5 @@
 -- Procedures under construction: which values lead to which ports, and what comes from what.
-use Rattle.std.specs.Prelude.{◌≡◌, ℕ, ◌+◌, ◌<◌, ◌≤◌, ◌⊎◌, Bool, true, false, not, ◌&&◌, ◌==◌, cond, List, [], ◌∷◌, ◌++◌, length, Option, Some, None, slice_get, get_or}
+use Rattle.std.specs.Prelude.{◌≡◌, ℕ, ◌+◌, ◌<◌, ◌≤◌, Bool, false, not, ◌&&◌, ◌==◌, cond, List, [], ◌∷◌, ◌++◌, length, Option, Some, None, slice_get, get_or}
 use Rattle.u_program.specs.declared.program.Arguments.{Arguments}
 use Rattle.u_program.specs.declared.program.Kind.{Kind}
 use Rattle.u_program.specs.declared.program.Kind.TheVariants.{Begin, Param, Pass, Switch, Enter, Next, Last, Leave, Apply, Back}

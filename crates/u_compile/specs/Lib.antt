@@ -11,6 +11,7 @@ pub mod Namings
 pub mod Operands
 pub mod Definitions
 pub mod Sides
+pub mod Turns
 pub mod Steps
 pub mod Maps
 pub mod Procedures

@@ -3,7 +3,7 @@ use Rattle.std.specs.Prelude.{◌≡◌, ℕ, ◌+◌, pos, neg_ℤ, true, false
 use Rattle.u_program.specs.declared.program.Constant.{Constant}
 use Rattle.u_program.specs.declared.program.Constant.TheVariants.{Int, Bool, Proc}
 use Rattle.u_program.specs.declared.program.Kind.{Kind}
-use Rattle.u_program.specs.declared.program.Kind.TheVariants.{Binary, Unary, Fetch, Store, Select, Alloc}
+use Rattle.u_program.specs.declared.program.Kind.TheVariants.{Binary, Unary, Fetch, Store, Alloc}
 use Rattle.u_value.specs.declared.operators.BinaryOperator.TheVariants as binary
 use Rattle.u_value.specs.declared.operators.UnaryOperator.TheVariants as unary
 use Rattle.u_source.specs.declared.form.Form.{Form}

@@ -1,4 +1,7 @@
 //! The lowering of loops.
+ghost use Rattle.std.specs.Prelude.{OnOk};
+ghost use Rattle.u_compile.specs.Operands.{lowering};
+ghost use Rattle.u_compile.specs.Turns.{ClosesTurn, EntersBlock, GoesRound, OpensTurn, TestsCounter};
 
 use crate::drawing::{Scope, Way};
 use crate::graph::{Full, Output};
@@ -115,10 +118,14 @@ impl Lowering<'_> {
     }
 
     /// The test of a `for`, whose limit is known by the node with this number.
-    fn test_counter(&mut self, turn: usize, clock: usize, number: usize) -> Result<(), Full> {
+    fn test_counter(&mut self, turn: usize, clock: usize, number: usize) -> Result<(), Full>
+        ensures { OnOk result (TestsCounter turn clock number (lowering self.old)
+            (lowering self.new)) }
+    {
         let counter = self.value_of(turn, clock)?;
         let limit = self.value_of(turn, number)?;
-        self.add_binary(&Kind::Binary(BinaryOperator::Lt), counter, limit)
+        self.add_binary(&Kind::Binary(BinaryOperator::Lt), counter, limit)?;
+        Ok(())
     }
 
     /// The variables of a loop have the values that they begin with.
@@ -149,11 +156,21 @@ impl Lowering<'_> {
     }
 
     /// The test of a loop ends, and its block begins.
-    pub fn open_turn(&mut self) -> Result<(), Full> {
+    pub fn open_turn(&mut self) -> Result<(), Full>
+        ensures { OnOk result (OpensTurn (lowering self.old) (lowering self.new)) }
+    {
         let Frame::Test(turns) = self.pop_frame()? else {
             return Err(Full::Misplaced);
         };
         let value = self.pop_value()?;
+        self.enter_block(turns, value)?;
+        Ok(())
+    }
+
+    /// The block of a loop begins, where the value is true.
+    fn enter_block(&mut self, turns: Turns, value: usize) -> Result<(), Full>
+        ensures { OnOk result (EntersBlock turns value (lowering self.old) (lowering self.new)) }
+    {
         let control = self.drawing.control(turns.turn, value)?;
         self.note()?;
         self.drawing.set_test(turns.turn, control)?;
@@ -177,19 +194,42 @@ impl Lowering<'_> {
 
     /// The `next` of what is carried under this number, if this loop carries it. A name of a scope around the loop
     /// has the value that it had.
-    fn close_turn(&mut self, turns: Turns, block: usize, number: usize) -> Result<(), Full> {
+    fn close_turn(&mut self, turns: Turns, block: usize, number: usize) -> Result<(), Full>
+        ensures { OnOk result (ClosesTurn turns.turn block number (lowering self.old)
+            (lowering self.new)) }
+    {
         let Some(carried) = self.drawing.carried(number) else {
             return Err(Full::Misplaced);
         };
         if carried.turn != turns.turn {
             return Ok(());
         }
-        let value = match carried.next {
-            Some(value) => value,
-            None => self.value_of(block, carried.name)?,
-        };
+        match carried.next {
+            Some(value) => {
+                self.go_round(block, carried.name, number, value)?;
+                Ok(())
+            }
+            None => {
+                let value = self.value_of(block, carried.name)?;
+                self.go_round(block, carried.name, number, value)?;
+                Ok(())
+            }
+        }
+    }
+
+    /// The `next` of what is carried under this number and name gets a value that the block of its loop has.
+    fn go_round(
+        &mut self,
+        block: usize,
+        name: usize,
+        number: usize,
+        value: usize,
+    ) -> Result<(), Full>
+        ensures { OnOk result (GoesRound number value (lowering self.old) (lowering self.new)) }
+    {
         self.drawing.add_next(block, number, value)?;
-        self.names.note_as(&self.drawing, carried.name)
+        self.names.note_as(&self.drawing, name)?;
+        Ok(())
     }
 
     /// The last value of a loop variable, if it is carried under this number and the loop gives it.

@@ -1,4 +1,4 @@
-use Rattle.std.proofs.Common.{◌≡◌, List, sym, subst}
+use Rattle.std.proofs.Common.{List, sym, subst}
 use Rattle.u_source.specs.Sources.{SourceParts}
 use Rattle.u_scope.specs.Verdicts.{IsChecked}
 use Rattle.u_scope.specs.declared.checked.Meaning.{Meaning}

@@ -1,4 +1,4 @@
-use Rattle.std.proofs.Common.{◌≡◌, length}
+use Rattle.std.proofs.Common.{length}
 use Rattle.u_compile.specs.Procedures.{AreProcedures}
 use Rattle.u_compile.proofs.procedures.are_procedures.Given as goal
 

@@ -2,7 +2,6 @@ use Rattle.std.proofs.Common.{◌≡◌, length, [], ◌∷◌, ap, ◌∙◌}
 use Rattle.std.proofs.lemmas.Result.{IfOk-weaker}
 use Rattle.u_program.specs.declared.program.Kind.TheVariants.{Back}
 use Rattle.u_compile.specs.declared.graph.Output.{Output}
-use Rattle.u_compile.specs.Graphs.{output}
 use Rattle.u_compile.specs.Placed.{PlacedParts}
 use Rattle.u_compile.specs.Drawings.{DrawingParts, with_value}
 use Rattle.u_compile.proofs.DrawingLaws.{gives_value}

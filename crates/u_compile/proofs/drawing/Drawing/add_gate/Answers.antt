@@ -1,7 +1,7 @@
-use Rattle.std.proofs.Common.{◌≡◌, List, [], ◌∷◌, ◌++◌, ap, ◌∙◌, sym, subst}
+use Rattle.std.proofs.Common.{List, [], ◌∷◌, ◌++◌, ap, sym, subst}
 use Rattle.u_compile.specs.declared.drawing.Gate.{Gate}
-use Rattle.u_compile.specs.Placed.{PlacedParts, with_link}
-use Rattle.u_compile.specs.Drawings.{IsDrawn, IsGate, Grows, a_gate}
+use Rattle.u_compile.specs.Placed.{PlacedParts}
+use Rattle.u_compile.specs.Drawings.{IsGate, Grows, a_gate}
 use Rattle.u_compile.proofs.GateLaws.{drawn_gate, switch_drawn, switch_gate, switch_grows}
 use Rattle.u_compile.proofs.LeadLaws.{as_drawn, same_drawn, seen}
 use Rattle.u_compile.proofs.drawing.Drawing.add_gate.Goals as goal

@@ -1,7 +1,7 @@
 use Rattle.std.proofs.Common.{sym, subst}
 use Rattle.std.proofs.lemmas.Result.{on_ok_weaker}
 use Rattle.u_source.specs.declared.form.Form.{Form}
-use Rattle.u_compile.specs.Operands.{Operates, Differs, lowering}
+use Rattle.u_compile.specs.Operands.{Operates, lowering}
 use Rattle.u_compile.proofs.lowering.Lowering.advance_operator.Goals as goal
 
 pub returns-in_ok-binary-in-Unequal : goal.returns-in_ok-binary-in-Unequal

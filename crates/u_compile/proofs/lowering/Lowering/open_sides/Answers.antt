@@ -1,6 +1,6 @@
 use Rattle.std.proofs.Common.{ap, List}
 use Rattle.u_compile.specs.declared.lowering.Frame.{Frame}
-use Rattle.u_compile.specs.Operands.{LoweringParts, lowering}
+use Rattle.u_compile.specs.Operands.{lowering}
 use Rattle.u_compile.specs.Sides.{with_frames}
 use Rattle.u_compile.proofs.SideLaws.{opens_sides}
 use Rattle.u_compile.proofs.lowering.Lowering.open_sides.Goals as goal
