@@ -21,5 +21,4 @@ pub mod LateNeeds
 pub mod LateTokens
 pub mod Making
 pub mod Picking
-pub mod Fronted
 pub mod Turned

@@ -1,8 +1,7 @@
 -- Places in what a test leaves of a list, and picks among those in a mask.
-use Rattle.std.proofs.Common.{◌≡◌, ◌+◌, ◌<◌, ◌%◌, ◌++◌, ◌∙◌, ◌⊎◌, inl, inr, ℕ, zero, suc, Bool, true, false, cond, List, [], ◌∷◌, length, get_or, take, drop, refl, sym, ap, subst, arith, append-nil, Some}
+use Rattle.std.proofs.Common.{◌≡◌, ◌+◌, ◌%◌, ◌++◌, ◌∙◌, ◌⊎◌, inl, inr, ℕ, Bool, true, false, cond, List, [], ◌∷◌, length, refl, sym, ap, subst, Some}
 use Rattle.std.specs.Prelude.{filter, slice_get, Contains, IsTrue}
 use Rattle.std.proofs.Math.Nat.{mod-eq_of_lt, add-mod_left}
-use Rattle.std.proofs.lemmas.List.{length-append, take_more, drop_more, take-append-drop}
 use Rattle.std.proofs.lemmas.List.Elements.{filter-append}
 use Rattle.u_system.proofs.Member.{Contains-nil, Contains-head, Contains-tail, Contains-cons_cases}
 use Rattle.u_rule.specs.declared.firing.Firing.{Firing}
@@ -49,48 +48,6 @@ module _ {X : Type 0} (p : X → Bool) where
   found_at xs rest x k e len =
       let split : filter p (xs ++ x ∷ rest) ≡ filter p xs ++ x ∷ filter p rest = filter-append p xs (x ∷ rest) ∙ ap (λ t. filter p xs ++ t) (rw e refl) in
       rw (split, ← len) (at_end (filter p xs) (filter p rest) x)
-
-  -- one more that passes, or does not
-  pub one_more : (xs : List X) (i : ℕ) (x : X) → i < length xs → x ≡ get_or xs i x → p x ≡ true → length (filter p (take (i + 1) xs)) ≡ length (filter p (take i xs)) + 1
-  one_more xs i x l e t =
-      let ends : take (i + 1) xs ≡ take i xs ++ x ∷ [] = take_more xs i x l ∙ ap (λ (y : X). take i xs ++ y ∷ []) (sym e) in
-      let passes : filter p (x ∷ []) ≡ x ∷ [] = rw t refl in
-      let split : filter p (take i xs ++ x ∷ []) ≡ filter p (take i xs) ++ x ∷ [] = filter-append p (take i xs) (x ∷ []) ∙ ap (λ (ys : List X). filter p (take i xs) ++ ys) passes in
-      ap (λ (ys : List X). length (filter p ys)) ends ∙ ap length split ∙ length-append (filter p (take i xs)) (x ∷ [])
-
-  pub none_more : (xs : List X) (i : ℕ) (x : X) → i < length xs → x ≡ get_or xs i x → p x ≡ false → length (filter p (take (i + 1) xs)) ≡ length (filter p (take i xs))
-  none_more xs i x l e t =
-      let ends : take (i + 1) xs ≡ take i xs ++ x ∷ [] = take_more xs i x l ∙ ap (λ (y : X). take i xs ++ y ∷ []) (sym e) in
-      let fails : filter p (x ∷ []) ≡ [] = rw t refl in
-      let split : filter p (take i xs ++ x ∷ []) ≡ filter p (take i xs) = filter-append p (take i xs) (x ∷ []) ∙ ap (λ (ys : List X). filter p (take i xs) ++ ys) fails ∙ append-nil (filter p (take i xs)) in
-      ap (λ (ys : List X). length (filter p ys)) ends ∙ ap length split
-
-  -- what passes there stands behind those that pass before it
-  pub found_there : (xs : List X) (i k : ℕ) (x : X) → i < length xs → x ≡ get_or xs i x → p x ≡ true → length (filter p (take i xs)) ≡ k → slice_get (filter p xs) k ≡ Some x
-  found_there xs i k x l e t len =
-      let ends : drop i xs ≡ x ∷ drop (i + 1) xs = drop_more xs i x l ∙ ap (λ (y : X). y ∷ drop (i + 1) xs) (sym e) in
-      let all : take i xs ++ x ∷ drop (i + 1) xs ≡ xs = ap (λ (ys : List X). take i xs ++ ys) (sym ends) ∙ take-append-drop i xs in
-      subst (λ (ys : List X). slice_get (filter p ys) k ≡ Some x) all (found_at (take i xs) (drop (i + 1) xs) x k t len)
-
-  at_front : (xs ys : List X) (k : ℕ) (x : X) → slice_get xs k ≡ Some x → slice_get (xs ++ ys) k ≡ Some x
-  at_front [] ys k x e = absurd (cc)
-  at_front (y ∷ xs) ys zero x e = e
-  at_front (y ∷ xs) ys (suc k) x e = at_front xs ys k x e
-
-  at_others : (xs ys : List X) (i k : ℕ) → length xs + i ≡ k → slice_get (xs ++ ys) k ≡ slice_get ys i
-  at_others [] ys i k e = let q : k ≡ i = omega (arith, e) in ap (λ (n : ℕ). slice_get ys n) q
-  at_others (x ∷ xs) ys i zero e = absurd (omega (arith, e))
-  at_others (x ∷ xs) ys i (suc k) e = at_others xs ys i k (omega (arith, e))
-
-  -- what passes of two lists, one behind the other
-  pub found_in_front : (xs ys : List X) (k : ℕ) (x : X) → slice_get (filter p xs) k ≡ Some x → slice_get (filter p (xs ++ ys)) k ≡ Some x
-  found_in_front xs ys k x e = rw (filter-append p xs ys) (at_front (filter p xs) (filter p ys) k x e)
-
-  pub found_in_others : (xs ys : List X) (i k : ℕ) (x : X) → length (filter p xs) + i ≡ k → slice_get (filter p ys) i ≡ Some x → slice_get (filter p (xs ++ ys)) k ≡ Some x
-  found_in_others xs ys i k x e f = rw (filter-append p xs ys) (at_others (filter p xs) (filter p ys) i k e ∙ f)
-
-  pub count_of_both : (xs ys : List X) (i j k : ℕ) → length (filter p xs) + i ≡ k → length (filter p ys) + j ≡ i → length (filter p (xs ++ ys)) + j ≡ k
-  count_of_both xs ys i j k e f = rw (filter-append p xs ys) (let n = length-append (filter p xs) (filter p ys) in omega (arith, n, e, f))
 
 -- a place of a list is that place, modulo the list's length
 pub picked_once : {X : Type 0} (ys : List X) (pick : ℕ) (x : X) → slice_get ys pick ≡ Some x → slice_get ys (pick % length ys) ≡ Some x

@@ -10,6 +10,7 @@
 //! left to do is remembered, and the next call goes on from there.
 ghost use Rattle.std.specs.Prelude.{◌≡◌, ◌↔◌, ◌<◌, ◌≤◌, ◌+◌, [], ◌∷◌, OnOk, IfOk, IsOk, IsTrue, IsFalse, Contains, ◌-◌, length};
 ghost use Rattle.u_rule.specs.Rule.{system_of};
+ghost use Rattle.u_rule.specs.Fits.{IsFitting, AllFit};
 ghost use Rattle.u_rule.specs.declared.entry.Entry.{Entry};
 ghost use Rattle.u_rule.specs.declared.firing.Firing.{Firing};
 ghost use Rattle.u_machine.specs.Calls.{Applies};
@@ -22,7 +23,6 @@ use std::mem;
 use u_check::Job;
 use u_match::Entered;
 use u_rule::{Entry, Firing, given_by};
-use u_sets::OrderedSet;
 
 impl<'a> Parts<'a> {
     /// Whether a firing is parked that is not being applied, since it waits for its needs.
@@ -60,6 +60,7 @@ impl<'a> Parts<'a> {
         requires kept { Invariant self.old }
         requires idle { woken_of self.old ≡ [] }
         requires gives { Gives self.old entry.now }
+        requires fits { IsFitting self.old.job.now.program.blocks entry.now }
         ensures kept { Invariant self.new }
         ensures applies { Applies (state_of self.old) (state_of self.new) }
         ensures goes { GoesOn self.old self.new }
@@ -171,6 +172,7 @@ impl<'a> Parts<'a> {
         requires kept { Invariant self.old }
         requires idle { woken_of self.old ≡ [] }
         requires gives { Gives self.old entry.now }
+        requires fits { IsFitting self.old.job.now.program.blocks entry.now }
         ensures kept { Invariant self.new }
         ensures applies { Applies (state_of self.old) (state_of self.new) }
         ensures goes { GoesOn self.old self.new }
@@ -187,6 +189,7 @@ impl<'a> Parts<'a> {
         requires kept { Invariant self.old }
         requires idle { woken_of self.old ≡ [] }
         requires gives { (e : Entry) → Contains given.now e → Gives self.old e }
+        requires fit { AllFit self.old.job.now.program.blocks given.now }
         ensures kept { Invariant self.new }
         ensures applies { Applies (state_of self.old) (state_of self.new) }
         ensures goes { GoesOn self.old self.new }
@@ -246,7 +249,7 @@ impl<'a> Parts<'a> {
         ensures still { SameButApplied self.old self.new }
         ensures applied_count { self.new.applied_count ≡ length self.old.log.items }
     {
-        self.parked = OrderedSet::new(self.alloc);
+        self.parked.clear();
         self.applied_count = self.log.len();
     }
 

@@ -9,7 +9,6 @@ mod late_tokens;
 mod machine;
 mod masks;
 mod parts;
-mod ready_set;
 mod room;
 mod taking;
 

@@ -9,7 +9,6 @@ ghost use Rattle.u_machine.specs.State.{IsSettled, state};
 ghost use Rattle.u_system.specs.Firing.{Same};
 ghost use Rattle.u_machine.specs.Invariant.{state_of, Invariant};
 
-use crate::ready_set::ReadySet;
 use std::alloc::{AllocError, Global};
 use u_check::Job;
 use u_match::Matcher;
@@ -30,7 +29,7 @@ pub(crate) struct Parts<'a> {
     /// The firings that were taken and not applied.
     pub(crate) parked: OrderedSet<Firing>,
     /// The firings that are enabled and not taken, as far as they were made.
-    pub(crate) ready: ReadySet<Firing>,
+    pub(crate) ready: OrderedSet<Firing>,
     /// The tokens that were put off: the firings that they wake are enabled, and not made.
     pub(crate) late: OrderedSet<Entry>,
     /// The firings that the last entry woke and that are still to be sorted out, the last one first. Once
@@ -41,10 +40,10 @@ pub(crate) struct Parts<'a> {
 }
 
 /// The set of these firings.
-fn set_of(alloc: Global, firings: &[Firing]) -> Result<ReadySet<Firing>, AllocError>
+fn set_of(alloc: Global, firings: &[Firing]) -> Result<OrderedSet<Firing>, AllocError>
     ensures { IfOk result (λ s. Same (Contains s) (Contains firings.now)) }
 {
-    let mut set = ReadySet::new(alloc);
+    let mut set = OrderedSet::new(alloc);
     for firing in firings {
         set.insert(firing.copy(alloc)?)?;
     }

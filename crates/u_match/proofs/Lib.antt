@@ -11,3 +11,4 @@ pub mod Naming
 pub mod Finding
 pub mod Finite
 pub mod Ordered
+pub mod Executing

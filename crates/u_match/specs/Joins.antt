@@ -1,10 +1,11 @@
 -- The firings that a token makes with what it meets, and those that a write makes with the reads that wait.
-use Rattle.std.specs.Prelude.{◌≡◌, List, [], ◌∷◌, ◌++◌, ◌⊎◌, Contains, IsTrue, Some, None, Ok, ⊤}
+use Rattle.std.specs.Prelude.{◌≡◌, Bool, List, [], ◌∷◌, ◌++◌, ◌⊎◌, Contains, IsTrue, Some, None, Ok, ⊤}
 use Rattle.u_name.specs.Name.{Activity}
 use Rattle.u_name.specs.Cell.{CellOf}
 use Rattle.u_value.specs.declared.value.Value.{Value}
 use Rattle.u_check.specs.Jobs.{JobParts}
 use Rattle.u_rule.specs.Parts.{ValueList}
+use Rattle.u_rule.specs.Fits.{IsExecutable}
 use Rattle.u_rule.specs.Rule.{is_firing_of}
 use Rattle.u_rule.specs.EntryOrder.{firing, written}
 use Rattle.u_rule.specs.Structures.{cell_named}
@@ -15,6 +16,10 @@ use Rattle.u_rule.specs.declared.parts.Write.{Write}
 use Rattle.u_sets.specs.Members.{SomeOf}
 use Rattle.u_history.specs.Outcomes.{PairIn}
 use Rattle.u_match.specs.declared.meeting.Read.{Read}
+
+-- where it is known, the activity may execute the statement that it names
+abbrev pub IsKnown : Bool → JobParts → Activity → Type 0
+IsKnown known job a = IsTrue known → IsExecutable job.program.blocks a
 
 -- f is that firing, and one of the job
 abbrev pub IsKept : JobParts → Firing → Firing → Type 0

@@ -5,10 +5,11 @@ ghost use Rattle.std.specs.Prelude.{◌≡◌, ◌↔◌, ◌⊎◌, ◌+◌, []
 ghost use Rattle.u_name.specs.Context.{IsBetween};
 ghost use Rattle.u_rule.specs.declared.entry.Entry.TheVariants.{Token as token_entry};
 ghost use Rattle.u_rule.specs.EntryOrder.{firing_cmp};
+ghost use Rattle.u_rule.specs.Rule.{is_firing_of};
 ghost use Rattle.u_sets.specs.Rising.{Rises};
 ghost use Rattle.u_sets.specs.Members.{SomeOf, AreThose, Gains, HasOr};
 ghost use Rattle.u_match.specs.Finite.{HasSome};
-ghost use Rattle.u_match.specs.Joins.{IsKept, IsOne, IsReading, ReadsCell, JoinsTwo, JoinsSome, JoinsAll};
+ghost use Rattle.u_match.specs.Joins.{IsKnown, IsKept, IsOne, IsReading, ReadsCell, JoinsTwo, JoinsSome, JoinsAll};
 ghost use Rattle.u_match.specs.Keys.{lent_lists};
 ghost use Rattle.u_rule.specs.Parts.{most_ports};
 ghost use Rattle.u_match.specs.Waking.{IsWokenBy, WakesSome};
@@ -21,33 +22,59 @@ use std::alloc::{AllocError, Global};
 use u_check::Job;
 use u_history::History;
 use u_name::Name;
-use u_rule::{Firing, Token, Written, cell_at, is_firing, ports_at};
+use u_rule::{Firing, Token, Written, cell_at, is_firing, is_firing_in_place, ports_at};
 use u_value::Value;
 
-/// What the firings of one activity are made over: the job, the history, and the activity; and how many
-/// there may be at most.
+/// How firings of an activity are made.
+#[derive(Clone, Copy)]
+pub(crate) struct Making {
+    /// How many there may be at most.
+    pub(crate) most: usize,
+    /// Whether it is known that the activity may execute the statement that it names. Then no firing's
+    /// context is gone through.
+    pub(crate) is_executable: bool,
+}
+
+/// What the firings of one activity are made over: the job, the history, and the activity; and how they
+/// are made.
 #[derive(Clone, Copy)]
 pub(crate) struct Joining<'a> {
     pub(crate) alloc: Global,
     pub(crate) job: &'a Job,
     pub(crate) history: &'a History,
     pub(crate) activity: &'a Name,
-    pub(crate) most: usize,
+    pub(crate) making: Making,
 }
 
 impl Joining<'_> {
+    /// Whether the firing, one of the activity, is one of the job.
+    fn is_one(&self, firing: &Firing) -> bool
+        requires known { IsKnown self.now.making.is_executable self.now.job.now
+            self.now.activity.now }
+        requires own { firing.now.activity ≡ self.now.activity.now }
+        ensures { result ≡ is_firing_of self.now.job.now firing.now }
+    {
+        if self.making.is_executable {
+            return is_firing_in_place(self.job, firing);
+        }
+        is_firing(self.job, firing)
+    }
+
     /// Adds the firing, if it is one of the job.
     fn add(&self, found: &mut Vec<Firing>, firing: Firing) -> Result<(), Halt>
+        requires known { IsKnown self.now.making.is_executable self.now.job.now
+            self.now.activity.now }
+        requires own { firing.activity ≡ self.now.activity.now }
         ensures ok { OnOk result
             (Gains found.old.items (IsKept self.now.job.now firing) found.new.items) }
         ensures many { IfErr result
             (λ e. e ≡ Halt.TooMany → HasSome
             (IsKept self.now.job.now firing)) }
     {
-        if !is_firing(self.job, &firing) {
+        if !self.is_one(&firing) {
             return Ok(());
         }
-        if found.len() >= self.most {
+        if found.len() >= self.making.most {
             return Err(Halt::TooMany);
         }
         found.push(firing)?;
@@ -56,6 +83,8 @@ impl Joining<'_> {
 
     /// Adds the firings of one value of the list.
     fn add_ones(&self, firsts: &[Value], found: &mut Vec<Firing>) -> Result<(), Halt>
+        requires known { IsKnown self.now.making.is_executable self.now.job.now
+            self.now.activity.now }
         ensures ok { OnOk result
             (Gains found.old.items
             (SomeOf firsts.now (IsOne self.now.job.now self.now.activity.now)) found.new.items) }
@@ -78,6 +107,8 @@ impl Joining<'_> {
         writes: &[Written],
         found: &mut Vec<Firing>,
     ) -> Result<(), Halt>
+        requires known { IsKnown self.now.making.is_executable self.now.job.now
+            self.now.activity.now }
         ensures ok { OnOk result
             (Gains found.old.items
             (SomeOf writes.now
@@ -97,6 +128,8 @@ impl Joining<'_> {
 
     /// Adds the firings of two values that read a write of the cell that these name.
     fn add_reads(&self, first: &Value, second: &Value, found: &mut Vec<Firing>) -> Result<(), Halt>
+        requires known { IsKnown self.now.making.is_executable self.now.job.now
+            self.now.activity.now }
         ensures ok { OnOk result
             (Gains found.old.items
             (ReadsCell self.now.job.now (Contains self.now.history.now) self.now.activity.now
@@ -119,6 +152,8 @@ impl Joining<'_> {
 
     /// Adds the firings that have these two values, and besides nothing or a write.
     fn add_two(&self, first: &Value, second: &Value, found: &mut Vec<Firing>) -> Result<(), Halt>
+        requires known { IsKnown self.now.making.is_executable self.now.job.now
+            self.now.activity.now }
         ensures ok { OnOk result
             (Gains found.old.items
             (JoinsTwo self.now.job.now (Contains self.now.history.now) self.now.activity.now
@@ -142,6 +177,8 @@ impl Joining<'_> {
         seconds: &[Value],
         found: &mut Vec<Firing>,
     ) -> Result<(), Halt>
+        requires known { IsKnown self.now.making.is_executable self.now.job.now
+            self.now.activity.now }
         ensures ok { OnOk result
             (Gains found.old.items
             (JoinsSome self.now.job.now (Contains self.now.history.now) self.now.activity.now
@@ -165,6 +202,8 @@ impl Joining<'_> {
         seconds: &[Value],
         found: &mut Vec<Firing>,
     ) -> Result<(), Halt>
+        requires known { IsKnown self.now.making.is_executable self.now.job.now
+            self.now.activity.now }
         ensures ok { OnOk result
             (Gains found.old.items
             (SomeOf firsts.now
@@ -192,7 +231,9 @@ impl Joining<'_> {
         chosen: &mut Vec<Value>,
         found: &mut Vec<Firing>,
     ) -> Result<(), Halt>
-        requires { IsBetween 1 (length chosen.old.items + length lists.now) most_ports }
+        requires known { IsKnown self.now.making.is_executable self.now.job.now
+            self.now.activity.now }
+        requires ports { IsBetween 1 (length chosen.old.items + length lists.now) most_ports }
         ensures ok { OnOk result
             (Gains found.old.items
             (JoinsAll self.now.job.now self.now.activity.now chosen.old.items (lent_lists lists.now))
@@ -222,7 +263,9 @@ impl Joining<'_> {
         chosen: &mut Vec<Value>,
         found: &mut Vec<Firing>,
     ) -> Result<(), Halt>
-        requires { IsBetween 1 (length chosen.old.items + 1 + length others.now) most_ports }
+        requires known { IsKnown self.now.making.is_executable self.now.job.now
+            self.now.activity.now }
+        requires ports { IsBetween 1 (length chosen.old.items + 1 + length others.now) most_ports }
         ensures ok { OnOk result
             (Gains found.old.items
             (JoinsAll self.now.job.now self.now.activity.now chosen.old.items
@@ -246,6 +289,8 @@ impl Joining<'_> {
     /// The firings of the job that the token wakes where it enters the history, in no order. They go into
     /// the empty list. What lies at a port is asked of the history only where the activity has that port.
     fn gathered(&self, token: &Token, mut found: Vec<Firing>) -> Result<Vec<Firing>, Halt>
+        requires known { IsKnown self.now.making.is_executable self.now.job.now
+            self.now.activity.now }
         requires activity { self.now.activity.now ≡ token.now.activity }
         requires empty { found.items ≡ [] }
         ensures exact { IfOk result
@@ -284,6 +329,8 @@ impl Joining<'_> {
     /// `TooMany` where there are more than `most`, and it gives up on the first that is one too many.
     /// `NoMemory` where there is no memory.
     pub(crate) fn woken_by(&self, token: &Token, room: Vec<Firing>) -> Result<Vec<Firing>, Halt>
+        requires known { IsKnown self.now.making.is_executable self.now.job.now
+            self.now.activity.now }
         requires activity { self.now.activity.now ≡ token.now.activity }
         requires empty { room.items ≡ [] }
         ensures exact { IfOk result

@@ -4,6 +4,7 @@ ghost use Rattle.u_rule.specs.declared.entry.Entry.{Entry};
 ghost use Rattle.u_rule.specs.declared.firing.Firing.{Firing};
 ghost use Rattle.u_rule.specs.EntryOrder.{firing_cmp};
 ghost use Rattle.u_rule.specs.Rule.{system_of};
+ghost use Rattle.u_rule.specs.Fits.{IsFitting};
 ghost use Rattle.u_system.specs.Firing.{Enabled};
 ghost use Rattle.u_sets.specs.Rising.{Rises};
 ghost use Rattle.u_sets.specs.Members.{IsWith, AreThose, HasOr};
@@ -11,7 +12,7 @@ ghost use Rattle.u_match.specs.Waking.{IsWokenBy, WakesSome, EnterAnswer};
 
 use crate::enabling::has_all_of;
 use crate::halt::Halt;
-use crate::joining_tokens::Joining;
+use crate::joining_tokens::{Joining, Making};
 use crate::meeting::Reads;
 use crate::noting_reads::note;
 use crate::waking_reads::Entering;
@@ -106,10 +107,12 @@ impl Matcher {
         &self,
         job: &Job,
         entry: &Entry,
-        most: usize,
+        making: Making,
         room: Vec<Firing>,
     ) -> Result<Vec<Firing>, Halt>
-        requires { room.items ≡ [] }
+        requires empty { room.items ≡ [] }
+        requires known { IsTrue making.is_executable
+            → IsFitting job.now.program.blocks entry.now }
         ensures exact { IfOk result
             (λ v. AreThose (IsWokenBy job.now entry.now (HasOr self.now entry.now)) v.items) }
         ensures rises { IfOk result (λ v. Rises firing_cmp v.items) }
@@ -123,7 +126,7 @@ impl Matcher {
                     job,
                     history: &self.history,
                     activity: token.activity(),
-                    most,
+                    making,
                 };
                 joining.woken_by(token, room)
             }
@@ -148,7 +151,11 @@ impl Matcher {
             (λ v. AreThose (IsWokenBy job.now entry.now (HasOr self.now entry.now)) v.items) }
         ensures rises { IfOk result (λ v. Rises firing_cmp v.items) }
     {
-        match self.woken(job, entry, usize::MAX, Vec::new(self.alloc)) {
+        let making = Making {
+            most: usize::MAX,
+            is_executable: false,
+        };
+        match self.woken(job, entry, making, Vec::new(self.alloc)) {
             Ok(found) => Ok(found),
             Err(_) => Err(AllocError),
         }
@@ -187,10 +194,10 @@ impl Matcher {
         Ok(found)
     }
 
-    /// Lets the entry enter the set, unless it is there already or is a token that wakes more than 16
-    /// firings. Of these no more than that are made before it answers `Many`, and the token did not enter
-    /// then. What a write wakes is always made. The list is emptied, and its room is used for the
-    /// firings that a token wakes.
+    /// Lets an entry that fits the job enter the set, unless it is there already or is a token that wakes
+    /// more than 16 firings. Of these no more than that are made before it answers `Many`, and the token
+    /// did not enter then. What a write wakes is always made. The list is emptied, and its room is used
+    /// for the firings that a token wakes.
     ///
     /// # Errors
     /// `AllocError` where there is no memory; the set stays as it was.
@@ -200,10 +207,15 @@ impl Matcher {
         entry: &Entry,
         mut room: Vec<Firing>,
     ) -> Result<Entered, AllocError>
+        requires { IsFitting job.now.program.blocks entry.now }
         ensures { EnterAnswer job.now self.old entry.now result self.new }
     {
         room.clear();
-        let found = match self.woken(job, entry, MOST_AT_ONCE, room) {
+        let making = Making {
+            most: MOST_AT_ONCE,
+            is_executable: true,
+        };
+        let found = match self.woken(job, entry, making, room) {
             Ok(found) => found,
             Err(Halt::TooMany) => {
                 if self.contains(entry) {

@@ -24,3 +24,4 @@ pub mod Lift
 mod TokenLaws
 mod Both
 mod Cells
+pub mod Placing

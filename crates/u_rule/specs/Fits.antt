@@ -51,6 +51,12 @@ fits p (InCall outer from caller turn) block region initiation =
 abbrev pub fits_at : List BlockParts → ℕ → Activity → Bool
 fits_at p region a = fits p a.context a.block region a.initiation
 
+-- the activity may execute the statement that it names
+pub record IsExecutable (p : List BlockParts) (a : Activity) : Type 0 where
+  pub it : StatementParts
+  pub stands : statement_of p a.block a.statement ≡ Some it
+  pub fit : fits_at p it.region a ≡ true
+
 -- the token lies at a port of a statement that its activity may execute
 pub record IsPlaced (p : List BlockParts) (t : TokenParts) : Type 0 where
   pub it : StatementParts

@@ -31,7 +31,9 @@ pub use firing::Firing;
 pub use parts::{Fault, MOST_PORTS, Token, Write, Written};
 pub use ports::ports_at;
 pub use reading::TextError;
-pub use rule::{RuleError, given_by, gives, is_firing, needs, start};
+pub use rule::{
+    RuleError, given_by, gives, is_firing, is_firing_in_place, is_fitting, needs, start,
+};
 pub use shared_written::SharedWritten;
 pub use structures::{cell_at, names_cell};
 pub use values::Values;

@@ -4,13 +4,14 @@
 //! in Arvind and Gostelow (1982); a firing that reads a cell needs a write of it too, as in Arvind and
 //! Nikhil (1990). By this project's profile an operator that has no value for its
 //! operands gives a fault in its place, and `end` in the root gives the answer.
-ghost use Rattle.std.specs.Prelude.{◌≡◌, ◌≤◌, ◌<◌, ◌+◌, ◌++◌, [], ◌∷◌, false, length, Some, Ok, Err, IfOk, IfSome, OnOk, IsTrue, ◌↔◌};
+ghost use Rattle.std.specs.Prelude.{◌≡◌, ◌≤◌, ◌<◌, ◌+◌, ◌++◌, List, [], ◌∷◌, true, false, length, Some, Ok, Err, IfOk, IfSome, OnOk, IsTrue, ◌↔◌};
 ghost use Rattle.std.specs.Option.{option_copied};
 ghost use Rattle.u_program.specs.Limits.{IsStatement, the_limits};
+ghost use Rattle.u_program.specs.Parts.{BlockParts};
 ghost use Rattle.u_rule.specs.declared.rule.RuleError.TheVariants as errors;
 ghost use Rattle.u_rule.specs.EntryOrder.{entry_cmp};
 ghost use Rattle.u_sets.specs.Rising.{Rises};
-ghost use Rattle.u_rule.specs.Fits.{statement_of, fits_at, IsFitting, AllFit};
+ghost use Rattle.u_rule.specs.Fits.{statement_of, fits_at, IsExecutable, IsPlaced, IsFitting, AllFit};
 ghost use Rattle.u_rule.specs.Parts.{most_ports};
 ghost use Rattle.u_rule.specs.Rule.{tokens_from, start_of, needs_of, gives_of, is_firing_of, is_firing_at, has_its_values};
 
@@ -82,6 +83,58 @@ pub fn is_firing(job: &Job, firing: &Firing) -> bool
         None => false,
         Some(statement) => is_firing_at(program, statement, firing)
             && fires_in_turns(program, firing),
+    }
+}
+
+/// Whether the token lies at a port of a statement that its activity may execute.
+#[tactic(auto, using(crate::proofs::Placing::placed, crate::proofs::Placing::of_none, crate::proofs::Placing::fits_there, crate::proofs::Placing::within_ports))]
+fn is_placed(program: &Program, token: &Token) -> bool
+    ensures { IsTrue result ↔ IsPlaced program.now.blocks token.now }
+{
+    match executed(program, token.activity()) {
+        None => false,
+        Some(statement) => {
+            usize::from(token.port()) <= ports_of(statement.kind())
+                && fits_at(program, statement.region(), token.activity())
+        }
+    }
+}
+
+/// Whether the entry fits the job: a token lies at a port of a statement that its activity may execute,
+/// and writes, faults and answers lie anywhere.
+#[tactic(auto, unfolding(crate::specs::Fits::IsFitting))]
+pub fn is_fitting(job: &Job, entry: &Entry) -> bool
+    ensures { IsTrue result ↔ IsFitting job.now.program.blocks entry.now }
+{
+    match entry {
+        Entry::Token(token) => is_placed(job.program(), token),
+        Entry::Write(_write) => true,
+        Entry::Fault(_fault) => true,
+        Entry::Answer(_value) => true,
+    }
+}
+
+/// Whether the firing is one of that statement, where its activity fits.
+fn is_fitting_firing_at(statement: &Statement, firing: &Firing) -> bool
+    ensures { (p : List BlockParts) → fits_at p statement.now.region firing.now.activity ≡ true
+        → result ≡ is_firing_at p (Some statement.now) firing.now }
+{
+    has_its_values(statement, firing)
+}
+
+/// Whether it is a firing of the job, as `is_firing` answers, where its activity may execute the statement
+/// that it names. It does not go through the context.
+#[tactic(auto, unfolding(crate::specs::Rule::is_firing_of))]
+pub fn is_firing_in_place(job: &Job, firing: &Firing) -> bool
+    requires { IsExecutable job.now.program.blocks firing.now.activity }
+    ensures { result ≡ is_firing_of job.now firing.now }
+{
+    let program = job.program();
+    match executed(program, &firing.activity) {
+        None => false,
+        Some(statement) => {
+            is_fitting_firing_at(statement, firing) && fires_in_turns(program, firing)
+        }
     }
 }
 
@@ -165,7 +218,8 @@ pub fn gives(alloc: Global, job: &Job, firing: &Firing) -> Result<Vec<Entry>, Ru
 #[tactic(auto, unfolding(crate::specs::Rule::gives_of, crate::specs::Rule::is_firing_of), using(crate::proofs::Follow::leaves_loop, crate::proofs::Follow::ends_call))]
 pub fn given_by(alloc: Global, job: &Job, firing: &Firing) -> Result<Vec<Entry>, AllocError>
     requires { IsTrue (is_firing_of job.now firing.now) }
-    ensures { IfOk result (λ v. v.items ≡ gives_of job.now firing.now) }
+    ensures all { IfOk result (λ v. v.items ≡ gives_of job.now firing.now) }
+    ensures fitting { IfOk result (λ v. AllFit job.now.program.blocks v.items) }
 {
     let program = job.program();
     let Some(statement) = executed(program, &firing.activity) else {
@@ -173,7 +227,8 @@ pub fn given_by(alloc: Global, job: &Job, firing: &Firing) -> Result<Vec<Entry>,
     };
     // Brings in that the program lies within its limits.
     let _ = program.blocks();
-    given(alloc, program, statement, firing)
+    let all = given(alloc, program, statement, firing)?;
+    Ok(all)
 }
 
 /// Adds the tokens that have these values at the activity's ports, from that port on.

@@ -57,11 +57,6 @@ module _ {X : Type 0} (R : X → X → Ordering) (o : IsTotalOrder R) (exact : I
               ]
           back (inr e) = Contains-tail y z (insert_key R ys x) ((rest z).1 (inr e))
 
-  -- the set of x alone
-  pub into_empty : (xs : List X) (x : X) → xs ≡ [] → insert_key R xs x ≡ x ∷ []
-  into_empty [] x e = refl
-  into_empty (y ∷ ys) x e = cc
-
   pub rises_still : (xs : List X) (x : X) → Rises R xs → Rises R (insert_key R xs x)
   rises_still [] x r = ((λ y m. absurd (Contains-nil y m)), tt)
   rises_still (y ∷ ys) x r = at (rises_still ys x r.1) (R x y) refl

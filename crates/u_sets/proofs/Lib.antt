@@ -11,3 +11,4 @@ pub mod Steps
 pub mod Shown
 pub mod Keyed
 pub mod Putting
+pub mod Fronted

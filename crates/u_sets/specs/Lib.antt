@@ -1,4 +1,4 @@
 pub mod Rising
 pub mod Members
 pub mod Pairs
-pub mod Single
+pub mod Fronted

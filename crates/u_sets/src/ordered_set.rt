@@ -1,12 +1,14 @@
 //! Sets that are kept in order.
-ghost use Rattle.std.specs.Prelude.{◌≡◌, ◌↔◌, ◌+◌, [], ◌∷◌, OnOk, OnErr, IfOk, IfErr, IfSome, IfNone, Contains, IsTrue, IsFalse, length, slice_get, None};
+ghost use Rattle.std.specs.Prelude.{◌≡◌, ◌↔◌, ◌+◌, ◌<◌, ◌++◌, [], ◌∷◌, OnOk, OnErr, IfOk, IfErr, IfSome, IfNone, Contains, IsTrue, IsFalse, length, slice_get};
 ghost use Rattle.std.specs.Option.{option_copied};
 ghost use Rattle.std.specs.Iterator.{at_most};
+ghost use Rattle.std.specs.declared.cmp.Ordering.TheVariants.{Less};
 ghost use Rattle.std.specs.Map.Iter.{ShowsInOrder, TakesFirst, deref};
 ghost use Rattle.u_sets.specs.Rising.{Rises};
 ghost use Rattle.u_sets.specs.Members.{IsWith, IsWithout};
-ghost use Rattle.u_sets.specs.Single.{behind, IsAlone};
+ghost use Rattle.u_sets.specs.Fronted.{IsFronted};
 
+use crate::rising::{has, place_in};
 use crate::tree_set::TreeSet;
 use std::alloc::{AllocError, AllocFailed, Global};
 use std::collections::btree_set::Iter;
@@ -14,41 +16,41 @@ use std::iter::Iterator;
 use std::marker::Model;
 use u_order::ExactOrd;
 
-/// A set of keys in ascending order. A single key stands in place, and several in a tree. Contracts see
-/// the ascending list of its keys.
+/// The most keys that stand in the list of the least ones.
+const MOST_IN_FRONT: usize = 8;
+
+/// A set of keys in ascending order. A few of the least ones stand in a list, and the others, which are
+/// all greater, in a tree. Contracts see the ascending list of its keys.
 #[derive(Drop)]
 pub struct OrderedSet<K: ExactOrd + Drop> {
-    /// The only key, unless it stands in the tree.
-    single: Option<K>,
+    front: Vec<K>,
     others: TreeSet<K>,
 }
 
 impl<K: ExactOrd + Drop> Model for OrderedSet<K> {
-    ghost use Rattle.std.specs.Prelude.{List};
-    ghost use Rattle.u_sets.specs.Single.{behind, IsAlone};
+    ghost use Rattle.std.specs.Prelude.{List, ◌++◌};
+    ghost use Rattle.u_sets.specs.Fronted.{IsFronted};
 
     ghost Value = { List K };
 
-    ghost view = { λ s. behind s.single s.others };
+    ghost view = { λ s. s.front.items ++ s.others };
 
-    ghost invariant = { λ s. IsAlone s.single s.others };
+    ghost invariant = { λ s. IsFronted K.cmp s.front.items s.others };
 }
 
 /// The keys of a set, in order.
 #[derive(Drop)]
 pub struct OrderedKeys<'a, K> {
-    single: Option<&'a K>,
+    front: &'a [K],
     others: Iter<'a, K>,
 }
 
 impl<'a, K> Model for OrderedKeys<'a, K> {
-    ghost use Rattle.std.specs.Prelude.{List};
-    ghost use Rattle.std.specs.Option.{option_copied};
-    ghost use Rattle.u_sets.specs.Single.{behind};
+    ghost use Rattle.std.specs.Prelude.{List, ◌++◌};
 
     ghost Value = { List K };
 
-    ghost view = { λ k. behind (option_copied k.single) k.others };
+    ghost view = { λ k. k.front.now ++ k.others };
 }
 
 impl<'a, K> Iterator for OrderedKeys<'a, K> {
@@ -59,37 +61,49 @@ impl<'a, K> Iterator for OrderedKeys<'a, K> {
     ghost remaining = { λ s. at_most (length s) };
 
     fn next(&mut self) -> Option<&'a K> {
-        match self.single.take() {
-            Some(single) => Some(single),
+        match self.front.split_first() {
+            Some((first, front)) => {
+                self.front = front;
+                Some(first)
+            }
             None => self.others.next(),
         }
     }
 }
 
-/// Whether the two keys are one.
-fn is_same<K: ExactOrd>(left: &K, right: &K) -> bool
-    ensures { IsTrue result ↔ (left.now ≡ right.now) }
+/// Whether the least of the keys stands before this one, or is it.
+fn goes_behind<K: ExactOrd + Drop>(keys: &TreeSet<K>, key: &K) -> bool
+    requires { Rises K.cmp keys.now }
+    ensures behind { IsTrue result
+        → (x : K) → ((y : K) → Contains keys.now y → K.cmp x y ≡ Less) → K.cmp x key.now ≡ Less }
+    ensures before { IsFalse result → (y : K) → Contains keys.now y → K.cmp key.now y ≡ Less }
 {
-    left.cmp(right).is_eq()
+    match keys.first() {
+        Some(first) => first.cmp(key).is_le(),
+        None => false,
+    }
 }
 
-/// Puts a single key into the tree.
-fn move_over<K: ExactOrd + Drop>(
-    single: &mut Option<K>,
+/// Puts the last key of a full list before the others, which are all greater.
+fn make_room<K: ExactOrd + Drop>(
+    front: &mut Vec<K>,
     others: &mut TreeSet<K>,
 ) -> Result<(), AllocError>
-    requires { IsAlone single.old others.old }
-    ensures none { OnOk result (single.new ≡ None) }
-    ensures ok { OnOk result (others.new ≡ behind single.old others.old) }
-    ensures err { OnErr result ((single.new ≡ single.old) × (others.new ≡ others.old)) }
+    requires { IsFronted K.cmp front.old.items others.old }
+    ensures same { front.new.items ++ others.new ≡ front.old.items ++ others.old }
+    ensures fronted { IsFronted K.cmp front.new.items others.new }
+    ensures room { OnOk result (length front.new.items < 8) }
 {
-    let Some(key) = single.take() else {
+    if front.len() < MOST_IN_FRONT {
         return Ok(());
+    }
+    let Some(last) = front.pop() else {
+        unreachable!();
     };
-    match others.insert(key) {
+    match others.insert(last) {
         Ok(_) => Ok(()),
-        Err(failed) => {
-            *single = Some(failed.value);
+        Err(refused) => {
+            front.push(refused.value).unwrap();
             Err(AllocError)
         }
     }
@@ -101,7 +115,7 @@ impl<K: ExactOrd + Drop> OrderedSet<K> {
         ensures { result ≡ [] }
     {
         OrderedSet {
-            single: None,
+            front: Vec::new(alloc),
             others: TreeSet::new(alloc),
         }
     }
@@ -111,20 +125,26 @@ impl<K: ExactOrd + Drop> OrderedSet<K> {
         ensures len { result ≡ length self.now }
         ensures rises { Rises K.cmp self.now }
     {
-        match &self.single {
-            Some(_) => 1,
-            None => self.others.len(),
-        }
+        self.front.len() + self.others.len()
+    }
+
+    /// Whether there is no key.
+    pub fn is_empty(&self) -> bool
+        ensures none { IsTrue result → self.now ≡ [] }
+        ensures some { IsFalse result → 0 < length self.now }
+        ensures rises { Rises K.cmp self.now }
+    {
+        self.len() == 0
     }
 
     /// Whether the key is there.
     pub fn contains(&self, key: &K) -> bool
         ensures { IsTrue result ↔ Contains self.now key.now }
     {
-        match &self.single {
-            Some(single) => is_same(single, key),
-            None => self.others.contains(key),
+        if has(&self.front, key) {
+            return true;
         }
+        self.others.contains(key)
     }
 
     /// Puts the key in. Returns whether it was new.
@@ -140,15 +160,15 @@ impl<K: ExactOrd + Drop> OrderedSet<K> {
         ensures rises { Rises K.cmp self.new }
         ensures count { IfOk result (λ b. IsTrue b → length self.new ≡ length self.old + 1) }
     {
-        if self.len() == 0 {
-            self.single = Some(key);
-            return Ok(true);
-        }
-        let Ok(()) = move_over(&mut self.single, &mut self.others) else {
+        let Ok(()) = make_room(&mut self.front, &mut self.others) else {
             return Err(AllocFailed { value: key });
         };
-        let added = self.others.insert(key)?;
-        Ok(added)
+        if goes_behind(&self.others, &key) {
+            let added_behind = self.others.insert(key)?;
+            return Ok(added_behind);
+        }
+        let added_in_front = place_in(&mut self.front, key)?;
+        Ok(added_in_front)
     }
 
     /// Takes the key out. Returns whether it was there.
@@ -159,24 +179,19 @@ impl<K: ExactOrd + Drop> OrderedSet<K> {
         ensures rises { Rises K.cmp self.new }
         ensures count { IsTrue result → length self.old ≡ length self.new + 1 }
     {
-        match &self.single {
-            Some(single) => {
-                if !is_same(single, key) {
-                    return false;
-                }
-                self.single = None;
-                true
-            }
-            None => self.others.remove(key),
-        }
+        let Ok(place) = self.front.binary_search(key) else {
+            return self.others.remove(key);
+        };
+        self.front.remove(place);
+        true
     }
 
     /// The least key.
     pub fn first(&self) -> Option<&K>
         ensures { option_copied result ≡ slice_get self.now 0 }
     {
-        match &self.single {
-            Some(single) => Some(single),
+        match self.front.first() {
+            Some(first) => Some(first),
             None => self.others.first(),
         }
     }
@@ -188,10 +203,10 @@ impl<K: ExactOrd + Drop> OrderedSet<K> {
         ensures none { IfNone result ((self.old ≡ []) × (self.new ≡ [])) }
         ensures rises { Rises K.cmp self.new }
     {
-        match self.single.take() {
-            Some(single) => Some(single),
-            None => self.others.pop_first(),
+        if self.front.len() == 0 {
+            return self.others.pop_first();
         }
+        Some(self.front.remove(0))
     }
 
     /// Takes out a key that is there. The only key is found without comparing.
@@ -201,11 +216,19 @@ impl<K: ExactOrd + Drop> OrderedSet<K> {
         ensures rises { Rises K.cmp self.new }
         ensures count { length self.old ≡ length self.new + 1 }
     {
-        if let Some(_) = &self.single {
-            self.single = None;
+        if self.len() == 1 {
+            self.pop_first();
             return;
         }
-        self.others.take_out(key);
+        self.remove(key);
+    }
+
+    /// Takes all keys out. The room of the least ones stays.
+    pub fn clear(&mut self)
+        ensures { self.new ≡ [] }
+    {
+        self.front.clear();
+        self.others.clear();
     }
 
     /// The keys, in order.
@@ -214,7 +237,7 @@ impl<K: ExactOrd + Drop> OrderedSet<K> {
         ensures runs { ShowsInOrder (deref {X = K}) }
     {
         OrderedKeys {
-            single: self.single.as_ref(),
+            front: self.front.as_slice(),
             others: self.others.iter(),
         }
     }
@@ -223,14 +246,9 @@ impl<K: ExactOrd + Drop> OrderedSet<K> {
     pub fn nth(&self, place: usize) -> Option<&K>
         ensures { option_copied result ≡ slice_get self.now place }
     {
-        match &self.single {
-            Some(single) => {
-                if place == 0 {
-                    return Some(single);
-                }
-                None
-            }
-            None => self.others.nth(place),
+        if place < self.front.len() {
+            return self.front.get(place);
         }
+        self.others.nth(place - self.front.len())
     }
 }

@@ -1,5 +1,5 @@
 //! Lists that rise: what is in them, and how an item is put in its place.
-ghost use Rattle.std.specs.Prelude.{◌≡◌, ◌↔◌, OnOk, OnErr, IfOk, IfErr, Contains, IsTrue};
+ghost use Rattle.std.specs.Prelude.{◌≡◌, ◌↔◌, ◌+◌, OnOk, OnErr, IfOk, IfErr, Contains, IsTrue, length};
 ghost use Rattle.u_system.specs.Firing.{Same, Distinct};
 ghost use Rattle.u_sets.specs.Rising.{Rises};
 ghost use Rattle.u_sets.specs.Members.{IsWith};
@@ -30,6 +30,8 @@ pub fn place_in<T: ExactOrd + Drop>(list: &mut Vec<T>, item: T) -> Result<bool, 
     ensures still { IfOk result (λ b. (IsTrue b → ⊥) → list.new.items ≡ list.old.items) }
     ensures err { OnErr result (list.new.items ≡ list.old.items) }
     ensures back { IfErr result (λ e. e.value ≡ item) }
+    ensures count { IfOk result
+        (λ b. IsTrue b → length list.new.items ≡ length list.old.items + 1) }
 {
     match list.binary_search(&item) {
         Ok(_) => Ok(false),

@@ -1,5 +1,5 @@
 //! Trees of keys in order.
-ghost use Rattle.std.specs.Prelude.{◌≡◌, ◌↔◌, ◌+◌, [], ◌∷◌, OnOk, OnErr, IfOk, IfErr, IfSome, IfNone, Contains, IsTrue, IsFalse, length, slice_get};
+ghost use Rattle.std.specs.Prelude.{◌≡◌, ◌↔◌, ◌+◌, ◌^◌, ◌<◌, [], ◌∷◌, OnOk, OnErr, IfOk, IfErr, IfSome, IfNone, Contains, IsTrue, IsFalse, length, slice_get};
 ghost use Rattle.std.specs.Option.{option_copied};
 ghost use Rattle.std.specs.Map.Iter.{ShowsInOrder, deref};
 ghost use Rattle.u_sets.specs.Rising.{Rises};
@@ -41,6 +41,7 @@ impl<K: ExactOrd + Drop> TreeSet<K> {
     /// How many keys there are.
     pub fn len(&self) -> usize
         ensures len { result ≡ length self.now }
+        ensures small { result < 2 ^ 63 }
         ensures rises { Rises K.cmp self.now }
     {
         self.keys.len()
@@ -65,7 +66,6 @@ impl<K: ExactOrd + Drop> TreeSet<K> {
         ensures back { IfErr result (λ e. e.value ≡ key) }
         ensures rises { Rises K.cmp self.new }
         ensures count { IfOk result (λ b. IsTrue b → length self.new ≡ length self.old + 1) }
-        ensures only { OnOk result (self.old ≡ [] → self.new ≡ key ∷ []) }
     {
         let added = self.keys.insert(key)?;
         Ok(added)
@@ -99,18 +99,11 @@ impl<K: ExactOrd + Drop> TreeSet<K> {
         self.keys.pop_first()
     }
 
-    /// Takes out a key that is there. The only key is found without comparing.
-    pub fn take_out(&mut self, key: &K)
-        requires { Contains self.old key.now }
-        ensures without { IsWithout self.old key.now self.new }
-        ensures rises { Rises K.cmp self.new }
-        ensures count { length self.old ≡ length self.new + 1 }
+    /// Takes all keys out.
+    pub fn clear(&mut self)
+        ensures { self.new ≡ [] }
     {
-        if self.keys.len() == 1 {
-            self.keys.clear();
-            return;
-        }
-        self.remove(key);
+        self.keys.clear();
     }
 
     /// The keys, in order.

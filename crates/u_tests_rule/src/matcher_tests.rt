@@ -5,7 +5,7 @@ use u_check::Job;
 use u_match::{Entered, Matcher};
 use u_plain::examples::{DOUBLE, TWO_WRITERS, job};
 use u_plain::worked::{entry_of, put_firings};
-use u_rule::{Entry, Firing};
+use u_rule::{Entry, Firing, is_fitting};
 
 const PROGRAM: &[u8] = b"\
 u-program 1\n\
@@ -296,6 +296,9 @@ fn is_known(
     job: &Job,
     entry: &Entry,
 ) -> Result<bool, AllocError> {
+    if !is_fitting(job, entry) {
+        return Ok(false);
+    }
     let len = matcher.len();
     let came = matcher.enter_few(job, entry, Vec::new(alloc))?;
     Ok(matches!(came, Entered::Known) && matcher.len() == len)
@@ -320,6 +323,9 @@ fn comes_with(
     entry: &Entry,
     wanted: &[Firing],
 ) -> Result<Option<bool>, AllocError> {
+    if !is_fitting(job, entry) {
+        return Ok(None);
+    }
     let (is_right, is_put_off) = match matcher.enter_few(job, entry, Vec::new(alloc))? {
         Entered::Known => (false, false),
         Entered::Woken(found) => (

@@ -8,7 +8,7 @@ use u_history::History;
 use u_match::{Entered, Matcher};
 use u_plain::examples::{EXAMPLES, job};
 use u_plain::shuffling::shuffled;
-use u_rule::{Entry, Firing, RuleError, needs};
+use u_rule::{Entry, Firing, RuleError, is_fitting, needs};
 
 /// How many orders are tried of each program's history. Each is fixed by its number.
 const ORDERS: u64 = 10;
@@ -66,7 +66,8 @@ fn is_right(
     Ok(count == answer.len())
 }
 
-/// Whether the entry, which enters alone if it wakes many, wakes those firings.
+/// Whether the entry, which enters alone if it wakes many, wakes those firings. One that does not fit the
+/// job enters as any other.
 fn wakes(
     alloc: Global,
     job: &Job,
@@ -74,6 +75,10 @@ fn wakes(
     entry: &Entry,
     wanted: &[Firing],
 ) -> Result<bool, AllocError> {
+    if !is_fitting(job, entry) {
+        let found = matcher.enter(job, entry)?;
+        return Ok(found.as_slice() == wanted);
+    }
     let woken = match matcher.enter_few(job, entry, Vec::new(alloc))? {
         Entered::Known => return Ok(false),
         Entered::Woken(found) => found,

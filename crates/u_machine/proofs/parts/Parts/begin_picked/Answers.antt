@@ -49,13 +49,13 @@ some_made c =
     let there = ready_there p k st c.requires.ready.0 (subst (λ (s : State). IsReady s c.requires.ready.0) (sym m.state) c.requires.ready.1) in
     some_there p.ready c.requires.ready.0 ((ready_is_made _ _ _ _ _ _ _ k.late (k.idle st) c.in_ok-make_all.ensures.ok c.requires.ready.0).1 there)
 
-pub picked-place-requires : goal.picked-place-requires
-picked-place-requires c = some_made (goal.at.picked-place-requires c).In_ok-make_all
+pub picked_place-place-requires : goal.picked_place-place-requires
+picked_place-place-requires c = some_made (goal.at.picked_place-place-requires c).In_ok-make_all
 
 pub begin_at-requires-clause-ready : goal.begin_at-requires-clause-ready
 begin_at-requires-clause-ready c =
     let s = some_made (goal.at.begin_at-requires-clause-ready c).In_ok-make_all in
-    rw c.picked-place.ensures.place (mod_below c.args.pick (length c.make_all.new.self.ready) s)
+    rw c.picked_place-place.ensures.place (mod_below c.args.pick (length c.make_all.new.self.ready) s)
 
 pub returns-clause-ok : goal.returns-clause-ok
 returns-clause-ok c =
@@ -65,7 +65,7 @@ returns-clause-ok c =
     record {
       firing = b.firing;
       picked = subst (λ (s : State). IsPick s c.args.pick b.firing) m.state
-          (picks_made p c.in_ok-make_all.ensures.kept (makes_settled _ _ m c.requires.settled) c.in_ok-make_all.ensures.ok c.picked-place.ensures.rises c.args.pick b.firing (rw c.picked-place.ensures.place at b.at));
+          (picks_made p c.in_ok-make_all.ensures.kept (makes_settled _ _ m c.requires.settled) c.in_ok-make_all.ensures.ok c.picked_place-place.ensures.rises c.args.pick b.firing (rw c.picked_place-place.ensures.place at b.at));
       takes = subst (λ (s : State). Takes s b.firing (state_of c.begin_at.new.self)) m.state b.takes;
       log = b.log ∙ ap (λ (l : FiringList). l ++ b.firing ∷ []) m.log;
     }

@@ -54,7 +54,7 @@ add_each-add_all-requires t c =
     let count = ap length pushed in
     let more = length_more c.loop-value.chosen.items c.in_ok-copy.copy in
     let same = ap length c.loop-value.invariant.0 in
-    (omega (arith, count, more, same, c.requires.0), omega (arith, count, more, same, c.requires.1))
+    (omega (arith, count, more, same, c.requires.ports.0), (c.requires.known, omega (arith, count, more, same, c.requires.ports.1)))
 
 pub add_each-returns-in_err-add_all-clause-many : goal.add_each-returns-in_err-add_all-clause-many
 add_each-returns-in_err-add_all-clause-many t c =

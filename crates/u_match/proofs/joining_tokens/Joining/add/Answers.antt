@@ -4,10 +4,10 @@ use Rattle.u_match.proofs.Steps.{put_in, put_last, left_out}
 use Rattle.u_match.proofs.joining_tokens.Joining.add.Goals as goal
 
 pub returns-clause-ok : goal.returns-clause-ok
-returns-clause-ok c = put_in c.args.self.now.job.now c.args.firing c.args.found.now.items c.push.new.self.items (sym c.is_firing.ensures ∙ c.if-not-is_firing.false) (put_last c.args.firing c.args.found.now.items c.push.new.self.items c.in_ok-push.ensures.items)
+returns-clause-ok c = put_in c.args.self.now.job.now c.args.firing c.args.found.now.items c.push.new.self.items (sym c.is_one.ensures ∙ c.if-not-is_one.false) (put_last c.args.firing c.args.found.now.items c.push.new.self.items c.in_ok-push.ensures.items)
 
 pub returns-then-len-self-clause-many : goal.returns-then-len-self-clause-many
-returns-then-len-self-clause-many c e = (c.args.firing, (refl, sym c.is_firing.ensures ∙ c.if-not-is_firing.false))
+returns-then-len-self-clause-many c e = (c.args.firing, (refl, sym c.is_one.ensures ∙ c.if-not-is_one.false))
 
-pub returns-then-not-is_firing-clause-ok : goal.returns-then-not-is_firing-clause-ok
-returns-then-not-is_firing-clause-ok c = left_out c.args.self.now.job.now c.args.firing c.args.found.now.items (λ is. false≢true (sym c.if-not-is_firing.true ∙ (c.is_firing.ensures ∙ is)))
+pub returns-then-not-is_one-clause-ok : goal.returns-then-not-is_one-clause-ok
+returns-then-not-is_one-clause-ok c = left_out c.args.self.now.job.now c.args.firing c.args.found.now.items (λ is. false≢true (sym c.if-not-is_one.true ∙ (c.is_one.ensures ∙ is)))

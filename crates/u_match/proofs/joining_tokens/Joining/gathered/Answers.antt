@@ -28,8 +28,8 @@ met_at_each-requires c =
     let few = few_at c.args.self.now.job.now c.args.self.now.activity.now in
     omega (arith, ports, few)
 
-pub add_all-requires : goal.add_all-requires
-add_all-requires c =
+pub add_all-requires-clause-ports : goal.add_all-requires-clause-ports
+add_all-requires-clause-ports c =
     let ports : c.ports_at-ports.result ≡ ports_at c.args.self.now.job.now c.args.self.now.activity.now = c.ports_at-ports.ensures in
     let few = few_at c.args.self.now.job.now c.args.self.now.activity.now in
     let chosen = ap length c.new-chosen.ensures.items in

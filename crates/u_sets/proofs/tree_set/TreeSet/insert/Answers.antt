@@ -1,4 +1,4 @@
-use Rattle.u_sets.proofs.Keys.{inserts, into_empty, rises_still, was_new}
+use Rattle.u_sets.proofs.Keys.{inserts, rises_still, was_new}
 use Rattle.u_sets.proofs.tree_set.TreeSet.insert.Goals as goal
 
 pub invariant_of-self-2 : goal.invariant_of-self-2
@@ -12,6 +12,3 @@ returns-clause-new g c = rw (← c.self.view_is) (was_new g.K.Ord.cmp g.met.K.Or
 
 pub returns-clause-rises : goal.returns-clause-rises
 returns-clause-rises g c = rw c.in_ok-added.ensures.keys (rises_still g.K.Ord.cmp g.met.K.Ord.total g.met.K.ExactOrd.exact c.self.inside.keys.keys c.args.key c.self.invariant)
-
-pub returns-clause-only : goal.returns-clause-only
-returns-clause-only g c = rw (c.in_ok-added.ensures.keys, ← c.self.view_is) (into_empty g.K.Ord.cmp g.met.K.Ord.total g.met.K.ExactOrd.exact c.self.inside.keys.keys c.args.key)
