@@ -13,7 +13,6 @@ use Rattle.std.proofs.lemmas.List.Elements.{Contains-append_left, Contains-appen
 use Rattle.u_system.proofs.Member.{Contains-nil, Contains-head, Contains-tail, Contains-cons_cases}
 use Rattle.u_sets.specs.Rising.{Rises}
 use Rattle.u_sets.specs.Members.{IsWith, IsWithout}
-use Rattle.u_sets.specs.Fronted.{IsFronted}
 use Rattle.u_sets.proofs.Places.{one_list, irreflexive}
 
 module _ {X : Type 0} where

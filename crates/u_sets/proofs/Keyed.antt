@@ -1,8 +1,6 @@
 -- The pairs of the keys of a map, and what a put makes of them.
 use Rattle.std.proofs.Common.{◌≡◌, ◌↔◌, ◌⊎◌, inl, inr, ℕ, ◌+◌, ◌<◌, ◌≤◌, List, [], ◌∷◌, ◌++◌, Bool, true, false, cond, Option, Some, None, Contains, length, map, subst, sym, ◌∙◌, ap, refl, arith, append-nil, append_assoc, take, get_or}
 use Rattle.std.specs.Prelude.{nat_lt, if◌then◌else◌, slice_get, Result, Ok, Err, IfOk}
-use Rattle.std.specs.Borrow.{Bor}
-use Rattle.std.specs.Map.Iter.{deref_pair}
 use Rattle.std.specs.Cmp.{IsEquivalence}
 use Rattle.std.specs.Map.{keys_of, lookup, set_value}
 use Rattle.std.specs.List.{IsDistinct, AllByRecursion}
@@ -14,7 +12,7 @@ use Rattle.std.proofs.lemmas.Bool.{ltb-true, lt-ltb}
 use Rattle.u_system.specs.Firing.{Distinct}
 use Rattle.u_system.proofs.Member.{Contains-nil, Contains-head, Contains-tail, Contains-cons_cases}
 use Rattle.u_sets.specs.Members.{IsWith}
-use Rattle.u_sets.specs.declared.keyed_set.Few.{Few}
+use Rattle.u_sets.specs.declared.few.Few.{Few}
 use Rattle.u_sets.specs.Pairs.{items_of, pairs_from, pairs_of, group_pairs, pairs_of_many, HasAnother, GroupsAreDistinct}
 
 pub not_below : (n m : ℕ) → m ≤ n → nat_lt n m ≡ false
@@ -131,14 +129,14 @@ module _ {K V : Type 0} where
       h ∙ ap (λ (ws : List V). start ++ pairs_from k ws) (take_all i vs l ∙ is)
       ∙ ap (λ (b : Bool). start ++ (if b then [] else pairs_from k (items_of f))) (sym (not_below (length (items_of f)) n (subst (λ (ws : List V). n ≤ length ws) is m)))
 
-  -- one pair more
-  pub pairs_more : (old new : List (Bor K × Bor V)) (p : Bor K × Bor V) (start : List (K × V)) (k : K) (vs : List V) (i : ℕ) (v : V) → i < length vs → v ≡ get_or vs i v
-      → new ≡ old ++ p ∷ [] → ◌≡◌ {A = K × V} (deref_pair p) (k, v) → map deref_pair old ≡ start ++ pairs_from k (take i vs) → map deref_pair new ≡ start ++ pairs_from k (take (i + 1) vs)
-  pairs_more old new p start k vs i v l at n is all =
-      ap (λ (ps : List (Bor K × Bor V)). map deref_pair ps) n
-      ∙ map-append deref_pair old (p ∷ [])
-      ∙ ap (λ (t : List (K × V)). t ++ deref_pair p ∷ []) all
-      ∙ append_assoc start (pairs_from k (take i vs)) (deref_pair p ∷ [])
+  -- one pair more, as d reads it
+  pub pairs_more : {P : Type 0} (d : P → K × V) (old new : List P) (p : P) (start : List (K × V)) (k : K) (vs : List V) (i : ℕ) (v : V) → i < length vs → v ≡ get_or vs i v
+      → new ≡ old ++ p ∷ [] → d p ≡ (k, v) → map d old ≡ start ++ pairs_from k (take i vs) → map d new ≡ start ++ pairs_from k (take (i + 1) vs)
+  pairs_more {P} d old new p start k vs i v l at n is all =
+      ap (λ (ps : List P). map d ps) n
+      ∙ map-append d old (p ∷ [])
+      ∙ ap (λ (t : List (K × V)). t ++ d p ∷ []) all
+      ∙ append_assoc start (pairs_from k (take i vs)) (d p ∷ [])
       ∙ ap (λ (q : K × V). start ++ (pairs_from k (take i vs) ++ q ∷ [])) is
       ∙ ap (λ (t : List (K × V)). start ++ t) (sym (from_more k (take i vs) v))
       ∙ ap (λ (ws : List V). start ++ pairs_from k ws) (sym (take_more vs i v l ∙ ap (λ (w : V). take i vs ++ w ∷ []) (sym at)))

@@ -10,5 +10,7 @@ pub mod Rounds
 pub mod Steps
 pub mod Shown
 pub mod Keyed
+pub mod Columned
+pub mod Named
 pub mod Putting
 pub mod Fronted

@@ -1,4 +1,5 @@
 pub mod Rising
 pub mod Members
 pub mod Pairs
+pub mod Columns
 pub mod Fronted

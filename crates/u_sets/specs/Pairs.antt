@@ -1,11 +1,12 @@
 -- Pairs of a key and a value, as the values stand under their keys.
 use Rattle.std.specs.Prelude.{◌≡◌, ℕ, List, [], ◌∷◌, ◌++◌, length, nat_lt, if◌then◌else◌, Contains}
 use Rattle.u_system.specs.Firing.{Distinct}
-use Rattle.u_sets.specs.declared.keyed_set.Few.{Few}
-use Rattle.u_sets.specs.declared.keyed_set.Few.TheVariants.{One, Many}
+use Rattle.u_sets.specs.declared.few.Few.{Few}
+use Rattle.u_sets.specs.declared.few.Few.TheVariants.{Empty, One, Many}
 
 -- the values under a key
 abbrev pub items_of : {V : Type 0} → Few V → List V
+items_of Empty = []
 items_of (One v) = v ∷ []
 items_of (Many s) = s.value.keys
 
@@ -25,6 +26,7 @@ HasAnother {X} P x = (y : X) × P y × (y ≡ x → ⊥)
 
 -- a single value stands under the key
 abbrev pub IsOne : {V : Type 0} → Few V → Type 0
+IsOne Empty = ⊥
 IsOne (One v) = Unit {0}
 IsOne (Many s) = ⊥
 

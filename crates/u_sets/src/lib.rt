@@ -6,6 +6,8 @@
 //! that is merely alike: this is the fact of the trait `ExactOrd` of `u_order`.
 #![tactic(auto)]
 
+mod column;
+mod few;
 mod keyed_set;
 mod listed_set;
 mod ordered_set;
@@ -13,6 +15,7 @@ mod placed_set;
 mod rising;
 mod tree_set;
 
+pub use column::Column;
 pub use keyed_set::KeyedSet;
 pub use listed_set::ListedSet;
 pub use ordered_set::{OrderedKeys, OrderedSet};

@@ -5,7 +5,7 @@ use Rattle.u_sets.proofs.keyed_set.push_pairs.Goals as goal
 
 pub loop-value-preserved : goal.loop-value-preserved
 loop-value-preserved g c =
-    pairs_more c.loop-value.list.items c.push.new.self.items _ (map deref_pair c.args.list.now.items) c.args.key.now c.as_slice-values.result.now c.loop-value.value-index c.value-item.result c.loop-value-test.true c.value-item.is c.in_ok-push.ensures.items refl c.loop-value.invariant
+    pairs_more deref_pair c.loop-value.list.items c.push.new.self.items _ (map deref_pair c.args.list.now.items) c.args.key.now c.as_slice-values.result.now c.loop-value.value-index c.value-item.result c.loop-value-test.true c.value-item.is c.in_ok-push.ensures.items refl c.loop-value.invariant
 
 pub returns-clause-ok : goal.returns-clause-ok
 returns-clause-ok g c =

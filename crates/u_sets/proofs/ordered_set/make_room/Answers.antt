@@ -1,4 +1,4 @@
-use Rattle.std.proofs.Common.{◌≡◌, ◌++◌, sym, subst, arith}
+use Rattle.std.proofs.Common.{sym, subst, arith}
 use Rattle.u_sets.specs.Rising.{Rises}
 use Rattle.u_sets.proofs.Fronted.{moved, one_fewer}
 use Rattle.u_sets.proofs.ordered_set.make_room.Goals as goal

@@ -3,8 +3,8 @@ use Rattle.std.specs.Prelude.{IsSome}
 use Rattle.u_system.proofs.Member.{Contains-nil}
 use Rattle.u_sets.specs.Members.{IsWith}
 use Rattle.u_sets.specs.Pairs.{items_of, pairs_of}
-use Rattle.u_sets.specs.declared.keyed_set.Few.{Few}
-use Rattle.u_sets.specs.declared.keyed_set.Few.TheVariants.{One}
+use Rattle.u_sets.specs.declared.few.Few.{Few}
+use Rattle.u_sets.specs.declared.few.Few.TheVariants.{One}
 use Rattle.std.specs.HashMap.{get}
 use Rattle.u_sets.proofs.Hashed.{exactly}
 use Rattle.u_sets.proofs.Keyed.{at_key, items_at, alone, one_pair_more, same_pairs}

@@ -6,8 +6,8 @@ use Rattle.indexmap.proofs.CallerLemmas.{keys-with_value_at, updates-with_value_
 use Rattle.u_system.proofs.Member.{Contains-nil}
 use Rattle.u_sets.specs.Members.{IsWith}
 use Rattle.u_sets.specs.Pairs.{items_of, pairs_of}
-use Rattle.u_sets.specs.declared.keyed_set.Few.{Few}
-use Rattle.u_sets.specs.declared.keyed_set.Few.TheVariants.{One}
+use Rattle.u_sets.specs.declared.few.Few.{Few}
+use Rattle.u_sets.specs.declared.few.Few.TheVariants.{One}
 use Rattle.u_sets.proofs.Hashed.{exactly}
 use Rattle.u_sets.proofs.Keyed.{at_key, items_at, alone, one_pair_more, same_pairs}
 use Rattle.u_sets.proofs.Putting.{chosen_once, on_err, entry_at, value_at, back_at}
@@ -41,8 +41,8 @@ unreachable-requires-in_default-replace g c =
     let v = value_at E c.args.key es c.insert_full.new.self.entries c.in_ok-place.place c.in-Some.few few some c.in_ok-place.ensures.entries c.in_ok-place.ensures.index in
     let t = c.in-Some-get_index_mut.ensures.value in
     let r = c.replace.ensures.value in
-    let i = c.in_default-replace.is in
-    absurd (cc)
+    let same : c.replace.result ≡ few = cc in
+    c.in_default-replace.not-One c.args.value same
 
 pub invariant_of-self-in_err-added : goal.invariant_of-self-in_err-added
 invariant_of-self-in_err-added g c =

@@ -1,6 +1,6 @@
 use Rattle.std.proofs.Common.{◌∙◌, sym}
 use Rattle.u_sets.proofs.Hashed.{exactly, found, finds}
-use Rattle.u_sets.proofs.keyed_set.Few.contains.Goals as goal
+use Rattle.u_sets.proofs.few.Few.contains.Goals as goal
 
 pub returns-in-Many : goal.returns-in-Many
 returns-in-Many g c =

@@ -1,10 +1,10 @@
 use Rattle.std.proofs.Common.{◌≡◌, ◌∷◌, [], subst, ap, ◌∙◌}
 use Rattle.u_sets.specs.Members.{IsWith}
 use Rattle.u_sets.specs.Pairs.{items_of}
-use Rattle.u_sets.specs.declared.keyed_set.Few.TheVariants.{One}
+use Rattle.u_sets.specs.declared.few.Few.TheVariants.{One}
 use Rattle.u_sets.proofs.Hashed.{exactly, puts}
 use Rattle.u_sets.proofs.Keyed.{turned}
-use Rattle.u_sets.proofs.keyed_set.Few.join.Goals as goal
+use Rattle.u_sets.proofs.few.Few.join.Goals as goal
 
 pub returns-clause-ok : goal.returns-clause-ok
 returns-clause-ok g c =

@@ -1,5 +1,5 @@
 use Rattle.u_sets.proofs.Hashed.{exactly, puts, was_new}
-use Rattle.u_sets.proofs.keyed_set.Few.insert.Goals as goal
+use Rattle.u_sets.proofs.few.Few.insert.Goals as goal
 
 pub returns-in_ok-added-in-Many-clause-ok : goal.returns-in_ok-added-in-Many-clause-ok
 returns-in_ok-added-in-Many-clause-ok g c =
