@@ -10,4 +10,5 @@ pub mod Texts
 pub mod Unions
 pub mod Lines
 pub mod Tabled
+pub mod Numbering
 pub mod Telling

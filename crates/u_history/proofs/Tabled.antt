@@ -20,8 +20,7 @@ use Rattle.u_rule.specs.declared.parts.Written.{Written}
 use Rattle.u_rule.specs.declared.parts.Write.{Write}
 use Rattle.u_rule.specs.declared.entry.Entry.{Entry}
 use Rattle.u_rule.specs.declared.entry.Entry.TheVariants as entries
-use Rattle.u_history.specs.declared.tables.Tables.{Tables}
-use Rattle.u_history.specs.Tables.{PortTables, place_at, table_at, InTables, token_entry, write_entry, listed_tokens, listed_entries, all_entries, IsOther, OthersAreOther, IsSharing, AreSharing, AreDistinct}
+use Rattle.u_history.specs.Tables.{PortTables, Contents, place_at, table_at, InTables, HasMore, token_entry, write_entry, listed_tokens, listed_entries, all_entries, IsOther, OthersAreOther, IsSharing, AreSharing, AreDistinct}
 
 -- what follows of an error, if there is one
 pub err_then : {T E : Type 0} (r : Result T E) (P Q : E → Type 0) → IfErr r P → ((e : E) → P e → Q e) → IfErr r Q
@@ -97,7 +96,7 @@ token_of n (t ∷ ts) e h = elim (Contains-append_cases (map (token_entry n) t) 
   | inr b ↦ (let r = token_of (suc n) ts e b in record { place = suc (r.place); pair = r.pair; there = r.there; is = ap (λ (k : ℕ). token_entry k r.pair) (let q : n + suc (r.place) ≡ suc n + r.place = omega arith in q) ∙ r.is })
 ]
 
-module _ (t : Tables) where
+module _ (t : Contents) where
   abbrev behind : List Entry
   behind = map write_entry t.writes ++ t.rest
 
@@ -155,14 +154,10 @@ module _ (t : Tables) where
   pub held_at : (k : TokenParts) (n : ℕ) (a : Activity) (v : Value) → k.port ≡ n → a ≡ k.activity → v ≡ k.value → Contains (table_at t n) (a, v) ↔ InTables t (entries.Token k)
   held_at k n a v p q r = rw (q, r, p) ((λ m. m), λ m. m)
 
-pub no_entries : (t : Tables) → OthersAreOther t → ((e : Entry) → InTables t e → ⊥) → all_entries t ≡ []
+pub no_entries : (t : Contents) → OthersAreOther t → ((e : Entry) → InTables t e → ⊥) → all_entries t ≡ []
 no_entries t o h = empty_of (all_entries t) (λ e m. h e ((held_in t o e).0 m))
 
--- u has what t has, and e
-abbrev pub HasMore : Tables → Entry → Tables → Type 0
-HasMore t e u = (x : Entry) → InTables u x ↔ (InTables t x ⊎ (e ≡ x))
-
-module _ (t u : Tables) where
+module _ (t u : Contents) where
   pub more_entries : (e : Entry) → OthersAreOther t → OthersAreOther u → HasMore t e u → IsWith (all_entries t) e (all_entries u)
   more_entries e o q h x =
       let a = held_in t o x in
@@ -208,11 +203,11 @@ module _ (t u : Tables) where
       λ s. elim s [ inl m ↦ subst (λ (es : List Entry). Contains es (entries.Answer x)) (sym rest) m | inr q ↦ subst (InTables u) q held_now ],
     )
 
-module _ (t : Tables) where
-  abbrev pub with_writes : List (CellOf × Written) → Tables
+module _ (t : Contents) where
+  abbrev pub with_writes : List (CellOf × Written) → Contents
   with_writes ws = record { tokens = t.tokens; writes = ws; rest = t.rest }
 
-  abbrev pub with_rest : List Entry → Tables
+  abbrev pub with_rest : List Entry → Contents
   with_rest es = record { tokens = t.tokens; writes = t.writes; rest = es }
 
   pub write_more : (w : Write) (ws : List (CellOf × Written)) → IsWith t.writes (w.cell, written w.writer w.value) ws → HasMore t (entries.Write w) (with_writes ws)
@@ -274,10 +269,10 @@ set_apart (t ∷ ts) (suc i) new zero = inr refl
 set_apart (t ∷ ts) (suc i) new (suc zero) = inr refl
 set_apart (t ∷ ts) (suc i) new (suc (suc m)) = elim (set_apart ts i new (suc m)) [ inl e ↦ inl (ap suc e) | inr e ↦ inr e ]
 
-abbrev with_table : Tables → ℕ → List (Activity × Value) → Tables
+abbrev with_table : Contents → ℕ → List (Activity × Value) → Contents
 with_table t i new = record { tokens = set t.tokens i new; writes = t.writes; rest = t.rest }
 
-pub token_put : (t : Tables) (k : TokenParts) (i : ℕ) (d new : List (Activity × Value)) → k.port ≡ suc i → i < length t.tokens → IsWith (get_or t.tokens i d) (k.activity, k.value) new → HasMore t (entries.Token k) (record { tokens = set t.tokens i new; writes = t.writes; rest = t.rest })
+pub token_put : (t : Contents) (k : TokenParts) (i : ℕ) (d new : List (Activity × Value)) → k.port ≡ suc i → i < length t.tokens → IsWith (get_or t.tokens i d) (k.activity, k.value) new → HasMore t (entries.Token k) (record { tokens = set t.tokens i new; writes = t.writes; rest = t.rest })
 token_put t k i d new e l put =
     token_more t (with_table t i new) k (suc i) e (rw (table_is t.tokens (suc i) i d refl l, set_here t.tokens i new l) put) (set_apart t.tokens i new) refl refl
 
@@ -288,13 +283,13 @@ on_ok (Err e) p f = tt
 pub is_new : {E : Type 0} (r : Result Bool E) (ps qs : List (Activity × Value)) (p : Activity × Value) → qs ≡ ps → IfOk r (λ b. IsTrue b ↔ (Contains ps p → ⊥)) → IfOk r (λ b. IsTrue b ↔ (Contains qs p → ⊥))
 is_new r ps qs p e h = subst (λ (xs : List (Activity × Value)). IfOk r (λ b. IsTrue b ↔ (Contains xs p → ⊥))) (sym e) h
 
-pub is_under : (t : Tables) (n i : ℕ) (d : List (Activity × Value)) (p : Activity × Value) (b : Bool) → n ≡ suc i → i < length t.tokens → IsTrue b ↔ Contains (get_or t.tokens i d) p → IsTrue b ↔ Contains (table_at t n) p
+pub is_under : (t : Contents) (n i : ℕ) (d : List (Activity × Value)) (p : Activity × Value) (b : Bool) → n ≡ suc i → i < length t.tokens → IsTrue b ↔ Contains (get_or t.tokens i d) p → IsTrue b ↔ Contains (table_at t n) p
 is_under t n i d p b e l h = subst (λ (xs : List (Activity × Value)). IsTrue b ↔ Contains xs p) (sym (table_is t.tokens n i d e l)) h
 
-pub values_under : (t : Tables) (n i : ℕ) (d : List (Activity × Value)) (a : Activity) (vs : List Value) → n ≡ suc i → i < length t.tokens → ((v : Value) → Contains vs v ↔ Contains (get_or t.tokens i d) (a, v)) → (v : Value) → Contains vs v ↔ Contains (table_at t n) (a, v)
+pub values_under : (t : Contents) (n i : ℕ) (d : List (Activity × Value)) (a : Activity) (vs : List Value) → n ≡ suc i → i < length t.tokens → ((v : Value) → Contains vs v ↔ Contains (get_or t.tokens i d) (a, v)) → (v : Value) → Contains vs v ↔ Contains (table_at t n) (a, v)
 values_under t n i d a vs e l h v = subst (λ (xs : List (Activity × Value)). Contains vs v ↔ Contains xs (a, v)) (sym (table_is t.tokens n i d e l)) (h v)
 
-pub none_under : (t : Tables) (n : ℕ) (a : Activity) → place_at t.tokens n ≡ [] → (v : Value) → Contains {X = Value} [] v ↔ Contains (table_at t n) (a, v)
+pub none_under : (t : Contents) (n : ℕ) (a : Activity) → place_at t.tokens n ≡ [] → (v : Value) → Contains {X = Value} [] v ↔ Contains (table_at t n) (a, v)
 none_under t n a e v = ((λ m. absurd (Contains-nil v m)), λ m. absurd (Contains-nil (a, v) (subst (λ (xs : List (Activity × Value)). Contains xs (a, v)) e m)))
 
 -- one item more
@@ -416,7 +411,7 @@ tokens_distinct n (t ∷ ts) d =
     joined (map (token_entry n) t) (listed_tokens (suc n) ts) (map_distinct (token_entry n) (one_token n) t d.0) (tokens_distinct (suc n) ts d.1)
     (λ x a b. let p = port_of_mapped n t x a in let q = listed_from (suc n) ts x b in omega (arith, p, q))
 
-pub listed_distinct : (t : Tables) → OthersAreOther t → AreDistinct t.tokens → Distinct t.writes → Rises entry_cmp t.rest → Distinct (listed_entries t.tokens t.writes t.rest)
+pub listed_distinct : (t : Contents) → OthersAreOther t → AreDistinct t.tokens → Distinct t.writes → Rises entry_cmp t.rest → Distinct (listed_entries t.tokens t.writes t.rest)
 listed_distinct t o d w r =
     let ws = map write_entry t.writes in
     let mw = marked write_entry 1 (λ p. refl) t.writes in

@@ -20,8 +20,7 @@ use Rattle.u_rule.specs.declared.entry.Entry.{Entry}
 use Rattle.u_rule.specs.declared.entry.Entry.TheVariants as entries
 use Rattle.u_rule.specs.contracts.parts.WrittenOrd.TheImpl.Laws as written_laws
 use Rattle.u_rule.specs.contracts.parts.FaultOrd.TheImpl.Laws as fault_laws
-use Rattle.u_history.specs.declared.tables.Tables.{Tables}
-use Rattle.u_history.specs.Tables.{PortTables, place_at, InTables, Matters, AreSharing}
+use Rattle.u_history.specs.Tables.{PortTables, Contents, place_at, InTables, Matters, AreSharing}
 use Rattle.u_history.specs.Orders.{value_order, written_order, fault_order}
 use Rattle.u_history.specs.Outcomes.{CellPairs, PortValues, PairIn, ValueAt, HasTwo, IsCellClash, IsPortClash, cell_clash_order, port_clash_order, IsOutcome}
 use Rattle.u_history.proofs.Reports.{cells_total, ports_total}
@@ -39,7 +38,7 @@ shared_at (t ∷ ts) (u ∷ us) h (suc (suc n)) a v = shared_at ts us h.1 (suc n
 shared_at [] (u ∷ us) h n a v = absurd h
 shared_at (t ∷ ts) [] h n a v = absurd h
 
-module _ (t u : Tables) (tokens : AreSharing t.tokens u.tokens) (writes : AreShared t.writes u.writes) (rest : u.rest ≡ t.rest) where
+module _ (t u : Contents) (tokens : AreSharing t.tokens u.tokens) (writes : AreShared t.writes u.writes) (rest : u.rest ≡ t.rest) where
   pub tells : (e : Entry) → InTables u e ↔ Matters (InTables t) e
   tells (entries.Token k) = shared_at t.tokens u.tokens tokens k.port k.activity k.value
   tells (entries.Write w) = writes w.cell (written w.writer w.value)

@@ -1,4 +1,5 @@
 pub mod Stored
+pub mod Numbered
 pub mod Tables
 pub mod Orders
 pub mod Text
@@ -9,3 +10,4 @@ pub mod Verdicts
 pub mod Report
 pub mod OutcomeParts
 pub mod ExactPorts
+pub mod Lending

@@ -1,6 +1,6 @@
 //! Sets of entries.
 ghost use Rattle.std.specs.Prelude.{◌≡◌, ◌↔◌, ◌++◌, [], ◌∷◌, OnOk, OnErr, IfOk, IfErr, Contains, ◌⊎◌, IsTrue, length, map};
-ghost use Rattle.std.specs.Map.Iter.{deref};
+ghost use Rattle.std.specs.Borrow.{sem};
 ghost use Rattle.u_system.specs.Firing.{Distinct, Same};
 ghost use Rattle.u_value.specs.declared.value.Value.{Value};
 ghost use Rattle.u_rule.specs.declared.parts.Written.{Written};
@@ -14,11 +14,12 @@ ghost use Rattle.u_rule.specs.EntryText.{entry_text};
 ghost use Rattle.u_history.specs.Text.{history_text};
 ghost use Rattle.u_history.specs.Outcomes.{PairIn, ValueAt, lent};
 ghost use Rattle.u_history.specs.OutcomeParts.{IsOutcomeOf};
+ghost use Rattle.u_history.specs.Lending.{LendsNumbered};
 
 use crate::clash::Port;
 use crate::lookup::{pairs_in, values_at};
+use crate::numbered::{NumberedHistory, references};
 use crate::outcome::Outcome;
-use crate::tables::Tables;
 use std::alloc::{AllocError, AllocFailed, Global};
 use std::marker::Model;
 use u_name::{Cell, Name};
@@ -30,8 +31,7 @@ use u_value::Value;
 #[derive(Drop)]
 pub struct History {
     alloc: Global,
-    count: usize,
-    tables: Tables,
+    numbered: NumberedHistory,
 }
 
 impl Model for History {
@@ -43,11 +43,7 @@ impl Model for History {
 
     ghost coded = { entries_code };
 
-    ghost use Rattle.u_history.specs.Tables.{all_entries, AreCounted};
-
-    ghost view = { λ h. all_entries h.tables };
-
-    ghost invariant = { λ h. AreCounted h.tables h.count };
+    ghost view = { λ h. h.numbered.entries };
 }
 
 impl History {
@@ -57,8 +53,7 @@ impl History {
     {
         History {
             alloc,
-            count: 0,
-            tables: Tables::new(alloc),
+            numbered: NumberedHistory::new(alloc),
         }
     }
 
@@ -67,14 +62,29 @@ impl History {
         ensures len { result ≡ length self.now }
         ensures rises { Rises entry_cmp self.now }
     {
-        self.count
+        self.numbered.len()
     }
 
     /// Whether the entry is there.
     pub fn contains(&self, entry: &Entry) -> bool
         ensures { IsTrue result ↔ Contains self.now entry.now }
     {
-        self.tables.contains(entry)
+        self.numbered.contains(entry)
+    }
+
+    /// The history with the numbers of its activities.
+    pub fn numbered(&self) -> &NumberedHistory
+        ensures { result.now.entries ≡ self.now }
+    {
+        &self.numbered
+    }
+
+    /// The history with the numbers of its activities, to be changed.
+    pub fn numbered_mut(&mut self) -> &mut NumberedHistory
+        ensures* lends { sem 𝓛 (LendsNumbered self.entry result) }
+        ensures entries { result.now.entries ≡ self.old }
+    {
+        &mut self.numbered
     }
 
     /// Puts the entry in. Returns whether it was new.
@@ -88,15 +98,7 @@ impl History {
         ensures err { OnErr result (self.new ≡ self.old) }
         ensures back { IfErr result (λ e. e.value ≡ entry) }
     {
-        let Some(next) = self.count.checked_add(1) else {
-            return Err(AllocFailed { value: entry });
-        };
-        let added = self.tables.insert(entry)?;
-        if !added {
-            return Ok(false);
-        }
-        self.count = next;
-        Ok(true)
+        self.numbered.insert(entry)
     }
 
     /// Puts a copy of the entry in. Returns whether it was new.
@@ -109,15 +111,7 @@ impl History {
         ensures still { IfOk result (λ b. (IsTrue b → ⊥) → self.new ≡ self.old) }
         ensures err { OnErr result (self.new ≡ self.old) }
     {
-        let Some(next) = self.count.checked_add(1) else {
-            return Err(AllocError);
-        };
-        let added = self.tables.insert_copy(entry)?;
-        if !added {
-            return Ok(false);
-        }
-        self.count = next;
-        Ok(true)
+        self.numbered.insert_copy(entry)
     }
 
     /// The values of the tokens at that port of the activity, each once, in no order.
@@ -126,7 +120,7 @@ impl History {
             ↔ ValueAt (Contains self.now) activity.now port v }
         ensures distinct { Distinct result.now }
     {
-        self.tables.values_at(activity, port)
+        self.numbered.values_under(activity, port)
     }
 
     /// The values of the tokens at the port, each once, in no order.
@@ -135,7 +129,7 @@ impl History {
             ↔ ValueAt (Contains self.now) port.now.activity port.now.number v }
         ensures distinct { Distinct result.now }
     {
-        self.tables.values_at(&port.activity, port.number)
+        self.numbered.values_under(&port.activity, port.number)
     }
 
     /// The writers and values of the writes of the cell, each pair once, in no order.
@@ -144,7 +138,7 @@ impl History {
             ↔ PairIn (Contains self.now) cell.now w }
         ensures distinct { Distinct result.now }
     {
-        self.tables.writes.under(cell)
+        self.numbered.writes_to(cell)
     }
 
     /// Copies of the entries, in order.
@@ -155,7 +149,7 @@ impl History {
         ensures all { IfOk result (λ v. v.items ≡ self.now) }
         ensures rises { Rises entry_cmp self.now }
     {
-        self.tables.entries(self.alloc)
+        self.numbered.entries()
     }
 
     /// Copies of the entries, each once, in no order. Putting many in order takes longer than copying
@@ -167,8 +161,7 @@ impl History {
         ensures all { IfOk result (λ v. Same (Contains v.items) (Contains self.now)) }
         ensures distinct { IfOk result (λ v. Distinct v.items) }
     {
-        let entries = self.tables.listed(self.alloc)?;
-        Ok(entries)
+        self.numbered.unordered_entries()
     }
 
     /// The values of the tokens at that port of the activity, in order.
@@ -230,9 +223,7 @@ impl History {
     pub fn outcome(&self) -> Result<Outcome, AllocError>
         ensures { IfOk result (IsOutcomeOf (Contains self.now)) }
     {
-        let entries = self.tables.telling(self.alloc)?;
-        let lent = references(self.alloc, &entries)?;
-        Outcome::of(self.alloc, &lent)
+        self.numbered.outcome()
     }
 
     /// Puts copies of the entries in.
@@ -263,8 +254,9 @@ impl History {
     {
         let mut copied = History::new(self.alloc);
         copied.take_in(self)?;
-        // Brings in what the type's invariant says of the copy.
-        let _ = &copied.tables;
+        // Bring in that the entries of both rise.
+        let _ = self.len();
+        let _ = copied.len();
         Ok(copied)
     }
 
@@ -281,13 +273,6 @@ impl History {
         *self = union;
         Ok(())
     }
-}
-
-/// References to the entries.
-fn references(alloc: Global, entries: &[Entry]) -> Result<Vec<&Entry>, AllocError>
-    ensures { IfOk result (λ v. map (deref {X = Entry}) v.items ≡ entries.now) }
-{
-    entries.iter().collect(alloc)
 }
 
 /// Appends the text of the entry, with a newline behind it. On an error a part of it may stand there.

@@ -1,5 +1,5 @@
 //! Where the entries of a history stand: tokens under their activities, writes under their cells.
-ghost use Rattle.std.specs.Prelude.{◌≡◌, ◌↔◌, ◌⊎◌, [], length, OnOk, OnErr, IfOk, IfErr, Contains, IsTrue, ◌++◌, map};
+ghost use Rattle.std.specs.Prelude.{◌≡◌, ◌↔◌, ◌<◌, [], length, OnOk, OnErr, IfOk, IfErr, Contains, IsTrue, ◌++◌, map};
 ghost use Rattle.std.specs.Map.Iter.{deref, deref_pair};
 ghost use Rattle.u_system.specs.Firing.{Distinct};
 ghost use Rattle.u_name.specs.Context.{IsBetween};
@@ -11,62 +11,30 @@ ghost use Rattle.u_rule.specs.declared.entry.Entry.{Entry};
 ghost use Rattle.u_rule.specs.declared.entry.Entry.TheVariants as kinds;
 ghost use Rattle.u_sets.specs.Members.{IsWith};
 ghost use Rattle.u_sets.specs.Rising.{Rises};
-ghost use Rattle.u_history.specs.Tables.{PortTables, InTables, OthersAreOther, token_entry, write_entry};
-ghost use Rattle.u_history.specs.Tables.{listed_tokens, listed_entries, all_entries, Matters};
-ghost use Rattle.u_history.specs.Tables.{HasPorts, AreSharing, AreDistinct};
+ghost use Rattle.u_sets.specs.Columns.{named, deref_value, AreBelow, IsNumberOf, MayNumber};
+ghost use Rattle.u_history.specs.Tables.{PortTables, AreTables, contents_of};
+ghost use Rattle.u_history.specs.Tables.{Holds, HoldsMore, HoldsTheSame};
+ghost use Rattle.u_history.specs.Tables.{token_entry, write_entry, listed_tokens};
+ghost use Rattle.u_history.specs.Tables.{listed_entries, all_entries, Matters, AreSharing, AreDistinct};
 
 use std::alloc::{AllocError, AllocFailed, Global};
 use std::array;
 use u_name::{Cell, Name};
 use u_rule::{Entry, MOST_PORTS, Token, Write, Written};
-use u_sets::{KeyedSet, ListedSet, put_in_order};
+use u_sets::{Column, KeyedSet, ListedSet, PlacedSet, put_in_order};
 use u_value::Value;
 
 /// The entries of a history.
 #[derive(Drop)]
 pub struct Tables {
-    /// For each port, the first being port 1, the values there, by activity.
-    pub tokens: [KeyedSet<Name, Value>; MOST_PORTS],
+    /// The activities. The number of one is its place.
+    pub names: PlacedSet<Name>,
+    /// For each port, the first being port 1, the values there, by the number of the activity.
+    pub columns: [Column<Value>; MOST_PORTS],
     /// The writes, by cell.
     pub writes: KeyedSet<Cell, Written>,
     /// The faults and the answers.
     pub rest: ListedSet<Entry>,
-}
-
-/// Puts the token into the table of its port.
-fn put_token(table: &mut KeyedSet<Name, Value>, token: Token) -> Result<bool, AllocFailed<Entry>>
-    ensures ok { OnOk result (IsWith table.old (token.activity, token.value) table.new) }
-    ensures new { IfOk result
-        (λ b. IsTrue b ↔ (Contains table.old (token.activity, token.value) → ⊥)) }
-    ensures still { IfOk result (λ b. (IsTrue b → ⊥) → table.new ≡ table.old) }
-    ensures err { OnErr result (table.new ≡ table.old) }
-    ensures back { IfErr result (λ e. e.value ≡ kinds.Token token) }
-{
-    let (activity, port, value) = token.into_parts();
-    match table.insert(activity, value) {
-        Ok(added) => Ok(added),
-        Err(failed) => {
-            let (activity, value) = failed.value;
-            Err(AllocFailed {
-                value: Entry::Token(Token::new(activity, port, value)),
-            })
-        }
-    }
-}
-
-/// Puts copies of the token's activity and value into the table of its port.
-fn put_token_copy(table: &mut KeyedSet<Name, Value>, token: &Token) -> Result<bool, AllocError>
-    ensures ok { OnOk result (IsWith table.old (token.now.activity, token.now.value) table.new) }
-    ensures new { IfOk result
-        (λ b. IsTrue b
-        ↔ (Contains table.old (token.now.activity, token.now.value) → ⊥)) }
-    ensures still { IfOk result (λ b. (IsTrue b → ⊥) → table.new ≡ table.old) }
-    ensures err { OnErr result (table.new ≡ table.old) }
-{
-    let activity = token.activity().copy()?;
-    let value = token.value().copy()?;
-    let added = table.put(activity, value)?;
-    Ok(added)
 }
 
 /// Puts the write into the table.
@@ -123,14 +91,24 @@ fn write_copy(cell: &Cell, pair: &Written) -> Result<Entry, AllocError>
     }))
 }
 
-/// Adds copies of the tokens at the port.
-fn push_tokens(list: &mut Vec<Entry>, pairs: &[(&Name, &Value)], port: u8) -> Result<(), AllocError>
-    requires { IsBetween 1 port most_ports }
+/// Adds copies of the tokens at the port. The pairs have the numbers of their activities.
+fn push_tokens(
+    list: &mut Vec<Entry>,
+    names: &PlacedSet<Name>,
+    pairs: &[(usize, &Value)],
+    port: u8,
+) -> Result<(), AllocError>
+    requires port { IsBetween 1 port most_ports }
+    requires below { AreBelow (length names.now) (map deref_value pairs.now) }
     ensures { OnOk result
-        (list.new.items ≡ list.old.items ++ map (token_entry port) (map deref_pair pairs.now)) }
+        (list.new.items
+        ≡ list.old.items ++ map (token_entry port) (named names.now (map deref_value pairs.now))) }
 {
     for pair in pairs {
-        list.push(token_copy(pair.0, port, pair.1)?)?;
+        let Some(activity) = names.get(pair.0) else {
+            unreachable!()
+        };
+        list.push(token_copy(activity, port, pair.1)?)?;
     }
     Ok(())
 }
@@ -191,47 +169,81 @@ fn has_pair(pairs: &[Written], write: &Write) -> bool
 impl Tables {
     /// No entries. It takes no memory.
     pub fn new(alloc: Global) -> Tables
-        ensures held { (e : Entry) → InTables result e → ⊥ }
-        ensures others { OthersAreOther result }
-        ensures ports { HasPorts result }
+        ensures held { (e : Entry) → Holds result e → ⊥ }
+        ensures tables { AreTables result }
     {
         Tables {
-            tokens: array::from_fn(
+            names: PlacedSet::new(alloc),
+            columns: array::from_fn(
                 |_|
                     ensures { result ≡ [] }
-                { KeyedSet::new(alloc) },
+                { Column::new(alloc) },
             ),
             writes: KeyedSet::new(alloc),
             rest: ListedSet::new(alloc),
         }
     }
 
-    /// The values of the activity at that port, each once.
-    pub fn values_at(&self, activity: &Name, port: u8) -> &[Value]
-        ensures all { (v : Value) → Contains result.now v
-            ↔ InTables self.now (kinds.Token (token activity.now port v)) }
+    /// The number of the activity, which it gets where it has none.
+    pub fn number_of(&mut self, activity: Name) -> Result<usize, AllocError>
+        requires { AreTables self.old }
+        ensures number { IfOk result (IsNumberOf self.new.names activity) }
+        ensures same { HoldsTheSame self.old self.new }
+        ensures tables { AreTables self.new }
+    {
+        let (number, _is_new) = self.names.insert(activity)?;
+        Ok(number)
+    }
+
+    /// The number of the activity, or the one that it would get.
+    pub fn number_for(&self, activity: &Name) -> usize
+        ensures { MayNumber self.now.names activity.now result }
+    {
+        match self.names.place_of(activity) {
+            Some(number) => number,
+            None => self.names.len(),
+        }
+    }
+
+    /// The values at that port of the activity that has the number, each once.
+    pub fn values_of(&self, number: usize, port: u8) -> &[Value]
+        requires { AreTables self.now }
+        ensures all { (a : Activity) → MayNumber self.now.names a number → (v : Value)
+            → Contains result.now v ↔ Holds self.now (kinds.Token (token a port v)) }
         ensures distinct { Distinct result.now }
     {
         if port == 0 {
             return &[];
         }
-        match self.tokens.get(usize::from(port) - 1) {
-            Some(table) => table.under(activity),
+        match self.columns.get(usize::from(port) - 1) {
+            Some(column) => column.at(number),
             None => &[],
         }
     }
 
+    /// The values of the activity at that port, each once.
+    pub fn values_at(&self, activity: &Name, port: u8) -> &[Value]
+        requires { AreTables self.now }
+        ensures all { (v : Value) → Contains result.now v
+            ↔ Holds self.now (kinds.Token (token activity.now port v)) }
+        ensures distinct { Distinct result.now }
+    {
+        self.values_of(self.number_for(activity), port)
+    }
+
     /// Whether the token is there.
     fn has_token(&self, item: &Token) -> bool
-        ensures { IsTrue result ↔ InTables self.now (kinds.Token item.now) }
+        requires { AreTables self.now }
+        ensures { IsTrue result ↔ Holds self.now (kinds.Token item.now) }
     {
+        let number = self.number_for(item.activity());
         let place = usize::from(item.port()) - 1;
-        self.tokens[place].contains(item.activity(), item.value())
+        self.columns[place].contains(number, item.value())
     }
 
     /// Whether the write is there.
     fn has_write(&self, write: &Write) -> bool
-        ensures { IsTrue result ↔ InTables self.now (kinds.Write write.now) }
+        ensures { IsTrue result ↔ Holds self.now (kinds.Write write.now) }
     {
         match pair_of(write) {
             Ok(pair) => self.writes.contains(&write.cell, &pair),
@@ -241,7 +253,8 @@ impl Tables {
 
     /// Whether the entry is there.
     pub fn contains(&self, entry: &Entry) -> bool
-        ensures { IsTrue result ↔ InTables self.now entry.now }
+        requires { AreTables self.now }
+        ensures { IsTrue result ↔ Holds self.now entry.now }
     {
         match entry {
             Entry::Token(token) => self.has_token(token),
@@ -250,32 +263,87 @@ impl Tables {
         }
     }
 
-    /// Puts the token in. Returns whether it was new.
-    fn insert_token(&mut self, item: Token) -> Result<bool, AllocFailed<Entry>>
-        ensures ok { OnOk result
-            ((e : Entry) → InTables self.new e ↔ (InTables self.old e ⊎ (kinds.Token item ≡ e))) }
-        ensures new { IfOk result (λ b. IsTrue b ↔ (InTables self.old (kinds.Token item) → ⊥)) }
+    /// Puts the value in at that port of the activity that has the number. Returns whether it was new.
+    fn put(&mut self, number: usize, port: u8, value: Value) -> Result<bool, AllocFailed<Value>>
+        requires tables { AreTables self.old }
+        requires number { number < length self.old.names }
+        requires port { IsBetween 1 port most_ports }
+        ensures ok { OnOk result ((a : Activity) → IsNumberOf self.old.names a number
+            → HoldsMore self.old (kinds.Token (token a port value)) self.new) }
+        ensures new { IfOk result (λ b. (a : Activity) → IsNumberOf self.old.names a number
+            → IsTrue b ↔ (Holds self.old (kinds.Token (token a port value)) → ⊥)) }
         ensures still { IfOk result (λ b. (IsTrue b → ⊥) → self.new ≡ self.old) }
         ensures err { OnErr result (self.new ≡ self.old) }
-        ensures back { IfErr result (λ e. e.value ≡ kinds.Token item) }
-        ensures rest { self.new.rest ≡ self.old.rest }
-        ensures ports { length self.new.tokens ≡ length self.old.tokens }
+        ensures back { IfErr result (λ e. e.value ≡ value) }
+        ensures names { self.new.names ≡ self.old.names }
+        ensures tables { AreTables self.new }
     {
-        let place = usize::from(item.port()) - 1;
-        put_token(&mut self.tokens[place], item)
+        let place = usize::from(port) - 1;
+        self.columns[place].put(number, value)
+    }
+
+    /// Puts a copy of the token in, whose activity has the number. Returns whether it was new.
+    pub fn put_at(&mut self, number: usize, item: &Token) -> Result<bool, AllocError>
+        requires tables { AreTables self.old }
+        requires number { IsNumberOf self.old.names item.now.activity number }
+        ensures ok { OnOk result (HoldsMore self.old (kinds.Token item.now) self.new) }
+        ensures new { IfOk result
+            (λ b. IsTrue b ↔ (Holds self.old (kinds.Token item.now) → ⊥)) }
+        ensures still { IfOk result (λ b. (IsTrue b → ⊥) → self.new ≡ self.old) }
+        ensures err { OnErr result (self.new ≡ self.old) }
+        ensures names { self.new.names ≡ self.old.names }
+        ensures tables { AreTables self.new }
+    {
+        let value = item.value().copy()?;
+        let added = self.put(number, item.port(), value)?;
+        Ok(added)
+    }
+
+    /// The number of a copy of the activity, which it gets where it has none.
+    pub fn number_of_copy(&mut self, activity: &Name) -> Result<usize, AllocError>
+        requires { AreTables self.old }
+        ensures number { IfOk result (IsNumberOf self.new.names activity.now) }
+        ensures same { HoldsTheSame self.old self.new }
+        ensures tables { AreTables self.new }
+    {
+        let copy = activity.copy()?;
+        let number = self.number_of(copy)?;
+        Ok(number)
+    }
+
+    /// Puts the token in. Returns whether it was new.
+    fn insert_token(&mut self, item: Token) -> Result<bool, AllocFailed<Entry>>
+        requires { AreTables self.old }
+        ensures ok { OnOk result (HoldsMore self.old (kinds.Token item) self.new) }
+        ensures new { IfOk result (λ b. IsTrue b ↔ (Holds self.old (kinds.Token item) → ⊥)) }
+        ensures still { IfOk result (λ b. (IsTrue b → ⊥) → HoldsTheSame self.old self.new) }
+        ensures err { OnErr result (HoldsTheSame self.old self.new) }
+        ensures back { IfErr result (λ e. e.value ≡ kinds.Token item) }
+        ensures tables { AreTables self.new }
+    {
+        let Ok(number) = self.number_of_copy(item.activity()) else {
+            return Err(AllocFailed {
+                value: Entry::Token(item),
+            });
+        };
+        let (activity, port, value) = item.into_parts();
+        match self.put(number, port, value) {
+            Ok(added) => Ok(added),
+            Err(failed) => Err(AllocFailed {
+                value: Entry::Token(Token::new(activity, port, failed.value)),
+            }),
+        }
     }
 
     /// Puts the entry in. Returns whether it was new.
     pub fn insert(&mut self, entry: Entry) -> Result<bool, AllocFailed<Entry>>
-        requires { OthersAreOther self.old }
-        ensures ok { OnOk result
-            ((e : Entry) → InTables self.new e ↔ (InTables self.old e ⊎ (entry ≡ e))) }
-        ensures new { IfOk result (λ b. IsTrue b ↔ (InTables self.old entry → ⊥)) }
-        ensures still { IfOk result (λ b. (IsTrue b → ⊥) → self.new ≡ self.old) }
-        ensures err { OnErr result (self.new ≡ self.old) }
+        requires { AreTables self.old }
+        ensures ok { OnOk result (HoldsMore self.old entry self.new) }
+        ensures new { IfOk result (λ b. IsTrue b ↔ (Holds self.old entry → ⊥)) }
+        ensures still { IfOk result (λ b. (IsTrue b → ⊥) → HoldsTheSame self.old self.new) }
+        ensures err { OnErr result (HoldsTheSame self.old self.new) }
         ensures back { IfErr result (λ e. e.value ≡ entry) }
-        ensures others { OthersAreOther self.new }
-        ensures ports { length self.new.tokens ≡ length self.old.tokens }
+        ensures tables { AreTables self.new }
     {
         match entry {
             Entry::Token(token) => self.insert_token(token),
@@ -287,30 +355,27 @@ impl Tables {
 
     /// Puts a copy of the token in. Returns whether it was new.
     fn insert_token_copy(&mut self, item: &Token) -> Result<bool, AllocError>
-        ensures ok { OnOk result
-            ((e : Entry) → InTables self.new e
-            ↔ (InTables self.old e ⊎ (kinds.Token item.now ≡ e))) }
+        requires { AreTables self.old }
+        ensures ok { OnOk result (HoldsMore self.old (kinds.Token item.now) self.new) }
         ensures new { IfOk result
-            (λ b. IsTrue b ↔ (InTables self.old (kinds.Token item.now) → ⊥)) }
-        ensures still { IfOk result (λ b. (IsTrue b → ⊥) → self.new ≡ self.old) }
-        ensures err { OnErr result (self.new ≡ self.old) }
-        ensures rest { self.new.rest ≡ self.old.rest }
-        ensures ports { length self.new.tokens ≡ length self.old.tokens }
+            (λ b. IsTrue b ↔ (Holds self.old (kinds.Token item.now) → ⊥)) }
+        ensures still { IfOk result (λ b. (IsTrue b → ⊥) → HoldsTheSame self.old self.new) }
+        ensures err { OnErr result (HoldsTheSame self.old self.new) }
+        ensures tables { AreTables self.new }
     {
-        let place = usize::from(item.port()) - 1;
-        put_token_copy(&mut self.tokens[place], item)
+        let number = self.number_of_copy(item.activity())?;
+        let added = self.put_at(number, item)?;
+        Ok(added)
     }
 
     /// Puts a copy of the entry in. Returns whether it was new.
     pub fn insert_copy(&mut self, entry: &Entry) -> Result<bool, AllocError>
-        requires { OthersAreOther self.old }
-        ensures ok { OnOk result
-            ((e : Entry) → InTables self.new e ↔ (InTables self.old e ⊎ (entry.now ≡ e))) }
-        ensures new { IfOk result (λ b. IsTrue b ↔ (InTables self.old entry.now → ⊥)) }
-        ensures still { IfOk result (λ b. (IsTrue b → ⊥) → self.new ≡ self.old) }
-        ensures err { OnErr result (self.new ≡ self.old) }
-        ensures others { OthersAreOther self.new }
-        ensures ports { length self.new.tokens ≡ length self.old.tokens }
+        requires { AreTables self.old }
+        ensures ok { OnOk result (HoldsMore self.old entry.now self.new) }
+        ensures new { IfOk result (λ b. IsTrue b ↔ (Holds self.old entry.now → ⊥)) }
+        ensures still { IfOk result (λ b. (IsTrue b → ⊥) → HoldsTheSame self.old self.new) }
+        ensures err { OnErr result (HoldsTheSame self.old self.new) }
+        ensures tables { AreTables self.new }
     {
         if let Entry::Token(token) = entry {
             return self.insert_token_copy(token);
@@ -322,39 +387,39 @@ impl Tables {
 
     /// Copies of the tokens, port by port.
     fn tokens_listed(&self, alloc: Global) -> Result<Vec<Entry>, AllocError>
-        requires { HasPorts self.now }
-        ensures all { IfOk result (λ v. v.items ≡ listed_tokens 1 self.now.tokens) }
-        ensures distinct { IfOk result (λ _. AreDistinct self.now.tokens) }
+        requires { AreTables self.now }
+        ensures all { IfOk result (λ v. v.items ≡ listed_tokens 1 (contents_of self.now).tokens) }
+        ensures distinct { IfOk result (λ _. AreDistinct (contents_of self.now).tokens) }
     {
         let mut list = Vec::new(alloc);
         for place in 0..MOST_PORTS {
-            let pairs = self.tokens[place].pairs(alloc)?;
-            push_tokens(&mut list, &pairs, place as u8 + 1)?;
+            let pairs = self.columns[place].pairs(alloc)?;
+            push_tokens(&mut list, &self.names, &pairs, place as u8 + 1)?;
         }
         Ok(list)
     }
 
     /// Copies of the tokens that are not alone at their port, port by port.
     fn tokens_sharing(&self, alloc: Global) -> Result<Vec<Entry>, AllocError>
-        requires { HasPorts self.now }
-        ensures { IfOk result (λ v. (shared : PortTables) × AreSharing self.now.tokens shared
+        requires { AreTables self.now }
+        ensures { IfOk result (λ v. (shared : PortTables)
+            × AreSharing (contents_of self.now).tokens shared
             × (v.items ≡ listed_tokens 1 shared)) }
     {
         let mut list = Vec::new(alloc);
         for place in 0..MOST_PORTS {
-            let pairs = self.tokens[place].shared_pairs(alloc)?;
-            push_tokens(&mut list, &pairs, place as u8 + 1)?;
+            let pairs = self.columns[place].shared_pairs(alloc)?;
+            push_tokens(&mut list, &self.names, &pairs, place as u8 + 1)?;
         }
         Ok(list)
     }
 
     /// Copies of the entries, table by table.
     pub fn listed(&self, alloc: Global) -> Result<Vec<Entry>, AllocError>
-        requires ports { HasPorts self.now }
-        requires others { OthersAreOther self.now }
+        requires { AreTables self.now }
         ensures all { IfOk result
             (λ v. v.items
-            ≡ listed_entries self.now.tokens self.now.writes self.now.rest) }
+            ≡ listed_entries (contents_of self.now).tokens self.now.writes self.now.rest) }
         ensures distinct { IfOk result (λ v. Distinct v.items) }
     {
         let writes = self.writes.pairs(alloc)?;
@@ -367,9 +432,8 @@ impl Tables {
 
     /// Copies of the entries, in order.
     pub fn entries(&self, alloc: Global) -> Result<Vec<Entry>, AllocError>
-        requires ports { HasPorts self.now }
-        requires others { OthersAreOther self.now }
-        ensures { IfOk result (λ v. v.items ≡ all_entries self.now) }
+        requires { AreTables self.now }
+        ensures { IfOk result (λ v. v.items ≡ all_entries (contents_of self.now)) }
     {
         let mut list = self.listed(alloc)?;
         put_in_order(&mut list);
@@ -379,11 +443,10 @@ impl Tables {
     /// Copies of the entries that tell in an outcome, in order: of the tokens and the writes only those
     /// that are not alone at their place. It goes over the others and leaves them where they are.
     pub fn telling(&self, alloc: Global) -> Result<Vec<Entry>, AllocError>
-        requires ports { HasPorts self.now }
-        requires others { OthersAreOther self.now }
+        requires { AreTables self.now }
         ensures rises { IfOk result (λ v. Rises entry_cmp v.items) }
         ensures all { IfOk result
-            (λ v. (e : Entry) → Contains v.items e ↔ Matters (InTables self.now) e) }
+            (λ v. (e : Entry) → Contains v.items e ↔ Matters (Holds self.now) e) }
     {
         let writes = self.writes.shared_pairs(alloc)?;
         let others = self.rest.in_order(alloc)?;

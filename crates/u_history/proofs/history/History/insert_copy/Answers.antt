@@ -1,27 +1,7 @@
-use Rattle.std.proofs.Common.{refl, ◌∙◌, arith}
-use Rattle.u_history.proofs.Tabled.{held_in, more_entries, one_entry_more}
 use Rattle.u_history.proofs.history.History.insert_copy.Goals as goal
 
-pub returns-then-not-added-clause-ok : goal.returns-then-not-added-clause-ok
-returns-then-not-added-clause-ok c = rw (← c.self.view_is) (more_entries c.self.inside.tables c.insert_copy.new.self c.args.entry.now c.self.invariant.others c.in_ok-added.ensures.others c.in_ok-added.ensures.ok)
-
-pub returns-then-not-added-clause-new : goal.returns-then-not-added-clause-new
-returns-then-not-added-clause-new c =
-    let h = held_in c.self.inside.tables c.self.invariant.others c.args.entry.now in
-    let f = c.if-not-added.true in
-    rw (← c.self.view_is) ((λ t. absurd (cc)), λ n. (let t = c.in_ok-added.ensures.new.1 (λ m. n (h.1 m)) in absurd (cc)))
-
-pub invariant_of-self-2 : goal.invariant_of-self-2
-invariant_of-self-2 c =
-    let t = c.if-not-added.false in
-    let k = one_entry_more c.self.inside.tables c.insert_copy.new.self c.args.entry.now c.self.inside.count c.self.invariant.others c.in_ok-added.ensures.others c.in_ok-added.ensures.ok (c.in_ok-added.ensures.new.0 (cc)) c.self.invariant.count in
-    record { ports = c.in_ok-added.ensures.ports ∙ c.self.invariant.ports; others = c.in_ok-added.ensures.others; count = omega arith }
-
 pub returns-clause-ok : goal.returns-clause-ok
-returns-clause-ok c = rw (← c.self.view_is) (more_entries c.self.inside.tables c.insert_copy.new.self c.args.entry.now c.self.invariant.others c.in_ok-added.ensures.others c.in_ok-added.ensures.ok)
+returns-clause-ok c = rw (← c.self.view_is) c.insert_copy.ensures.ok
 
 pub returns-clause-new : goal.returns-clause-new
-returns-clause-new c =
-    let h = held_in c.self.inside.tables c.self.invariant.others c.args.entry.now in
-    let t = c.if-not-added.false in
-    rw (← c.self.view_is) ((λ q m. c.in_ok-added.ensures.new.0 (cc) (h.0 m)), λ n. refl)
+returns-clause-new c = rw (← c.self.view_is) c.insert_copy.ensures.new

@@ -1,7 +1,7 @@
 use Rattle.std.proofs.Common.{◌≤◌, arith, length, subst, List}
 use Rattle.std.proofs.lemmas.List.{take_all}
 use Rattle.u_rule.specs.declared.entry.Entry.{Entry}
-use Rattle.u_sets.specs.Members.{IsWith, IsUnion}
+use Rattle.u_sets.specs.Members.{IsUnion}
 use Rattle.u_sets.proofs.Places.{union_none, union_more}
 use Rattle.u_history.proofs.history.History.put_all.Goals as goal
 

@@ -1,8 +1,4 @@
-use Rattle.u_history.specs.Tables.{listed_entries}
-use Rattle.u_history.proofs.Tabled.{unordered_is}
 use Rattle.u_history.proofs.history.History.unordered_entries.Goals as goal
 
 pub returns-clause-all : goal.returns-clause-all
-returns-clause-all c =
-    let t = c.self.inside.tables in
-    rw (c.in_ok-entries.ensures.all, ← c.self.view_is) (unordered_is (listed_entries t.tokens t.writes t.rest))
+returns-clause-all c = rw (← c.self.view_is) c.unordered_entries.ensures.all

@@ -1,10 +1,4 @@
-use Rattle.u_rule.specs.Parts.{token}
-use Rattle.u_rule.specs.declared.entry.Entry.TheVariants as entries
-use Rattle.u_history.proofs.Tabled.{held_in}
 use Rattle.u_history.proofs.history.History.values_at.Goals as goal
 
 pub returns-clause-all : goal.returns-clause-all
-returns-clause-all c v =
-    let h = held_in c.self.inside.tables c.self.invariant.others (entries.Token (token c.args.port.now.activity c.args.port.now.number v)) in
-    let r = c.values_at.ensures.all v in
-    rw (← c.self.view_is) ((λ t. h.1 (r.0 t)), λ m. r.1 (h.0 m))
+returns-clause-all c = rw (← c.self.view_is) c.values_under.ensures.all

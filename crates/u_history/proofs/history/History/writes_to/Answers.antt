@@ -1,10 +1,4 @@
-use Rattle.u_rule.specs.EntryOrder.{write_of}
-use Rattle.u_rule.specs.declared.entry.Entry.TheVariants as entries
-use Rattle.u_history.proofs.Tabled.{held_in}
 use Rattle.u_history.proofs.history.History.writes_to.Goals as goal
 
 pub returns-clause-all : goal.returns-clause-all
-returns-clause-all c w =
-    let h = held_in c.self.inside.tables c.self.invariant.others (entries.Write (write_of c.args.cell.now w.writer w.value)) in
-    let r = c.under.ensures.all w in
-    rw (← c.self.view_is) ((λ t. h.1 (r.0 t)), λ m. r.1 (h.0 m))
+returns-clause-all c = rw (← c.self.view_is) c.writes_to.ensures.all

@@ -1,23 +1,16 @@
-use Rattle.std.proofs.Common.{◌≡◌, ◌<◌, ◌-◌, suc, length, arith}
-use Rattle.u_history.proofs.Tabled.{token_put, on_ok, is_new, table_is}
+use Rattle.std.proofs.Common.{◌≡◌, subst, ap, sym, ◌∙◌}
+use Rattle.u_name.specs.Name.{Activity}
+use Rattle.u_rule.specs.Parts.{TokenParts}
+use Rattle.u_rule.specs.declared.entry.Entry.TheVariants as kinds
+use Rattle.u_sets.specs.Columns.{IsNumberOf}
+use Rattle.u_history.specs.Tables.{Contents, contents_of, HasMore}
 use Rattle.u_history.proofs.tables.Tables.insert_token.Goals as goal
 
-pub returns-clause-ok : goal.returns-clause-ok
-returns-clause-ok c =
-    let t = c.args.self.now in
-    let a = c.port.ensures.port in
-    let b = c.port.ensures.range.port in
-    let f = c.from-place.ensures in
-    let e : c.args.item.port ≡ suc (c.from-place.result - 1) = omega arith in
-    let l : c.from-place.result - 1 < length t.tokens = omega arith in
-    on_ok c.put_token.result c.put_token.ensures.ok (λ w. token_put t c.args.item (c.from-place.result - 1) _ _ e l w)
-
-pub returns-clause-new : goal.returns-clause-new
-returns-clause-new c =
-    let t = c.args.self.now in
-    let a = c.port.ensures.port in
-    let b = c.port.ensures.range.port in
-    let f = c.from-place.ensures in
-    let e : c.args.item.port ≡ suc (c.from-place.result - 1) = omega arith in
-    let l : c.from-place.result - 1 < length t.tokens = omega arith in
-    is_new c.put_token.result _ _ (c.args.item.activity, c.args.item.value) (table_is t.tokens c.args.item.port (c.from-place.result - 1) _ e l) c.put_token.ensures.new
+pub returns-in-Ok-put-clause-ok : goal.returns-in-Ok-put-clause-ok
+returns-in-Ok-put-clause-ok c =
+    let parts = c.into_parts-activity.ensures.parts in
+    let who : c.into_parts-activity.result.0 ≡ c.args.item.activity = ap (λ (k : TokenParts). k.activity) parts in
+    let number = subst (λ (a : Activity). IsNumberOf c.number_of_copy.new.self.names a c.in-Ok.number) (c.activity.ensures ∙ sym who) c.in-Ok.ensures.number in
+    let more = c.in-Ok-put.ensures.ok c.into_parts-activity.result.0 number in
+    subst (λ (s : Contents). HasMore s (kinds.Token c.args.item) (contents_of c.put.new.self)) c.in-Ok.ensures.same
+    (subst (λ (k : TokenParts). HasMore (contents_of c.number_of_copy.new.self) (kinds.Token k) (contents_of c.put.new.self)) parts more)

@@ -2,7 +2,7 @@ use Rattle.std.proofs.Common.{◌∙◌, ◌++◌, ap, sym, subst, map, List}
 use Rattle.std.specs.Map.Iter.{deref, deref_pair}
 use Rattle.u_system.specs.Firing.{Distinct}
 use Rattle.u_rule.specs.declared.entry.Entry.{Entry}
-use Rattle.u_history.specs.Tables.{write_entry}
+use Rattle.u_history.specs.Tables.{contents_of, write_entry}
 use Rattle.u_history.proofs.Tabled.{three, listed_distinct}
 use Rattle.u_history.proofs.tables.Tables.listed.Goals as goal
 
@@ -16,6 +16,6 @@ returns-clause-all c =
 
 pub returns-clause-distinct : goal.returns-clause-distinct
 returns-clause-distinct c =
-    let t = c.args.self.now in
+    let t = contents_of c.args.self.now in
     let w = subst (λ (ps : List _). Distinct ps) c.in_ok-writes.ensures.all c.in_ok-writes.ensures.distinct in
     subst (λ (es : List Entry). Distinct es) (sym (returns-clause-all c)) (listed_distinct t c.requires.others c.in_ok-list.ensures.distinct w c.in_ok-others.ensures.rises)

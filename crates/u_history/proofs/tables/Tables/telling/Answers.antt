@@ -2,17 +2,16 @@ use Rattle.std.proofs.Common.{◌≡◌, ◌∙◌, ◌++◌, ap, sym, subst, re
 use Rattle.std.specs.Map.Iter.{deref, deref_pair}
 use Rattle.u_system.specs.Firing.{Same, Distinct}
 use Rattle.u_rule.specs.declared.entry.Entry.{Entry}
-use Rattle.u_history.specs.declared.tables.Tables.{Tables}
-use Rattle.u_history.specs.Tables.{write_entry, listed_entries}
+use Rattle.u_history.specs.Tables.{Contents, contents_of, write_entry, listed_entries}
 use Rattle.u_history.proofs.Tabled.{three, listed_distinct, held_in, in_order_is, sharing_distinct}
 use Rattle.u_history.proofs.Telling.{tells}
 use Rattle.u_history.proofs.tables.Tables.telling.Goals as goal
 
 pub put_in_order-requires : goal.put_in_order-requires
 put_in_order-requires c =
-    let t = c.args.self.now in
+    let t = contents_of c.args.self.now in
     let s = c.in_ok-list.ensures in
-    let u : Tables = record { tokens = s.0; writes = map deref_pair c.in_ok-writes.writes.items; rest = t.rest } in
+    let u : Contents = record { tokens = s.0; writes = map deref_pair c.in_ok-writes.writes.items; rest = t.rest } in
     let writes = ap (λ ps. map write_entry (map deref_pair ps)) c.deref.ensures.value in
     let others = ap (λ ps. map deref ps) c.deref-2.ensures.value ∙ c.in_ok-others.ensures.all in
     let all : c.push_others.new.list.items ≡ listed_entries u.tokens u.writes u.rest =
@@ -23,9 +22,9 @@ put_in_order-requires c =
 
 pub returns-clause-all : goal.returns-clause-all
 returns-clause-all c e =
-    let t = c.args.self.now in
+    let t = contents_of c.args.self.now in
     let s = c.in_ok-list.ensures in
-    let u : Tables = record { tokens = s.0; writes = map deref_pair c.in_ok-writes.writes.items; rest = t.rest } in
+    let u : Contents = record { tokens = s.0; writes = map deref_pair c.in_ok-writes.writes.items; rest = t.rest } in
     let writes = ap (λ ps. map write_entry (map deref_pair ps)) c.deref.ensures.value in
     let others = ap (λ ps. map deref ps) c.deref-2.ensures.value ∙ c.in_ok-others.ensures.all in
     let all : c.push_others.new.list.items ≡ listed_entries u.tokens u.writes u.rest =
