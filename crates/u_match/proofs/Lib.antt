@@ -12,3 +12,4 @@ pub mod Finding
 pub mod Finite
 pub mod Ordered
 pub mod Executing
+pub mod Numbered

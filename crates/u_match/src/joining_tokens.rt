@@ -8,6 +8,7 @@ ghost use Rattle.u_rule.specs.EntryOrder.{firing_cmp};
 ghost use Rattle.u_rule.specs.Rule.{is_firing_of};
 ghost use Rattle.u_sets.specs.Rising.{Rises};
 ghost use Rattle.u_sets.specs.Members.{SomeOf, AreThose, Gains, HasOr};
+ghost use Rattle.u_sets.specs.Columns.{MayNumber};
 ghost use Rattle.u_match.specs.Finite.{HasSome};
 ghost use Rattle.u_match.specs.Joins.{IsKnown, IsKept, IsOne, IsReading, ReadsCell, JoinsTwo, JoinsSome, JoinsAll};
 ghost use Rattle.u_match.specs.Keys.{lent_lists};
@@ -20,7 +21,7 @@ use crate::meeting::{met_at, met_at_each};
 use crate::ordering::put_in_order;
 use std::alloc::{AllocError, Global};
 use u_check::Job;
-use u_history::History;
+use u_history::NumberedHistory;
 use u_name::Name;
 use u_rule::{Firing, Token, Written, cell_at, is_firing, is_firing_in_place, ports_at};
 use u_value::Value;
@@ -35,14 +36,15 @@ pub(crate) struct Making {
     pub(crate) is_executable: bool,
 }
 
-/// What the firings of one activity are made over: the job, the history, and the activity; and how they
-/// are made.
+/// What the firings of one activity are made over: the job, the history, and the activity with its
+/// number; and how they are made.
 #[derive(Clone, Copy)]
 pub(crate) struct Joining<'a> {
     pub(crate) alloc: Global,
     pub(crate) job: &'a Job,
-    pub(crate) history: &'a History,
+    pub(crate) history: &'a NumberedHistory,
     pub(crate) activity: &'a Name,
+    pub(crate) number: usize,
     pub(crate) making: Making,
 }
 
@@ -132,12 +134,12 @@ impl Joining<'_> {
             self.now.activity.now }
         ensures ok { OnOk result
             (Gains found.old.items
-            (ReadsCell self.now.job.now (Contains self.now.history.now) self.now.activity.now
+            (ReadsCell self.now.job.now (Contains self.now.history.now.entries) self.now.activity.now
             first.now second.now)
             found.new.items) }
         ensures many { IfErr result
             (λ e. e ≡ Halt.TooMany → HasSome
-            (ReadsCell self.now.job.now (Contains self.now.history.now) self.now.activity.now
+            (ReadsCell self.now.job.now (Contains self.now.history.now.entries) self.now.activity.now
             first.now second.now)) }
     {
         let named = cell_at(first, second)?;
@@ -156,12 +158,12 @@ impl Joining<'_> {
             self.now.activity.now }
         ensures ok { OnOk result
             (Gains found.old.items
-            (JoinsTwo self.now.job.now (Contains self.now.history.now) self.now.activity.now
+            (JoinsTwo self.now.job.now (Contains self.now.history.now.entries) self.now.activity.now
             first.now second.now)
             found.new.items) }
         ensures many { IfErr result
             (λ e. e ≡ Halt.TooMany → HasSome
-            (JoinsTwo self.now.job.now (Contains self.now.history.now) self.now.activity.now
+            (JoinsTwo self.now.job.now (Contains self.now.history.now.entries) self.now.activity.now
             first.now second.now)) }
     {
         let joined = of_two(self.alloc, self.activity, first, second)?;
@@ -181,12 +183,12 @@ impl Joining<'_> {
             self.now.activity.now }
         ensures ok { OnOk result
             (Gains found.old.items
-            (JoinsSome self.now.job.now (Contains self.now.history.now) self.now.activity.now
+            (JoinsSome self.now.job.now (Contains self.now.history.now.entries) self.now.activity.now
             seconds.now first.now)
             found.new.items) }
         ensures many { IfErr result
             (λ e. e ≡ Halt.TooMany → HasSome
-            (JoinsSome self.now.job.now (Contains self.now.history.now) self.now.activity.now
+            (JoinsSome self.now.job.now (Contains self.now.history.now.entries) self.now.activity.now
             seconds.now first.now)) }
     {
         for second in seconds {
@@ -207,13 +209,13 @@ impl Joining<'_> {
         ensures ok { OnOk result
             (Gains found.old.items
             (SomeOf firsts.now
-            (JoinsSome self.now.job.now (Contains self.now.history.now) self.now.activity.now
+            (JoinsSome self.now.job.now (Contains self.now.history.now.entries) self.now.activity.now
             seconds.now))
             found.new.items) }
         ensures many { IfErr result
             (λ e. e ≡ Halt.TooMany → HasSome
             (SomeOf firsts.now
-            (JoinsSome self.now.job.now (Contains self.now.history.now) self.now.activity.now
+            (JoinsSome self.now.job.now (Contains self.now.history.now.entries) self.now.activity.now
             seconds.now))) }
     {
         for first in firsts {
@@ -292,32 +294,33 @@ impl Joining<'_> {
         requires known { IsKnown self.now.making.is_executable self.now.job.now
             self.now.activity.now }
         requires activity { self.now.activity.now ≡ token.now.activity }
+        requires number { MayNumber self.now.history.now.names token.now.activity self.now.number }
         requires empty { found.items ≡ [] }
         ensures exact { IfOk result
             (λ v. AreThose
             (IsWokenBy self.now.job.now (token_entry token.now)
-            (HasOr self.now.history.now (token_entry token.now)))
+            (HasOr self.now.history.now.entries (token_entry token.now)))
             v.items) }
         ensures many { IfErr result
             (λ e. e ≡ Halt.TooMany → WakesSome self.now.job.now (token_entry token.now)
-            (HasOr self.now.history.now (token_entry token.now))) }
+            (HasOr self.now.history.now.entries (token_entry token.now))) }
     {
         let ports = ports_at(self.job, self.activity);
         if ports < usize::from(token.port()) {
             return Ok(found);
         }
         if ports > 2 {
-            let lists = met_at_each(self.alloc, self.history, token, ports)?;
+            let lists = met_at_each(self.alloc, self.history, self.number, token, ports)?;
             let mut chosen = Vec::new(self.alloc);
             self.add_all(&lists, &mut chosen, &mut found)?;
             return Ok(found);
         }
-        let firsts = met_at(self.history, token, 1);
+        let firsts = met_at(self.history, self.number, token, 1);
         if ports == 1 {
             self.add_ones(firsts, &mut found)?;
             return Ok(found);
         }
-        let seconds = met_at(self.history, token, 2);
+        let seconds = met_at(self.history, self.number, token, 2);
         self.add_twos(firsts, seconds, &mut found)?;
         Ok(found)
     }
@@ -332,16 +335,17 @@ impl Joining<'_> {
         requires known { IsKnown self.now.making.is_executable self.now.job.now
             self.now.activity.now }
         requires activity { self.now.activity.now ≡ token.now.activity }
+        requires number { MayNumber self.now.history.now.names token.now.activity self.now.number }
         requires empty { room.items ≡ [] }
         ensures exact { IfOk result
             (λ v. AreThose
             (IsWokenBy self.now.job.now (token_entry token.now)
-            (HasOr self.now.history.now (token_entry token.now)))
+            (HasOr self.now.history.now.entries (token_entry token.now)))
             v.items) }
         ensures rises { IfOk result (λ v. Rises firing_cmp v.items) }
         ensures many { IfErr result
             (λ e. e ≡ Halt.TooMany → WakesSome self.now.job.now (token_entry token.now)
-            (HasOr self.now.history.now (token_entry token.now))) }
+            (HasOr self.now.history.now.entries (token_entry token.now))) }
     {
         let mut found = self.gathered(token, room)?;
         put_in_order(&mut found);

@@ -8,6 +8,8 @@ ghost use Rattle.u_rule.specs.Fits.{IsFitting};
 ghost use Rattle.u_system.specs.Firing.{Enabled};
 ghost use Rattle.u_sets.specs.Rising.{Rises};
 ghost use Rattle.u_sets.specs.Members.{IsWith, AreThose, HasOr};
+ghost use Rattle.u_match.specs.Keys.{IsComplete};
+ghost use Rattle.u_match.specs.Numbers.{IsNumberOfEntry, NumbersEntry};
 ghost use Rattle.u_match.specs.Waking.{IsWokenBy, WakesSome, EnterAnswer};
 
 use crate::enabling::has_all_of;
@@ -19,7 +21,7 @@ use crate::waking_reads::Entering;
 use std::alloc::{AllocError, Global};
 use std::marker::Model;
 use u_check::Job;
-use u_history::History;
+use u_history::{History, NumberedHistory};
 use u_rule::{Entry, Firing};
 
 /// As many firings are made as a token enters, and no more.
@@ -55,6 +57,146 @@ impl Model for Matcher {
     ghost view = { λ m. m.history };
 
     ghost invariant = { λ m. IsComplete m.reads m.history };
+}
+
+/// The number of the entry's activity, if it is a token. An activity that has none gets one.
+fn number_of(history: &mut NumberedHistory, entry: &Entry) -> Result<usize, AllocError>
+    ensures number { IfOk result (IsNumberOfEntry history.new.names entry.now) }
+    ensures same { history.new.entries ≡ history.old.entries }
+{
+    match entry {
+        Entry::Token(token) => {
+            let number = history.number_of(token.activity())?;
+            Ok(number)
+        }
+        _ => Ok(0),
+    }
+}
+
+/// The number of the entry's activity, or one that no activity has, if it is a token.
+fn number_for(history: &NumberedHistory, entry: &Entry) -> usize
+    ensures { NumbersEntry history.now.names entry.now result }
+{
+    match entry {
+        Entry::Token(token) => history.number_for(token.activity()),
+        _ => 0,
+    }
+}
+
+/// Puts a copy of the entry in. If it is a token, its activity has the number.
+fn put(history: &mut NumberedHistory, number: usize, entry: &Entry) -> Result<bool, AllocError>
+    requires { IsNumberOfEntry history.old.names entry.now number }
+    ensures ok { OnOk result (IsWith history.old.entries entry.now history.new.entries) }
+    ensures new { IfOk result (λ b. IsTrue b ↔ (Contains history.old.entries entry.now → ⊥)) }
+    ensures still { IfOk result
+        (λ b. (IsTrue b → ⊥) → history.new.entries ≡ history.old.entries) }
+    ensures err { OnErr result (history.new.entries ≡ history.old.entries) }
+{
+    match entry {
+        Entry::Token(token) => history.put_at(number, token),
+        _ => history.insert_copy(entry),
+    }
+}
+
+/// Lets the entry enter the history, with the reads that it makes. If it is a token, its activity has the
+/// number. Returns whether it was new.
+fn admit(
+    history: &mut NumberedHistory,
+    number: usize,
+    reads: &mut Reads,
+    entry: &Entry,
+) -> Result<bool, AllocError>
+    requires number { IsNumberOfEntry history.old.names entry.now number }
+    requires complete { IsComplete reads.old history.old.entries }
+    ensures ok { OnOk result (IsWith history.old.entries entry.now history.new.entries) }
+    ensures new { IfOk result (λ b. IsTrue b ↔ (Contains history.old.entries entry.now → ⊥)) }
+    ensures still { IfOk result
+        (λ b. (IsTrue b → ⊥) → history.new.entries ≡ history.old.entries) }
+    ensures err { OnErr result (history.new.entries ≡ history.old.entries) }
+    ensures complete { IsComplete reads.new history.new.entries }
+{
+    note(history, number, reads, entry)?;
+    let added = put(history, number, entry)?;
+    Ok(added)
+}
+
+/// An entry that enters a history, where the firings of a job that it wakes are made. If it is a token,
+/// its activity has the number.
+#[derive(Clone, Copy)]
+struct Waking<'a> {
+    alloc: Global,
+    job: &'a Job,
+    history: &'a NumberedHistory,
+    entry: &'a Entry,
+    number: usize,
+}
+
+impl Waking<'_> {
+    /// The firings that the entry wakes where it enters. Of those that a token wakes there may be so many
+    /// at most, and they go into the empty list.
+    fn firings(&self, reads: &Reads, making: Making, room: Vec<Firing>) -> Result<Vec<Firing>, Halt>
+        requires known { IsTrue making.is_executable
+            → IsFitting self.now.job.now.program.blocks self.now.entry.now }
+        requires number { NumbersEntry self.now.history.now.names self.now.entry.now self.now.number }
+        requires complete { IsComplete reads.now self.now.history.now.entries }
+        requires empty { room.items ≡ [] }
+        ensures exact { IfOk result
+            (λ v. AreThose
+            (IsWokenBy self.now.job.now self.now.entry.now
+            (HasOr self.now.history.now.entries self.now.entry.now))
+            v.items) }
+        ensures rises { IfOk result (λ v. Rises firing_cmp v.items) }
+        ensures many { IfErr result
+            (λ e. e ≡ Halt.TooMany → WakesSome self.now.job.now self.now.entry.now
+            (HasOr self.now.history.now.entries self.now.entry.now)) }
+    {
+        match self.entry {
+            Entry::Token(token) => {
+                let joining = Joining {
+                    alloc: self.alloc,
+                    job: self.job,
+                    history: self.history,
+                    activity: token.activity(),
+                    number: self.number,
+                    making,
+                };
+                joining.woken_by(token, room)
+            }
+            Entry::Write(write) => {
+                let entering = Entering {
+                    alloc: self.alloc,
+                    job: self.job,
+                    entries: self.history,
+                    entry: self.entry,
+                };
+                let found = entering.woken_by_write(reads, write)?;
+                Ok(found)
+            }
+            Entry::Fault(_fault) => Ok(room),
+            Entry::Answer(_value) => Ok(room),
+        }
+    }
+
+    /// All the firings that the entry wakes where it enters. More than the largest `usize` have no room.
+    fn all(&self, reads: &Reads) -> Result<Vec<Firing>, AllocError>
+        requires number { NumbersEntry self.now.history.now.names self.now.entry.now self.now.number }
+        requires complete { IsComplete reads.now self.now.history.now.entries }
+        ensures exact { IfOk result
+            (λ v. AreThose
+            (IsWokenBy self.now.job.now self.now.entry.now
+            (HasOr self.now.history.now.entries self.now.entry.now))
+            v.items) }
+        ensures rises { IfOk result (λ v. Rises firing_cmp v.items) }
+    {
+        let making = Making {
+            most: usize::MAX,
+            is_executable: false,
+        };
+        match self.firings(reads, making, Vec::new(self.alloc)) {
+            Ok(found) => Ok(found),
+            Err(_) => Err(AllocError),
+        }
+    }
 }
 
 impl Matcher {
@@ -101,78 +243,6 @@ impl Matcher {
         has_all_of(&self.history, job, firing)
     }
 
-    /// The firings that the entry wakes where it enters. Of those that a token wakes there may be so many
-    /// at most, and they go into the empty list.
-    fn woken(
-        &self,
-        job: &Job,
-        entry: &Entry,
-        making: Making,
-        room: Vec<Firing>,
-    ) -> Result<Vec<Firing>, Halt>
-        requires empty { room.items ≡ [] }
-        requires known { IsTrue making.is_executable
-            → IsFitting job.now.program.blocks entry.now }
-        ensures exact { IfOk result
-            (λ v. AreThose (IsWokenBy job.now entry.now (HasOr self.now entry.now)) v.items) }
-        ensures rises { IfOk result (λ v. Rises firing_cmp v.items) }
-        ensures many { IfErr result
-            (λ e. e ≡ Halt.TooMany → WakesSome job.now entry.now (HasOr self.now entry.now)) }
-    {
-        match entry {
-            Entry::Token(token) => {
-                let joining = Joining {
-                    alloc: self.alloc,
-                    job,
-                    history: &self.history,
-                    activity: token.activity(),
-                    making,
-                };
-                joining.woken_by(token, room)
-            }
-            Entry::Write(write) => {
-                let entering = Entering {
-                    alloc: self.alloc,
-                    job,
-                    entries: &self.history,
-                    entry,
-                };
-                let found = entering.woken_by_write(&self.reads, write)?;
-                Ok(found)
-            }
-            Entry::Fault(_fault) => Ok(room),
-            Entry::Answer(_value) => Ok(room),
-        }
-    }
-
-    /// All the firings that the entry wakes where it enters. More than the largest `usize` have no room.
-    fn all_woken(&self, job: &Job, entry: &Entry) -> Result<Vec<Firing>, AllocError>
-        ensures exact { IfOk result
-            (λ v. AreThose (IsWokenBy job.now entry.now (HasOr self.now entry.now)) v.items) }
-        ensures rises { IfOk result (λ v. Rises firing_cmp v.items) }
-    {
-        let making = Making {
-            most: usize::MAX,
-            is_executable: false,
-        };
-        match self.woken(job, entry, making, Vec::new(self.alloc)) {
-            Ok(found) => Ok(found),
-            Err(_) => Err(AllocError),
-        }
-    }
-
-    /// Lets the entry enter the set, with the reads that it makes. Returns whether it was new.
-    fn admit(&mut self, entry: &Entry) -> Result<bool, AllocError>
-        ensures ok { OnOk result (IsWith self.old entry.now self.new) }
-        ensures new { IfOk result (λ b. IsTrue b ↔ (Contains self.old entry.now → ⊥)) }
-        ensures still { IfOk result (λ b. (IsTrue b → ⊥) → self.new ≡ self.old) }
-        ensures err { OnErr result (self.new ≡ self.old) }
-    {
-        note(&self.history, &mut self.reads, entry)?;
-        let added = self.history.insert_copy(entry)?;
-        Ok(added)
-    }
-
     /// Lets the entry enter the set, and answers the firings of the job that it wakes: those that need
     /// it, and whose needs are all in the set then. They stand in order, each once. For an entry
     /// that was there already it answers the same firings again. An activity fires once its ports
@@ -189,8 +259,17 @@ impl Matcher {
         ensures ok { OnOk result (IsWith self.old entry.now self.new) }
         ensures err { OnErr result (self.new ≡ self.old) }
     {
-        let found = self.all_woken(job, entry)?;
-        self.admit(entry)?;
+        let history = self.history.numbered_mut();
+        let number = number_of(history, entry)?;
+        let waking = Waking {
+            alloc: self.alloc,
+            job,
+            history,
+            entry,
+            number,
+        };
+        let found = waking.all(&self.reads)?;
+        admit(history, number, &mut self.reads, entry)?;
         Ok(found)
     }
 
@@ -211,21 +290,30 @@ impl Matcher {
         ensures { EnterAnswer job.now self.old entry.now result self.new }
     {
         room.clear();
+        let history = self.history.numbered_mut();
+        let number = number_of(history, entry)?;
+        let waking = Waking {
+            alloc: self.alloc,
+            job,
+            history,
+            entry,
+            number,
+        };
         let making = Making {
             most: MOST_AT_ONCE,
             is_executable: true,
         };
-        let found = match self.woken(job, entry, making, room) {
+        let found = match waking.firings(&self.reads, making, room) {
             Ok(found) => found,
             Err(Halt::TooMany) => {
-                if self.contains(entry) {
+                if history.contains(entry) {
                     return Ok(Entered::Known);
                 }
                 return Ok(Entered::Many);
             }
             Err(Halt::NoMemory) => return Err(AllocError),
         };
-        let added = self.admit(entry)?;
+        let added = admit(history, number, &mut self.reads, entry)?;
         if !added {
             return Ok(Entered::Known);
         }
@@ -240,7 +328,9 @@ impl Matcher {
         ensures ok { OnOk result (IsWith self.old entry.now self.new) }
         ensures err { OnErr result (self.new ≡ self.old) }
     {
-        self.admit(entry)?;
+        let history = self.history.numbered_mut();
+        let number = number_of(history, entry)?;
+        admit(history, number, &mut self.reads, entry)?;
         Ok(())
     }
 
@@ -255,7 +345,15 @@ impl Matcher {
             (λ v. AreThose (IsWokenBy job.now entry.now (Contains self.now)) v.items) }
         ensures order { IfOk result (λ v. Rises firing_cmp v.items) }
     {
-        let found = self.all_woken(job, entry)?;
+        let history = self.history.numbered();
+        let waking = Waking {
+            alloc: self.alloc,
+            job,
+            history,
+            entry,
+            number: number_for(history, entry),
+        };
+        let found = waking.all(&self.reads)?;
         Ok(found)
     }
 }

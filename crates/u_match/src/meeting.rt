@@ -2,12 +2,13 @@
 ghost use Rattle.std.specs.Prelude.{◌≡◌, ◌≤◌, IfOk, Contains, length};
 ghost use Rattle.u_rule.specs.Parts.{most_ports};
 ghost use Rattle.u_sets.specs.Members.{AreThose};
+ghost use Rattle.u_sets.specs.Columns.{MayNumber};
 ghost use Rattle.u_match.specs.Keys.{IsMet, AreMetFrom, lent_lists};
 ghost use Rattle.u_match.specs.ReadOrder.{read_ties};
 
 use std::alloc::{AllocError, Global};
 use std::slice;
-use u_history::History;
+use u_history::NumberedHistory;
 use u_name::{Cell, Name};
 use u_order::ExactOrd;
 use u_rule::Token;
@@ -33,31 +34,40 @@ impl ExactOrd for Read {
 /// The reads that wait for each cell, each once.
 pub(crate) type Reads = KeyedSet<Cell, Read>;
 
-/// The values that the token meets at that port of its activity.
-pub(crate) fn met_at<'a>(history: &'a History, token: &'a Token, port: u8) -> &'a [Value]
-    ensures { AreThose (IsMet (Contains history.now) token.now port) result.now }
+/// The values that the token meets at that port of its activity, which has the number.
+pub(crate) fn met_at<'a>(
+    history: &'a NumberedHistory,
+    number: usize,
+    token: &'a Token,
+    port: u8,
+) -> &'a [Value]
+    requires { MayNumber history.now.names token.now.activity number }
+    ensures { AreThose (IsMet (Contains history.now.entries) token.now port) result.now }
 {
     if token.port() == port {
         return slice::from_ref(token.value());
     }
-    history.values_under(token.activity(), port)
+    history.values_of(number, port)
 }
 
-/// The values that the token meets at each of the first ports of its activity, so many.
+/// The values that the token meets at each of the first ports of its activity, which has the number; of
+/// so many ports.
 pub(crate) fn met_at_each<'a>(
     alloc: Global,
-    history: &'a History,
+    history: &'a NumberedHistory,
+    number: usize,
     token: &'a Token,
     ports: usize,
 ) -> Result<Vec<&'a [Value]>, AllocError>
-    requires { ports ≤ most_ports }
+    requires number { MayNumber history.now.names token.now.activity number }
+    requires ports { ports ≤ most_ports }
     ensures each { IfOk result
-        (λ v. AreMetFrom (Contains history.now) token.now 1 (lent_lists v.items)) }
+        (λ v. AreMetFrom (Contains history.now.entries) token.now 1 (lent_lists v.items)) }
     ensures count { IfOk result (λ v. length v.items ≡ ports) }
 {
     let mut lists = Vec::with_capacity(alloc, ports)?;
     for place in 0..ports {
-        lists.push(met_at(history, token, place as u8 + 1))?;
+        lists.push(met_at(history, number, token, place as u8 + 1))?;
     }
     Ok(lists)
 }

@@ -3,11 +3,13 @@
 ghost use Rattle.std.specs.Prelude.{◌<◌, ◌⊎◌, OnOk, IsFalse, Contains};
 ghost use Rattle.u_value.specs.declared.value.Value.{Value};
 ghost use Rattle.u_system.specs.Firing.{Within};
+ghost use Rattle.u_sets.specs.Columns.{MayNumber};
 ghost use Rattle.u_match.specs.Keys.{IsMet, Notes, NamesNone, IsCompleteWith};
+ghost use Rattle.u_match.specs.Numbers.{NumbersEntry};
 
 use crate::meeting::{Read, Reads, met_at};
 use std::alloc::AllocError;
-use u_history::History;
+use u_history::NumberedHistory;
 use u_name::Name;
 use u_rule::{Entry, Token, cell_at};
 use u_value::Value;
@@ -86,35 +88,48 @@ fn may_name(token: &Token) -> bool
     }
 }
 
-/// Notes the reads that the token makes with what it meets. A token
+/// Notes the reads that the token, whose activity has the number, makes with what it meets. A token
 /// beyond the second port makes none.
-fn note_reads_of(history: &History, reads: &mut Reads, token: &Token) -> Result<(), AllocError>
+fn note_reads_of(
+    history: &NumberedHistory,
+    number: usize,
+    reads: &mut Reads,
+    token: &Token,
+) -> Result<(), AllocError>
+    requires { MayNumber history.now.names token.now.activity number }
     ensures kept { Within (Contains reads.new) reads.old }
     ensures ok { OnOk result
-        ((v w : Value) → IsMet (Contains history.now) token.now 1 v
-        → IsMet (Contains history.now) token.now 2 w
+        ((v w : Value) → IsMet (Contains history.now.entries) token.now 1 v
+        → IsMet (Contains history.now.entries) token.now 2 w
         → (2 < token.now.port) ⊎ Notes token.now.activity v w reads.new) }
 {
     if !may_name(token) {
         return Ok(());
     }
-    let structures = met_at(history, token, 1);
-    let indices = met_at(history, token, 2);
+    let structures = met_at(history, number, token, 1);
+    let indices = met_at(history, number, token, 2);
     note_reads(reads, token.activity(), structures, indices)?;
     Ok(())
 }
 
-/// Notes the reads that the entry makes with what it meets in the history.
+/// Notes the reads that the entry makes with what it meets in the history. If it is a token, its activity
+/// has the number.
 ///
 /// # Errors
 /// `AllocError` where there is no memory; what the table had it still has.
-pub(crate) fn note(history: &History, reads: &mut Reads, entry: &Entry) -> Result<(), AllocError>
+pub(crate) fn note(
+    history: &NumberedHistory,
+    number: usize,
+    reads: &mut Reads,
+    entry: &Entry,
+) -> Result<(), AllocError>
+    requires { NumbersEntry history.now.names entry.now number }
     ensures kept { Within (Contains reads.new) reads.old }
-    ensures ok { OnOk result (IsCompleteWith reads.old history.now entry.now reads.new) }
+    ensures ok { OnOk result (IsCompleteWith reads.old history.now.entries entry.now reads.new) }
 {
     match entry {
         Entry::Token(token) => {
-            note_reads_of(history, reads, token)?;
+            note_reads_of(history, number, reads, token)?;
             Ok(())
         }
         Entry::Write(_write) => Ok(()),

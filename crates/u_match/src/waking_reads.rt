@@ -17,7 +17,7 @@ use crate::meeting::{Read, Reads};
 use crate::ordering::put_in_order;
 use std::alloc::{AllocError, Global};
 use u_check::Job;
-use u_history::History;
+use u_history::NumberedHistory;
 use u_rule::{Entry, Firing, RuleError, Write, Written, needs};
 use u_sets::{has, place_in};
 
@@ -30,8 +30,8 @@ fn is_same(left: &Entry, right: &Entry) -> bool
 }
 
 /// Whether it is the entry, or in the set.
-fn is_held(entries: &History, entry: &Entry, need: &Entry) -> bool
-    ensures { IsTrue result ↔ HasOr entries.now entry.now need.now }
+fn is_held(entries: &NumberedHistory, entry: &Entry, need: &Entry) -> bool
+    ensures { IsTrue result ↔ HasOr entries.now.entries entry.now need.now }
 {
     if is_same(entry, need) {
         return true;
@@ -40,8 +40,8 @@ fn is_held(entries: &History, entry: &Entry, need: &Entry) -> bool
 }
 
 /// Whether each of the needs is the entry, or in the set.
-fn are_held(entries: &History, entry: &Entry, needs: &[Entry]) -> bool
-    ensures { IsTrue result ↔ Within (HasOr entries.now entry.now) needs.now }
+fn are_held(entries: &NumberedHistory, entry: &Entry, needs: &[Entry]) -> bool
+    ensures { IsTrue result ↔ Within (HasOr entries.now.entries entry.now) needs.now }
 {
     for need in needs {
         if !is_held(entries, entry, need) {
@@ -87,7 +87,7 @@ fn wake_each(alloc: Global, write: &Write, reads: &[Read]) -> Result<Vec<Firing>
 pub(crate) struct Entering<'a> {
     pub(crate) alloc: Global,
     pub(crate) job: &'a Job,
-    pub(crate) entries: &'a History,
+    pub(crate) entries: &'a NumberedHistory,
     pub(crate) entry: &'a Entry,
 }
 
@@ -97,7 +97,7 @@ impl Entering<'_> {
         ensures { IfOk result
             (λ b. IsTrue b
             ↔ IsWokenBy self.now.job.now self.now.entry.now
-            (HasOr self.now.entries.now self.now.entry.now) firing.now) }
+            (HasOr self.now.entries.now.entries self.now.entry.now) firing.now) }
     {
         let needs = match needs(self.alloc, self.job, firing) {
             Ok(needs) => needs,
@@ -119,7 +119,7 @@ impl Entering<'_> {
             (Gains found.old.items
             (λ (f : Firing). (firing.now ≡ f)
             × IsWokenBy self.now.job.now self.now.entry.now
-            (HasOr self.now.entries.now self.now.entry.now) f) found.new.items) }
+            (HasOr self.now.entries.now.entries self.now.entry.now) f) found.new.items) }
     {
         let woken = self.is_woken(firing)?;
         if !woken {
@@ -140,7 +140,7 @@ impl Entering<'_> {
             (λ v. AreThose
             (λ (f : Firing). Contains firings.now f
             × IsWokenBy self.now.job.now self.now.entry.now
-            (HasOr self.now.entries.now self.now.entry.now) f) v.items) }
+            (HasOr self.now.entries.now.entries self.now.entry.now) f) v.items) }
         ensures rises { IfOk result (λ v. Rises firing_cmp v.items) }
     {
         let mut found = Vec::new(self.alloc);
@@ -157,12 +157,12 @@ impl Entering<'_> {
         reads: &Reads,
         write: &Write,
     ) -> Result<Vec<Firing>, AllocError>
-        requires complete { IsComplete reads.now self.now.entries.now }
+        requires complete { IsComplete reads.now self.now.entries.now.entries }
         requires is { self.now.entry.now ≡ write_entry write.now }
         ensures exact { IfOk result
             (λ v. AreThose
             (IsWokenBy self.now.job.now self.now.entry.now
-            (HasOr self.now.entries.now self.now.entry.now)) v.items) }
+            (HasOr self.now.entries.now.entries self.now.entry.now)) v.items) }
         ensures rises { IfOk result (λ v. Rises firing_cmp v.items) }
     {
         let waiting = reads.under(&write.cell);

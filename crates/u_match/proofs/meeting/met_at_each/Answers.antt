@@ -15,8 +15,8 @@ loop-place-preserved c =
     let its_length = ap length pushed in
     let port : c.loop-place.place + 1 ≡ 1 + length (lent_lists c.loop-place.lists.items) = omega (arith, count, so_far) in (
       omega (arith, its_length, more, so_far),
-      subst (λ (ls : List ValueList). AreMetFrom (Contains c.args.history.now) c.args.token.now 1 ls) (sym (ap lent_lists pushed ∙ lent_all c.loop-place.lists.items c.met_at.result))
-          (met_more (Contains c.args.history.now) c.args.token.now 1 (lent_lists c.loop-place.lists.items) c.met_at.result.now c.loop-place.invariant.1
-          (subst (λ (n : ℕ). AreThose (IsMet (Contains c.args.history.now) c.args.token.now n) c.met_at.result.now) port
+      subst (λ (ls : List ValueList). AreMetFrom (Contains c.args.history.now.entries) c.args.token.now 1 ls) (sym (ap lent_lists pushed ∙ lent_all c.loop-place.lists.items c.met_at.result))
+          (met_more (Contains c.args.history.now.entries) c.args.token.now 1 (lent_lists c.loop-place.lists.items) c.met_at.result.now c.loop-place.invariant.1
+          (subst (λ (n : ℕ). AreThose (IsMet (Contains c.args.history.now.entries) c.args.token.now n) c.met_at.result.now) port
           c.met_at.ensures)),
     )

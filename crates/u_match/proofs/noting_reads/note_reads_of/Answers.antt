@@ -12,4 +12,4 @@ returns-clause-ok c v w m n =
     inr (subst (λ (a : Activity). Notes a v w c.note_reads.new.reads) c.activity.ensures (c.in_ok-note_reads.ensures.ok v (first.1 m) w (second.1 n)))
 
 pub returns-then-not-may_name-clause-ok : goal.returns-then-not-may_name-clause-ok
-returns-then-not-may_name-clause-ok c v w m n = notes_nothing (Contains c.args.history.now) c.args.token.now c.args.reads.now (c.may_name.ensures c.if-not-may_name.true) v w m n
+returns-then-not-may_name-clause-ok c v w m n = notes_nothing (Contains c.args.history.now.entries) c.args.token.now c.args.reads.now (c.may_name.ensures c.if-not-may_name.true) v w m n

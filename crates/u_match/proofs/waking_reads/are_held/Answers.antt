@@ -12,10 +12,10 @@ returns-then-not-is_held c = (
 
 pub loop-need-preserved : goal.loop-need-preserved
 loop-need-preserved c =
-    each_more (λ (x : Entry). Contains c.args.entries.now x ⊎ (c.args.entry.now ≡ x)) c.args.needs.now c.loop-need.need-index c.need-item.result c.loop-need-test.true c.need-item.is (c.is_held.ensures.0 c.if-not-is_held.false) c.loop-need.invariant
+    each_more (λ (x : Entry). Contains c.args.entries.now.entries x ⊎ (c.args.entry.now ≡ x)) c.args.needs.now c.loop-need.need-index c.need-item.result c.loop-need-test.true c.need-item.is (c.is_held.ensures.0 c.if-not-is_held.false) c.loop-need.invariant
 
 pub returns : goal.returns
 returns c = (
-  (λ h. each_of_all (λ (x : Entry). Contains c.args.entries.now x ⊎ (c.args.entry.now ≡ x)) c.args.needs.now c.loop-need.need-index c.loop-need-test.false c.loop-need.invariant),
+  (λ h. each_of_all (λ (x : Entry). Contains c.args.entries.now.entries x ⊎ (c.args.entry.now ≡ x)) c.args.needs.now c.loop-need.need-index c.loop-need-test.false c.loop-need.invariant),
   (λ h. refl),
 )

@@ -6,4 +6,4 @@ use Rattle.u_match.specs.Joins.{JoinsSome}
 use Rattle.u_match.proofs.joining_tokens.Joining.add_twos.Given as goal
 
 abbrev pub invariant-loop-first : goal.invariant-loop-first
-invariant-loop-first l = (f : Firing) → Contains l.found.items f ↔ (Contains l.initial.found.items f ⊎ SomeOf (take l.first-index l.firsts) (JoinsSome l.self.job.now (Contains l.self.history.now) l.self.activity.now l.seconds) f)
+invariant-loop-first l = (f : Firing) → Contains l.found.items f ↔ (Contains l.initial.found.items f ⊎ SomeOf (take l.first-index l.firsts) (JoinsSome l.self.job.now (Contains l.self.history.now.entries) l.self.activity.now l.seconds) f)

@@ -11,5 +11,5 @@ use Rattle.u_match.proofs.waking_reads.Entering.woken_of.Given as goal
 abbrev pub invariant-loop-firing : goal.invariant-loop-firing
 invariant-loop-firing l = record {
   rises : Rises firing_cmp l.found.items;
-  all : (f : Firing) → Contains l.found.items f ↔ (Contains [] f ⊎ SomeOf (take l.firing-index l.firings) (λ (g : Firing) (h : Firing). (g ≡ h) × IsWokenBy l.self.job.now l.self.entry.now (λ (x : Entry). Contains l.self.entries.now x ⊎ (l.self.entry.now ≡ x)) h) f);
+  all : (f : Firing) → Contains l.found.items f ↔ (Contains [] f ⊎ SomeOf (take l.firing-index l.firings) (λ (g : Firing) (h : Firing). (g ≡ h) × IsWokenBy l.self.job.now l.self.entry.now (λ (x : Entry). Contains l.self.entries.now.entries x ⊎ (l.self.entry.now ≡ x)) h) f);
 }
