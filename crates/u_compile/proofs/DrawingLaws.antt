@@ -183,6 +183,7 @@ grows_self d = record {
   links = on_self d.links;
   scopes = on_self d.scopes;
   values = on_self d.values;
+  carried = on_self d.carried;
   fed = λ n port h. refl;
 }
 
@@ -192,6 +193,7 @@ grows_then a b c f g = record {
   links = on_then a.links b.links c.links f.links g.links;
   scopes = on_then a.scopes b.scopes c.scopes f.scopes g.scopes;
   values = on_then a.values b.values c.values f.values g.values;
+  carried = on_then a.carried b.carried c.carried f.carried g.carried;
   fed = λ n port h. g.fed n port (omega (arith, h, on_length a.statements b.statements f.statements)) ∙ f.fed n port h;
 }
 
@@ -203,6 +205,7 @@ adds_inputs d gs b is x ins all = record {
     links = (input_links d.values (length d.statements + 1) 1 ins, refl);
     scopes = on_self d.scopes;
     values = on_self d.values;
+    carried = on_self d.carried;
     fed = λ n port h. feeders_none n port d.links (input_links d.values (length d.statements + 1) 1 ins) (only_inputs d.values (length d.statements + 1) 1 ins n port (λ e. omega (arith, h, e)));
   };
   one = length-append d.statements (x ∷ []);
@@ -216,6 +219,7 @@ grows_value d os = record {
   links = on_self d.links;
   scopes = on_self d.scopes;
   values = on_one d.values os;
+  carried = on_self d.carried;
   fed = λ n port h. refl;
 }
 
@@ -247,19 +251,14 @@ merged d e left right v ones others both l r b at is =
     let good : Merges d (with_value d both) left right (length d.values) = record { grows = grows_value d both; ones = ones; others = others; has_left = l; has_right = r; both = value_last d both ∙ ap Some b } in
     subst (λ (w : ℕ). Merges d e left right w) (sym at) (subst (λ (f : DrawingParts). Merges d f left right (length d.values)) (sym is) good)
 
--- gates and what is carried change nothing of it
-pub adds_again : (d : DrawingParts) (ds : List DraftParts) (ls : List Link) (ss : List Scope) (vs : List (List Output)) (gs hs : List Gate) (cs es : List Carried) (kind : Kind) (ins : List ℕ) → Adds d (drawing ds ls ss vs gs cs) kind ins → Adds d (drawing ds ls ss vs hs es) kind ins
-adds_again d ds ls ss vs gs hs cs es kind ins a = record {
-  grows = record { statements = a.grows.statements; links = a.grows.links; scopes = a.grows.scopes; values = a.grows.values; fed = a.grows.fed };
+-- gates, and what is carried in addition, change nothing of it
+pub adds_again : (d : DrawingParts) (ds : List DraftParts) (ls : List Link) (ss : List Scope) (vs : List (List Output)) (gs hs : List Gate) (cs es : List Carried) (kind : Kind) (ins : List ℕ) → Adds d (drawing ds ls ss vs gs cs) kind ins → GoesOn cs es → Adds d (drawing ds ls ss vs hs es) kind ins
+adds_again d ds ls ss vs gs hs cs es kind ins a more = record {
+  grows = record { statements = a.grows.statements; links = a.grows.links; scopes = a.grows.scopes; values = a.grows.values; carried = on_then d.carried cs es a.grows.carried more; fed = a.grows.fed };
   one = a.one;
   stands = a.stands;
   fed = a.fed;
 }
-
--- procedures that are the same but for what is carried
-pub adds_carried : (d e f : DrawingParts) (kind : Kind) (ins : List ℕ) → Adds d e kind ins → f ≡ record e { carried = f.carried } → Adds d f kind ins
-adds_carried d e f kind ins a same =
-    subst (λ (g : DrawingParts). Adds d g kind ins) (sym same) (adds_again d e.statements e.links e.scopes e.values e.gates e.gates e.carried f.carried kind ins a)
 
 -- a value more
 pub value_grows : (d e f : DrawingParts) (os : List Output) → Grows d e → f ≡ with_value e os → Grows d f

@@ -91,6 +91,7 @@ switch_grows d e p q scopes vs gs hs carried o v adds same more =
       links = on_then d.links p.graph.links (p.graph.links ++ ms) a.grows.links (ms, refl);
       scopes = a.grows.scopes;
       values = a.grows.values;
+      carried = a.grows.carried;
       fed = λ n port h. feeders_none n port p.graph.links ms (links_away n port k 2 (o ∷ []) (λ f. omega (arith, h, f.0, a.one))) ∙ a.grows.fed n port h;
     } in
     subst (λ (r : PlacedParts). Grows d (seen r scopes vs hs carried)) (sym more) good

@@ -14,12 +14,16 @@ pub mod PlacedLaws
 pub mod PlacedTests
 pub mod DrawingLaws
 pub mod LeadLaws
+pub mod CarriedLaws
 pub mod GateLaws
 pub mod ComesLaws
 pub mod KnownLaws
 pub mod OperandLaws
 pub mod DefinitionLaws
 pub mod SideLaws
+pub mod LoopLaws
+pub mod TreeLaws
+pub mod WalkLaws
 pub mod FinishedLaws
 pub mod OrderlyTests
 pub mod OrderlyLaws

@@ -16,6 +16,7 @@ use Rattle.u_compile.specs.declared.compile_error.CompileError.TheVariants.{Sour
 use Rattle.u_compile.specs.declared.origins.BlockOrigins.{BlockOrigins}
 use Rattle.u_compile.specs.Maps.{AreOrigins}
 use Rattle.u_compile.specs.Procedures.{AreProcedures}
+use Rattle.u_compile.specs.Walks.{AreMadeOf}
 
 -- a program, and where the statements of its blocks come from
 pub record CompiledParts : Type 0 where
@@ -48,6 +49,13 @@ pub record HasProcedures (bytes : List ℕ) (blocks : List BlockParts) : Type 0 
   pub meanings : List Meaning
   pub allowed : IsAllowed bytes source meanings
   pub are : AreProcedures source.tokens source.nodes blocks
+
+-- the bytes are such a source, and the blocks are made of it
+pub record IsMadeOf (bytes : List ℕ) (blocks : List BlockParts) : Type 0 where
+  pub source : SourceParts
+  pub meanings : List Meaning
+  pub allowed : IsAllowed bytes source meanings
+  pub are : AreMadeOf source meanings blocks
 
 -- the bytes are a source, and why its names are refused
 pub record HasRefusedNames (bytes : List ℕ) (e : CheckError) : Type 0 where

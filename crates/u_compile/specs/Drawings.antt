@@ -1,5 +1,5 @@
 -- Procedures under construction: which values lead to which ports, and what comes from what.
-use Rattle.std.specs.Prelude.{◌≡◌, ℕ, ◌+◌, ◌<◌, ◌≤◌, Bool, false, not, ◌&&◌, ◌==◌, cond, List, [], ◌∷◌, ◌++◌, length, Option, Some, None, slice_get, get_or}
+use Rattle.std.specs.Prelude.{◌≡◌, ℕ, ◌+◌, ◌<◌, ◌≤◌, Bool, false, not, ◌&&◌, ◌==◌, cond, List, [], ◌∷◌, ◌++◌, length, Option, Some, None, slice_get, slice_set, get_or}
 use Rattle.u_program.specs.declared.program.Arguments.{Arguments}
 use Rattle.u_program.specs.declared.program.Kind.{Kind}
 use Rattle.u_program.specs.declared.program.Kind.TheVariants.{Begin, Param, Pass, Switch, Enter, Next, Last, Leave, Apply, Back}
@@ -9,7 +9,7 @@ use Rattle.u_compile.specs.declared.graph.Link.{Link}
 use Rattle.u_compile.specs.declared.graph.Output.{Output}
 use Rattle.u_compile.specs.declared.drawing.Scope.{Scope}
 use Rattle.u_compile.specs.declared.drawing.Way.{Way}
-use Rattle.u_compile.specs.declared.drawing.Way.TheVariants.{Side, Turn}
+use Rattle.u_compile.specs.declared.drawing.Way.TheVariants.{Procedure, Side, Turn}
 use Rattle.u_compile.specs.declared.drawing.Gate.{Gate}
 use Rattle.u_compile.specs.declared.drawing.Carried.{Carried}
 use Rattle.u_compile.specs.Drafts.{DraftParts}
@@ -79,13 +79,14 @@ pub record IsDrawn (ds : List DraftParts) (ls : List Link) (vs : List (List Outp
 abbrev pub GoesOn : {A : Type 0} → List A → List A → Type 0
 GoesOn {A} xs ys = (more : List A) × (ys ≡ xs ++ more)
 
--- Statements, links, scopes and values are only added, and what led to the ports of the statements that were there leads
--- to them as before.
+-- Statements, links, scopes, values and what loops carry are only added, and what led to the ports of the statements that
+-- were there leads to them as before.
 pub record Grows (d e : DrawingParts) : Type 0 where
   pub statements : GoesOn d.statements e.statements
   pub links : GoesOn d.links e.links
   pub scopes : GoesOn d.scopes e.scopes
   pub values : GoesOn d.values e.values
+  pub carried : GoesOn d.carried e.carried
   pub fed : (n port : ℕ) → n ≤ length d.statements → feeders n port e.links ≡ feeders n port d.links
 
 -- One statement is added, of that kind. Exactly those values lead to its ports, one to each.
@@ -147,8 +148,45 @@ IsNextOf ds n enter = (d : DraftParts) × (draft_at ds n ≡ Some d) × (d.kind 
 abbrev pub IsNextOfCarried : DrawingParts → DrawingParts → ℕ → Type 0
 IsNextOfCarried d e number = (c : Carried) × (slice_get d.carried number ≡ Some c) × IsNextOf e.statements (length d.statements + 1) c.enter
 
+-- what is carried under that number has that value in the next turn, from then on
+pub record NotesNext (d e : DrawingParts) (number value : ℕ) : Type 0 where
+  pub carried : Carried
+  pub was : slice_get d.carried number ≡ Some carried
+  pub now : e ≡ record d { carried = slice_set d.carried number (record carried { next = Some value }) }
+
+-- A `next` of the `enter` of what is carried under that number is added, to which exactly the value leads. That has the
+-- value in the next turn.
+pub record AddsNext (d e : DrawingParts) (number value : ℕ) : Type 0 where
+  pub between : DrawingParts
+  pub adds : Adds d between Next (value ∷ [])
+  pub of : IsNextOfCarried d between number
+  pub notes : NotesNext between e number value
+
 abbrev pub a_carried : ℕ → ℕ → ℕ → Option ℕ → Carried
 a_carried turn name enter next = record { turn = turn; name = name; enter = enter; next = next }
+
+-- the loop with these turns carries under the name what has that number, and its value in the next turn is not known
+abbrev pub IsOpen : List Carried → ℕ → ℕ → ℕ → Type 0
+IsOpen cs turn name number = (enter : ℕ) × (slice_get cs number ≡ Some (a_carried turn name enter None))
+
+-- what the loop with these turns carries under the name has that value in the next turn, and had none
+pub record SetsNext (turn name value : ℕ) (d e : DrawingParts) : Type 0 where
+  pub number : ℕ
+  pub open_before : IsOpen d.carried turn name number
+  pub notes : NotesNext d e number value
+
+-- Value w is what an `enter` of the loop with these turns gives, to which exactly value v leads. It is carried under the name.
+pub record Carries (turn name v : ℕ) (d e : DrawingParts) (w : ℕ) : Type 0 where
+  pub scope : Scope
+  pub is : slice_get d.scopes turn ≡ Some scope
+  pub loop : ℕ
+  pub way : scope.way ≡ Turn loop
+  pub gives : Gives d e (Enter loop) (v ∷ []) w
+  pub carried : e.carried ≡ d.carried ++ (a_carried turn name (length d.statements + 1) None ∷ [])
+
+-- a procedure without statements, the first parameter of which is that name
+abbrev pub no_statements : ℕ → DrawingParts
+no_statements clock = drawing [] [] (record { region = 0; around = 0; way = Procedure; clock = clock } ∷ []) [] [] []
 
 -- a statement of that kind takes the parameter behind so many others
 pub data IsParameter (n : ℕ) (k : Kind) : Type 0 where

@@ -8,11 +8,15 @@ pub mod Orderly
 pub mod Placed
 pub mod Drawings
 pub mod Namings
+pub mod Trees
 pub mod Operands
 pub mod Definitions
 pub mod Sides
 pub mod Turns
+pub mod Loops
+pub mod Bodies
 pub mod Steps
+pub mod Walks
 pub mod Maps
 pub mod Procedures
 pub mod Compiled

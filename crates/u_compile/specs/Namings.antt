@@ -47,6 +47,9 @@ pub record KnownParts : Type 0 where
 abbrev pub known : Names → KnownParts
 known ns = record { bindings = ns.bindings.items; aliases = ns.aliases.items; constants = ns.constants.items }
 
+abbrev pub nothing_known : KnownParts
+nothing_known = record { bindings = []; aliases = []; constants = [] }
+
 abbrev pub with_binding : KnownParts → Binding → KnownParts
 with_binding k b = record k { bindings = k.bindings ++ (b ∷ []) }
 

@@ -1,17 +1,15 @@
 -- Operands: which values they are where they are used, and the statements that take them.
-use Rattle.std.specs.Prelude.{◌≡◌, ℕ, ◌+◌, pos, neg_ℤ, true, false, List, [], ◌∷◌, ◌++◌, reverse, Some, slice_get}
+use Rattle.std.specs.Prelude.{◌≡◌, ℕ, pos, neg_ℤ, true, false, List, [], ◌∷◌, ◌++◌, reverse, Some, slice_get}
 use Rattle.u_program.specs.declared.program.Constant.{Constant}
 use Rattle.u_program.specs.declared.program.Constant.TheVariants.{Int, Bool, Proc}
 use Rattle.u_program.specs.declared.program.Kind.{Kind}
+use Rattle.u_program.specs.Parts.{BlockParts}
 use Rattle.u_program.specs.declared.program.Kind.TheVariants.{Binary, Unary, Fetch, Store, Alloc}
 use Rattle.u_value.specs.declared.operators.BinaryOperator.TheVariants as binary
 use Rattle.u_value.specs.declared.operators.UnaryOperator.TheVariants as unary
 use Rattle.u_source.specs.declared.form.Form.{Form}
 use Rattle.u_source.specs.declared.form.Form.TheVariants as forms
-use Rattle.u_source.specs.declared.form.Node.{Node}
-use Rattle.u_source.specs.declared.token.Word.{Word}
 use Rattle.u_source.specs.declared.token.Word.TheVariants as words
-use Rattle.u_source.specs.Tokens.{TokenParts}
 use Rattle.u_scope.specs.declared.checked.Meaning.TheVariants.{Name, Procedure}
 use Rattle.u_compile.specs.declared.tree.Tree.{Tree}
 use Rattle.u_compile.specs.declared.naming.Alias.{Alias}
@@ -21,6 +19,7 @@ use Rattle.u_compile.specs.declared.lowering.Frame.{Frame}
 use Rattle.u_compile.specs.declared.lowering.Start.{Start}
 use Rattle.u_compile.specs.declared.lowering.Lowering.{Lowering}
 use Rattle.u_compile.specs.Scoped.{IsOf}
+use Rattle.u_compile.specs.Trees.{HasForm, IsAtWord, IsCellWritten}
 use Rattle.u_compile.specs.Drawings.{DrawingParts, Grows, Gives, Calls}
 use Rattle.u_compile.specs.Namings.{KnownParts, known, an_alias, HasConstant, Learns, IsUsed}
 
@@ -30,27 +29,21 @@ pub record SceneParts : Type 0 where
   pub scope : ℕ
   pub names : KnownParts
 
--- A source that is gone through: where that stands, the procedure, and what waits or has begun, the last of it last.
+-- A source that is gone through: where that stands, the procedure, what waits or has begun, the last of it last, and the
+-- blocks of the procedures before.
 pub record LoweringParts : Type 0 where
   pub scene : SceneParts
   pub drawing : DrawingParts
   pub operands : List Operand
   pub frames : List Frame
   pub starts : List Start
+  pub blocks : List BlockParts
 
 abbrev pub scene : Lowering → SceneParts
 scene l = record { tree = l.tree.now; scope = l.scope; names = known l.names }
 
 abbrev pub lowering : Lowering → LoweringParts
-lowering l = record { scene = scene l; drawing = l.drawing; operands = l.operands.items; frames = l.frames.items; starts = l.starts.items }
-
--- the node has that form
-abbrev pub HasForm : Tree → ℕ → Form → Type 0
-HasForm t node form = (n : Node) × (slice_get t.nodes.now node ≡ Some n) × (n.form ≡ form)
-
--- the node stands at a token that is that word
-abbrev pub IsAtWord : Tree → ℕ → Word → Type 0
-IsAtWord t node w = (n : Node) × (y : TokenParts) × (slice_get t.nodes.now node ≡ Some n) × (slice_get t.tokens.now n.token ≡ Some y) × (y.word ≡ w)
+lowering l = record { scene = scene l; drawing = l.drawing; operands = l.operands.items; frames = l.frames.items; starts = l.starts.items; blocks = l.blocks }
 
 -- The node is that constant: it is written so, or is the name of that procedure, or a name for the constant.
 pub data IsWritten (t : Tree) (aliases : List Alias) (node : ℕ) (k : Constant) : Type 0 where
@@ -167,10 +160,6 @@ Operates forms.Length l m = TakesOne (Unary unary.Length) l m
 Operates forms.Array l m = TakesOne Alloc l m
 Operates forms.Negate l m = Negates l m
 Operates _ l m = m ≡ l
-
--- the node is a cell that is written: the first child of a write
-abbrev pub IsCellWritten : Tree → ℕ → Type 0
-IsCellWritten t node = (parent : ℕ) × (slice_get t.parents.items node ≡ Some parent) × HasForm t parent forms.Write × (node + 1 ≡ parent → ⊥)
 
 -- The cell that the node is, is read. If it is written, its array and its index wait on.
 pub data Reads (node : ℕ) (l m : LoweringParts) : Type 0 where

@@ -1,12 +1,12 @@
 -- Loops: their turns, and what goes from turn to turn.
-use Rattle.std.specs.Prelude.{◌≡◌, ℕ, true, [], ◌∷◌, ◌++◌, Some, None, slice_get}
-use Rattle.u_program.specs.declared.program.Kind.TheVariants.{Next, Binary}
+use Rattle.std.specs.Prelude.{◌≡◌, ℕ, ◌+◌, true, [], ◌∷◌, ◌++◌, Some, None, slice_get}
+use Rattle.u_program.specs.declared.program.Kind.TheVariants.{Binary}
 use Rattle.u_value.specs.declared.operators.BinaryOperator.TheVariants.{Lt}
 use Rattle.u_compile.specs.declared.graph.Output.{Output}
 use Rattle.u_compile.specs.declared.drawing.Carried.{Carried}
 use Rattle.u_compile.specs.declared.lowering.Frame.TheVariants as frames
 use Rattle.u_compile.specs.declared.lowering.Turns.{Turns}
-use Rattle.u_compile.specs.Drawings.{DrawingParts, Adds, Chooses, IsNextOfCarried}
+use Rattle.u_compile.specs.Drawings.{DrawingParts, AddsNext, Chooses}
 use Rattle.u_compile.specs.Namings.{IsNamed}
 use Rattle.u_compile.specs.Operands.{LoweringParts, GoesOn, Pops, Pushes}
 use Rattle.u_compile.specs.Sides.{AddsSide, IsFramePopped, in_scope, with_frames}
@@ -44,8 +44,7 @@ pub record TestsCounter (turn counter limit : ℕ) (l m : LoweringParts) : Type 
 
 -- a `next` of the `enter` of what is carried under that number takes the value
 pub record GoesRound (number value : ℕ) (l m : LoweringParts) : Type 0 where
-  pub adds : Adds l.drawing m.drawing Next (value ∷ [])
-  pub of : IsNextOfCarried l.drawing m.drawing number
+  pub adds : AddsNext l.drawing m.drawing number value
   pub rest : m ≡ record l { drawing = m.drawing }
 
 -- A turn ends for what is carried under that number, if it is of this loop: it goes on with the value that is noted for it, or
@@ -54,3 +53,8 @@ pub data ClosesTurn (turn block number : ℕ) (l m : LoweringParts) : Type 0 whe
   other : (c : Carried) → slice_get l.drawing.carried number ≡ Some c → (c.turn ≡ turn → ⊥) → m ≡ l → ClosesTurn turn block number l m
   given : (c : Carried) (value : ℕ) → slice_get l.drawing.carried number ≡ Some c → c.turn ≡ turn → c.next ≡ Some value → GoesRound number value l m → ClosesTurn turn block number l m
   kept : (c : Carried) (value : ℕ) (between : LoweringParts) → slice_get l.drawing.carried number ≡ Some c → c.turn ≡ turn → c.next ≡ None → GoesOn l between → IsNamed between.drawing l.scene.names.bindings block c.name value → GoesRound number value between m → ClosesTurn turn block number l m
+
+-- A turn ends for the first so many that are carried, one after another.
+pub data ClosesTurns (turn block : ℕ) (l : LoweringParts) : ℕ → LoweringParts → Type 0 where
+  none : ClosesTurns turn block l 0 l
+  one_more : (number : ℕ) (k m : LoweringParts) → ClosesTurns turn block l number k → ClosesTurn turn block number k m → ClosesTurns turn block l (number + 1) m

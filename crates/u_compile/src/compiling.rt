@@ -1,11 +1,13 @@
 //! From the text of a source to a program.
-ghost use Rattle.std.specs.Prelude.{◌≡◌, IfOk, IfErr, MatchResult, List};
+ghost use Rattle.std.specs.Prelude.{◌≡◌, IfOk, IfErr, OnOk, MatchResult, List, length};
 ghost use Rattle.u_check.specs.Rules.{IsChecked};
 ghost use Rattle.u_determinate.specs.Determinate.{IsDeterminate};
 ghost use Rattle.u_source.specs.Sources.{SourceParts};
 ghost use Rattle.u_scope.specs.declared.checked.Meaning.{Meaning};
 ghost use Rattle.u_compile.specs.Maps.{AreOrigins};
-ghost use Rattle.u_compile.specs.Compiled.{IsAllowed, IsSomeAllowed, HasProcedures};
+ghost use Rattle.u_compile.specs.Operands.{lowering as state_of};
+ghost use Rattle.u_compile.specs.Walks.{AreLowered, AreMadeOf, AreReached, GoesThrough};
+ghost use Rattle.u_compile.specs.Compiled.{IsAllowed, IsSomeAllowed, IsMadeOf, HasProcedures};
 ghost use Rattle.u_compile.specs.Compiled.{IsCompileError, IsToldOf, MayBeTold, IsToldLast};
 ghost use Rattle.u_compile.specs.Procedures.{AreProcedures};
 
@@ -44,33 +46,32 @@ struct Lowered {
 }
 
 /// Goes through the nodes.
-fn go_through(lowering: &mut Lowering<'_>, tree: &Tree<'_>) -> Result<(), Stopped> {
+fn go_through(lowering: &mut Lowering<'_>, tree: &Tree<'_>) -> Result<(), Stopped>
+    ensures { OnOk result (GoesThrough 0 (state_of lowering.old) (length tree.now.nodes.now)
+        (state_of lowering.new)) }
+{
     for number in 0..tree.len() {
-        if let Err(full) = lowering.advance(number) {
-            return Err(Stopped {
-                place: tree.place_of(number),
-                full,
-            });
+        match lowering.advance(number) {
+            Ok(()) => {}
+            Err(full) => {
+                return Err(Stopped {
+                    place: tree.place_of(number),
+                    full,
+                });
+            }
         }
     }
     Ok(())
 }
 
-/// The program of the nodes, which is determinate and keeps the rules of the checker, and what was noted of its
-/// statements.
-fn lower(alloc: Global, tree: &Tree<'_>) -> Result<Lowered, Stopped>
+/// The program of the nodes, all of which are gone through from there, and what was noted of its statements.
+fn lower_all(begun: Lowering<'_>, tree: &Tree<'_>) -> Result<Lowered, Stopped>
     ensures determinate { IfOk result (λ l. IsDeterminate l.program.blocks) }
     ensures checked { IfOk result (λ l. IsChecked l.program.blocks) }
+    ensures reached { IfOk result (λ l. AreReached (state_of begun.entry)
+        (length tree.now.nodes.now) l.program.blocks) }
 {
-    let mut lowering = match Lowering::new(alloc, tree) {
-        Ok(lowering) => lowering,
-        Err(full) => {
-            return Err(Stopped {
-                place: Place::start(),
-                full,
-            });
-        }
-    };
+    let mut lowering = begun;
     go_through(&mut lowering, tree)?;
     let Lowering { blocks, notes, .. } = lowering;
     match blocks.program() {
@@ -82,10 +83,27 @@ fn lower(alloc: Global, tree: &Tree<'_>) -> Result<Lowered, Stopped>
     }
 }
 
+/// The program of the nodes, which is determinate and keeps the rules of the checker, and what was noted of its
+/// statements.
+fn lower(alloc: Global, tree: &Tree<'_>) -> Result<Lowered, Stopped>
+    ensures determinate { IfOk result (λ l. IsDeterminate l.program.blocks) }
+    ensures checked { IfOk result (λ l. IsChecked l.program.blocks) }
+    ensures lowered { IfOk result (λ l. AreLowered tree.now l.program.blocks) }
+{
+    match Lowering::new(alloc, tree) {
+        Ok(lowering) => lower_all(lowering, tree),
+        Err(full) => Err(Stopped {
+            place: Place::start(),
+            full,
+        }),
+    }
+}
+
 /// The program of a source whose names and kinds are allowed. It is determinate and keeps the rules of the checker.
 fn program_of(alloc: Global, source: &Source, checked: &Checked) -> Result<Lowered, CompileError>
     ensures determinate { IfOk result (λ l. IsDeterminate l.program.blocks) }
     ensures checked { IfOk result (λ l. IsChecked l.program.blocks) }
+    ensures made { IfOk result (λ l. AreMadeOf source.now checked.now l.program.blocks) }
     ensures last { IfErr result (λ error. IsToldLast error) }
 {
     let tree = match Tree::new(alloc, source.tokens(), source.nodes(), checked.meanings()) {
@@ -161,6 +179,8 @@ fn compiled_of(alloc: Global, allowed: &Allowed) -> Result<Compiled, CompileErro
     ensures each { IfOk result (λ c. AreOrigins c.program.blocks c.origins) }
     ensures procedures { IfOk result (λ c. AreProcedures allowed.now.source.tokens
         allowed.now.source.nodes c.program.blocks) }
+    ensures made { IfOk result (λ c. AreMadeOf allowed.now.source allowed.now.names
+        c.program.blocks) }
     ensures last { IfErr result (λ error. IsToldLast error) }
 {
     let Lowered { program, notes } = program_of(alloc, &allowed.source, &allowed.names)?;
@@ -192,6 +212,7 @@ pub fn compile(alloc: Global, bytes: &[u8]) -> Result<Compiled, CompileError>
     ensures determinate { IfOk result (λ c. IsDeterminate c.program.blocks) }
     ensures each { IfOk result (λ c. AreOrigins c.program.blocks c.origins) }
     ensures procedures { IfOk result (λ c. HasProcedures bytes.now c.program.blocks) }
+    ensures made { IfOk result (λ c. IsMadeOf bytes.now c.program.blocks) }
     ensures answer { MatchResult result (λ _. IsSomeAllowed bytes.now)
         (λ error. IsToldOf bytes.now error) }
 {

@@ -2,6 +2,7 @@
 ghost use Rattle.std.specs.Prelude.{◌≡◌, ◌+◌, ◌<◌, ◌≤◌, ◌++◌, ◌∷◌, [], true, false, length, IfOk, IsTrue, MatchResult};
 ghost use Rattle.u_compile.specs.Drafts.{draft};
 ghost use Rattle.u_compile.specs.Scoped.{Layout, IsScoped};
+ghost use Rattle.u_compile.specs.Fanning.{IsFinished};
 ghost use Rattle.u_compile.specs.Orderly.{IsOrderly};
 ghost use Rattle.u_compile.specs.Placed.{EachIsFull};
 ghost use Rattle.u_compile.specs.Kept.{KeepsItself};
@@ -248,6 +249,7 @@ impl Graph {
             (λ b. (y : Layout) → IsScoped y self → IsDeterminateBlock b) }
         ensures kept { IfOk result (λ b. (y : Layout) → IsScoped y self → EachIsFull self
             → IsOrderly self.statements self.links → KeepsItself b) }
+        ensures finished { IfOk result (IsFinished name self) }
     {
         if self.len() == 0 {
             return Err(Full::Misplaced);

@@ -1,14 +1,16 @@
 //! A procedure under construction: its graph, its scopes and its values.
-ghost use Rattle.std.specs.Prelude.{◌≡◌, ℕ, ◌+◌, ◌≤◌, [], ◌∷◌, ◌++◌, length, slice_get, get_or, false, Some, None, IfOk, OnOk, IfSome, IfNone};
+ghost use Rattle.std.specs.Prelude.{◌≡◌, ℕ, ◌+◌, ◌≤◌, List, [], ◌∷◌, ◌++◌, length, slice_get, slice_set, get_or, false, Some, None, IfOk, OnOk, IfSome, IfNone};
 ghost use Rattle.u_program.specs.Limits.{IsBlockOf, limits_of, place_of};
 ghost use Rattle.u_program.specs.declared.program.Version.TheVariants as versions;
 ghost use Rattle.u_determinate.specs.Determinate.{IsDeterminateBlock};
 ghost use Rattle.u_compile.specs.Kept.{KeepsItself};
 ghost use Rattle.u_program.specs.declared.program.Kind.{Kind as a_kind};
 ghost use Rattle.u_program.specs.declared.program.Kind.TheVariants as kinds;
-ghost use Rattle.u_compile.specs.Graphs.{output};
+ghost use Rattle.u_compile.specs.declared.drawing.Carried.{Carried as a_carried_value};
+ghost use Rattle.u_compile.specs.Fanning.{IsFinished};
+ghost use Rattle.u_compile.specs.Graphs.{graph, output};
 ghost use Rattle.u_compile.specs.Scoped.{IsOf};
-ghost use Rattle.u_compile.specs.Drawings.{Adds, AreValues, Calls, Chooses, EachIsFed, Gives, Grows, IsGate, IsGated, IsNextOf, IsNextOfCarried, IsOnly, IsOwn, IsParameter, IsValue, LeadsOn, Leaves, Merges, a_carried, a_gate, input_links, links_to, with_links, with_scope, with_value};
+ghost use Rattle.u_compile.specs.Drawings.{Adds, AddsNext, AreValues, Calls, Chooses, EachIsFed, Gives, Grows, IsGate, IsGated, IsNextOf, IsOnly, IsOpen, IsOwn, IsParameter, IsValue, LeadsOn, Leaves, Merges, SetsNext, a_carried, a_gate, input_links, links_to, no_statements, with_links, with_scope, with_value};
 
 use crate::graph::{Full, Output, STATEMENTS};
 use crate::place::{Guard, Place};
@@ -193,6 +195,18 @@ fn gate_of(gates: &[Gate], control: Output, value: usize) -> Option<u16>
     None
 }
 
+/// The number of what the loop with these turns carries under the name, if its value in the next turn is not known yet.
+fn open_next(carried: &[Carried], turn: usize, name: usize) -> Option<usize>
+    ensures { IfSome result (IsOpen carried.now turn name) }
+{
+    for (number, one) in carried.iter().enumerate() {
+        if one.turn == turn && one.name == name && one.next.is_none() {
+            return Some(number);
+        }
+    }
+    None
+}
+
 /// Whether a control has a gate.
 fn has_gate(gates: &[Gate], control: Output) -> bool {
     for gate in gates {
@@ -241,7 +255,9 @@ fn parameter_behind(count: usize) -> Result<Parameter, Full>
 
 impl Drawing {
     /// A procedure without statements, whose first parameter is this name.
-    pub fn new(alloc: Global, clock: usize) -> Result<Drawing, Full> {
+    pub fn new(alloc: Global, clock: usize) -> Result<Drawing, Full>
+        ensures { IfOk result (λ d. d ≡ no_statements clock) }
+    {
         let mut scopes = Vec::new(alloc);
         scopes.push(Scope {
             region: 0,
@@ -630,26 +646,32 @@ impl Drawing {
     }
 
     /// How much is carried.
-    pub fn count_carried(&self) -> usize {
+    pub fn count_carried(&self) -> usize
+        ensures { result ≡ length self.now.carried }
+    {
         self.carried.len()
     }
 
     /// Lets a variable of the loop with these turns have that value in the next turn.
     pub fn set_next(&mut self, turn: usize, name: usize, value: usize) -> Result<(), Full>
-        ensures { self.new ≡ record self.old { carried = self.new.carried } }
+        ensures same { self.new ≡ record self.old { carried = self.new.carried } }
+        ensures sets { OnOk result (SetsNext turn name value self.old self.new) }
     {
-        for carried in self.carried.iter_mut() {
-            if carried.turn == turn && carried.name == name && carried.next.is_none() {
-                carried.next = Some(value);
-                return Ok(());
+        match open_next(&self.carried, turn, name) {
+            Some(number) => {
+                self.keep_next(number, value);
+                Ok(())
             }
+            None => Err(Full::Misplaced),
         }
-        Err(Full::Misplaced)
     }
 
     /// Notes that what is carried under this number has that value in the next turn.
     fn keep_next(&mut self, number: usize, value: usize)
-        ensures { self.new ≡ record self.old { carried = self.new.carried } }
+        ensures same { self.new ≡ record self.old { carried = self.new.carried } }
+        ensures sets { (c : a_carried_value) → slice_get self.old.carried number ≡ Some c
+            → self.new.carried ≡ slice_set self.old.carried number
+            (record c { next = Some value }) }
     {
         if let Some(carried) = self.carried.get_mut(number) {
             carried.next = Some(value);
@@ -658,8 +680,7 @@ impl Drawing {
 
     /// Adds the `next` of what is carried under this number, which gets a value that the block of its loop has.
     pub fn add_next(&mut self, block: usize, number: usize, value: usize) -> Result<(), Full>
-        ensures adds { OnOk result (Adds self.old self.new kinds.Next (value ∷ [])) }
-        ensures of { OnOk result (IsNextOfCarried self.old self.new number) }
+        ensures { OnOk result (AddsNext self.old self.new number value) }
     {
         let Some(carried) = self.carried(number) else {
             return Err(Full::Misplaced);
@@ -695,6 +716,8 @@ impl Drawing {
         ensures determinate { IfOk result (λ b. IsDeterminateBlock b) }
         ensures kept { IfOk result (λ b. KeepsItself b) }
         ensures arcs { OnOk result (EachIsFed self.statements self.links self.values) }
+        ensures finished { IfOk result (λ b. (loops : List ℕ)
+            × IsFinished name (graph loops self.statements self.links) b) }
     {
         let broken = self.broken;
         if broken {

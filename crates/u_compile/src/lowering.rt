@@ -8,6 +8,8 @@ ghost use Rattle.u_compile.specs.Namings.{HasConstant, IsNamed, known};
 ghost use Rattle.u_compile.specs.Operands.{GoesOn, lowering};
 ghost use Rattle.u_compile.specs.Definitions.{TakesParameter};
 ghost use Rattle.u_compile.specs.Steps.{IsWhole};
+ghost use Rattle.u_compile.specs.Walks.{IsDone, beginning, is_item};
+ghost use Rattle.u_compile.specs.Bodies.{Closes, ClosesBlock, Ends, EndsProcedure, Finishes, Opens, OpensBlock, with_procedure};
 ghost use Rattle.u_compile.specs.Sides.{IsFramePopped, IsLastFrame, OpensSide};
 
 use crate::blocks::Blocks;
@@ -103,6 +105,27 @@ pub(crate) struct Lowering<'a> {
     pub alloc: Global,
 }
 
+/// Whether a node of that form is an atom, a cell, a call or an item.
+fn is_item(form: Form) -> bool
+    ensures { result ≡ is_item form }
+{
+    matches!(
+        form,
+        Form::Name
+            | Form::Number
+            | Form::Negative
+            | Form::True
+            | Form::False
+            | Form::NoArguments
+            | Form::Index
+            | Form::Call
+            | Form::Write
+            | Form::Statement
+            | Form::Define
+            | Form::Next
+    )
+}
+
 /// A procedure's block, and what was noted of its statements.
 fn finished(
     drawing: Drawing,
@@ -113,6 +136,7 @@ fn finished(
     ensures block { IfOk result (λ r. IsBlockOf (limits_of versions.Two) r.0) }
     ensures determinate { IfOk result (λ r. IsDeterminateBlock r.0) }
     ensures kept { IfOk result (λ r. KeepsItself r.0) }
+    ensures ends { IfOk result (λ r. Ends drawing value name r.0) }
 {
     let mut drawing = drawing;
     let mut names = names;
@@ -124,7 +148,9 @@ fn finished(
 
 impl<'a> Lowering<'a> {
     /// The beginning of a source.
-    pub fn new(alloc: Global, tree: &'a Tree<'a>) -> Result<Lowering<'a>, Full> {
+    pub fn new(alloc: Global, tree: &'a Tree<'a>) -> Result<Lowering<'a>, Full>
+        ensures { IfOk result (λ l. lowering l ≡ beginning tree.now) }
+    {
         Ok(Lowering {
             tree,
             names: Names::new(alloc),
@@ -206,11 +232,14 @@ impl Lowering<'_> {
     }
 
     /// A procedure begins, the parameters of which come next.
-    fn begin_procedure(&mut self, number: usize) -> Result<(), Full> {
+    fn begin_procedure(&mut self, number: usize) -> Result<(), Full>
+        ensures { OnOk result (lowering self.new ≡ with_procedure number (lowering self.old)) }
+    {
         let Some(clock) = number.checked_add(2) else {
             return Err(Full::Misplaced);
         };
         self.drawing = Drawing::new(self.alloc, clock)?;
+        self.names = Names::new(self.alloc);
         self.scope = 0;
         Ok(())
     }
@@ -227,9 +256,19 @@ impl Lowering<'_> {
     }
 
     /// A procedure ends.
-    fn end_procedure(&mut self) -> Result<(), Full> {
+    fn end_procedure(&mut self) -> Result<(), Full>
+        ensures { OnOk result (EndsProcedure (lowering self.old) (lowering self.new)) }
+    {
         let value = self.pop_value()?;
         let name = self.pop_name()?;
+        self.finish(value, name)?;
+        Ok(())
+    }
+
+    /// Finishes the procedure, which gives the value, under that name.
+    fn finish(&mut self, value: usize, name: BlockName) -> Result<(), Full>
+        ensures { OnOk result (Finishes value name (lowering self.old) (lowering self.new)) }
+    {
         let drawing = std::mem::replace(&mut self.drawing, Drawing::new(self.alloc, 0)?);
         let names = std::mem::replace(&mut self.names, Names::new(self.alloc));
         let (block, notes) = finished(drawing, names, value, name)?;
@@ -239,10 +278,21 @@ impl Lowering<'_> {
     }
 
     /// The items of a block begin.
-    fn open_block(&mut self, number: usize) -> Result<(), Full> {
+    fn open_block(&mut self, number: usize) -> Result<(), Full>
+        ensures { OnOk result (OpensBlock number (lowering self.old) (lowering self.new)) }
+    {
         let block = self.tree.around(number, Form::Block, Form::Block)?;
         let whole = self.tree.parent(block)?;
-        match self.tree.form(whole)? {
+        let form = self.tree.form(whole)?;
+        self.open_of(form, number, whole)?;
+        Ok(())
+    }
+
+    /// The items of a block of a node of that form begin.
+    fn open_of(&mut self, form: Form, number: usize, whole: usize) -> Result<(), Full>
+        ensures { OnOk result (Opens form (lowering self.old) (lowering self.new)) }
+    {
+        match form {
             Form::If => self.open_if(number, whole),
             Form::Loop | Form::For => self.open_turn(),
             _ => Ok(()),
@@ -250,9 +300,21 @@ impl Lowering<'_> {
     }
 
     /// A block ends.
-    fn close_block(&mut self, number: usize) -> Result<(), Full> {
+    fn close_block(&mut self, number: usize) -> Result<(), Full>
+        ensures { OnOk result (ClosesBlock number (lowering self.old) (lowering self.new)) }
+    {
         let whole = self.tree.parent(number)?;
-        match self.tree.form(whole)? {
+        let form = self.tree.form(whole)?;
+        self.close_of(form, number, whole)?;
+        Ok(())
+    }
+
+    /// A block of a node of that form ends.
+    fn close_of(&mut self, form: Form, number: usize, whole: usize) -> Result<(), Full>
+        ensures { OnOk result (Closes form number whole (lowering self.old)
+            (lowering self.new)) }
+    {
+        match form {
             Form::If => self.close_first(whole),
             Form::Loop | Form::For => self.close_loop(number, whole),
             _ => Ok(()),
@@ -281,26 +343,17 @@ impl Lowering<'_> {
     }
 
     /// Goes on with the node with this number.
-    pub fn advance(&mut self, number: usize) -> Result<(), Full> {
+    pub fn advance(&mut self, number: usize) -> Result<(), Full>
+        ensures { OnOk result (IsDone number (lowering self.old) (lowering self.new)) }
+    {
         let form = self.tree.form(number)?;
         self.names.set_place(self.tree.place_of(number));
-        match form {
-            Form::Name
-            | Form::Number
-            | Form::Negative
-            | Form::True
-            | Form::False
-            | Form::NoArguments
-            | Form::Index
-            | Form::Call
-            | Form::Write
-            | Form::Statement
-            | Form::Define
-            | Form::Next => self.advance_item(form, number),
-            _ => {
-                self.advance_operator(form)?;
-                self.advance_whole(form, number)
-            }
+        if is_item(form) {
+            self.advance_item(form, number)?;
+            return Ok(());
         }
+        self.advance_operator(form)?;
+        self.advance_whole(form, number)?;
+        Ok(())
     }
 }

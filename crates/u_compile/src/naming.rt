@@ -1,8 +1,8 @@
 //! The values of names and constants in scopes.
 ghost use Rattle.std.specs.Prelude.{◌≡◌, IfOk, IfSome, OnOk};
 ghost use Rattle.u_compile.specs.Scoped.{IsOf};
-ghost use Rattle.u_compile.specs.Drawings.{Grows};
-ghost use Rattle.u_compile.specs.Namings.{AddsNamed, Brings, HasConstant, IsNamed, IsRightAround, IsWithin, Learns, a_binding, a_constant, an_alias, known, with_alias, with_binding};
+ghost use Rattle.u_compile.specs.Drawings.{Carries, Grows};
+ghost use Rattle.u_compile.specs.Namings.{AddsNamed, Brings, HasConstant, IsNamed, IsRightAround, IsWithin, Learns, a_binding, a_constant, an_alias, known, nothing_known, with_alias, with_binding};
 
 use crate::drawing::{Drawing, Way};
 use crate::graph::Full;
@@ -152,7 +152,9 @@ fn towards(drawing: &Drawing, outer: usize, scope: usize) -> Result<usize, Full>
 
 impl Names {
     /// Those of a procedure without scopes.
-    pub fn new(alloc: Global) -> Names {
+    pub fn new(alloc: Global) -> Names
+        ensures { known result ≡ nothing_known }
+    {
         Names {
             bindings: Vec::new(alloc),
             aliases: Vec::new(alloc),
@@ -286,6 +288,8 @@ impl Names {
         ensures brings { IfOk result (λ inner. Brings drawing.old drawing.new turn value inner) }
         ensures bound { IfOk result (λ inner. known self.new
             ≡ with_binding (known self.old) (a_binding turn name inner)) }
+        ensures carries { IfOk result
+            (λ inner. Carries turn name value drawing.old drawing.new inner) }
     {
         let Way::Turn(number) = drawing.scope(turn)?.way else {
             return Err(Full::Misplaced);

@@ -1,10 +1,13 @@
 //! The lowering of operators, calls, cells and definitions.
-ghost use Rattle.std.specs.Prelude.{◌≡◌, [], ◌∷◌, reverse, Some, IfOk, IfSome, OnOk, pos, neg_ℤ};
+ghost use Rattle.std.specs.Prelude.{◌≡◌, ℕ, [], ◌∷◌, reverse, Some, IfOk, IfSome, OnOk, pos, neg_ℤ};
 ghost use Rattle.u_program.specs.declared.program.Kind.TheVariants as kinds;
 ghost use Rattle.u_compile.specs.declared.lowering.Operand.TheVariants as operands;
 ghost use Rattle.u_compile.specs.Namings.{IsUsed};
 ghost use Rattle.u_compile.specs.Definitions.{Defines, DefinesConstant, PopsName};
 ghost use Rattle.u_compile.specs.Steps.{IsItem};
+ghost use Rattle.u_compile.specs.Loops.{IsVariableTaken, TakesNext};
+ghost use Rattle.u_compile.specs.Trees.{IsAtWord};
+ghost use Rattle.u_source.specs.declared.token.Word.TheVariants as words;
 ghost use Rattle.u_compile.specs.Operands.{AreOperands, ArePopped, GoesOn, IsAtom, IsOperand, IsPopped, IsWritten, Negates, Operates, Pops, Pushes, Reads, TakesCall, TakesOne, TakesSwapped, TakesTwo, Writes, lowering, scene, with_operand};
 
 use crate::graph::Full;
@@ -73,7 +76,11 @@ impl Lowering<'_> {
     }
 
     /// The name that waits last for its use.
-    pub fn pop_name(&mut self) -> Result<BlockName, Full> {
+    pub fn pop_name(&mut self) -> Result<BlockName, Full>
+        ensures { IfOk result (λ name. (node : ℕ)
+            × IsPopped (lowering self.old) (lowering self.new) (operands.Atom node)
+            × IsAtWord self.old.tree.now node (words.Name name)) }
+    {
         match self.pop()? {
             Operand::Atom(number) => self.tree.name_of(number),
             _ => Err(Full::Misplaced),
@@ -404,19 +411,30 @@ impl Lowering<'_> {
         Ok(())
     }
 
-    /// The next value of a loop variable.
-    fn next(&mut self) -> Result<(), Full> {
-        let value = self.pop_value()?;
+    /// The name that waits last for its use, by the node from which it is known.
+    fn pop_variable(&mut self) -> Result<usize, Full>
+        ensures { IfOk result (IsVariableTaken (lowering self.old) (lowering self.new)) }
+    {
         let Operand::Atom(atom) = self.pop()? else {
             return Err(Full::Misplaced);
         };
-        let Meaning::Name(name) = self.tree.meaning(atom)? else {
-            return Err(Full::Misplaced);
-        };
+        match self.tree.meaning(atom)? {
+            Meaning::Name(name) => Ok(name),
+            _ => Err(Full::Misplaced),
+        }
+    }
+
+    /// The next value of a loop variable.
+    fn next(&mut self) -> Result<(), Full>
+        ensures { OnOk result (TakesNext (lowering self.old) (lowering self.new)) }
+    {
+        let value = self.pop_value()?;
+        let name = self.pop_variable()?;
         let Frame::Block(turns, _, _) = self.last_frame()? else {
             return Err(Full::Misplaced);
         };
-        self.drawing.set_next(turns.turn, name, value)
+        self.drawing.set_next(turns.turn, name, value)?;
+        Ok(())
     }
 
     /// Goes on with a node of an operator, if it is one.

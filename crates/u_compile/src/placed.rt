@@ -8,6 +8,7 @@ ghost use Rattle.u_program.specs.declared.program.Version.TheVariants as version
 ghost use Rattle.u_determinate.specs.Determinate.{IsDeterminateBlock};
 ghost use Rattle.u_program.specs.declared.program.Kind.TheVariants as kinds;
 ghost use Rattle.u_compile.specs.Kept.{KeepsItself};
+ghost use Rattle.u_compile.specs.Fanning.{IsFinished};
 ghost use Rattle.u_compile.specs.Scoped.{place, sent_by, IsOf, IsControlled, IsCalled};
 ghost use Rattle.u_compile.specs.Placed.{entry, note, test_of, placed, layout_of, IsSender, IsArrived, OneSends, MayTake, MayCome, MeetsWell, IsAlone, LiesWell, FitsIn, AreFree, IsUntested, stands_against, opens, with_link, with_statement, with_loop, with_test, finished, IsLinked, AreLinked, IsFull, IsLastFull, EachIsFull, HasNext, EachGoesOn};
 
@@ -777,14 +778,14 @@ impl Noted {
     /// The graph as a block of version 2 with this name. It is determinate, and keeps the rules of the checker.
     ///
     /// # Errors
-    /// Those of `Graph::complete`; `Misplaced` where a statement is not finished, a port is not linked, or an `enter` has
-    /// no `next`.
+    /// Those of `Graph::complete`; `Misplaced` where a statement or a port is not finished, or an `enter` has no `next`.
     pub fn complete(self, name: BlockName) -> Result<Block, Full>
         ensures block { IfOk result (λ b. IsBlockOf (limits_of versions.Two) b) }
         ensures determinate { IfOk result (λ b. IsDeterminateBlock b) }
         ensures linked { IfOk result (λ _. EachIsFull self.graph) }
         ensures next { IfOk result (λ _. EachGoesOn self.graph.statements self.graph.statements) }
         ensures kept { IfOk result (λ b. KeepsItself b) }
+        ensures finished { IfOk result (IsFinished name self.graph) }
     {
         if !self.is_finished() {
             return Err(Full::Misplaced);

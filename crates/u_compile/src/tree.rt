@@ -1,7 +1,8 @@
 //! What stands around the nodes of a syntax tree.
-ghost use Rattle.std.specs.Prelude.{◌≡◌, ◌↔◌, slice_get, Some, IfOk, IsTrue};
+ghost use Rattle.std.specs.Prelude.{◌≡◌, ◌-◌, ◌<◌, ◌↔◌, length, slice_get, Some, IfOk, IfSome, IsTrue};
+ghost use Rattle.u_source.specs.declared.form.Form.TheVariants as forms;
 ghost use Rattle.u_source.specs.declared.token.Word.TheVariants as words;
-ghost use Rattle.u_compile.specs.Operands.{HasForm, IsAtWord, IsCellWritten};
+ghost use Rattle.u_compile.specs.Trees.{HasForm, IsAround, IsAtWord, IsCellWritten, IsEither, IsParent, IsUsedFrom, IsVariable, IsWanted};
 
 use crate::graph::Full;
 use std::alloc::Global;
@@ -118,7 +119,10 @@ fn wanted(alloc: Global, nodes: &[Node], parents: &[usize]) -> Result<Vec<bool>,
 }
 
 /// Of a list from the last of so many nodes on, what it says of the node with this number.
-fn is_wanted_at(wanted: &[bool], count: usize, number: usize) -> Option<bool> {
+fn is_wanted_at(wanted: &[bool], count: usize, number: usize) -> Option<bool>
+    ensures { IfSome result (λ b. (number < count)
+        × (slice_get wanted.now (count - 1 - number) ≡ Some b)) }
+{
     if number >= count {
         return None;
     }
@@ -126,6 +130,13 @@ fn is_wanted_at(wanted: &[bool], count: usize, number: usize) -> Option<bool> {
         Some(is_wanted) => Some(*is_wanted),
         None => None,
     }
+}
+
+/// Whether the form is the one or the other.
+fn is_either(form: Form, one: Form, other: Form) -> bool
+    ensures { IsTrue result ↔ IsEither form one other }
+{
+    form == one || form == other
 }
 
 /// The nodes of a source, and what stands around them.
@@ -145,7 +156,11 @@ impl<'a> Tree<'a> {
         tokens: &'a [Token],
         nodes: &'a [Node],
         meanings: &'a [Meaning],
-    ) -> Result<Tree<'a>, Full> {
+    ) -> Result<Tree<'a>, Full>
+        ensures tokens { IfOk result (λ t. t.tokens.now ≡ tokens.now) }
+        ensures nodes { IfOk result (λ t. t.nodes.now ≡ nodes.now) }
+        ensures meanings { IfOk result (λ t. t.meanings.now ≡ meanings.now) }
+    {
         let parents = parents(alloc, nodes)?;
         let wanted = wanted(alloc, nodes, &parents)?;
         Ok(Tree {
@@ -158,7 +173,9 @@ impl<'a> Tree<'a> {
     }
 
     /// How many nodes it has.
-    pub fn len(&self) -> usize {
+    pub fn len(&self) -> usize
+        ensures { result ≡ length self.now.nodes.now }
+    {
         self.nodes.len()
     }
 
@@ -184,7 +201,7 @@ impl<'a> Tree<'a> {
 
     /// The parent of the node with this number; of the root, the root.
     pub fn parent(&self, number: usize) -> Result<usize, Full>
-        ensures { IfOk result (λ p. slice_get self.now.parents.items number ≡ Some p) }
+        ensures { IfOk result (λ p. IsParent self.now p number) }
     {
         match self.parents.get(number) {
             Some(parent) => Ok(*parent),
@@ -202,7 +219,9 @@ impl<'a> Tree<'a> {
     }
 
     /// Whether the value of the node with this number is wanted, if it is an `if`, a loop or a block.
-    pub fn is_wanted(&self, number: usize) -> Result<bool, Full> {
+    pub fn is_wanted(&self, number: usize) -> Result<bool, Full>
+        ensures { IfOk result (λ b. IsWanted self.now number b) }
+    {
         match is_wanted_at(&self.wanted, self.nodes.len(), number) {
             Some(is_wanted) => Ok(is_wanted),
             None => Err(Full::Misplaced),
@@ -220,16 +239,51 @@ impl<'a> Tree<'a> {
     }
 
     /// The first node around this one that has the form or the other.
-    pub fn around(&self, number: usize, form: Form, other: Form) -> Result<usize, Full> {
+    pub fn around(&self, number: usize, form: Form, other: Form) -> Result<usize, Full>
+        ensures { IfOk result (λ outer. IsAround self.now form other outer number) }
+    {
         let mut at = number;
-        for _ in 0..self.nodes.len() {
-            at = self.parent(at)?;
-            let found = self.form(at)?;
-            if found == form || found == other {
-                return Ok(at);
+        'outwards: for _ in 0..self.nodes.len() {
+            let parent = self.parent(at)?;
+            let found = self.form(parent)?;
+            if is_either(found, form, other) {
+                return Ok(parent);
             }
+            at = parent;
         }
         Err(Full::Misplaced)
+    }
+
+    /// Whether the node is a `for`.
+    pub fn is_for(&self, number: usize) -> Result<bool, Full>
+        ensures { IfOk result (λ b. IsTrue b ↔ HasForm self.now number forms.For) }
+    {
+        let form = self.form(number)?;
+        Ok(form == Form::For)
+    }
+
+    /// Whether the name that is known from the node is a variable of the loop.
+    pub fn is_variable(&self, whole: usize, name: usize) -> Result<bool, Full>
+        ensures { IfOk result (λ b. IsTrue b ↔ IsVariable self.now whole name) }
+    {
+        let form = self.form(name)?;
+        if !is_either(form, Form::AddVariable, Form::NoVariables) {
+            return Ok(false);
+        }
+        let outer = self.around(name, Form::Loop, Form::For)?;
+        Ok(outer == whole)
+    }
+
+    /// Whether a node from the first on, before the last, uses the name.
+    pub fn is_used(&self, first: usize, last: usize, name: usize) -> Result<bool, Full>
+        ensures { IfOk result (λ b. IsTrue b ↔ IsUsedFrom self.now first last name) }
+    {
+        for at in first..last {
+            if self.meaning(at)? == Meaning::Name(name) {
+                return Ok(true);
+            }
+        }
+        Ok(false)
     }
 
     /// The form of the node so many behind this one.

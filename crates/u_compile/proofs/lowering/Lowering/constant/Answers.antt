@@ -6,7 +6,8 @@ use Rattle.std.specs.Prelude.{IfSome}
 use Rattle.std.proofs.lemmas.Int.{to_z-of_z}
 use Rattle.u_program.specs.declared.program.Constant.TheVariants.{Int}
 use Rattle.u_source.specs.declared.form.Form.{Form}
-use Rattle.u_compile.specs.Operands.{HasForm, number, negative}
+use Rattle.u_compile.specs.Trees.{HasForm}
+use Rattle.u_compile.specs.Operands.{number, negative}
 use Rattle.u_compile.proofs.lowering.Lowering.constant.Goals as goal
 
 pub returns-in_ok-value-in-Number : goal.returns-in_ok-value-in-Number
