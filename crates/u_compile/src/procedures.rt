@@ -4,28 +4,15 @@ ghost use Rattle.u_kinds.specs.Clashes.{name_at};
 ghost use Rattle.u_program.specs.Parts.{BlockParts};
 ghost use Rattle.u_compile.specs.Procedures.{ends_procedure, AreProcedures};
 
-use u_name::BlockName;
+use u_kinds::name_at;
 use u_program::Block;
-use u_source::{Form, Node, Token, Word};
+use u_source::{Form, Node, Token};
 
 /// Whether a procedure ends with a node of that form.
 fn ends_procedure(form: Form) -> bool
     ensures { result ≡ ends_procedure form }
 {
     matches!(form, Form::AddProcedure)
-}
-
-/// The name that the token with this number is.
-fn name_at(tokens: &[Token], number: usize) -> Option<BlockName>
-    ensures { result ≡ name_at tokens.now number }
-{
-    match tokens.get(number) {
-        Some(token) => match token.word() {
-            Word::Name(name) => Some(name),
-            _ => None,
-        },
-        None => None,
-    }
 }
 
 /// Whether the token behind that one is the name of the block.

@@ -130,8 +130,8 @@ fn wants_clash(wants: Wants, before: &[Kinded]) -> Option<Clash>
     }
 }
 
-/// The name that the token with this number is.
-fn name_at(tokens: &[Token], number: usize) -> Option<BlockName>
+/// The name that the token with this number is, if it is one.
+pub fn name_at(tokens: &[Token], number: usize) -> Option<BlockName>
     ensures { result ≡ name_at tokens.now number }
 {
     match tokens.get(number) {

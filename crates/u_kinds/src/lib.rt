@@ -8,5 +8,6 @@ mod kind_error;
 mod kinded;
 
 pub use checking::check_kinds;
+pub use clash::name_at;
 pub use kind::Kind;
 pub use kind_error::{KindError, KindProblem};
