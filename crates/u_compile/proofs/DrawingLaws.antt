@@ -110,7 +110,7 @@ on_then {A} xs ys zs a b = (a.0 ++ b.0, b.1 ∙ (ap (λ (l : List A). l ++ b.0) 
 pub on_one : {A : Type 0} (xs : List A) (x : A) → GoesOn xs (xs ++ (x ∷ []))
 on_one xs x = (x ∷ [], refl)
 
-on_length : {A : Type 0} (xs ys : List A) → GoesOn xs ys → length xs ≤ length ys
+pub on_length : {A : Type 0} (xs ys : List A) → GoesOn xs ys → length xs ≤ length ys
 on_length xs ys on = omega (arith, ap length on.1, length-append xs on.0)
 
 -- a port to which the same leads is led to by what one value gives, as before

@@ -8,7 +8,7 @@ use Rattle.u_compile.specs.declared.lowering.Operand.{Operand}
 use Rattle.u_compile.specs.declared.lowering.Operand.TheVariants.{Value, Arguments}
 use Rattle.u_compile.specs.Drawings.{DrawingParts, Grows, Gives, Calls}
 use Rattle.u_compile.specs.Namings.{KnownParts, Learns}
-use Rattle.u_compile.specs.Operands.{SceneParts, LoweringParts, IsWritten, IsAtom, used, constant, IsOperand, waiting, atom, AreOperands, GoesOn, IsPopped, ArePopped, Pops, Pushes, with_operand, Writes, TakesCall}
+use Rattle.u_compile.specs.Operands.{SceneParts, LoweringParts, IsWritten, IsNoConstant, IsAtom, used, constant, IsOperand, waiting, atom, AreOperands, GoesOn, IsPopped, ArePopped, Pops, Pushes, with_operand, Writes, TakesCall}
 use Rattle.u_compile.proofs.DrawingLaws.{grows_self, grows_then}
 use Rattle.u_compile.proofs.ComesLaws.{named_grows}
 use Rattle.u_compile.proofs.KnownLaws.{has_grows, has_before, learns_none, learns_grows, learns_then, named_before}
@@ -28,7 +28,7 @@ pub goes_known : (l : LoweringParts) (k : KnownParts) (d : DrawingParts) → Gro
 goes_known l k d grows learns = record { grows = grows; learns = learns; rest = refl }
 
 pub atom_grows : (s : SceneParts) (d e : DrawingParts) → Grows d e → (node v : ℕ) → IsAtom s d node v → IsAtom s e node v
-atom_grows s d e g node v (used is) = used (record { name = is.name; means = is.means; named = named_grows d e s.names.bindings s.scope is.name v g is.named })
+atom_grows s d e g node v (used none is) = used none (record { name = is.name; means = is.means; named = named_grows d e s.names.bindings s.scope is.name v g is.named })
 atom_grows s d e g node v (constant k written has) = constant k written (has_grows d e g s.names s.scope k v has)
 
 pub operand_grows : (s : SceneParts) (d e : DrawingParts) → Grows d e → (o : Operand) (v : ℕ) → IsOperand s d o v → IsOperand s e o v
@@ -36,7 +36,7 @@ operand_grows s d e g o v (waiting is) = waiting is
 operand_grows s d e g o v (atom node is at) = atom node is (atom_grows s d e g node v at)
 
 atom_known : (s : SceneParts) (k : KnownParts) (d : DrawingParts) → Learns d s.names k → (node v : ℕ) → IsAtom (record s { names = k }) d node v → IsAtom s d node v
-atom_known s k d learns node v (used is) = used (record { name = is.name; means = is.means; named = named_before d s.names k learns s.scope is.name v is.named })
+atom_known s k d learns node v (used none is) = used (subst (λ (aliases : List Alias). IsNoConstant s.tree aliases node) (ap (λ (x : KnownParts). x.aliases) learns.are) none) (record { name = is.name; means = is.means; named = named_before d s.names k learns s.scope is.name v is.named })
 atom_known s k d learns node v (constant c written has) = constant c (subst (λ (aliases : List Alias). IsWritten s.tree aliases node c) (ap (λ (x : KnownParts). x.aliases) learns.are) written) (has_before d s.names k learns s.scope c v has)
 
 operand_known : (s : SceneParts) (k : KnownParts) (d : DrawingParts) → Learns d s.names k → (o : Operand) (v : ℕ) → IsOperand (record s { names = k }) d o v → IsOperand s d o v

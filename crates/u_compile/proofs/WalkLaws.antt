@@ -27,7 +27,7 @@ use Rattle.u_compile.specs.declared.lowering.Turns.{Turns}
 use Rattle.u_compile.specs.declared.tree.Tree.{Tree}
 use Rattle.u_compile.specs.Scoped.{IsOf}
 use Rattle.u_compile.specs.Trees.{HasForm}
-use Rattle.u_compile.specs.Drawings.{DrawingParts, GoesOn as Continues, Grows, Calls, Leaves, Chooses, own, pass, NotesNext, IsGated, IsEntered, Enters, Comes, it, inside, with_scope}
+use Rattle.u_compile.specs.Drawings.{DrawingParts, feeders, GoesOn as Continues, Grows, Calls, Leaves, Chooses, own, pass, NotesNext, IsGated, IsEntered, Enters, Comes, it, inside, with_scope}
 use Rattle.u_compile.specs.Namings.{KnownParts, IsNamed, IsConstant, nothing_known, with_alias, with_binding}
 use Rattle.u_compile.specs.Operands.{LoweringParts, GoesOn, IsPopped, Pops, Pushes, TakesOne, TakesTwo, TakesSwapped, Negates, Differs, Operates, Reads, waits, read, Writes, TakesCall}
 use Rattle.u_compile.specs.Definitions.{Defines, TakesParameter, with_names}
@@ -37,7 +37,7 @@ use Rattle.u_compile.specs.Loops.{TakesNext, Starts, StartsVariable, StartsCount
 use Rattle.u_compile.specs.Bodies.{Opens, Closes, EndsProcedure, with_procedure}
 use Rattle.u_compile.specs.Steps.{IsItem, IsWhole}
 use Rattle.u_compile.specs.Walks.{IsDone, item, whole, is_item, GoesThrough, beginning, AllMade, IsFresh, IsWithinOne, IsMadeOfNodes, IsTreeOf, AreLowered, AreMadeOf}
-use Rattle.u_compile.proofs.DrawingLaws.{on_self, on_then, on_one, grows_self, grows_then}
+use Rattle.u_compile.proofs.DrawingLaws.{on_length, on_self, on_then, on_one, grows_self, grows_then}
 use Rattle.u_compile.proofs.GateLaws.{of_append}
 use Rattle.u_compile.proofs.KnownLaws.{constant_grows}
 use Rattle.u_compile.proofs.TreeLaws.{form_one}
@@ -93,20 +93,47 @@ constant_more d bs more scope k v is = record {
   gives = is.gives;
 }
 
--- What stays when a procedure goes on: the tree and the blocks before, the bindings, and that each constant was made so.
+-- Statements, links, scopes and values are only added, and what led to the ports of the statements that were there leads
+-- to them as before.
+pub record Extends (d e : DrawingParts) : Type 0 where
+  pub statements : Continues d.statements e.statements
+  pub links : Continues d.links e.links
+  pub scopes : Continues d.scopes e.scopes
+  pub values : Continues d.values e.values
+  pub fed : (n port : ℕ) → n ≤ length d.statements → feeders n port e.links ≡ feeders n port d.links
+
+extends_grown : (d e : DrawingParts) → Grows d e → Extends d e
+extends_grown d e g = record { statements = g.statements; links = g.links; scopes = g.scopes; values = g.values; fed = g.fed }
+
+extends_carried : (d : DrawingParts) (cs : List Carried) → Extends d (record d { carried = cs })
+extends_carried d cs = record { statements = on_self d.statements; links = on_self d.links; scopes = on_self d.scopes; values = on_self d.values; fed = λ n port h. refl }
+
+extends_then : (a b c : DrawingParts) → Extends a b → Extends b c → Extends a c
+extends_then a b c f g = record {
+  statements = on_then a.statements b.statements c.statements f.statements g.statements;
+  links = on_then a.links b.links c.links f.links g.links;
+  scopes = on_then a.scopes b.scopes c.scopes f.scopes g.scopes;
+  values = on_then a.values b.values c.values f.values g.values;
+  fed = λ n port h. g.fed n port (omega (arith, h, on_length a.statements b.statements f.statements)) ∙ f.fed n port h;
+}
+
+-- What stays when a procedure goes on: the tree and the blocks before, its statements, arcs, scopes and values, the bindings, and
+-- that each constant was made so.
 pub record Follows (l m : LoweringParts) : Type 0 where
   pub tree : m.scene.tree ≡ l.scene.tree
   pub blocks : m.blocks ≡ l.blocks
+  pub extends : Extends l.drawing m.drawing
   pub bindings : Continues l.scene.names.bindings m.scene.names.bindings
   pub made : AllMade l → AllMade m
 
 same_follows : (l m : LoweringParts) → m ≡ l → Follows l m
-same_follows l m e = subst (λ (x : LoweringParts). Follows l x) (sym e) (record { tree = refl; blocks = refl; bindings = on_self l.scene.names.bindings; made = λ all. all })
+same_follows l m e = subst (λ (x : LoweringParts). Follows l x) (sym e) (record { tree = refl; blocks = refl; extends = extends_grown l.drawing l.drawing (grows_self l.drawing); bindings = on_self l.scene.names.bindings; made = λ all. all })
 
 then_follows : (l k m : LoweringParts) → Follows l k → Follows k m → Follows l m
 then_follows l k m f g = record {
   tree = g.tree ∙ f.tree;
   blocks = g.blocks ∙ f.blocks;
+  extends = extends_then l.drawing k.drawing m.drawing f.extends g.extends;
   bindings = on_then l.scene.names.bindings k.scene.names.bindings m.scene.names.bindings f.bindings g.bindings;
   made = λ all. g.made (f.made all);
 }
@@ -119,6 +146,7 @@ grown_follows : (l m : LoweringParts) (d : DrawingParts) (scope : ℕ) (os : Lis
 grown_follows l m d scope os fs ss g same = subst (λ (x : LoweringParts). Follows l x) (sym same) (record {
   tree = refl;
   blocks = refl;
+  extends = extends_grown l.drawing d g;
   bindings = on_self l.scene.names.bindings;
   made = λ all c h. constant_grows l.drawing d g l.scene.names.bindings c.scope c.constant c.value (all c h);
 })
@@ -131,17 +159,19 @@ bound_follows : (l m : LoweringParts) (d : DrawingParts) (b : Binding) → Grows
 bound_follows l m d b g same = subst (λ (x : LoweringParts). Follows l x) (sym same) (record {
   tree = refl;
   blocks = refl;
+  extends = extends_grown l.drawing d g;
   bindings = on_one l.scene.names.bindings b;
   made = λ all c h. constant_more d l.scene.names.bindings (b ∷ []) c.scope c.constant c.value (constant_grows l.drawing d g l.scene.names.bindings c.scope c.constant c.value (all c h));
 })
 
 aliased_follows : (l m : LoweringParts) (a : Alias) → m ≡ with_names l (with_alias l.scene.names a) → Follows l m
-aliased_follows l m a same = subst (λ (x : LoweringParts). Follows l x) (sym same) (record { tree = refl; blocks = refl; bindings = on_self l.scene.names.bindings; made = λ all. all })
+aliased_follows l m a same = subst (λ (x : LoweringParts). Follows l x) (sym same) (record { tree = refl; blocks = refl; extends = extends_grown l.drawing l.drawing (grows_self l.drawing); bindings = on_self l.scene.names.bindings; made = λ all. all })
 
 noted_follows : (l m : LoweringParts) (number value : ℕ) → NotesNext l.drawing m.drawing number value → m ≡ record l { drawing = m.drawing } → Follows l m
 noted_follows l m number value notes same = subst (λ (x : LoweringParts). Follows l x) (sym (same ∙ ap (λ (d : DrawingParts). record l { drawing = d }) notes.now)) (record {
   tree = refl;
   blocks = refl;
+  extends = extends_carried l.drawing _;
   bindings = on_self l.scene.names.bindings;
   made = λ all c h. constant_carried l.drawing _ l.scene.names.bindings c.scope c.constant c.value (all c h);
 })
@@ -153,6 +183,7 @@ goes_follows l m a =
     record {
       tree = ap (λ (x : LoweringParts). x.scene.tree) a.rest;
       blocks = ap (λ (x : LoweringParts). x.blocks) a.rest;
+      extends = extends_grown l.drawing m.drawing a.grows;
       bindings = (a.learns.bindings, same);
       made = λ all c h. subst (λ (xs : List Binding). IsConstant m.drawing xs c.scope c.constant c.value) (sym same) (constant_more m.drawing bs a.learns.bindings c.scope c.constant c.value (before all c (of_append l.scene.names.constants a.learns.constants c (subst (λ (k : KnownParts). IsOf k.constants c) a.learns.are h))));
     }
@@ -208,7 +239,7 @@ call_follows l m t =
 
 defines_follow : (l m : LoweringParts) (n : ℕ) → Defines l m n → Follows l m
 defines_follow l m n (Defines.constant taken named atom k popped name written aliased) = then_follows l named m (then_follows l taken named (popped_follows l taken _ popped) (popped_follows taken named _ name.1)) (aliased_follows named m _ aliased)
-defines_follow l m n (Defines.value taken named resolved o v popped name goes is same) = then_follows l resolved m (then_follows l named resolved (then_follows l taken named (popped_follows l taken _ popped) (popped_follows taken named _ name.1)) (goes_follows named resolved goes)) (bound_follows resolved m resolved.drawing _ (grows_self resolved.drawing) same)
+defines_follow l m n (Defines.value taken named resolved o v popped name none goes is same) = then_follows l resolved m (then_follows l named resolved (then_follows l taken named (popped_follows l taken _ popped) (popped_follows taken named _ name.1)) (goes_follows named resolved goes)) (bound_follows resolved m resolved.drawing _ (grows_self resolved.drawing) same)
 
 parameter_follows : (l m : LoweringParts) (n : ℕ) → TakesParameter l m n → Follows l m
 parameter_follows l m n t = then_follows l t.named m (popped_follows l t.named _ t.name.1) (bound_follows t.named m m.drawing _ t.gives.adds.grows t.rest)
@@ -491,7 +522,7 @@ closes_follow forms.AddProcedure n w l m h = same_follows l m h
 -- what is done at a node of that form: a procedure goes on, begins or ends
 pub data Goes (f : Form) (n : ℕ) (l m : LoweringParts) : Type 0 where
   on : Follows l m → (f ≡ forms.NoParameters → ⊥) → (f ≡ forms.AddProcedure → ⊥) → Goes f n l m
-  begins : m ≡ with_procedure n l → Goes f n l m
+  begins : f ≡ forms.NoParameters → m ≡ with_procedure n l → Goes f n l m
   ends : f ≡ forms.AddProcedure → EndsProcedure l m → Goes f n l m
 
 item_goes : (f : Form) (n : ℕ) (l m : LoweringParts) → IsItem f n l m → is_item f ≡ true → Goes f n l m
@@ -591,7 +622,7 @@ whole_goes forms.Define n l k m o h = on (then_follows l k m (same_follows l k o
 whole_goes forms.Write n l k m o h = on (then_follows l k m (same_follows l k o) (same_follows k m h)) (λ q. cc) (λ q. cc)
 whole_goes forms.Statement n l k m o h = on (then_follows l k m (same_follows l k o) (same_follows k m h)) (λ q. cc) (λ q. cc)
 whole_goes forms.Next n l k m o h = on (then_follows l k m (same_follows l k o) (same_follows k m h)) (λ q. cc) (λ q. cc)
-whole_goes forms.NoParameters n l k m o h = begins (h ∙ ap (λ (x : LoweringParts). with_procedure n x) o)
+whole_goes forms.NoParameters n l k m o h = begins refl (h ∙ ap (λ (x : LoweringParts). with_procedure n x) o)
 whole_goes forms.AddParameter n l k m o h = on (then_follows l k m (same_follows l k o) (parameter_follows k m n h)) (λ q. cc) (λ q. cc)
 whole_goes forms.NoProcedures n l k m o h = on (then_follows l k m (same_follows l k o) (same_follows k m h)) (λ q. cc) (λ q. cc)
 whole_goes forms.AddProcedure n l k m o h = ends refl (subst (λ (x : LoweringParts). EndsProcedure x m) o h)
@@ -611,7 +642,7 @@ closed_names l m e = ap (λ (x : LoweringParts). x.scene.names) e.finishes.rest
 
 goes_made : (f : Form) (n : ℕ) (l m : LoweringParts) → Goes f n l m → AllMade l → AllMade m
 goes_made f n l m (on follows a b) all = follows.made all
-goes_made f n l m (begins same) all = none_made m (begun_names n l m same)
+goes_made f n l m (begins is same) all = none_made m (begun_names n l m same)
 goes_made f n l m (ends is e) all = none_made m (closed_names l m e)
 
 -- each constant that is noted was made so
@@ -679,7 +710,7 @@ stands_more t f n k m s done is (on follows a b) = record {
   tree = follows.tree ∙ s.tree;
   each = λ x h. s.each x (subst (λ (bs : List BlockParts). IsOf bs x) follows.blocks h);
 }
-stands_more t f n k m s done is (begins same) = stands_anew t (n + 1) m (record {
+stands_more t f n k m s done is (begins at same) = stands_anew t (n + 1) m (record {
   tree = ap (λ (x : LoweringParts). x.scene.tree) same ∙ s.tree;
   names = begun_names n k m same;
   clock = n + 2;
@@ -701,6 +732,27 @@ stands t n m GoesThrough.none = stands_anew t 0 (beginning t) (record { tree = r
 stands t n m (GoesThrough.one_more node k x through done) =
     let form = done_goes node k m done in
     stands_more t form.0 node k m (stands t node k through) done form.1 form.2
+
+within_before : (t : Tree) (first n : ℕ) → IsWithinOne t first (n + 1) → IsWithinOne t first n
+within_before t first n within node h k = within node (omega (arith, h)) k
+
+through_within : (first : ℕ) (l : LoweringParts) (n : ℕ) (m : LoweringParts) → GoesThrough first l n m → first ≤ n
+through_within first l n m GoesThrough.none = omega arith
+through_within first l n m (GoesThrough.one_more node k x through done) = omega (arith, through_within first l node k through)
+
+goes_on_within : (t : Tree) (f : Form) (n : ℕ) (l m : LoweringParts) → Goes f n l m → HasForm t n f → (HasForm t n forms.NoParameters → ⊥) × (HasForm t n forms.AddProcedure → ⊥) → Follows l m
+goes_on_within t f n l m (on follows a b) is never = follows
+goes_on_within t f n l m (begins at same) is never = absurd (never.0 (subst (λ (g : Form). HasForm t n g) at is))
+goes_on_within t f n l m (ends at e) is never = absurd (never.1 (subst (λ (g : Form). HasForm t n g) at is))
+
+-- while one procedure is gone through, what is there stays: also what leads to each port
+pub stays : (t : Tree) (first : ℕ) (l : LoweringParts) (n : ℕ) (m : LoweringParts) → l.scene.tree ≡ t → IsWithinOne t first n → GoesThrough first l n m → Follows l m
+stays t first l n m same within GoesThrough.none = same_follows l l refl
+stays t first l n m same within (GoesThrough.one_more node k x through done) =
+    let before = stays t first l node k same (within_before t first node within) through in
+    let form = done_goes node k m done in
+    let is : HasForm t node form.0 = subst (λ (y : Tree). HasForm y node form.0) (before.tree ∙ same) form.1 in
+    then_follows l k m before (goes_on_within t form.0 node k m form.2 is (within node (omega arith) (through_within first l node k through)))
 
 -- each block is made of the nodes of its procedure
 pub blocks_of_nodes : (t : Tree) (n : ℕ) (m : LoweringParts) → GoesThrough 0 (beginning t) n m → (b : BlockParts) → IsOf m.blocks b → IsMadeOfNodes t b

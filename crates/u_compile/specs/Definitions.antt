@@ -6,7 +6,7 @@ use Rattle.u_compile.specs.declared.lowering.Operand.{Operand}
 use Rattle.u_compile.specs.declared.lowering.Operand.TheVariants.{Atom}
 use Rattle.u_compile.specs.Drawings.{Gives, IsParameter}
 use Rattle.u_compile.specs.Namings.{KnownParts, a_binding, an_alias, with_alias, with_binding}
-use Rattle.u_compile.specs.Operands.{LoweringParts, GoesOn, IsOperand, IsPopped, IsWritten}
+use Rattle.u_compile.specs.Operands.{LoweringParts, GoesOn, HasNoConstant, IsOperand, IsPopped, IsWritten}
 
 abbrev pub with_names : LoweringParts → KnownParts → LoweringParts
 with_names l k = record l { scene = record l.scene { names = k } }
@@ -22,13 +22,13 @@ IsAliased l m node k = m ≡ with_names l (with_alias l.scene.names (an_alias no
 -- If the operand is a constant, the name that is known from the node is that from now on; else nothing changes.
 pub data DefinesConstant (l m : LoweringParts) (node : ℕ) (o : Operand) (b : Bool) : Type 0 where
   yes : (atom : ℕ) (k : Constant) → b ≡ true → o ≡ Atom atom → IsWritten l.scene.tree l.scene.names.aliases atom k → IsAliased l m node k → DefinesConstant l m node o b
-  no : b ≡ false → m ≡ l → DefinesConstant l m node o b
+  no : b ≡ false → m ≡ l → HasNoConstant l.scene o → DefinesConstant l m node o b
 
 -- A definition takes the operand that waits last, and its name before it. The name that is known from the node is that
 -- constant from now on, or is bound in the scope that is gone through to what the operand is there.
 pub data Defines (l m : LoweringParts) (node : ℕ) : Type 0 where
   constant : (taken named : LoweringParts) (atom : ℕ) (k : Constant) → IsPopped l taken (Atom atom) → PopsName taken named → IsWritten named.scene.tree named.scene.names.aliases atom k → IsAliased named m node k → Defines l m node
-  value : (taken named resolved : LoweringParts) (o : Operand) (v : ℕ) → IsPopped l taken o → PopsName taken named → GoesOn named resolved → IsOperand named.scene resolved.drawing o v → m ≡ with_names resolved (with_binding resolved.scene.names (a_binding resolved.scene.scope node v)) → Defines l m node
+  value : (taken named resolved : LoweringParts) (o : Operand) (v : ℕ) → IsPopped l taken o → PopsName taken named → HasNoConstant named.scene o → GoesOn named resolved → IsOperand named.scene resolved.drawing o v → m ≡ with_names resolved (with_binding resolved.scene.names (a_binding resolved.scene.scope node v)) → Defines l m node
 
 -- The name that waits last is that of the next parameter, and is bound to it in the procedure's scope.
 pub record TakesParameter (l m : LoweringParts) (node : ℕ) : Type 0 where

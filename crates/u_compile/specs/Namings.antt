@@ -22,6 +22,10 @@ a_constant scope constant value = record { scope = scope; constant = constant; v
 abbrev pub an_alias : ℕ → Constant → Alias
 an_alias name constant = record { name = name; constant = constant }
 
+-- the name is no name for a constant
+abbrev pub HasNoAlias : List Alias → ℕ → Type 0
+HasNoAlias aliases name = (k : Constant) → IsOf aliases (an_alias name k) → ⊥
+
 -- the outer scope is that scope itself, or around it
 pub data IsWithin (scopes : List Scope) (outer : ℕ) : ℕ → Type 0 where
   itself : IsWithin scopes outer outer

@@ -21,7 +21,7 @@ use Rattle.u_compile.specs.declared.lowering.Lowering.{Lowering}
 use Rattle.u_compile.specs.Scoped.{IsOf}
 use Rattle.u_compile.specs.Trees.{HasForm, IsAtWord, IsCellWritten}
 use Rattle.u_compile.specs.Drawings.{DrawingParts, Grows, Gives, Calls}
-use Rattle.u_compile.specs.Namings.{KnownParts, known, an_alias, HasConstant, Learns, IsUsed}
+use Rattle.u_compile.specs.Namings.{KnownParts, known, an_alias, HasConstant, HasNoAlias, Learns, IsUsed}
 
 -- Where operands are used: the tree, the scope that is gone through, and what is known of names there.
 pub record SceneParts : Type 0 where
@@ -54,10 +54,21 @@ pub data IsWritten (t : Tree) (aliases : List Alias) (node : ℕ) (k : Constant)
   procedure : (p : ℕ) (name : List ℕ) → slice_get t.meanings.now node ≡ Some (Procedure p) → IsAtWord t node (words.Name name) → k ≡ Proc name → IsWritten t aliases node k
   alias : (name : ℕ) → slice_get t.meanings.now node ≡ Some (Name name) → IsOf aliases (an_alias name k) → IsWritten t aliases node k
 
--- Value v is what the node is there: the value of the name that it uses, or the constant that it is.
+-- the node uses a name that is no name for a constant
+pub record IsNoConstant (t : Tree) (aliases : List Alias) (node : ℕ) : Type 0 where
+  pub name : ℕ
+  pub means : slice_get t.meanings.now node ≡ Some (Name name)
+  pub none : HasNoAlias aliases name
+
+-- Value v is what the node is there: the value of the name that it uses, if that is no constant, or the constant that it is.
 pub data IsAtom (s : SceneParts) (d : DrawingParts) (node v : ℕ) : Type 0 where
-  used : IsUsed s.tree.meanings.now d s.names.bindings s.scope node v → IsAtom s d node v
+  used : IsNoConstant s.tree s.names.aliases node → IsUsed s.tree.meanings.now d s.names.bindings s.scope node v → IsAtom s d node v
   constant : (k : Constant) → IsWritten s.tree s.names.aliases node k → HasConstant d s.names s.scope k v → IsAtom s d node v
+
+-- the operand is no constant
+abbrev pub HasNoConstant : SceneParts → Operand → Type 0
+HasNoConstant s (Atom node) = IsNoConstant s.tree s.names.aliases node
+HasNoConstant s o = Unit {0}
 
 -- value v is what the operand is there
 pub data IsOperand (s : SceneParts) (d : DrawingParts) (o : Operand) (v : ℕ) : Type 0 where

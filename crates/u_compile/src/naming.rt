@@ -1,8 +1,8 @@
 //! The values of names and constants in scopes.
-ghost use Rattle.std.specs.Prelude.{◌≡◌, IfOk, IfSome, OnOk};
+ghost use Rattle.std.specs.Prelude.{◌≡◌, IfNone, IfOk, IfSome, OnOk};
 ghost use Rattle.u_compile.specs.Scoped.{IsOf};
 ghost use Rattle.u_compile.specs.Drawings.{Carries, Grows};
-ghost use Rattle.u_compile.specs.Namings.{AddsNamed, Brings, HasConstant, IsNamed, IsRightAround, IsWithin, Learns, a_binding, a_constant, an_alias, known, nothing_known, with_alias, with_binding};
+ghost use Rattle.u_compile.specs.Namings.{AddsNamed, Brings, HasConstant, HasNoAlias, IsNamed, IsRightAround, IsWithin, Learns, a_binding, a_constant, an_alias, known, nothing_known, with_alias, with_binding};
 
 use crate::drawing::{Drawing, Way};
 use crate::graph::Full;
@@ -65,7 +65,8 @@ pub(crate) struct Names {
 
 /// The constant that a name is.
 fn constant_of(aliases: &[Alias], name: usize) -> Option<Constant>
-    ensures { IfSome result (λ k. IsOf aliases.now (an_alias name k)) }
+    ensures some { IfSome result (λ k. IsOf aliases.now (an_alias name k)) }
+    ensures none { IfNone result (HasNoAlias aliases.now name) }
 {
     let mut rest = aliases;
     while let Some((alias, others)) = rest.split_first() {
@@ -272,7 +273,8 @@ impl Names {
 
     /// The constant that a name is.
     pub fn constant_of(&self, name: usize) -> Option<Constant>
-        ensures { IfSome result (λ k. IsOf self.now.aliases.items (an_alias name k)) }
+        ensures some { IfSome result (λ k. IsOf self.now.aliases.items (an_alias name k)) }
+        ensures none { IfNone result (HasNoAlias self.now.aliases.items name) }
     {
         constant_of(&self.aliases, name)
     }

@@ -1,5 +1,5 @@
 //! The lowering of operators, calls, cells and definitions.
-ghost use Rattle.std.specs.Prelude.{◌≡◌, ℕ, [], ◌∷◌, reverse, Some, IfOk, IfSome, OnOk, pos, neg_ℤ};
+ghost use Rattle.std.specs.Prelude.{◌≡◌, ℕ, [], ◌∷◌, reverse, Some, IfNone, IfOk, IfSome, OnOk, pos, neg_ℤ};
 ghost use Rattle.u_program.specs.declared.program.Kind.TheVariants as kinds;
 ghost use Rattle.u_compile.specs.declared.lowering.Operand.TheVariants as operands;
 ghost use Rattle.u_compile.specs.Namings.{IsUsed};
@@ -8,7 +8,7 @@ ghost use Rattle.u_compile.specs.Steps.{IsItem};
 ghost use Rattle.u_compile.specs.Loops.{IsVariableTaken, TakesNext};
 ghost use Rattle.u_compile.specs.Trees.{IsAtWord};
 ghost use Rattle.u_source.specs.declared.token.Word.TheVariants as words;
-ghost use Rattle.u_compile.specs.Operands.{AreOperands, ArePopped, GoesOn, IsAtom, IsOperand, IsPopped, IsWritten, Negates, Operates, Pops, Pushes, Reads, TakesCall, TakesOne, TakesSwapped, TakesTwo, Writes, lowering, scene, with_operand};
+ghost use Rattle.u_compile.specs.Operands.{AreOperands, ArePopped, GoesOn, IsAtom, IsNoConstant, IsOperand, IsPopped, IsWritten, Negates, Operates, Pops, Pushes, Reads, TakesCall, TakesOne, TakesSwapped, TakesTwo, Writes, lowering, scene, with_operand};
 
 use crate::graph::Full;
 use crate::lowering::{Frame, Lowering, Operand};
@@ -102,7 +102,9 @@ impl Lowering<'_> {
 
     /// The constant that a name is.
     fn constant_of(&self, number: usize) -> Result<Option<Constant>, Full>
-        ensures { IfOk result (λ o. IfSome o (IsWritten self.now.tree.now
+        ensures some { IfOk result (λ o. IfSome o (IsWritten self.now.tree.now
+            self.now.names.aliases.items number)) }
+        ensures none { IfOk result (λ o. IfNone o (IsNoConstant self.now.tree.now
             self.now.names.aliases.items number)) }
     {
         match self.tree.meaning(number)? {
@@ -114,7 +116,9 @@ impl Lowering<'_> {
 
     /// The constant that an atom is.
     fn constant(&self, number: usize) -> Result<Option<Constant>, Full>
-        ensures { IfOk result (λ o. IfSome o (IsWritten self.now.tree.now
+        ensures some { IfOk result (λ o. IfSome o (IsWritten self.now.tree.now
+            self.now.names.aliases.items number)) }
+        ensures none { IfOk result (λ o. IfNone o (IsNoConstant self.now.tree.now
             self.now.names.aliases.items number)) }
     {
         match self.tree.form(number)? {

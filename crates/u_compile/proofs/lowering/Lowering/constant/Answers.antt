@@ -10,8 +10,8 @@ use Rattle.u_compile.specs.Trees.{HasForm}
 use Rattle.u_compile.specs.Operands.{number, negative}
 use Rattle.u_compile.proofs.lowering.Lowering.constant.Goals as goal
 
-pub returns-in_ok-value-in-Number : goal.returns-in_ok-value-in-Number
-returns-in_ok-value-in-Number c =
+pub returns-in_ok-value-in-Number-clause-some : goal.returns-in_ok-value-in-Number-clause-some
+returns-in_ok-value-in-Number-clause-some c =
     let t = c.args.self.now.tree.now in
     let n = c.in_ok-number_of-in-Number.field-0 in
     let v = c.in_ok-value-in-Number.value in
@@ -19,8 +19,8 @@ returns-in_ok-value-in-Number c =
     let is : v ≡ pos n = subst (λ (o : Option ℤ). IfSome o (λ (i : ℤ). i ≡ pos n)) c.in_ok-value-in-Number.ensures c.positive.ensures in
     number n (subst (λ (f : Form). HasForm t c.args.number f) c.in-Number.is c.in_ok-form.ensures) c.in_ok-number_of-in-Number.ensures (ap Int (to_z-of_z w64 v fits ∙ is))
 
-pub returns-in_ok-value-in-Negative : goal.returns-in_ok-value-in-Negative
-returns-in_ok-value-in-Negative c =
+pub returns-in_ok-value-in-Negative-clause-some : goal.returns-in_ok-value-in-Negative-clause-some
+returns-in_ok-value-in-Negative-clause-some c =
     let t = c.args.self.now.tree.now in
     let n = c.in_ok-number_of-in-Negative.field-0 in
     let v = c.in_ok-value-in-Negative.value in
