@@ -658,16 +658,18 @@ constants_are_made t n m through = all_made 0 (beginning t) n m through (none_ma
 pub record Stands (t : Tree) (n : ℕ) (m : LoweringParts) : Type 0 where
   pub first : ℕ
   pub begun : LoweringParts
+  pub reached : GoesThrough 0 (beginning t) first begun
   pub fresh : IsFresh t begun
   pub within : IsWithinOne t first n
   pub through : GoesThrough first begun n m
   pub tree : m.scene.tree ≡ t
   pub each : (b : BlockParts) → IsOf m.blocks b → IsMadeOfNodes t b
 
-stands_anew : (t : Tree) (n : ℕ) (m : LoweringParts) → IsFresh t m → ((b : BlockParts) → IsOf m.blocks b → IsMadeOfNodes t b) → Stands t n m
-stands_anew t n m fresh each = record {
+stands_anew : (t : Tree) (n : ℕ) (m : LoweringParts) → GoesThrough 0 (beginning t) n m → IsFresh t m → ((b : BlockParts) → IsOf m.blocks b → IsMadeOfNodes t b) → Stands t n m
+stands_anew t n m reached fresh each = record {
   first = n;
   begun = m;
+  reached = reached;
   fresh = fresh;
   within = λ node h k. absurd (omega arith);
   through = GoesThrough.none;
@@ -689,6 +691,7 @@ made_of_nodes t n k m s is e = record {
   first = s.first;
   last = n;
   begun = s.begun;
+  reached = s.reached;
   fresh = s.fresh;
   within = s.within;
   ended = k;
@@ -700,23 +703,24 @@ made_of_nodes t n k m s is e = record {
   is = refl;
 }
 
-stands_more : (t : Tree) (f : Form) (n : ℕ) (k m : LoweringParts) → Stands t n k → IsDone n k m → HasForm k.scene.tree n f → Goes f n k m → Stands t (n + 1) m
-stands_more t f n k m s done is (on follows a b) = record {
+stands_more : (t : Tree) (f : Form) (n : ℕ) (k m : LoweringParts) → GoesThrough 0 (beginning t) (n + 1) m → Stands t n k → IsDone n k m → HasForm k.scene.tree n f → Goes f n k m → Stands t (n + 1) m
+stands_more t f n k m reached s done is (on follows a b) = record {
   first = s.first;
   begun = s.begun;
+  reached = s.reached;
   fresh = s.fresh;
   within = within_more t s.first n f s.within (subst (λ (x : Tree). HasForm x n f) s.tree is) a b;
   through = GoesThrough.one_more n k m s.through done;
   tree = follows.tree ∙ s.tree;
   each = λ x h. s.each x (subst (λ (bs : List BlockParts). IsOf bs x) follows.blocks h);
 }
-stands_more t f n k m s done is (begins at same) = stands_anew t (n + 1) m (record {
+stands_more t f n k m reached s done is (begins at same) = stands_anew t (n + 1) m reached (record {
   tree = ap (λ (x : LoweringParts). x.scene.tree) same ∙ s.tree;
   names = begun_names n k m same;
   clock = n + 2;
   drawing = ap (λ (x : LoweringParts). x.drawing) same;
 }) (λ x h. s.each x (subst (λ (bs : List BlockParts). IsOf bs x) (ap (λ (y : LoweringParts). y.blocks) same) h))
-stands_more t f n k m s done is (ends at e) = stands_anew t (n + 1) m (record {
+stands_more t f n k m reached s done is (ends at e) = stands_anew t (n + 1) m reached (record {
   tree = closed_tree k m e ∙ s.tree;
   names = closed_names k m e;
   clock = 0;
@@ -728,10 +732,10 @@ stands_more t f n k m s done is (ends at e) = stands_anew t (n + 1) m (record {
     last x (inr q) = absurd q
 
 stands : (t : Tree) (n : ℕ) (m : LoweringParts) → GoesThrough 0 (beginning t) n m → Stands t n m
-stands t n m GoesThrough.none = stands_anew t 0 (beginning t) (record { tree = refl; names = refl; clock = 0; drawing = refl }) (λ b h. absurd h)
+stands t n m GoesThrough.none = stands_anew t 0 (beginning t) GoesThrough.none (record { tree = refl; names = refl; clock = 0; drawing = refl }) (λ b h. absurd h)
 stands t n m (GoesThrough.one_more node k x through done) =
     let form = done_goes node k m done in
-    stands_more t form.0 node k m (stands t node k through) done form.1 form.2
+    stands_more t form.0 node k m (GoesThrough.one_more node k m through done) (stands t node k through) done form.1 form.2
 
 within_before : (t : Tree) (first n : ℕ) → IsWithinOne t first (n + 1) → IsWithinOne t first n
 within_before t first n within node h k = within node (omega (arith, h)) k

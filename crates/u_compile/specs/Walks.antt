@@ -60,12 +60,13 @@ pub record IsFresh (t : Tree) (l : LoweringParts) : Type 0 where
 abbrev pub IsWithinOne : Tree → ℕ → ℕ → Type 0
 IsWithinOne t first last = (node : ℕ) → node < last → first ≤ node → (HasForm t node forms.NoParameters → ⊥) × (HasForm t node forms.AddProcedure → ⊥)
 
--- The block is that of a procedure which begins before the first of these nodes, is made at them, one after another, and ends
--- with the last. Each constant that was noted was made so.
+-- The block is that of a procedure which begins before the first of these nodes, where all nodes before are gone through, is
+-- made at them, one after another, and ends with the last. Each constant that was noted was made so.
 pub record IsMadeOfNodes (t : Tree) (b : BlockParts) : Type 0 where
   pub first : ℕ
   pub last : ℕ
   pub begun : LoweringParts
+  pub reached : GoesThrough 0 (beginning t) first begun
   pub fresh : IsFresh t begun
   pub within : IsWithinOne t first last
   pub ended : LoweringParts
