@@ -6,7 +6,7 @@ ghost use Rattle.u_text.specs.Number.{number};
 ghost use Rattle.u_name.specs.BlockText.{block_at, begins_with_letter};
 ghost use Rattle.u_text.specs.Parts.{after_byte};
 ghost use Rattle.u_name.specs.NameReader as reader;
-ghost use Rattle.u_name.specs.CursorValues.{linkage_value, frame_value, tail_value};
+ghost use Rattle.u_name.specs.CursorValues.{ReadsLinkage, frame_value, tail_value};
 ghost use Rattle.u_name.specs.NameReading.{IsNameAt, IsNameOf, IsNameErrorAt, IsNameErrorOf};
 ghost use Rattle.u_name.specs.NameReader.{IsFrame, IsTail, paren_span, frames_from, name_steps};
 ghost use Rattle.u_name.specs.CursorAnswers.{Fails, IsFine, ReadsOpens, ReadsNoOpens, ReadsName, ReadsNoName};
@@ -86,7 +86,7 @@ impl<'a> Cursor<'a> {
     #[tactic(auto, using(u_text::proofs::NumberLaws::number_bound))]
     fn linkage(&mut self) -> Result<Linkage, Stuck>
         ensures { MatchResult result
-            (λ linkage. reader.linkage_at self.old.rest.now ≡ Ok (linkage_value linkage, self.new.rest.now))
+            (λ linkage. ReadsLinkage self.old.rest.now linkage self.new.rest.now)
             (λ _. reader.linkage_at self.old.rest.now ≡ Err self.new.rest.now) }
     {
         match self.rest.split_first() {
