@@ -19,7 +19,8 @@ use u_trace::{TraceError, causes, story};
 
 /// The entry with this text.
 pub fn entry_of(alloc: Global, word: &[u8]) -> Result<Entry, CommandError>
-    ensures { MatchResult result (λ e. IsEntryOf word.now e) (λ fault. EntryRefused word.now fault) }
+    ensures { MatchResult result (λ e. IsEntryOf word.now e)
+        (λ fault. EntryRefused word.now fault) }
 {
     match Entry::read(alloc, word) {
         Ok(entry) => Ok(entry),

@@ -130,7 +130,8 @@ impl<'a> Parts<'a> {
         requires kept { Invariant self.old }
         requires settled { self.old.applied_count ≡ length self.old.log.items }
         requires ready { 0 < length self.old.ready }
-        requires made { (f : Firing) → slice_get self.old.ready 0 ≡ Some f → NeedsNoLate self.old f }
+        requires made { (f : Firing) → slice_get self.old.ready 0 ≡ Some f
+            → NeedsNoLate self.old f }
         requires room { count_of (state_of self.old) < self.old.limit }
         ensures kept { Invariant self.new }
         ensures ok { OnOk result (Begins self.old 0 self.new) }

@@ -134,13 +134,13 @@ impl Joining<'_> {
             self.now.activity.now }
         ensures ok { OnOk result
             (Gains found.old.items
-            (ReadsCell self.now.job.now (Contains self.now.history.now.entries) self.now.activity.now
-            first.now second.now)
+            (ReadsCell self.now.job.now (Contains self.now.history.now.entries)
+            self.now.activity.now first.now second.now)
             found.new.items) }
         ensures many { IfErr result
             (λ e. e ≡ Halt.TooMany → HasSome
-            (ReadsCell self.now.job.now (Contains self.now.history.now.entries) self.now.activity.now
-            first.now second.now)) }
+            (ReadsCell self.now.job.now (Contains self.now.history.now.entries)
+            self.now.activity.now first.now second.now)) }
     {
         let named = cell_at(first, second)?;
         let cell = match named {
@@ -158,13 +158,13 @@ impl Joining<'_> {
             self.now.activity.now }
         ensures ok { OnOk result
             (Gains found.old.items
-            (JoinsTwo self.now.job.now (Contains self.now.history.now.entries) self.now.activity.now
-            first.now second.now)
+            (JoinsTwo self.now.job.now (Contains self.now.history.now.entries)
+            self.now.activity.now first.now second.now)
             found.new.items) }
         ensures many { IfErr result
             (λ e. e ≡ Halt.TooMany → HasSome
-            (JoinsTwo self.now.job.now (Contains self.now.history.now.entries) self.now.activity.now
-            first.now second.now)) }
+            (JoinsTwo self.now.job.now (Contains self.now.history.now.entries)
+            self.now.activity.now first.now second.now)) }
     {
         let joined = of_two(self.alloc, self.activity, first, second)?;
         self.add(found, joined)?;
@@ -183,13 +183,13 @@ impl Joining<'_> {
             self.now.activity.now }
         ensures ok { OnOk result
             (Gains found.old.items
-            (JoinsSome self.now.job.now (Contains self.now.history.now.entries) self.now.activity.now
-            seconds.now first.now)
+            (JoinsSome self.now.job.now (Contains self.now.history.now.entries)
+            self.now.activity.now seconds.now first.now)
             found.new.items) }
         ensures many { IfErr result
             (λ e. e ≡ Halt.TooMany → HasSome
-            (JoinsSome self.now.job.now (Contains self.now.history.now.entries) self.now.activity.now
-            seconds.now first.now)) }
+            (JoinsSome self.now.job.now (Contains self.now.history.now.entries)
+            self.now.activity.now seconds.now first.now)) }
     {
         for second in seconds {
             self.add_two(first, second, found)?;
@@ -209,14 +209,14 @@ impl Joining<'_> {
         ensures ok { OnOk result
             (Gains found.old.items
             (SomeOf firsts.now
-            (JoinsSome self.now.job.now (Contains self.now.history.now.entries) self.now.activity.now
-            seconds.now))
+            (JoinsSome self.now.job.now (Contains self.now.history.now.entries)
+            self.now.activity.now seconds.now))
             found.new.items) }
         ensures many { IfErr result
             (λ e. e ≡ Halt.TooMany → HasSome
             (SomeOf firsts.now
-            (JoinsSome self.now.job.now (Contains self.now.history.now.entries) self.now.activity.now
-            seconds.now))) }
+            (JoinsSome self.now.job.now (Contains self.now.history.now.entries)
+            self.now.activity.now seconds.now))) }
     {
         for first in firsts {
             self.add_seconds(first, seconds, found)?;
@@ -238,7 +238,8 @@ impl Joining<'_> {
         requires ports { IsBetween 1 (length chosen.old.items + length lists.now) most_ports }
         ensures ok { OnOk result
             (Gains found.old.items
-            (JoinsAll self.now.job.now self.now.activity.now chosen.old.items (lent_lists lists.now))
+            (JoinsAll self.now.job.now self.now.activity.now chosen.old.items
+            (lent_lists lists.now))
             found.new.items) }
         ensures same { OnOk result (chosen.new.items ≡ chosen.old.items) }
         ensures many { IfErr result

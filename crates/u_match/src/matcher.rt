@@ -137,7 +137,8 @@ impl Waking<'_> {
     fn firings(&self, reads: &Reads, making: Making, room: Vec<Firing>) -> Result<Vec<Firing>, Halt>
         requires known { IsTrue making.is_executable
             → IsFitting self.now.job.now.program.blocks self.now.entry.now }
-        requires number { NumbersEntry self.now.history.now.names self.now.entry.now self.now.number }
+        requires number { NumbersEntry self.now.history.now.names self.now.entry.now
+            self.now.number }
         requires complete { IsComplete reads.now self.now.history.now.entries }
         requires empty { room.items ≡ [] }
         ensures exact { IfOk result
@@ -179,7 +180,8 @@ impl Waking<'_> {
 
     /// All the firings that the entry wakes where it enters. More than the largest `usize` have no room.
     fn all(&self, reads: &Reads) -> Result<Vec<Firing>, AllocError>
-        requires number { NumbersEntry self.now.history.now.names self.now.entry.now self.now.number }
+        requires number { NumbersEntry self.now.history.now.names self.now.entry.now
+            self.now.number }
         requires complete { IsComplete reads.now self.now.history.now.entries }
         ensures exact { IfOk result
             (λ v. AreThose

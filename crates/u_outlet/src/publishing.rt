@@ -80,7 +80,8 @@ impl<J: Named> OutletOf<Published<J>, Published<J>, [Firing; 0], Grows> {
     /// `AllocError` where there is no memory; nothing is published, and all stays pending.
     pub fn publish<R: Wait>(&mut self, rt: &R) -> Result<(), AllocError>
         ensures ok { OnOk result
-            ((published self.new ≡ published self.old ++ pending self.old) × (pending self.new ≡ [])) }
+            ((published self.new ≡ published self.old ++ pending self.old)
+            × (pending self.new ≡ [])) }
         ensures err { OnErr result
             ((published self.new ≡ published self.old) × (pending self.new ≡ pending self.old)) }
     {

@@ -41,7 +41,8 @@ fn checked_of(alloc: Global, bytes: &[u8]) -> Result<Checked, CommandError>
 
 /// The picture of the program.
 fn picture_of(alloc: Global, program: &Program) -> Result<Vec<u8>, AllocError>
-    ensures { IfOk result (λ v. v.items ≡ picture_text (picture program.now.version program.now.blocks)) }
+    ensures { IfOk result
+        (λ v. v.items ≡ picture_text (picture program.now.version program.now.blocks)) }
 {
     let mut text = Vec::new(alloc);
     write_picture(&mut text, program)?;
