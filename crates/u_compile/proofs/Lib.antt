@@ -23,7 +23,10 @@ pub mod DefinitionLaws
 pub mod SideLaws
 pub mod LoopLaws
 pub mod TreeLaws
+pub mod ExtendLaws
+pub mod FollowLaws
 pub mod WalkLaws
+pub mod UseLaws
 pub mod FinishedLaws
 pub mod OrderlyTests
 pub mod OrderlyLaws

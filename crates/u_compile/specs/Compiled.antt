@@ -16,7 +16,7 @@ use Rattle.u_compile.specs.declared.compile_error.CompileError.TheVariants.{Sour
 use Rattle.u_compile.specs.declared.origins.BlockOrigins.{BlockOrigins}
 use Rattle.u_compile.specs.Maps.{AreOrigins}
 use Rattle.u_compile.specs.Procedures.{AreProcedures}
-use Rattle.u_compile.specs.Walks.{AreMadeOf}
+use Rattle.u_compile.specs.Made.{AreMadeOf}
 
 -- a program, and where the statements of its blocks come from
 pub record CompiledParts : Type 0 where

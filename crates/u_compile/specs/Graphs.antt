@@ -1,5 +1,5 @@
 -- Graphs: blocks under construction. Their statements send to ports by links.
-use Rattle.std.specs.Prelude.{◌≡◌, ℕ, zero, suc, ◌<◌, ◌≤◌, Bool, true, false, cond, not, ◌&&◌, ◌||◌, ◌==◌, nat_le, List, [], ◌∷◌, length, Option, Some, None, slice_get}
+use Rattle.std.specs.Prelude.{◌≡◌, ℕ, zero, suc, ◌<◌, ◌≤◌, Bool, true, false, cond, not, ◌&&◌, ◌||◌, ◌==◌, nat_le, List, [], ◌∷◌, ◌++◌, length, Option, Some, None, slice_get}
 use Rattle.std.specs.List.{AllByRecursion}
 use Rattle.u_program.specs.declared.program.Destination.{Destination}
 use Rattle.u_program.specs.declared.program.Kind.{Kind}
@@ -51,9 +51,12 @@ abbrev pub has_port : Option DraftParts → ℕ → Bool
 has_port None port = false
 has_port (Some d) port = nat_le 1 port && nat_le port (ports_of d.kind)
 
+abbrev pub is_port : List DraftParts → Destination → Bool
+is_port ds to = has_port (draft_at ds to.statement) to.port
+
 -- a link leads from an output of a statement to a port of a statement
 abbrev pub is_link : List DraftParts → Link → Bool
-is_link ds l = is_output ds l.from && has_port (draft_at ds l.to.statement) l.to.port
+is_link ds l = is_output ds l.from && is_port ds l.to
 
 -- each is a link
 abbrev pub AreLinks : List DraftParts → List Link → Type 0
@@ -101,3 +104,19 @@ pub record IsGraph (g : GraphParts) : Type 0 where
 abbrev pub AllBefore : ℕ → List Destination → Type 0
 AllBefore below [] = Unit {0}
 AllBefore below (d ∷ ds) = (rank d < below) × AllBefore below ds
+
+-- and so do all that the graph has from there
+abbrev pub LeadBefore : GraphParts → Output → Destination → Type 0
+LeadBefore g o to = AllBefore (rank to) (destinations o g.links)
+
+-- with one loop more, which that region holds
+abbrev pub with_loop_held : GraphParts → ℕ → GraphParts
+with_loop_held g region = graph (g.loops ++ (region ∷ [])) g.statements g.links
+
+-- with one statement more
+abbrev pub with_draft : GraphParts → DraftParts → GraphParts
+with_draft g d = graph g.loops (g.statements ++ (d ∷ [])) g.links
+
+-- with one link more
+abbrev pub with_link_to : GraphParts → Output → Destination → GraphParts
+with_link_to g o to = graph g.loops g.statements (g.links ++ (link o to.statement to.port ∷ []))

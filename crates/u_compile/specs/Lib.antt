@@ -17,6 +17,8 @@ pub mod Loops
 pub mod Bodies
 pub mod Steps
 pub mod Walks
+pub mod Uses
+pub mod Made
 pub mod Maps
 pub mod Procedures
 pub mod Compiled

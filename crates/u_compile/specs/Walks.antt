@@ -1,10 +1,8 @@
 -- Sources that are gone through: node by node, from the beginning to the blocks of their procedures.
 use Rattle.std.specs.Prelude.{◌≡◌, ℕ, ◌+◌, ◌<◌, ◌≤◌, Bool, true, false, List, [], length}
 use Rattle.u_program.specs.Parts.{BlockParts}
-use Rattle.u_source.specs.Sources.{SourceParts}
 use Rattle.u_source.specs.declared.form.Form.{Form}
 use Rattle.u_source.specs.declared.form.Form.TheVariants as forms
-use Rattle.u_scope.specs.declared.checked.Meaning.{Meaning}
 use Rattle.u_compile.specs.declared.naming.ConstantBinding.{ConstantBinding}
 use Rattle.u_compile.specs.declared.tree.Tree.{Tree}
 use Rattle.u_compile.specs.Scoped.{IsOf}
@@ -86,16 +84,3 @@ pub record AreReached (l : LoweringParts) (nodes : ℕ) (bs : List BlockParts) :
 -- the blocks are those that are there once all nodes of the tree are gone through
 abbrev pub AreLowered : Tree → List BlockParts → Type 0
 AreLowered t bs = AreReached (beginning t) (length t.nodes.now) bs
-
--- the tree is that of the source, and its names mean this
-pub record IsTreeOf (s : SourceParts) (ms : List Meaning) (t : Tree) : Type 0 where
-  pub tokens : t.tokens.now ≡ s.tokens
-  pub nodes : t.nodes.now ≡ s.nodes
-  pub meanings : t.meanings.now ≡ ms
-
--- the blocks are made of the source: of its tree, whose names mean this
-pub record AreMadeOf (s : SourceParts) (ms : List Meaning) (bs : List BlockParts) : Type 0 where
-  pub tree : Tree
-  pub of : IsTreeOf s ms tree
-  pub lowered : AreLowered tree bs
-  pub each : (b : BlockParts) → IsOf bs b → IsMadeOfNodes tree b

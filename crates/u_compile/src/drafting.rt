@@ -1,5 +1,5 @@
 //! Statements and links that a graph gets only where they may stand there.
-ghost use Rattle.std.specs.Prelude.{◌≡◌, ◌+◌, ◌<◌, ◌≤◌, ◌++◌, ◌∷◌, [], true, false, length, IfOk, IsTrue, MatchResult};
+ghost use Rattle.std.specs.Prelude.{◌≡◌, ◌+◌, ◌<◌, ◌≤◌, true, false, length, IfOk, IsTrue, MatchResult};
 ghost use Rattle.u_compile.specs.Drafts.{draft};
 ghost use Rattle.u_compile.specs.Scoped.{Layout, IsScoped};
 ghost use Rattle.u_compile.specs.Fanning.{IsFinished};
@@ -10,7 +10,7 @@ ghost use Rattle.u_determinate.specs.Determinate.{IsDeterminateBlock};
 ghost use Rattle.u_program.specs.declared.program.Kind.TheVariants as kinds;
 ghost use Rattle.u_program.specs.Limits.{IsConstant, IsKind, IsBlockOf, limits_of, has_list, has_otherwise, rank};
 ghost use Rattle.u_program.specs.declared.program.Version.TheVariants as versions;
-ghost use Rattle.u_compile.specs.Graphs.{graph, link, same_output, draft_at, is_output, has_port, is_enter, is_next, enters_one, destinations, AllBefore};
+ghost use Rattle.u_compile.specs.Graphs.{same_output, draft_at, is_output, is_enter, is_next, enters_one, destinations, AllBefore, with_loop_held, with_draft, with_link_to, is_port, LeadBefore};
 
 use crate::fanning::draft_at;
 use crate::graph::{Draft, Full, Graph, Link, Output};
@@ -74,7 +74,7 @@ fn is_output(statements: &[Draft], from: Output) -> bool
 
 /// Whether one of the statements has the port.
 fn has_port(statements: &[Draft], to: Destination) -> bool
-    ensures { result ≡ has_port (draft_at statements.now to.statement) to.port }
+    ensures { result ≡ is_port statements.now to }
 {
     match draft_at(statements, to.statement) {
         Some(draft) => {
@@ -156,8 +156,8 @@ impl Graph {
     /// Whether the port may be linked to the output.
     fn may_link(&self, from: Output, to: Destination) -> bool
         ensures output { IsTrue result → is_output self.now.statements from ≡ true }
-        ensures port { IsTrue result → has_port (draft_at self.now.statements to.statement) to.port ≡ true }
-        ensures behind { IsTrue result → AllBefore (rank to) (destinations from self.now.links) }
+        ensures port { IsTrue result → is_port self.now.statements to ≡ true }
+        ensures behind { IsTrue result → LeadBefore self.now from to }
     {
         is_output(&self.statements, from)
             && has_port(&self.statements, to)
@@ -171,7 +171,7 @@ impl Graph {
     pub(crate) fn put_loop(&mut self, held_by: u8) -> Result<u8, Full>
         ensures { MatchResult result
             (λ number. (number ≡ length self.old.loops + 1)
-            × (self.new ≡ graph (self.old.loops ++ (held_by ∷ [])) self.old.statements self.old.links))
+            × (self.new ≡ with_loop_held self.old held_by))
             (λ _. self.new ≡ self.old) }
     {
         if !self.has_region(held_by) {
@@ -188,8 +188,7 @@ impl Graph {
     pub(crate) fn put(&mut self, region: u8, kind: &Kind) -> Result<u16, Full>
         ensures { MatchResult result
             (λ number. (number ≡ length self.old.statements + 1)
-            × (self.new ≡ graph self.old.loops
-            (self.old.statements ++ (draft region kind.now number ∷ [])) self.old.links))
+            × (self.new ≡ with_draft self.old (draft region kind.now number)))
             (λ _. self.new ≡ self.old) }
     {
         if !self.has_region(region) || !may_be(kind, self.count_loops()) {
@@ -205,8 +204,7 @@ impl Graph {
     pub(crate) fn put_next(&mut self, region: u8, enter: u16) -> Result<u16, Full>
         ensures { MatchResult result
             (λ number. (number ≡ length self.old.statements + 1)
-            × (self.new ≡ graph self.old.loops
-            (self.old.statements ++ (draft region kinds.Next enter ∷ [])) self.old.links))
+            × (self.new ≡ with_draft self.old (draft region kinds.Next enter)))
             (λ _. self.new ≡ self.old) }
     {
         if !self.has_region(region) || !self.is_enter(enter) {
@@ -221,8 +219,7 @@ impl Graph {
     /// Those of `link`; `Misplaced` where there is no such output or no such port, or a link from the output leads to a
     /// port that is not before this one.
     pub(crate) fn lead(&mut self, from: Output, to: Destination) -> Result<(), Full>
-        ensures { MatchResult result (λ _. self.new ≡ graph self.old.loops self.old.statements
-            (self.old.links ++ (link from to.statement to.port ∷ [])))
+        ensures { MatchResult result (λ _. self.new ≡ with_link_to self.old from to)
             (λ _. self.new ≡ self.old) }
     {
         if !self.may_link(from, to) {

@@ -1,6 +1,6 @@
 //! Blocks under construction, as graphs.
-ghost use Rattle.std.specs.Prelude.{◌≡◌, ◌+◌, ◌*◌, ◌<◌, ◌≤◌, [], ◌∷◌, ◌++◌, length, true, false, MatchResult};
-ghost use Rattle.u_compile.specs.Graphs.{graph, link, same_output, draft_at, has_port, is_output, is_enter, enters_one, is_next, destinations, AllBefore, IsGraph};
+ghost use Rattle.std.specs.Prelude.{◌≡◌, ◌+◌, ◌≤◌, [], length, true, false, MatchResult};
+ghost use Rattle.u_compile.specs.Graphs.{graph, same_output, draft_at, is_output, is_enter, enters_one, is_next, IsGraph, with_loop_held, with_draft, with_link_to, is_port, LeadBefore};
 ghost use Rattle.u_compile.specs.Drafts.{draft};
 ghost use Rattle.u_program.specs.Limits.{IsKind};
 ghost use Rattle.u_program.specs.declared.program.Kind.TheVariants as kinds;
@@ -176,7 +176,7 @@ impl Graph {
         requires { held_by ≤ length self.old.loops }
         ensures { MatchResult result
             (λ number. (number ≡ length self.old.loops + 1)
-            × (self.new ≡ graph (self.old.loops ++ (held_by ∷ [])) self.old.statements self.old.links))
+            × (self.new ≡ with_loop_held self.old held_by))
             (λ _. self.new ≡ self.old) }
     {
         if self.loops.len() >= LOOPS {
@@ -197,8 +197,7 @@ impl Graph {
         requires other { is_next kind ≡ false }
         ensures { MatchResult result
             (λ number. (number ≡ length self.old.statements + 1)
-            × (self.new ≡ graph self.old.loops
-            (self.old.statements ++ (draft region kind number ∷ [])) self.old.links))
+            × (self.new ≡ with_draft self.old (draft region kind number)))
             (λ _. self.new ≡ self.old) }
     {
         if self.statements.len() >= STATEMENTS {
@@ -218,8 +217,7 @@ impl Graph {
         requires enter { is_enter (draft_at self.old.statements enter) ≡ true }
         ensures { MatchResult result
             (λ number. (number ≡ length self.old.statements + 1)
-            × (self.new ≡ graph self.old.loops
-            (self.old.statements ++ (draft region kinds.Next enter ∷ [])) self.old.links))
+            × (self.new ≡ with_draft self.old (draft region kinds.Next enter)))
             (λ _. self.new ≡ self.old) }
     {
         if self.statements.len() >= STATEMENTS {
@@ -237,11 +235,10 @@ impl Graph {
     /// `NoMemory` where there is no memory. The graph stays as it was.
     pub fn link(&mut self, from: Output, to: Destination) -> Result<(), Full>
         requires output { is_output self.old.statements from ≡ true }
-        requires port { has_port (draft_at self.old.statements to.statement) to.port ≡ true }
-        requires behind { AllBefore (8 * to.statement + to.port) (destinations from self.old.links) }
+        requires port { is_port self.old.statements to ≡ true }
+        requires behind { LeadBefore self.old from to }
         ensures { MatchResult result
-            (λ _. self.new ≡ graph self.old.loops self.old.statements
-            (self.old.links ++ (link from to.statement to.port ∷ [])))
+            (λ _. self.new ≡ with_link_to self.old from to)
             (λ _. self.new ≡ self.old) }
     {
         self.links.push(Link { from, to })?;

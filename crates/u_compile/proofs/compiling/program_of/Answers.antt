@@ -1,5 +1,5 @@
 use Rattle.std.proofs.Common.{◌∙◌}
-use Rattle.u_compile.proofs.WalkLaws.{made_of}
+use Rattle.u_compile.proofs.UseLaws.{made_of}
 use Rattle.u_compile.proofs.compiling.program_of.Goals as goal
 
 pub returns-in-Ok-lower-clause-made : goal.returns-in-Ok-lower-clause-made

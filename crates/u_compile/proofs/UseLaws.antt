@@ -1,0 +1,380 @@
+-- Arcs are uses: what leads to a port of a whole procedure is the operand that was taken there.
+use Rattle.std.proofs.Common.{◌≡◌, ℕ, ◌+◌, ◌≤◌, arith, refl, sym, ap, ◌∙◌, subst, true, false, List, [], ◌∷◌, ◌++◌, length}
+use Rattle.std.proofs.lemmas.Bool.{false≢true}
+use Rattle.u_program.specs.Parts.{BlockParts}
+use Rattle.u_program.specs.declared.program.Constant.{Constant}
+use Rattle.u_program.specs.declared.program.Kind.{Kind}
+use Rattle.u_program.specs.declared.program.Kind.TheVariants.{Apply, Binary, Unary, Alloc, Fetch, Store, Select, End}
+use Rattle.u_value.specs.declared.operators.BinaryOperator.TheVariants as binary
+use Rattle.u_value.specs.declared.operators.UnaryOperator.TheVariants as unary
+use Rattle.u_source.specs.Sources.{SourceParts}
+use Rattle.u_source.specs.declared.form.Form.{Form}
+use Rattle.u_source.specs.declared.form.Form.TheVariants as forms
+use Rattle.u_scope.specs.declared.checked.Meaning.{Meaning}
+use Rattle.u_compile.specs.declared.naming.Binding.{Binding}
+use Rattle.u_compile.specs.declared.lowering.Frame.TheVariants as frames
+use Rattle.u_compile.specs.declared.lowering.Operand.{Operand}
+use Rattle.u_compile.specs.declared.lowering.Operand.TheVariants.{Atom}
+use Rattle.u_compile.specs.declared.tree.Tree.{Tree}
+use Rattle.u_compile.specs.Scoped.{IsOf}
+use Rattle.u_compile.specs.Trees.{HasForm}
+use Rattle.u_compile.specs.Drawings.{DrawingParts, IsOfKind, IsFedBy, AreFed, Adds}
+use Rattle.u_compile.specs.Namings.{KnownParts, IsConstant, HasConstant, a_constant}
+use Rattle.u_compile.specs.Operands.{SceneParts, LoweringParts, IsAtom, IsOperand, AreOperands, Pops, TakesOne, TakesTwo, TakesSwapped, Negates, Differs, Operates, Reads, Writes, TakesCall}
+use Rattle.u_compile.specs.Sides.{IsFramePopped, Selects, ClosesIf}
+use Rattle.u_compile.specs.Bodies.{IsBlockOf, EndsProcedure}
+use Rattle.u_compile.specs.Steps.{IsItem, IsWhole}
+use Rattle.u_compile.specs.Walks.{IsDone, item, whole, is_item, GoesThrough, AllMade, IsFresh, IsWithinOne, IsMadeOfNodes, AreLowered}
+use Rattle.u_compile.specs.Made.{IsTreeOf, AreMadeOf}
+use Rattle.u_compile.specs.Uses.{Binds, GivesParameter, Passes, Moment, IsBound, IsFrom, AreArcs, Takes, Called, ports_from, Uses, ArcsAreUses}
+use Rattle.u_compile.proofs.DrawingLaws.{on_then}
+use Rattle.u_compile.proofs.KnownLaws.{comes_then}
+use Rattle.u_compile.proofs.TreeLaws.{form_one}
+use Rattle.u_compile.proofs.ExtendLaws.{Extends, extends_grown, extends_then, value_extends, stands_extends, fed_extends, entered_extends, inside_extends, comes_extends, named_extends, constant_extends, left_extends, constant_on}
+use Rattle.u_compile.proofs.FollowLaws.{Follows, plain_same, plain_then, plain_grown, Traced, Keeps, Goes, on, begins, ends, done_goes}
+use Rattle.u_compile.proofs.WalkLaws.{all_made, none_made, stays, within_before, through_within, named_follows, blocks_of_nodes}
+
+constant_later : (d e : DrawingParts) → Extends d e → (k : KnownParts) (scope : ℕ) (c : Constant) (v : ℕ) → HasConstant d k scope c v → HasConstant e k scope c v
+constant_later d e g k scope c v (HasConstant.noted is) = HasConstant.noted is
+constant_later d e g k scope c v (HasConstant.made is) = HasConstant.made (constant_extends d e g k.bindings scope c v is)
+
+atom_later : (s : SceneParts) (d e : DrawingParts) → Extends d e → (node v : ℕ) → IsAtom s d node v → IsAtom s e node v
+atom_later s d e g node v (IsAtom.used none is) = IsAtom.used none (record { name = is.name; means = is.means; named = named_extends d e g s.names.bindings s.scope is.name v is.named })
+atom_later s d e g node v (IsAtom.constant k written has) = IsAtom.constant k written (constant_later d e g s.names s.scope k v has)
+
+operand_later : (s : SceneParts) (d e : DrawingParts) → Extends d e → (o : Operand) (v : ℕ) → IsOperand s d o v → IsOperand s e o v
+operand_later s d e g o v (IsOperand.waiting is) = IsOperand.waiting is
+operand_later s d e g o v (IsOperand.atom node is at) = IsOperand.atom node is (atom_later s d e g node v at)
+
+parameter_later : (c d e : DrawingParts) → Extends d e → (v : ℕ) → GivesParameter c d v → GivesParameter c e v
+parameter_later c d e g v is = record { kind = is.kind; is = is.is; stands = stands_extends d e g (length c.statements + 1) is.kind is.stands; sends = value_extends d e g v _ is.sends }
+
+-- a name that was bound so stays bound so
+binds_later : (n : ℕ) (at l m : LoweringParts) (b : Binding) → Follows l m → Binds n at l b → Binds n at m b
+binds_later n at l m b f (Binds.definition o form name scope waits is) = Binds.definition o form name scope waits (operand_later at.scene l.drawing m.drawing f.extends o b.value is)
+binds_later n at l m b f (Binds.parameter form name scope gives) = Binds.parameter form name scope (parameter_later at.drawing l.drawing m.drawing f.extends b.value gives)
+binds_later n at l m b f (Binds.variable s loop form of name inner entered) = Binds.variable s loop form of name (inside_extends l.drawing m.drawing f.extends at.scene.scope _ b.scope inner) (entered_extends l.drawing m.drawing f.extends loop s.value b.value entered)
+binds_later n at l m b f (Binds.limit waiting form name scope frame) = Binds.limit waiting form name scope frame
+binds_later n at l m b f (Binds.last turns control block w end value before form parent frame given scope inner more named left) =
+    let g = f.extends in
+    Binds.last turns control block w end value before form parent frame given scope (inside_extends l.drawing m.drawing g turns.turn _ end inner) (on_then _ l.scene.names.bindings m.scene.names.bindings more f.bindings) (named_extends l.drawing m.drawing g before end b.name value named) (left_extends l.drawing m.drawing g value b.value left)
+
+abbrev moment : ℕ → LoweringParts → ℕ → LoweringParts → LoweringParts → Moment
+moment first begun n k e = record { first = first; begun = begun; node = n; at = k; whole = e }
+
+abbrev BoundBefore : ℕ → LoweringParts → ℕ → LoweringParts → LoweringParts → Binding → Type 0
+BoundBefore first begun n k e b = IsBound (moment first begun n k e) b
+
+bound_later : (first : ℕ) (begun : LoweringParts) (n : ℕ) (k l m : LoweringParts) (b : Binding) → Follows l m → BoundBefore first begun n k l b → BoundBefore first begun n k m b
+bound_later first begun n k l m b f is = record { node = is.node; at = is.at; next = is.next; passes = is.passes; binds = binds_later is.node is.at l m b f is.binds }
+
+-- and once more nodes are passed
+bound_more : (first : ℕ) (begun : LoweringParts) (n : ℕ) (k m e : LoweringParts) (b : Binding) → IsDone n k m → BoundBefore first begun n k e b → BoundBefore first begun (n + 1) m e b
+bound_more first begun n k m e b done is = record {
+  node = is.node;
+  at = is.at;
+  next = is.next;
+  passes = record { reached = is.passes.reached; done = is.passes.done; on = GoesThrough.one_more n k m is.passes.on done };
+  binds = is.binds;
+}
+
+traced_more : (first : ℕ) (begun : LoweringParts) (n : ℕ) (k m : LoweringParts) → IsDone n k m → Traced (BoundBefore first begun n k) k → Traced (BoundBefore first begun (n + 1) m) k
+traced_more first begun n k m done all b h =
+    let r = all b h in
+    record { root = r.root; is = bound_more first begun n k m k r.root done r.is; named = r.named; comes = r.comes }
+
+traced_on : (t : Tree) (f : Form) (n : ℕ) (P : LoweringParts → Binding → Type 0) (l m : LoweringParts) → Goes P f n l m → HasForm t n f → (HasForm t n forms.NoParameters → ⊥) × (HasForm t n forms.AddProcedure → ⊥) → Keeps P l m
+traced_on t f n P l m (on keeps a b) is never = keeps
+traced_on t f n P l m (begins at same) is never = absurd (never.0 (subst (λ (g : Form). HasForm t n g) at is))
+traced_on t f n P l m (ends at e) is never = absurd (never.1 (subst (λ (g : Form). HasForm t n g) at is))
+
+-- In a procedure that is gone through, each value of a name comes from one that was bound to it at a node before.
+pub all_traced : (t : Tree) (first : ℕ) (begun : LoweringParts) → IsFresh t begun → (n : ℕ) (m : LoweringParts) → IsWithinOne t first n → GoesThrough first begun n m → Traced (BoundBefore first begun n m) m
+all_traced t first begun fresh n m within GoesThrough.none = λ b h. absurd (subst (λ (k : KnownParts). IsOf k.bindings b) fresh.names h)
+all_traced t first begun fresh n m within (GoesThrough.one_more node k x through done) =
+    let within_k = within_before t first node within in
+    let before = all_traced t first begun fresh node k within_k through in
+    let tree = (stays t first begun node k fresh.tree within_k through).tree ∙ fresh.tree in
+    let P : LoweringParts → Binding → Type 0 = BoundBefore first begun (node + 1) m in
+    let grow : (l e : LoweringParts) (b : Binding) → Follows l e → P l b → P e b = λ l e b f h. bound_later first begun (node + 1) m l e b f h in
+    let bind : (e : LoweringParts) (b : Binding) → Binds node k e b → P e b = λ e b h. record { node = node; at = k; next = m; passes = record { reached = through; done = done; on = GoesThrough.none }; binds = h } in
+    let goes = done_goes P grow node k m bind done in
+    let is : HasForm t node goes.0 = subst (λ (y : Tree). HasForm y node goes.0) tree goes.1 in
+    (traced_on t goes.0 node P k m goes.2 is (within node (omega arith) (through_within first begun node k through))).traced (traced_more first begun node k m done before)
+
+-- what is known at a node of a procedure, and that this goes on to the end
+record Known (x : Moment) : Type 0 where
+  traced : Traced (BoundBefore x.first x.begun x.node x.at) x.at
+  made : AllMade x.at
+  follows : Follows x.at x.whole
+
+-- those values lead to those ports, one to each
+abbrev AllFed : DrawingParts → ℕ → List ℕ → List ℕ → Type 0
+AllFed d n [] [] = Unit {0}
+AllFed d n (p ∷ ps) (v ∷ vs) = IsFedBy d.links d.values n p v × AllFed d n ps vs
+AllFed d n ps vs = ⊥
+
+all_fed : (d e : DrawingParts) → Extends d e → (n port : ℕ) (vs : List ℕ) → n ≤ length d.statements → AreFed d.links d.values n port vs → AllFed e n (ports_from port vs) vs
+all_fed d e g n port [] h fed = tt
+all_fed d e g n port (v ∷ vs) h fed = (fed_extends d e g n port v h fed.0, all_fed d e g n (port + 1) vs h fed.1)
+
+-- the ports of a statement that was added
+added_fed : (c d e : DrawingParts) (kind : Kind) (vs : List ℕ) → Adds c d kind vs → Extends d e → AllFed e (length c.statements + 1) (ports_from 1 vs) vs
+added_fed c d e kind vs a g = all_fed d e g (length c.statements + 1) 1 vs (omega (arith, a.one)) a.fed
+
+module _ (x : Moment) (known : Known x) where
+  -- the value of an operand, in the end
+  from_constant : (d : DrawingParts) → Extends d x.whole.drawing → (k : Constant) (v : ℕ) → HasConstant d x.at.scene.names x.at.scene.scope k v → IsConstant x.whole.drawing x.whole.scene.names.bindings x.at.scene.scope k v
+  from_constant d g k v (HasConstant.noted is) = constant_on x.whole.drawing x.at.scene.names.bindings x.whole.scene.names.bindings known.follows.bindings x.at.scene.scope k v (constant_extends x.at.drawing x.whole.drawing known.follows.extends x.at.scene.names.bindings x.at.scene.scope k v (known.made (a_constant x.at.scene.scope k v) is))
+  from_constant d g k v (HasConstant.made is) = constant_on x.whole.drawing x.at.scene.names.bindings x.whole.scene.names.bindings known.follows.bindings x.at.scene.scope k v (constant_extends d x.whole.drawing g x.at.scene.names.bindings x.at.scene.scope k v is)
+
+  from_atom : (d : DrawingParts) → Extends d x.whole.drawing → (o : Operand) (node v : ℕ) → o ≡ Atom node → IsAtom x.at.scene d node v → IsFrom x o v
+  from_atom d g o node v same (IsAtom.constant k written has) = IsFrom.constant node k same written (from_constant d g k v has)
+  from_atom d g o node v same (IsAtom.used none u) =
+      let b = u.named.binding in
+      let r = known.traced b u.named.is in
+      let whole = x.whole.drawing in
+      IsFrom.named node same none (record {
+        name = u.name;
+        means = u.means;
+        binding = r.root;
+        named = r.named ∙ u.named.named;
+        bound = bound_later x.first x.begun x.node x.at x.at x.whole r.root known.follows r.is;
+        comes = comes_then whole r.root.scope r.root.value b.scope b.value x.at.scene.scope v (comes_extends x.at.drawing whole known.follows.extends r.root.scope r.root.value b.scope b.value r.comes) (comes_extends d whole g b.scope b.value x.at.scene.scope v u.named.comes);
+      })
+
+  from_operand : (d : DrawingParts) → Extends d x.whole.drawing → (o : Operand) (v : ℕ) → IsOperand x.at.scene d o v → IsFrom x o v
+  from_operand d g o v (IsOperand.waiting is) = IsFrom.waiting is
+  from_operand d g o v (IsOperand.atom node is at) = from_atom d g o node v is at
+
+  arcs_all : (d : DrawingParts) → Extends d x.whole.drawing → (n : ℕ) (ps : List ℕ) (os : List Operand) (vs : List ℕ) → AreOperands x.at.scene d os vs → AllFed x.whole.drawing n ps vs → AreArcs x n ps os
+  arcs_all d g n [] [] [] are fed = tt
+  arcs_all d g n (p ∷ ps) (o ∷ os) (v ∷ vs) are fed = (record { value = v; fed = fed.0; from = from_operand d g o v are.0 }, arcs_all d g n ps os vs are.1 fed.1)
+  arcs_all d g n [] [] (v ∷ vs) are fed = absurd are
+  arcs_all d g n [] (o ∷ os) [] are fed = absurd are
+  arcs_all d g n [] (o ∷ os) (v ∷ vs) are fed = absurd fed
+  arcs_all d g n (p ∷ ps) [] [] are fed = absurd fed
+  arcs_all d g n (p ∷ ps) [] (v ∷ vs) are fed = absurd are
+  arcs_all d g n (p ∷ ps) (o ∷ os) [] are fed = absurd are
+
+  arcs_from : (d : DrawingParts) → Extends d x.whole.drawing → (n port : ℕ) (os : List Operand) (vs : List ℕ) → AreOperands x.at.scene d os vs → AllFed x.whole.drawing n (ports_from port vs) vs → AreArcs x n (ports_from port os) os
+  arcs_from d g n port [] [] are fed = tt
+  arcs_from d g n port (o ∷ os) (v ∷ vs) are fed = (record { value = v; fed = fed.0; from = from_operand d g o v are.0 }, arcs_from d g n (port + 1) os vs are.1 fed.1)
+  arcs_from d g n port [] (v ∷ vs) are fed = absurd are
+  arcs_from d g n port (o ∷ os) [] are fed = absurd are
+
+  -- operands that are taken lead to ports of a statement that is added
+  takes : (kind : Kind) (ports : List ℕ) (vs : List ℕ) (b : LoweringParts) → Pops x.at b vs → Extends b.drawing x.whole.drawing → (n : ℕ) → IsOfKind x.whole.drawing.statements n kind → AllFed x.whole.drawing n ports vs → Takes kind ports x
+  takes kind ports vs b pops g n stands fed = record { before = b.operands; operands = pops.operands; waited = pops.were; statement = n; stands = stands; arcs = arcs_all b.drawing g n ports pops.operands vs pops.are fed }
+
+  -- where `c` is the procedure before the statement is added, and `d` the one behind
+  takes_added : (kind : Kind) (ports vs ins : List ℕ) (b : LoweringParts) (c d : DrawingParts) → Pops x.at b vs → Extends b.drawing c → Adds c d kind ins → Extends d x.whole.drawing → (AllFed x.whole.drawing (length c.statements + 1) (ports_from 1 ins) ins → AllFed x.whole.drawing (length c.statements + 1) ports vs) → Takes kind ports x
+  takes_added kind ports vs ins b c d pops to adds g fed =
+      let n = length c.statements + 1 in
+      let grown = extends_then b.drawing c x.whole.drawing to (extends_then c d x.whole.drawing (extends_grown c d adds.grows) g) in
+      takes kind ports vs b pops grown n (stands_extends d x.whole.drawing g n kind adds.stands) (fed (added_fed c d x.whole.drawing kind ins adds g))
+
+  one_uses : (kind : Kind) (m : LoweringParts) → TakesOne kind x.at m → Extends m.drawing x.whole.drawing → Takes kind (1 ∷ []) x
+  one_uses kind m t g = takes_added kind (1 ∷ []) _ _ t.between t.between.drawing m.drawing t.pops (plain_same t.between t.between refl).extends t.pushes.gives.adds g (λ fed. fed)
+
+  two_uses : (kind : Kind) (m : LoweringParts) → TakesTwo kind x.at m → Extends m.drawing x.whole.drawing → Takes kind (1 ∷ 2 ∷ []) x
+  two_uses kind m t g = takes_added kind (1 ∷ 2 ∷ []) _ _ t.between t.between.drawing m.drawing t.pops (plain_same t.between t.between refl).extends t.pushes.gives.adds g (λ fed. fed)
+
+  swapped_uses : (kind : Kind) (m : LoweringParts) → TakesSwapped kind x.at m → Extends m.drawing x.whole.drawing → Takes kind (2 ∷ 1 ∷ []) x
+  swapped_uses kind m t g = takes_added kind (2 ∷ 1 ∷ []) _ _ t.between t.between.drawing m.drawing t.pops (plain_same t.between t.between refl).extends t.pushes.gives.adds g (λ fed. (fed.1.0, (fed.0, tt)))
+
+  negates_uses : (m : LoweringParts) → Negates x.at m → Extends m.drawing x.whole.drawing → Takes (Binary binary.Sub) (2 ∷ []) x
+  negates_uses m t g = takes_added (Binary binary.Sub) (2 ∷ []) _ _ t.between t.after.drawing m.drawing t.pops (extends_grown t.between.drawing t.after.drawing t.goes_on.grows) t.pushes.gives.adds g (λ fed. fed.1)
+
+  differs_uses : (m : LoweringParts) → Differs x.at m → Extends m.drawing x.whole.drawing → Takes (Binary binary.Eq) (1 ∷ 2 ∷ []) x
+  differs_uses m t g =
+      let no = t.no in
+      let grown = extends_then t.between.drawing no.between.drawing m.drawing (extends_grown t.between.drawing no.between.drawing no.pops.goes_on.grows) (extends_grown no.between.drawing m.drawing no.pushes.gives.adds.grows) in
+      two_uses (Binary binary.Eq) t.between t.equal (extends_then t.between.drawing m.drawing x.whole.drawing grown g)
+
+  writes_uses : (m : LoweringParts) → Writes x.at m → Extends m.drawing x.whole.drawing → Takes Store (1 ∷ 2 ∷ 3 ∷ []) x
+  writes_uses m t g = takes_added Store (1 ∷ 2 ∷ 3 ∷ []) _ _ t.between t.between.drawing m.drawing t.pops (plain_same t.between t.between refl).extends t.gives.adds g (λ fed. fed)
+
+  reads_uses : (m : LoweringParts) → Reads x.node x.at m → Extends m.drawing x.whole.drawing → Uses forms.Index x
+  reads_uses m (Reads.waits is same) g never = absurd (never is)
+  reads_uses m (Reads.read not t) g never = two_uses Fetch m t g
+
+  call_uses : (m : LoweringParts) → TakesCall x.at m → Extends m.drawing x.whole.drawing → Called x
+  call_uses m t g =
+      let c = t.between.drawing in
+      let d = t.calls.between in
+      let n = length c.statements + 1 in
+      let on_to = extends_then d m.drawing x.whole.drawing (extends_grown d m.drawing t.calls.back.adds.grows) g in
+      let grown = extends_then c d x.whole.drawing (extends_grown c d t.calls.apply.grows) on_to in
+      let fed = added_fed c d x.whole.drawing _ (t.procedure ∷ t.arguments) t.calls.apply on_to in
+      record {
+        before = t.others;
+        callee = t.callee;
+        given = t.given;
+        waited = t.waited;
+        statement = n;
+        back = length c.statements + 2;
+        count = t.calls.count;
+        stands = stands_extends d x.whole.drawing on_to n (Apply (length c.statements + 2) t.calls.count) t.calls.apply.stands;
+        arc = record { value = t.procedure; fed = fed.0; from = from_operand c grown t.callee t.procedure t.is };
+        arcs = arcs_from c grown n 2 t.given t.arguments t.are fed.1;
+      }
+
+  -- an `if` that chooses one of two values
+  selects_uses : (control : ℕ) (ended m : LoweringParts) → IsFramePopped x.at ended (frames.Choice control) → Selects control ended m → Extends m.drawing x.whole.drawing → Takes Select (2 ∷ 3 ∷ []) x
+  selects_uses control ended m popped s g =
+      let p = s.pops in
+      let n = length s.taken.drawing.statements + 1 in
+      let scene : ended.scene ≡ x.at.scene = ap (λ (y : LoweringParts). y.scene) popped.1 in
+      let grown = extends_then s.taken.drawing m.drawing x.whole.drawing (extends_grown s.taken.drawing m.drawing s.pushes.gives.adds.grows) g in
+      let fed = added_fed s.taken.drawing m.drawing x.whole.drawing Select _ s.pushes.gives.adds g in
+      record {
+        before = s.taken.operands;
+        operands = p.operands;
+        waited = sym (ap (λ (y : LoweringParts). y.operands) popped.1) ∙ p.were;
+        statement = n;
+        stands = stands_extends m.drawing x.whole.drawing g n Select s.pushes.gives.adds.stands;
+        arcs = arcs_all s.taken.drawing grown n (2 ∷ 3 ∷ []) p.operands (s.left ∷ s.right ∷ []) (subst (λ (y : SceneParts). AreOperands y s.taken.drawing p.operands (s.left ∷ s.right ∷ [])) scene p.are) fed.1;
+      }
+
+no_end : {A : Type 0} (ys : List A) (y : A) → [] ≡ ys ++ (y ∷ []) → ⊥
+no_end [] y e = cc
+no_end (z ∷ ys) y e = cc
+
+one_end : {A : Type 0} (xs ys : List A) (x y : A) → xs ++ (x ∷ []) ≡ ys ++ (y ∷ []) → x ≡ y
+one_end [] [] x y e = cc
+one_end [] (z ∷ ys) x y e = absurd (no_end ys y (let f : [] ≡ ys ++ (y ∷ []) = cc in f))
+one_end (z ∷ xs) [] x y e = absurd (no_end xs x (let f : [] ≡ xs ++ (x ∷ []) = cc in f))
+one_end (z ∷ xs) (w ∷ ys) x y e = one_end xs ys x y (let f : xs ++ (x ∷ []) ≡ ys ++ (y ∷ []) = cc in f)
+
+module _ (x : Moment) (known : Known x) where
+  if_uses : (m : LoweringParts) → ClosesIf x.at m → Extends m.drawing x.whole.drawing → Uses forms.If x
+  if_uses m (ClosesIf.choice control ended popped selects) g c last = selects_uses x known control ended m popped selects g
+  if_uses m (ClosesIf.sides s ended popped closes) g c last = absurd (other (one_end ended.frames last.0 (frames.Sides s) (frames.Choice c) (sym popped.0 ∙ last.1)))
+    where
+      other : frames.Sides s ≡ frames.Choice c → ⊥
+      other e = cc
+
+  item_uses : (f : Form) (m : LoweringParts) → IsItem f x.node x.at m → is_item f ≡ true → Extends m.drawing x.whole.drawing → Uses f x
+  item_uses forms.Index m h e g = reads_uses x known m h g
+  item_uses forms.Write m h e g = writes_uses x known m h g
+  item_uses forms.Call m h e g = call_uses x known m h g
+  item_uses forms.Name m h e g = tt
+  item_uses forms.Number m h e g = tt
+  item_uses forms.Negative m h e g = tt
+  item_uses forms.True m h e g = tt
+  item_uses forms.False m h e g = tt
+  item_uses forms.NoArguments m h e g = tt
+  item_uses forms.Statement m h e g = tt
+  item_uses forms.Define m h e g = tt
+  item_uses forms.Next m h e g = tt
+  item_uses f m h e g = absurd (false≢true e)
+
+  -- behind an operator nothing else is done
+  alike : (k m : LoweringParts) → m ≡ k → Extends m.drawing x.whole.drawing → Extends k.drawing x.whole.drawing
+  alike k m same g = subst (λ (y : LoweringParts). Extends y.drawing x.whole.drawing) same g
+
+  whole_uses : (f : Form) (k m : LoweringParts) → Operates f x.at k → IsWhole f x.node k m → is_item f ≡ false → (f ≡ forms.AddProcedure → ⊥) → Extends m.drawing x.whole.drawing → Uses f x
+  whole_uses forms.Or k m o h e b g = two_uses x known (Binary binary.Or) k o (alike k m h g)
+  whole_uses forms.And k m o h e b g = two_uses x known (Binary binary.And) k o (alike k m h g)
+  whole_uses forms.Not k m o h e b g = one_uses x known (Unary unary.Not) k o (alike k m h g)
+  whole_uses forms.Less k m o h e b g = two_uses x known (Binary binary.Lt) k o (alike k m h g)
+  whole_uses forms.AtMost k m o h e b g = two_uses x known (Binary binary.Le) k o (alike k m h g)
+  whole_uses forms.Greater k m o h e b g = swapped_uses x known (Binary binary.Lt) k o (alike k m h g)
+  whole_uses forms.AtLeast k m o h e b g = swapped_uses x known (Binary binary.Le) k o (alike k m h g)
+  whole_uses forms.Equal k m o h e b g = two_uses x known (Binary binary.Eq) k o (alike k m h g)
+  whole_uses forms.Unequal k m o h e b g = differs_uses x known k o (alike k m h g)
+  whole_uses forms.Add k m o h e b g = two_uses x known (Binary binary.Add) k o (alike k m h g)
+  whole_uses forms.Subtract k m o h e b g = two_uses x known (Binary binary.Sub) k o (alike k m h g)
+  whole_uses forms.Multiply k m o h e b g = two_uses x known (Binary binary.Mul) k o (alike k m h g)
+  whole_uses forms.Divide k m o h e b g = two_uses x known (Binary binary.Div) k o (alike k m h g)
+  whole_uses forms.Remainder k m o h e b g = two_uses x known (Binary binary.Rem) k o (alike k m h g)
+  whole_uses forms.Negate k m o h e b g = negates_uses x known k o (alike k m h g)
+  whole_uses forms.Array k m o h e b g = one_uses x known Alloc k o (alike k m h g)
+  whole_uses forms.Length k m o h e b g = one_uses x known (Unary unary.Length) k o (alike k m h g)
+  whole_uses forms.If k m o h e b g = if_uses m (subst (λ (y : LoweringParts). ClosesIf y m) o h) g
+  whole_uses forms.Index k m o h e b g = absurd (false≢true (sym e))
+  whole_uses forms.Write k m o h e b g = absurd (false≢true (sym e))
+  whole_uses forms.Call k m o h e b g = absurd (false≢true (sym e))
+  whole_uses forms.AddProcedure k m o h e b g = absurd (b refl)
+  whole_uses f k m o h e b g = tt
+
+  done_uses : (f : Form) (m : LoweringParts) → HasForm x.at.scene.tree x.node f → (f ≡ forms.AddProcedure → ⊥) → IsDone x.node x.at m → Follows m x.whole → Uses f x
+  done_uses f m has never (item g is items h) follows = subst (λ (y : Form). Uses y x) (form_one x.at.scene.tree x.node g f is has) (item_uses g m h items follows.extends)
+  done_uses f m has never (whole g k is other o h) follows =
+      let same : g ≡ f = form_one x.at.scene.tree x.node g f is has in
+      subst (λ (y : Form). Uses y x) same (whole_uses g k m o h other (λ q. never (sym same ∙ q)) follows.extends)
+
+  -- where a procedure ends
+  end_uses : (m : LoweringParts) (e : EndsProcedure x.at m) → Extends e.finishes.ends.ended x.whole.drawing → Takes End (1 ∷ []) x
+  end_uses m e g =
+      let gives = e.finishes.ends.gives in
+      let to = (named_follows x.at m e).extends in
+      takes_added x known End (1 ∷ []) _ _ e.taken e.named.drawing e.finishes.ends.ended e.pops (subst (λ (d : DrawingParts). Extends e.taken.drawing d) (sym (ap (λ (y : LoweringParts). y.drawing) e.name_taken.1)) (plain_same e.taken e.taken refl).extends) gives g (λ fed. fed)
+
+-- nodes from a later one on
+within_from : (t : Tree) (first later last : ℕ) → first ≤ later → IsWithinOne t first last → IsWithinOne t later last
+within_from t first later last h within node k from = within node k (omega (arith, h, from))
+
+within_to : (t : Tree) (first last n : ℕ) → n ≤ last → IsWithinOne t first last → IsWithinOne t first n
+within_to t first last n h within node k from = within node (omega (arith, h, k)) from
+
+module _ (t : Tree) (b : BlockParts) (m : IsMadeOfNodes t b) where
+  -- what is there in the end
+  ending : LoweringParts
+  ending = record m.closes.named { drawing = m.closes.finishes.ends.ended }
+
+  ends_follow : Follows m.ended ending
+  unfolding ending
+  ends_follow =
+      let named = m.closes.named in
+      let d = m.closes.finishes.ends.ended in
+      plain_then m.ended named ending (named_follows m.ended m.closed m.closes) (plain_grown named ending d named.scene.scope named.operands named.frames named.starts m.closes.finishes.ends.gives.grows refl)
+
+  known_at : (node : ℕ) (at : LoweringParts) → GoesThrough m.first m.begun node at → node ≤ m.last → Follows at ending → Known (moment m.first m.begun node at ending)
+  known_at node at reached h follows = record {
+    traced = all_traced t m.first m.begun m.fresh node at (within_to t m.first m.last node h m.within) reached;
+    made = all_made m.first m.begun node at reached (none_made m.begun m.fresh.names);
+    follows = follows;
+  }
+
+  uses_at : (node : ℕ) (at next : LoweringParts) (form : Form) → Passes m.first m.begun node at next m.last m.ended → HasForm t node form → Uses form (moment m.first m.begun node at ending)
+  uses_at node at next form p has =
+      let before = through_within m.first m.begun node at p.reached in
+      let behind = through_within (node + 1) next m.last m.ended p.on in
+      let first = stays t m.first m.begun node at m.fresh.tree (within_to t m.first m.last node (omega (arith, behind)) m.within) p.reached in
+      let both = stays t m.first m.begun (node + 1) next m.fresh.tree (within_to t m.first m.last (node + 1) behind m.within) (GoesThrough.one_more node at next p.reached p.done) in
+      let one = stays t node at (node + 1) next (first.tree ∙ m.fresh.tree) (within_from t m.first node (node + 1) before (within_to t m.first m.last (node + 1) behind m.within)) (GoesThrough.one_more node at next GoesThrough.none p.done) in
+      let on_to = stays t (node + 1) next m.last m.ended (both.tree ∙ m.fresh.tree) (within_from t m.first (node + 1) m.last (omega (arith, before)) m.within) p.on in
+      let later = plain_then next m.ended ending on_to ends_follow in
+      let known = known_at node at p.reached (omega (arith, behind)) (plain_then at next ending one later) in
+      let never : form ≡ forms.AddProcedure → ⊥ = λ q. (m.within node (omega (arith, behind)) before).1 (subst (λ (f : Form). HasForm t node f) q has) in
+      done_uses (moment m.first m.begun node at ending) known form next (subst (λ (y : Tree). HasForm y node form) (sym (first.tree ∙ m.fresh.tree)) has) never p.done later
+
+  end_at : Uses forms.AddProcedure (moment m.first m.begun m.last m.ended ending)
+  unfolding ending
+  end_at = end_uses (moment m.first m.begun m.last m.ended ending) (known_at m.last m.ended m.through (omega arith) ends_follow) m.closed m.closes (plain_same ending ending refl).extends
+
+  -- Arcs are uses.
+  pub arcs_are_uses : ArcsAreUses t b
+  unfolding ending
+  arcs_are_uses = record {
+    made = m;
+    whole = ending;
+    name = m.closes.name;
+    of = subst (λ (y : BlockParts). IsBlockOf m.closes.name m.closes.finishes.ends.ended y) m.is m.closes.finishes.ends.of;
+    uses = uses_at;
+    end = end_at;
+  }
+
+-- what the blocks of a source are made of
+pub made_of : (s : SourceParts) (ms : List Meaning) (t : Tree) (bs : List BlockParts) → IsTreeOf s ms t → AreLowered t bs → AreMadeOf s ms bs
+made_of s ms t bs of lowered =
+    let same : (b : BlockParts) → IsOf bs b → IsMadeOfNodes t b = λ b h. blocks_of_nodes t (length t.nodes.now) lowered.end lowered.through b (subst (λ (xs : List BlockParts). IsOf xs b) lowered.are h) in
+    record {
+      tree = t;
+      of = of;
+      lowered = lowered;
+      each = same;
+      arcs = λ b h. arcs_are_uses t b (same b h);
+    }

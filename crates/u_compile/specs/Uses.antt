@@ -1,0 +1,188 @@
+-- Uses of names: which value leads to the port where an operand is used, and where that value comes from.
+use Rattle.std.specs.Prelude.{◌≡◌, ℕ, ◌+◌, false, List, [], ◌∷◌, ◌++◌, length, Some, slice_get}
+use Rattle.u_program.specs.Parts.{BlockParts}
+use Rattle.u_program.specs.declared.program.Constant.{Constant}
+use Rattle.u_program.specs.declared.program.Kind.{Kind}
+use Rattle.u_program.specs.declared.program.Kind.TheVariants.{Apply, Binary, Unary, Alloc, Fetch, Store, Select, Last, Leave, End}
+use Rattle.u_program.specs.declared.program.Arguments.{Arguments as CountParts}
+use Rattle.u_value.specs.declared.operators.BinaryOperator.TheVariants as binary
+use Rattle.u_value.specs.declared.operators.UnaryOperator.TheVariants as unary
+use Rattle.u_source.specs.declared.form.Form.{Form}
+use Rattle.u_source.specs.declared.form.Form.TheVariants as forms
+use Rattle.u_scope.specs.declared.checked.Meaning.TheVariants.{Name}
+use Rattle.u_compile.specs.declared.graph.Output.{Output}
+use Rattle.u_compile.specs.declared.drawing.Scope.{Scope}
+use Rattle.u_compile.specs.declared.drawing.Way.{Way}
+use Rattle.u_compile.specs.declared.drawing.Way.TheVariants.{Side, Turn}
+use Rattle.u_compile.specs.declared.naming.Binding.{Binding}
+use Rattle.u_compile.specs.declared.lowering.Frame.TheVariants as frames
+use Rattle.u_compile.specs.declared.lowering.Operand.{Operand}
+use Rattle.u_compile.specs.declared.lowering.Operand.TheVariants.{Atom, Value, Arguments}
+use Rattle.u_compile.specs.declared.lowering.Start.{Start}
+use Rattle.u_compile.specs.declared.lowering.Turns.{Turns}
+use Rattle.u_compile.specs.declared.tree.Tree.{Tree}
+use Rattle.u_compile.specs.Graphs.{output}
+use Rattle.u_compile.specs.Scoped.{IsOf}
+use Rattle.u_compile.specs.Drawings.{DrawingParts, GoesOn as Continues, IsOfKind, IsFedBy, IsParameter, IsEntered, Comes}
+use Rattle.u_compile.specs.Namings.{IsNamed, IsConstant}
+use Rattle.u_compile.specs.Trees.{HasForm, IsParent, IsCellWritten, IsGiven}
+use Rattle.u_compile.specs.Operands.{LoweringParts, IsWritten, IsNoConstant, IsOperand}
+use Rattle.u_compile.specs.Sides.{IsLastFrame}
+use Rattle.u_compile.specs.Bodies.{IsBlockOf}
+use Rattle.u_compile.specs.Walks.{IsDone, GoesThrough, IsMadeOfNodes}
+
+-- the operand waits last
+abbrev pub WaitsLast : LoweringParts → Operand → Type 0
+WaitsLast l o = (before : List Operand) × (l.operands ≡ before ++ (o ∷ []))
+
+-- value w is what a statement of that kind gives, to port 1 of which exactly value v leads
+pub record GivesOne (d : DrawingParts) (kind : Kind) (v w : ℕ) : Type 0 where
+  pub statement : ℕ
+  pub stands : IsOfKind d.statements statement kind
+  pub fed : IsFedBy d.links d.values statement 1 v
+  pub sends : slice_get d.values w ≡ Some (output statement false ∷ [])
+
+-- value w is what a `leave` gives that takes what a `last` gives, to which exactly value v leads
+abbrev pub IsLeft : DrawingParts → ℕ → ℕ → Type 0
+IsLeft d v w = (given : ℕ) × GivesOne d Last v given × GivesOne d Leave given w
+
+-- value v is what the statement gives that takes the next parameter, where d is the procedure before
+pub record GivesParameter (d e : DrawingParts) (v : ℕ) : Type 0 where
+  pub kind : Kind
+  pub is : IsParameter (length d.statements) kind
+  pub stands : IsOfKind e.statements (length d.statements + 1) kind
+  pub sends : slice_get e.values v ≡ Some (output (length d.statements + 1) false ∷ [])
+
+-- scope s is right inside that one, and is entered that way
+abbrev pub IsInside : List Scope → ℕ → Way → ℕ → Type 0
+IsInside scopes around way s = (x : Scope) × (slice_get scopes s ≡ Some x) × (x.around ≡ around) × (x.way ≡ way)
+
+-- A name is bound at the node: it has that value in that scope from then on. Before the node that is there what `at` says, and
+-- later what `e` says.
+pub data Binds (node : ℕ) (at e : LoweringParts) (b : Binding) : Type 0 where
+  -- by its definition, of which the node is one: to what the operand is in the scope that is gone through
+  definition : (o : Operand) → HasForm at.scene.tree node forms.Define → b.name ≡ node → b.scope ≡ at.scene.scope → WaitsLast at o → IsOperand at.scene e.drawing o b.value → Binds node at e b
+  -- as a parameter: to what that gives, in the procedure's scope
+  parameter : HasForm at.scene.tree node forms.AddParameter → b.name ≡ node → b.scope ≡ 0 → GivesParameter at.drawing e.drawing b.value → Binds node at e b
+  -- as a variable of a loop, in its turns: to what an `enter` gives to which exactly the value leads with which it began
+  variable : (s : Start) (loop : ℕ) → HasForm at.scene.tree node forms.Variables → IsOf at.starts s → b.name ≡ s.name → IsInside e.drawing.scopes at.scene.scope (Turn loop) b.scope → IsEntered e.drawing loop s.value b.value → Binds node at e b
+  -- as the limit of a `for`, which has no name of its own, and is known under the node where the variables have begun
+  limit : (waiting : ℕ) → HasForm at.scene.tree node forms.Variables → b.name ≡ node → b.scope ≡ at.scene.scope → IsLastFrame at (frames.Begun waiting (Some b.value)) → Binds node at e b
+  -- as a variable that a loop gives, around it: to what comes out over a `last` and a `leave`, which take what the name is, by
+  -- what was bound before, in the side where the test is false
+  last : (turns : Turns) (control : Output) (block whole end value : ℕ) (before : List Binding) → HasForm at.scene.tree node forms.Block → IsParent at.scene.tree whole node → IsLastFrame at (frames.Block turns control block) → IsGiven at.scene.tree node whole b.name → b.scope ≡ turns.around → IsInside e.drawing.scopes turns.turn (Side control false) end → Continues (before ++ (b ∷ [])) e.scene.names.bindings → IsNamed e.drawing before end b.name value → IsLeft e.drawing value b.value → Binds node at e b
+
+-- The node is passed on the way from the first one to the last: what is there before it and behind it.
+pub record Passes (first : ℕ) (begun : LoweringParts) (node : ℕ) (at next : LoweringParts) (last : ℕ) (ended : LoweringParts) : Type 0 where
+  pub reached : GoesThrough first begun node at
+  pub done : IsDone node at next
+  pub on : GoesThrough (node + 1) next last ended
+
+-- A node of a procedure: the first node of that, what was there then, what is there before the node, and what is there in the
+-- end.
+pub record Moment : Type 0 where
+  pub first : ℕ
+  pub begun : LoweringParts
+  pub node : ℕ
+  pub at : LoweringParts
+  pub whole : LoweringParts
+
+-- at a node of the procedure, before this one, the name was bound so
+pub record IsBound (x : Moment) (b : Binding) : Type 0 where
+  pub node : ℕ
+  pub at : LoweringParts
+  pub next : LoweringParts
+  pub passes : Passes x.first x.begun node at next x.node x.at
+  pub binds : Binds node at x.whole b
+
+-- The node uses a name, in the scope that is gone through: value v comes from the value to which what the name means was bound,
+-- over exactly the scopes between.
+pub record IsUse (x : Moment) (node v : ℕ) : Type 0 where
+  pub name : ℕ
+  pub means : slice_get x.at.scene.tree.meanings.now node ≡ Some (Name name)
+  pub binding : Binding
+  pub named : binding.name ≡ name
+  pub bound : IsBound x binding
+  pub comes : Comes x.whole.drawing binding.scope binding.value x.at.scene.scope v
+
+-- Value v is what the operand is: the value that waited, a constant that its node is, or the value of the name that it uses.
+pub data IsFrom (x : Moment) (o : Operand) (v : ℕ) : Type 0 where
+  waiting : o ≡ Value v → IsFrom x o v
+  constant : (node : ℕ) (k : Constant) → o ≡ Atom node → IsWritten x.at.scene.tree x.at.scene.names.aliases node k → IsConstant x.whole.drawing x.whole.scene.names.bindings x.at.scene.scope k v → IsFrom x o v
+  named : (node : ℕ) → o ≡ Atom node → IsNoConstant x.at.scene.tree x.at.scene.names.aliases node → IsUse x node v → IsFrom x o v
+
+-- Exactly the outputs of one value lead to that port of the whole procedure, and nothing else: the value that the operand is.
+pub record IsArc (x : Moment) (statement port : ℕ) (o : Operand) : Type 0 where
+  pub value : ℕ
+  pub fed : IsFedBy x.whole.drawing.links x.whole.drawing.values statement port value
+  pub from : IsFrom x o value
+
+-- so do the operands, one to each of the ports
+abbrev pub AreArcs : Moment → ℕ → List ℕ → List Operand → Type 0
+AreArcs x statement [] [] = Unit {0}
+AreArcs x statement (port ∷ ports) (o ∷ os) = IsArc x statement port o × AreArcs x statement ports os
+AreArcs x statement ports os = ⊥
+
+-- The operands that wait last lead to those ports of a statement of that kind, one to each.
+pub record Takes (kind : Kind) (ports : List ℕ) (x : Moment) : Type 0 where
+  pub before : List Operand
+  pub operands : List Operand
+  pub waited : x.at.operands ≡ before ++ operands
+  pub statement : ℕ
+  pub stands : IsOfKind x.whole.drawing.statements statement kind
+  pub arcs : AreArcs x statement ports operands
+
+-- the ports from that one on, one for each
+abbrev pub ports_from : {A : Type 0} → ℕ → List A → List ℕ
+ports_from port [] = []
+ports_from port (y ∷ ys) = port ∷ ports_from (port + 1) ys
+
+-- What is called leads to port 1 of an `apply`, and the arguments, which wait behind it, to those from port 2 on.
+pub record Called (x : Moment) : Type 0 where
+  pub before : List Operand
+  pub callee : Operand
+  pub given : List Operand
+  pub waited : x.at.operands ≡ before ++ (callee ∷ Arguments ∷ given)
+  pub statement : ℕ
+  pub back : ℕ
+  pub count : CountParts
+  pub stands : IsOfKind x.whole.drawing.statements statement (Apply back count)
+  pub arc : IsArc x statement 1 callee
+  pub arcs : AreArcs x statement (ports_from 2 given) given
+
+-- What leads where at a node of that form, in the whole procedure.
+abbrev pub Uses : Form → Moment → Type 0
+Uses forms.Or x = Takes (Binary binary.Or) (1 ∷ 2 ∷ []) x
+Uses forms.And x = Takes (Binary binary.And) (1 ∷ 2 ∷ []) x
+Uses forms.Not x = Takes (Unary unary.Not) (1 ∷ []) x
+Uses forms.Less x = Takes (Binary binary.Lt) (1 ∷ 2 ∷ []) x
+Uses forms.AtMost x = Takes (Binary binary.Le) (1 ∷ 2 ∷ []) x
+Uses forms.Greater x = Takes (Binary binary.Lt) (2 ∷ 1 ∷ []) x
+Uses forms.AtLeast x = Takes (Binary binary.Le) (2 ∷ 1 ∷ []) x
+Uses forms.Equal x = Takes (Binary binary.Eq) (1 ∷ 2 ∷ []) x
+Uses forms.Unequal x = Takes (Binary binary.Eq) (1 ∷ 2 ∷ []) x
+Uses forms.Add x = Takes (Binary binary.Add) (1 ∷ 2 ∷ []) x
+Uses forms.Subtract x = Takes (Binary binary.Sub) (1 ∷ 2 ∷ []) x
+Uses forms.Multiply x = Takes (Binary binary.Mul) (1 ∷ 2 ∷ []) x
+Uses forms.Divide x = Takes (Binary binary.Div) (1 ∷ 2 ∷ []) x
+Uses forms.Remainder x = Takes (Binary binary.Rem) (1 ∷ 2 ∷ []) x
+Uses forms.Negate x = Takes (Binary binary.Sub) (2 ∷ []) x
+Uses forms.Array x = Takes Alloc (1 ∷ []) x
+Uses forms.Length x = Takes (Unary unary.Length) (1 ∷ []) x
+Uses forms.Index x = (IsCellWritten x.at.scene.tree x.node → ⊥) → Takes Fetch (1 ∷ 2 ∷ []) x
+Uses forms.Write x = Takes Store (1 ∷ 2 ∷ 3 ∷ []) x
+Uses forms.Call x = Called x
+Uses forms.If x = (control : ℕ) → IsLastFrame x.at (frames.Choice control) → Takes Select (2 ∷ 3 ∷ []) x
+Uses forms.AddProcedure x = Takes End (1 ∷ []) x
+Uses _ x = Unit {0}
+
+-- Arcs are uses. Of the block, the procedure with its statements, links, scopes and values as they are in the end; and where a node
+-- of it takes operands to ports, each is led to by exactly what one value gives: the one that was bound to what a name means that
+-- is used there, brought over exactly the scopes between.
+pub record ArcsAreUses (t : Tree) (b : BlockParts) : Type 0 where
+  pub made : IsMadeOfNodes t b
+  pub whole : LoweringParts
+  pub name : List ℕ
+  pub of : IsBlockOf name whole.drawing b
+  pub uses : (node : ℕ) (at next : LoweringParts) (form : Form) → Passes made.first made.begun node at next made.last made.ended → HasForm t node form → Uses form (record { first = made.first; begun = made.begun; node = node; at = at; whole = whole })
+  pub end : Uses forms.AddProcedure (record { first = made.first; begun = made.begun; node = made.last; at = made.ended; whole = whole })
