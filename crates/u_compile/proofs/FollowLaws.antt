@@ -37,7 +37,7 @@ use Rattle.u_compile.specs.Steps.{IsItem, IsWhole}
 use Rattle.u_compile.specs.Walks.{IsDone, item, whole, is_item, AllMade}
 use Rattle.u_compile.specs.Uses.{IsLeft, IsInside, GivesParameter, Binds}
 use Rattle.u_compile.proofs.DrawingLaws.{get_goes_on, get_last, on_self, on_then, on_one, grows_self, grows_then}
-use Rattle.u_compile.proofs.GateLaws.{of_append}
+use Rattle.u_compile.proofs.GateLaws.{of_append, of_last}
 use Rattle.u_compile.proofs.KnownLaws.{comes_then}
 use Rattle.u_compile.proofs.ExtendLaws.{Extends, extends_grown, extends_carried, extends_then, comes_extends, named_extends, constant_extends, inside_extends, named_more, constant_more, of_more, leaves_left}
 
@@ -174,10 +174,6 @@ pub data Goes (P : LoweringParts → Binding → Type 0) (f : Form) (n : ℕ) (l
   on : Keeps P l m → (f ≡ forms.NoParameters → ⊥) → (f ≡ forms.AddProcedure → ⊥) → Goes P f n l m
   begins : f ≡ forms.NoParameters → m ≡ with_procedure n l → Goes P f n l m
   ends : f ≡ forms.AddProcedure → EndsProcedure l m → Goes P f n l m
-
-of_last : {A : Type 0} (xs : List A) (x : A) → IsOf (xs ++ (x ∷ [])) x
-of_last [] x = inl refl
-of_last (y ∷ xs) x = inr (of_last xs x)
 
 of_drop : {A : Type 0} (n : ℕ) (xs : List A) (x : A) → IsOf (drop n xs) x → IsOf xs x
 of_drop zero [] x h = h
@@ -316,9 +312,9 @@ module _ (P : LoweringParts → Binding → Type 0) (grow : (l m : LoweringParts
   sides_open : (v : ℕ) (l m : LoweringParts) → OpensSides v l m → Keeps P l m
   sides_open v l m o = grown_follows l m m.drawing o.side l.operands (l.frames ++ (frames.Sides (some_sides o.control l.scene.scope None) ∷ [])) l.starts (grows_then l.drawing o.chosen m.drawing (chooses_grow _ _ _ _ o.chooses) (side_grows _ _ _ _ _ _ o.adds)) o.rest
 
-  if_opens : (l m : LoweringParts) → OpensIf l m → Keeps P l m
-  if_opens l m (OpensIf.choice taken v pops same) = then_follows l taken m (pops_follow l taken _ pops) (stacked_follows taken m taken.scene.scope taken.operands (taken.frames ++ (frames.Choice v ∷ [])) taken.starts same)
-  if_opens l m (OpensIf.sides taken v pops opens) = then_follows l taken m (pops_follow l taken _ pops) (sides_open v taken m opens)
+  if_opens : (n w : ℕ) (l m : LoweringParts) → OpensIf n w l m → Keeps P l m
+  if_opens n w l m (OpensIf.choice may taken v pops same) = then_follows l taken m (pops_follow l taken _ pops) (stacked_follows taken m taken.scene.scope taken.operands (taken.frames ++ (frames.Choice v ∷ [])) taken.starts same)
+  if_opens n w l m (OpensIf.sides never taken v pops opens) = then_follows l taken m (pops_follow l taken _ pops) (sides_open v taken m opens)
 
   else_opens : (l m : LoweringParts) → OpensElse l m → Keeps P l m
   else_opens l m (OpensElse.choice v last same) = same_follows l m same
@@ -493,11 +489,11 @@ module _ (P : LoweringParts → Binding → Type 0) (grow : (l m : LoweringParts
   loop_ends n l m (EndsLoop.let_go o vain popped) = popped_follows l m o popped
   loop_ends n l m (EndsLoop.stays never same) = same_follows l m same
 
-  opens_follow : (f : Form) (l m : LoweringParts) → Opens f l m → Keeps P l m
-  opens_follow forms.If l m h = if_opens l m h
-  opens_follow forms.Loop l m h = turn_opens l m h
-  opens_follow forms.For l m h = turn_opens l m h
-  opens_follow f l m h = same_follows l m h
+  opens_follow : (f : Form) (n w : ℕ) (l m : LoweringParts) → Opens f n w l m → Keeps P l m
+  opens_follow forms.If n w l m h = if_opens n w l m h
+  opens_follow forms.Loop n w l m h = turn_opens l m h
+  opens_follow forms.For n w l m h = turn_opens l m h
+  opens_follow f n w l m h = same_follows l m h
 
   closes_follow : (f : Form) (n w : ℕ) (l m : LoweringParts) → HasForm l.scene.tree n forms.Block → IsParent l.scene.tree w n → AreBound P n l → Closes f n w l m → Keeps P l m
   closes_follow forms.If n w l m form parent bind h = first_closes l m h
@@ -530,7 +526,7 @@ module _ (P : LoweringParts → Binding → Type 0) (grow : (l m : LoweringParts
   rest_goes forms.NoVariables n l m form bind h a b = variables_open n l m h
   rest_goes forms.AddVariable n l m form bind h a b = variable_starts n l m h
   rest_goes forms.Variables n l m form bind h a b = loop_opens n l m form bind h
-  rest_goes forms.NoItems n l m form bind h a b = opens_follow h.form l m h.opens
+  rest_goes forms.NoItems n l m form bind h a b = opens_follow h.form n h.whole l m h.opens
   rest_goes forms.Block n l m form bind h a b = closes_follow h.form n h.whole l m form h.parent bind h.closes
   rest_goes forms.AddParameter n l m form bind h a b = parameter_follows l m n form bind h
   rest_goes forms.NoParameters n l m form bind h a b = absurd (a refl)

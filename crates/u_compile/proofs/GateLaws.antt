@@ -20,6 +20,10 @@ of_append [] ys x h = inr h
 of_append (y ∷ xs) ys x (inl e) = inl (inl e)
 of_append (y ∷ xs) ys x (inr h) = elim (of_append xs ys x h) [ inl i ↦ inl (inr i) | inr i ↦ inr i ]
 
+pub of_last : {A : Type 0} (xs : List A) (x : A) → IsOf (xs ++ (x ∷ [])) x
+of_last [] x = inl refl
+of_last (y ∷ xs) x = inr (of_last xs x)
+
 -- with one gate more
 pub drawn_gate : (ds : List DraftParts) (ls : List Link) (vs : List (List Output)) (gs : List Gate) (b : Bool) (g : Gate) → IsDrawn ds ls vs gs b → IsGate ds ls vs g → IsDrawn ds ls vs (gs ++ (g ∷ [])) b
 drawn_gate ds ls vs gs b g is gate = record {

@@ -3,6 +3,8 @@ use Rattle.std.proofs.Common.{◌≡◌, ℕ, zero, suc, ◌+◌, ◌≤◌, ref
 use Rattle.std.specs.Prelude.{slice_get}
 use Rattle.std.proofs.lemmas.List.{append-nil}
 use Rattle.u_compile.specs.declared.lowering.Start.{Start}
+use Rattle.u_compile.specs.declared.tree.Tree.{Tree}
+use Rattle.u_compile.specs.Trees.{IsParent}
 use Rattle.u_compile.specs.Operands.{LoweringParts, GoesOn}
 use Rattle.u_program.specs.declared.program.Constant.TheVariants.{Int}
 use Rattle.u_program.specs.declared.program.Kind.TheVariants.{Binary}
@@ -25,7 +27,7 @@ pub record CarriesSo (turn waiting number : ℕ) (l m : LoweringParts) : Type 0 
 pub carries_none : (turn waiting : ℕ) (l : LoweringParts) → CarriesSo turn waiting waiting l l
 carries_none turn waiting l = record { done = []; whole = refl; each = none; same = refl }
 
-drop_one : {A : Type 0} (xs : List A) (n : ℕ) (x : A) → slice_get xs n ≡ Some x → drop n xs ≡ x ∷ drop (suc n) xs
+pub drop_one : {A : Type 0} (xs : List A) (n : ℕ) (x : A) → slice_get xs n ≡ Some x → drop n xs ≡ x ∷ drop (suc n) xs
 drop_one [] n x e = cc
 drop_one (y ∷ xs) zero x e = cc
 drop_one (y ∷ xs) (suc n) x e = drop_one xs n x e
@@ -85,8 +87,8 @@ carries_variables turn waiting l carried k ss each same taken = record {
 }
 
 -- the variables of a loop have begun
-pub opens_loop : (node waiting clock turn : ℕ) (limit : Option ℕ) (l ended bound turned carried tested m : LoweringParts) → IsFramePopped l ended (frames.Begun waiting limit) → IsClock (drop waiting ended.starts) clock → BindsLimit node limit ended bound → OpensTurns bound turned bound.scene.scope clock turn → CarriesVariables turn waiting turned carried → TestsLimit turn clock node limit (in_scope carried turn) tested → m ≡ with_frames tested (tested.frames ++ (frames.Test (some_turns bound.scene.scope turn) ∷ [])) → OpensLoop node l m
-opens_loop node waiting clock turn limit l ended bound turned carried tested m frame is binds opens carries tests same =
+pub opens_loop : (node whole waiting clock turn : ℕ) (limit : Option ℕ) (l ended bound turned carried tested m : LoweringParts) → IsFramePopped l ended (frames.Begun waiting limit) → IsParent ended.scene.tree whole node → IsClock ended.scene.tree (drop waiting ended.starts) node whole clock → BindsLimit node limit ended bound → OpensTurns bound turned bound.scene.scope clock turn → CarriesVariables turn waiting turned carried → TestsLimit turn clock node limit (in_scope carried turn) tested → m ≡ with_frames tested (tested.frames ++ (frames.Test (some_turns bound.scene.scope turn) ∷ [])) → OpensLoop node l m
+opens_loop node whole waiting clock turn limit l ended bound turned carried tested m frame parent is binds opens carries tests same =
     let first : ended.scene.scope ≡ l.scene.scope = ap (λ (x : LoweringParts). x.scene.scope) frame.1 in
     let scope : bound.scene.scope ≡ l.scene.scope = bound_scope node limit ended bound binds ∙ first in
     record {
@@ -94,8 +96,10 @@ opens_loop node waiting clock turn limit l ended bound turned carried tested m f
       limit = limit;
       ended = ended;
       frame = frame;
+      whole = whole;
+      parent = subst (λ (t : Tree). IsParent t whole node) (ap (λ (x : LoweringParts). x.scene.tree) frame.1) parent;
       clock = clock;
-      is_clock = subst (λ (ss : List Start). IsClock (drop waiting ss) clock) (ap (λ (x : LoweringParts). x.starts) frame.1) is;
+      is_clock = subst (λ (ss : List Start). IsClock l.scene.tree (drop waiting ss) node whole clock) (ap (λ (x : LoweringParts). x.starts) frame.1) (subst (λ (t : Tree). IsClock t (drop waiting ended.starts) node whole clock) (ap (λ (x : LoweringParts). x.scene.tree) frame.1) is);
       bound = bound;
       binds = binds;
       turn = turn;

@@ -1,10 +1,11 @@
 -- What stands around the nodes of trees.
-use Rattle.std.proofs.Common.{◌≡◌, ℕ, sym, ap, ◌∙◌, subst, Bool, true, false, Some}
+use Rattle.std.proofs.Common.{◌≡◌, ℕ, ◌≤◌, arith, sym, ap, ◌∙◌, subst, Bool, true, false, Some, length}
 use Rattle.std.specs.Prelude.{IsTrue}
+use Rattle.std.proofs.lemmas.Option.{slice_get_within}
 use Rattle.u_source.specs.declared.form.Form.{Form}
 use Rattle.u_source.specs.declared.form.Node.{Node}
 use Rattle.u_compile.specs.declared.tree.Tree.{Tree}
-use Rattle.u_compile.specs.Trees.{HasForm, IsParent, IsEither, IsAround, parent, beyond}
+use Rattle.u_compile.specs.Trees.{HasForm, IsParent, IsEither, IsAround, parent, beyond, IsWanted, StandsInTest, below, further, is_apart}
 
 some_one : {A : Type 0} (x y : A) → Some x ≡ Some y → x ≡ y
 some_one x y e = cc
@@ -28,6 +29,28 @@ around_one t one other p q node (parent m f a has is) (beyond n between g b had 
 around_one t one other p q node (beyond m between f a has none from) (parent n g b had it) = absurd (not_beyond t one other q between node g f b had it a has none)
 around_one t one other p q node (beyond m x f a has none from) (beyond n y g b had never after) =
     around_one t one other p q x from (subst (λ (z : ℕ). IsAround t one other q z) (sym (parent_one t x y node a b)) after)
+
+pub wanted_one : (t : Tree) (node : ℕ) (a b : Bool) → IsWanted t node a → IsWanted t node b → a ≡ b
+wanted_one t node a b x y = some_one a b (sym x.1 ∙ y.1)
+
+-- where a way up from a node ends, and where it goes on
+pub test_above : (t : Tree) (loop node p : ℕ) → IsParent t p node → (p ≡ loop → ⊥) → StandsInTest t loop node → (form : Form) × HasForm t p form × (is_apart form ≡ false) × StandsInTest t loop p
+test_above t loop node p up never (below n is) = absurd (never (parent_one t p loop n up is))
+test_above t loop node p up never (further n q form is has inner stands) =
+    let same : q ≡ p = parent_one t q p n is up in
+    (form, subst (λ (x : ℕ). HasForm t x form) same has, inner, subst (λ (x : ℕ). StandsInTest t loop x) same stands)
+
+pub not_in_test : (t : Tree) (loop node p : ℕ) (form : Form) → IsParent t p node → (p ≡ loop → ⊥) → HasForm t p form → is_apart form ≡ true → StandsInTest t loop node → ⊥
+not_in_test t loop node p form up never has apart stands =
+    let above = test_above t loop node p up never stands in
+    let same : form ≡ above.0 = form_one t p form above.0 has above.1 in
+    differ (sym apart ∙ (ap is_apart same ∙ above.2))
+  where
+    differ : true ≡ false → ⊥
+    differ f = cc
+
+pub no_form : (t : Tree) (node : ℕ) (form : Form) → length t.nodes.now ≤ node → HasForm t node form → ⊥
+no_form t node form h is = let w = slice_get_within t.nodes.now node is.0 is.1 in omega (arith, h, w)
 
 -- what a test does not find is not so
 pub not_found : {P : Type 0} (b : Bool) → (P → IsTrue b) → b ≡ false → P → ⊥

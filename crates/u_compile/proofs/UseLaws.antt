@@ -1,10 +1,11 @@
 -- Arcs are uses: what leads to a port of a whole procedure is the operand that was taken there.
-use Rattle.std.proofs.Common.{◌≡◌, ℕ, ◌+◌, ◌≤◌, arith, refl, sym, ap, ◌∙◌, subst, true, false, List, [], ◌∷◌, ◌++◌, length}
+use Rattle.std.proofs.Common.{◌≡◌, ℕ, ◌+◌, ◌≤◌, arith, refl, sym, ap, ◌∙◌, subst, Bool, true, false, List, [], ◌∷◌, ◌++◌, length, Some}
 use Rattle.std.proofs.lemmas.Bool.{false≢true}
+use Rattle.std.specs.Prelude.{slice_get}
 use Rattle.u_program.specs.Parts.{BlockParts}
 use Rattle.u_program.specs.declared.program.Constant.{Constant}
 use Rattle.u_program.specs.declared.program.Kind.{Kind}
-use Rattle.u_program.specs.declared.program.Kind.TheVariants.{Apply, Binary, Unary, Alloc, Fetch, Store, Select, End}
+use Rattle.u_program.specs.declared.program.Kind.TheVariants.{Apply, Binary, Unary, Alloc, Fetch, Store, Select, Pass, End}
 use Rattle.u_value.specs.declared.operators.BinaryOperator.TheVariants as binary
 use Rattle.u_value.specs.declared.operators.UnaryOperator.TheVariants as unary
 use Rattle.u_source.specs.Sources.{SourceParts}
@@ -14,24 +15,29 @@ use Rattle.u_scope.specs.declared.checked.Meaning.{Meaning}
 use Rattle.u_compile.specs.declared.naming.Binding.{Binding}
 use Rattle.u_compile.specs.declared.lowering.Frame.TheVariants as frames
 use Rattle.u_compile.specs.declared.lowering.Operand.{Operand}
+use Rattle.u_compile.specs.declared.lowering.Turns.{Turns}
+use Rattle.u_compile.specs.declared.graph.Output.{Output}
+use Rattle.u_compile.specs.declared.drawing.Scope.{Scope}
+use Rattle.u_compile.specs.declared.drawing.Way.TheVariants.{Side}
 use Rattle.u_compile.specs.declared.lowering.Operand.TheVariants.{Atom}
 use Rattle.u_compile.specs.declared.tree.Tree.{Tree}
 use Rattle.u_compile.specs.Scoped.{IsOf}
 use Rattle.u_compile.specs.Trees.{HasForm}
-use Rattle.u_compile.specs.Drawings.{DrawingParts, IsOfKind, IsFedBy, AreFed, Adds}
+use Rattle.u_compile.specs.Drawings.{DrawingParts, IsOfKind, IsFedBy, AreFed, Adds, Chooses}
 use Rattle.u_compile.specs.Namings.{KnownParts, IsConstant, HasConstant, a_constant}
 use Rattle.u_compile.specs.Operands.{SceneParts, LoweringParts, IsAtom, IsOperand, AreOperands, Pops, TakesOne, TakesTwo, TakesSwapped, Negates, Differs, Operates, Reads, Writes, TakesCall}
-use Rattle.u_compile.specs.Sides.{IsFramePopped, Selects, ClosesIf}
-use Rattle.u_compile.specs.Bodies.{IsBlockOf, EndsProcedure}
+use Rattle.u_compile.specs.Sides.{AddsSide, IsLastFrame, IsFramePopped, IsSelect, OpensIf, Selects, ClosesIf}
+use Rattle.u_compile.specs.Turns.{OpensTurn}
+use Rattle.u_compile.specs.Bodies.{IsBlockOf, EndsProcedure, Opens, OpensBlock}
 use Rattle.u_compile.specs.Steps.{IsItem, IsWhole}
 use Rattle.u_compile.specs.Walks.{IsDone, item, whole, is_item, GoesThrough, AllMade, IsFresh, IsWithinOne, IsMadeOfNodes, AreLowered}
 use Rattle.u_compile.specs.Made.{IsTreeOf, AreMadeOf}
-use Rattle.u_compile.specs.Uses.{Binds, GivesParameter, Passes, Moment, IsBound, IsFrom, AreArcs, Takes, Called, ports_from, Uses, ArcsAreUses}
-use Rattle.u_compile.proofs.DrawingLaws.{on_then}
+use Rattle.u_compile.specs.Uses.{Binds, GivesParameter, Passes, Moment, IsBound, IsFrom, AreArcs, Takes, Called, WaitsLast, IsInside, Tells, Controls, ControlsOf, OpensWith, ports_from, Uses, ArcsAreUses}
+use Rattle.u_compile.proofs.DrawingLaws.{on_then, get_last}
 use Rattle.u_compile.proofs.KnownLaws.{comes_then}
 use Rattle.u_compile.proofs.TreeLaws.{form_one}
 use Rattle.u_compile.proofs.ExtendLaws.{Extends, extends_grown, extends_then, value_extends, stands_extends, fed_extends, entered_extends, inside_extends, comes_extends, named_extends, constant_extends, left_extends, constant_on}
-use Rattle.u_compile.proofs.FollowLaws.{Follows, plain_same, plain_then, plain_grown, Traced, Keeps, Goes, on, begins, ends, done_goes}
+use Rattle.u_compile.proofs.FollowLaws.{Follows, plain_same, plain_then, plain_grown, Traced, Keeps, Goes, on, begins, ends, done_goes, side_grows, chooses_grow}
 use Rattle.u_compile.proofs.WalkLaws.{all_made, none_made, stays, within_before, through_within, named_follows, blocks_of_nodes}
 
 constant_later : (d e : DrawingParts) → Extends d e → (k : KnownParts) (scope : ℕ) (c : Constant) (v : ℕ) → HasConstant d k scope c v → HasConstant e k scope c v
@@ -247,7 +253,63 @@ one_end [] (z ∷ ys) x y e = absurd (no_end ys y (let f : [] ≡ ys ++ (y ∷ [
 one_end (z ∷ xs) [] x y e = absurd (no_end xs x (let f : [] ≡ xs ++ (x ∷ []) = cc in f))
 one_end (z ∷ xs) (w ∷ ys) x y e = one_end xs ys x y (let f : xs ++ (x ∷ []) ≡ ys ++ (y ∷ []) = cc in f)
 
+-- what chooses a side still does
+tells_later : (c d e : DrawingParts) → Extends d e → (v : ℕ) (o : Output) → Chooses c d v o → Tells e v o
+tells_later c d e g v o (Chooses.own same is) = Tells.own (value_extends d e g v (o ∷ []) (subst (λ (y : DrawingParts). slice_get y.values v ≡ Some (o ∷ [])) (sym same) is.0))
+tells_later c d e g v o (Chooses.pass none adds is) =
+    let n = length c.statements + 1 in
+    Tells.pass n (stands_extends d e g n Pass adds.stands) (fed_extends d e g n 1 v (omega (arith, adds.one)) adds.fed.0) is
+
+-- and the side is there
+side_later : (d c e : DrawingParts) (around : ℕ) (o : Output) (b : Bool) (s : ℕ) → AddsSide d c around o b s → Extends c e → IsInside e.scopes around (Side o b) s
+side_later d c e around o b s a g =
+    let new : Scope = record { region = a.outer.region; around = around; way = Side o b; clock = a.outer.clock } in
+    let at : slice_get c.scopes s ≡ Some new = ap (λ (y : DrawingParts). slice_get y.scopes s) a.adds ∙ (ap (λ (k : ℕ). slice_get (d.scopes ++ (new ∷ [])) k) a.number ∙ get_last d.scopes new) in
+    inside_extends c e g around (Side o b) s (new, at, refl, refl)
+
 module _ (x : Moment) (known : Known x) where
+  -- the operand that was taken, as it is in the end
+  last_from : (b : LoweringParts) (v : ℕ) (os : List Operand) → x.at.operands ≡ b.operands ++ os → AreOperands x.at.scene b.drawing os (v ∷ []) → Extends b.drawing x.whole.drawing → (o : Operand) × WaitsLast x.at o × IsFrom x o v
+  last_from b v [] were are g = absurd are
+  last_from b v (o ∷ []) were are g = (o, (b.operands, were), from_operand x known b.drawing g o v are.0)
+  last_from b v (o ∷ (p ∷ os)) were are g = absurd are.1
+
+  -- a side is chosen: `c` is the procedure then, and `d` the one with the side
+  controls : (around : ℕ) (b : LoweringParts) (v : ℕ) (c d : DrawingParts) (o : Output) (s : ℕ) (os : List Operand) → x.at.operands ≡ b.operands ++ os → AreOperands x.at.scene b.drawing os (v ∷ []) → Chooses b.drawing c v o → AddsSide c d around o true s → Extends d x.whole.drawing → Controls around x
+  controls around b v c d o s os were are chooses side g =
+      let with_side = extends_grown c d (side_grows c d around o true s side) in
+      let chosen = extends_grown b.drawing c (chooses_grow b.drawing c v o chooses) in
+      let on_to = extends_then c d x.whole.drawing with_side g in
+      let last = last_from b v os were are (extends_then b.drawing c x.whole.drawing chosen on_to) in
+      record {
+        operand = last.0;
+        waits = last.1;
+        value = v;
+        from = last.2;
+        control = o;
+        tells = tells_later b.drawing c x.whole.drawing on_to v o chooses;
+        side = s;
+        inside = side_later c d x.whole.drawing around o true s side g;
+      }
+
+  if_controls : (w : ℕ) (m : LoweringParts) → OpensIf x.node w x.at m → Extends m.drawing x.whole.drawing → (IsSelect x.at.scene.tree x.node w → ⊥) → Controls x.at.scene.scope x
+  if_controls w m (OpensIf.choice may taken v pops same) g never = absurd (never may)
+  if_controls w m (OpensIf.sides not taken v pops opens) g never =
+      let scope : taken.scene.scope ≡ x.at.scene.scope = ap (λ (y : LoweringParts). y.scene.scope) pops.goes_on.rest in
+      controls x.at.scene.scope taken v opens.chosen m.drawing opens.control opens.side pops.operands pops.were pops.are opens.chooses (subst (λ (s : ℕ). AddsSide opens.chosen m.drawing s opens.control true opens.side) scope opens.adds) g
+
+  turn_controls : (m : LoweringParts) → OpensTurn x.at m → Extends m.drawing x.whole.drawing → (turns : Turns) → IsLastFrame x.at (frames.Test turns) → Controls turns.turn x
+  turn_controls m o g turns last =
+      let e = o.enters in
+      let same : o.turns ≡ turns = test_one o.turns turns (one_end o.ended.frames last.0 (frames.Test o.turns) (frames.Test turns) (sym o.frame.0 ∙ last.1)) in
+      let scene : o.ended.scene ≡ x.at.scene = ap (λ (y : LoweringParts). y.scene) o.frame.1 in
+      let were = sym (ap (λ (y : LoweringParts). y.operands) o.frame.1) ∙ o.pops.were in
+      let are : AreOperands x.at.scene o.taken.drawing o.pops.operands (o.value ∷ []) = subst (λ (y : SceneParts). AreOperands y o.taken.drawing o.pops.operands (o.value ∷ [])) scene o.pops.are in
+      subst (λ (y : Turns). Controls y.turn x) same (controls o.turns.turn o.taken o.value e.chosen m.drawing e.control e.side o.pops.operands were are e.chooses e.adds g)
+    where
+      test_one : (a b : Turns) → frames.Test a ≡ frames.Test b → a ≡ b
+      test_one a b q = cc
+
   if_uses : (m : LoweringParts) → ClosesIf x.at m → Extends m.drawing x.whole.drawing → Uses forms.If x
   if_uses m (ClosesIf.choice control ended popped selects) g c last = selects_uses x known control ended m popped selects g
   if_uses m (ClosesIf.sides s ended popped closes) g c last = absurd (other (one_end ended.frames last.0 (frames.Sides s) (frames.Choice c) (sym popped.0 ∙ last.1)))
@@ -269,6 +331,15 @@ module _ (x : Moment) (known : Known x) where
   item_uses forms.Define m h e g = tt
   item_uses forms.Next m h e g = tt
   item_uses f m h e g = absurd (false≢true e)
+
+  form_controls : (f : Form) (w : ℕ) (m : LoweringParts) → Opens f x.node w x.at m → Extends m.drawing x.whole.drawing → ControlsOf f w x
+  form_controls forms.If w m h g = if_controls w m h g
+  form_controls forms.Loop w m h g = turn_controls m h g
+  form_controls forms.For w m h g = turn_controls m h g
+  form_controls f w m h g = tt
+
+  block_uses : (m : LoweringParts) → OpensBlock x.node x.at m → Extends m.drawing x.whole.drawing → OpensWith x
+  block_uses m h g = record { block = h.block; around = h.around; whole = h.whole; parent = h.parent; form = h.form; of = h.of; controls = form_controls h.form h.whole m h.opens g }
 
   -- behind an operator nothing else is done
   alike : (k m : LoweringParts) → m ≡ k → Extends m.drawing x.whole.drawing → Extends k.drawing x.whole.drawing
@@ -292,6 +363,7 @@ module _ (x : Moment) (known : Known x) where
   whole_uses forms.Negate k m o h e b g = negates_uses x known k o (alike k m h g)
   whole_uses forms.Array k m o h e b g = one_uses x known Alloc k o (alike k m h g)
   whole_uses forms.Length k m o h e b g = one_uses x known (Unary unary.Length) k o (alike k m h g)
+  whole_uses forms.NoItems k m o h e b g = block_uses m (subst (λ (y : LoweringParts). OpensBlock x.node y m) o h) g
   whole_uses forms.If k m o h e b g = if_uses m (subst (λ (y : LoweringParts). ClosesIf y m) o h) g
   whole_uses forms.Index k m o h e b g = absurd (false≢true (sym e))
   whole_uses forms.Write k m o h e b g = absurd (false≢true (sym e))

@@ -17,12 +17,12 @@ use Rattle.u_compile.specs.Sides.{OpensIf, ClosesFirst, in_scope}
 use Rattle.u_compile.specs.Turns.{OpensTurn}
 use Rattle.u_compile.specs.Loops.{ClosesLoop}
 
--- what begins with a block of a node of that form
-abbrev pub Opens : Form → LoweringParts → LoweringParts → Type 0
-Opens forms.If l m = OpensIf l m
-Opens forms.Loop l m = OpensTurn l m
-Opens forms.For l m = OpensTurn l m
-Opens _ l m = m ≡ l
+-- what begins with a block of a node of that form, the items of which begin at the first node
+abbrev pub Opens : Form → ℕ → ℕ → LoweringParts → LoweringParts → Type 0
+Opens forms.If first whole l m = OpensIf first whole l m
+Opens forms.Loop first whole l m = OpensTurn l m
+Opens forms.For first whole l m = OpensTurn l m
+Opens _ first whole l m = m ≡ l
 
 -- the items of a block begin, with what the block is of
 pub record OpensBlock (node : ℕ) (l m : LoweringParts) : Type 0 where
@@ -32,7 +32,7 @@ pub record OpensBlock (node : ℕ) (l m : LoweringParts) : Type 0 where
   pub parent : IsParent l.scene.tree whole block
   pub form : Form
   pub of : HasForm l.scene.tree whole form
-  pub opens : Opens form l m
+  pub opens : Opens form node whole l m
 
 -- what ends with a block of a node of that form
 abbrev pub Closes : Form → ℕ → ℕ → LoweringParts → LoweringParts → Type 0

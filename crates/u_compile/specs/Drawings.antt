@@ -205,6 +205,16 @@ pub record Merges (d e : DrawingParts) (left right v : ℕ) : Type 0 where
 abbrev pub a_gate : Output → ℕ → ℕ → Gate
 a_gate control value switch = record { control = control; value = value; switch = switch }
 
+-- no gate of the value under the control is noted
+abbrev pub HasNoGate : List Gate → Output → ℕ → Type 0
+HasNoGate gates control v = (switch : ℕ) → IsOf gates (a_gate control v switch) → ⊥
+
+-- One gate of the value under the control is noted then: where one was, that is it, and no statement is added.
+pub record SharesGate (d e : DrawingParts) (control : Output) (v : ℕ) : Type 0 where
+  pub switch : ℕ
+  pub noted : IsOf e.gates (a_gate control v switch)
+  pub none_added : (n : ℕ) → IsOf d.gates (a_gate control v n) → e.statements ≡ d.statements
+
 -- value w is what the gate of value v under the control sends where that gives that truth value
 pub record IsGated (d : DrawingParts) (control : Output) (on : Bool) (v w : ℕ) : Type 0 where
   pub switch : ℕ

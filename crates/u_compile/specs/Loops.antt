@@ -1,5 +1,5 @@
 -- Loops: the variables with which they begin, the next values of these, and what they give.
-use Rattle.std.specs.Prelude.{◌≡◌, ℕ, ◌+◌, pos, false, List, [], ◌∷◌, ◌++◌, length, take, drop, Option, Some, None, slice_get}
+use Rattle.std.specs.Prelude.{◌≡◌, ℕ, ◌+◌, ◌<◌, ◌≤◌, pos, false, List, [], ◌∷◌, ◌++◌, length, take, drop, Option, Some, None, slice_get}
 use Rattle.u_program.specs.declared.program.Constant.TheVariants.{Int}
 use Rattle.u_program.specs.declared.program.Kind.TheVariants.{Binary}
 use Rattle.u_value.specs.declared.operators.BinaryOperator.TheVariants.{Add}
@@ -18,7 +18,7 @@ use Rattle.u_compile.specs.declared.tree.Tree.{Tree}
 use Rattle.u_compile.specs.Scoped.{IsOf}
 use Rattle.u_compile.specs.Drawings.{DrawingParts, Gives, Leaves, Carries, SetsNext, with_scope}
 use Rattle.u_compile.specs.Namings.{IsNamed, HasConstant, a_binding, with_binding}
-use Rattle.u_compile.specs.Trees.{HasForm, IsWanted, IsAround, IsGiven}
+use Rattle.u_compile.specs.Trees.{HasForm, IsParent, IsWanted, IsAround, IsGiven, StandsInTest}
 use Rattle.u_compile.specs.Operands.{LoweringParts, GoesOn, IsPopped, Pops}
 use Rattle.u_compile.specs.Definitions.{PopsName, with_names}
 use Rattle.u_compile.specs.Sides.{AddsSide, IsLastFrame, IsFramePopped, in_scope, with_frames}
@@ -94,8 +94,24 @@ BindsLimit node (Some limit) l m = m ≡ with_bound l l.scene.scope node limit
 BindsLimit node None l m = m ≡ l
 
 -- one of the variables has that name
-abbrev pub IsClock : List Start → ℕ → Type 0
-IsClock ss name = (s : Start) × IsOf ss s × (s.name ≡ name)
+abbrev pub HasVariable : List Start → ℕ → Type 0
+HasVariable ss name = (s : Start) × IsOf ss s × (s.name ≡ name)
+
+-- the node is a use of the variable of that name in the test of the loop
+pub record TestsVariable (t : Tree) (ss : List Start) (loop node name : ℕ) : Type 0 where
+  pub means : slice_get t.meanings.now node ≡ Some (Name name)
+  pub variable : HasVariable ss name
+  pub stands : StandsInTest t loop node
+
+-- none of the nodes from the first on, before the last, is one
+abbrev pub TestsNone : Tree → List Start → ℕ → ℕ → ℕ → Type 0
+TestsNone t ss loop first last = (node name : ℕ) → first ≤ node → node < last → TestsVariable t ss loop node name → ⊥
+
+-- The clock of the turns of a loop, whose variables have begun at the first node: the first of them that its test uses outside of
+-- sides and inner loops, or else the first of them.
+pub data IsClock (t : Tree) (ss : List Start) (first loop name : ℕ) : Type 0 where
+  tested : (node : ℕ) → first ≤ node → node < loop → TestsVariable t ss loop node name → TestsNone t ss loop first node → IsClock t ss first loop name
+  untested : (s : Start) (others : List Start) → TestsNone t ss loop first loop → ss ≡ s ∷ others → s.name ≡ name → IsClock t ss first loop name
 
 -- The scope of the turns of a loop is added, in that scope and with that clock.
 pub record AddsTurns (around clock : ℕ) (d e : DrawingParts) (turn : ℕ) : Type 0 where
@@ -134,14 +150,16 @@ abbrev pub some_turns : ℕ → ℕ → Turns
 some_turns around turn = record { around = around; turn = turn }
 
 -- The variables of a loop have begun: the scope of its turns is added in the one that is gone through, and is gone through from
--- then on; the loop carries each variable into it, and a `for` tests its counter there. One of the variables is the clock.
+-- then on; the loop carries each variable into it, and a `for` tests its counter there.
 pub record OpensLoop (node : ℕ) (l m : LoweringParts) : Type 0 where
   pub waiting : ℕ
   pub limit : Option ℕ
   pub ended : LoweringParts
   pub frame : IsFramePopped l ended (frames.Begun waiting limit)
+  pub whole : ℕ
+  pub parent : IsParent l.scene.tree whole node
   pub clock : ℕ
-  pub is_clock : IsClock (drop waiting l.starts) clock
+  pub is_clock : IsClock l.scene.tree (drop waiting l.starts) node whole clock
   pub bound : LoweringParts
   pub binds : BindsLimit node limit ended bound
   pub turn : ℕ

@@ -8,6 +8,8 @@ use Rattle.u_compile.specs.declared.lowering.Frame.{Frame}
 use Rattle.u_compile.specs.declared.lowering.Frame.TheVariants as frames
 use Rattle.u_compile.specs.declared.lowering.Operand.TheVariants.{Value}
 use Rattle.u_compile.specs.declared.lowering.Sides.{Sides}
+use Rattle.u_compile.specs.declared.tree.Tree.{Tree}
+use Rattle.u_compile.specs.Trees.{IsChoice, IsWanted}
 use Rattle.u_compile.specs.Drawings.{DrawingParts, Grows, Chooses, Merges, with_scope}
 use Rattle.u_compile.specs.Operands.{LoweringParts, Pops, Pushes, with_operand}
 
@@ -49,11 +51,15 @@ pub record OpensSides (value : ℕ) (l m : LoweringParts) : Type 0 where
   pub adds : AddsSide chosen m.drawing l.scene.scope control true side
   pub rest : m ≡ record (in_scope (with_frames l (l.frames ++ (frames.Sides (some_sides control l.scene.scope None) ∷ []))) side) { drawing = m.drawing }
 
--- A first side begins. The value of the operand that waits last is what is tested: the side where it is true is entered, or else
--- it is to choose one of two values.
-pub data OpensIf (l m : LoweringParts) : Type 0 where
-  choice : (taken : LoweringParts) (value : ℕ) → Pops l taken (value ∷ []) → m ≡ with_frames taken (taken.frames ++ (frames.Choice value ∷ [])) → OpensIf l m
-  sides : (taken : LoweringParts) (value : ℕ) → Pops l taken (value ∷ []) → OpensSides value taken m → OpensIf l m
+-- the `if` needs no scopes: its value is wanted, and both of its sides are just a name or a constant
+abbrev pub IsSelect : Tree → ℕ → ℕ → Type 0
+IsSelect t first whole = IsChoice t first whole × IsWanted t whole true
+
+-- The first side of an `if` begins at the node. The value of the operand that waits last is what is tested: the side where it is
+-- true is entered, or, if the `if` needs no scopes, it is to choose one of two values.
+pub data OpensIf (node whole : ℕ) (l m : LoweringParts) : Type 0 where
+  choice : IsSelect l.scene.tree node whole → (taken : LoweringParts) (value : ℕ) → Pops l taken (value ∷ []) → m ≡ with_frames taken (taken.frames ++ (frames.Choice value ∷ [])) → OpensIf node whole l m
+  sides : (IsSelect l.scene.tree node whole → ⊥) → (taken : LoweringParts) (value : ℕ) → Pops l taken (value ∷ []) → OpensSides value taken m → OpensIf node whole l m
 
 -- An `else` begins: the other side of the control is entered, in the scope around the first one.
 pub data OpensElse (l m : LoweringParts) : Type 0 where

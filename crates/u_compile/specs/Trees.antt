@@ -1,6 +1,7 @@
 -- Syntax trees: the forms and the words of their nodes, and what stands around them.
-use Rattle.std.specs.Prelude.{◌≡◌, ℕ, ◌+◌, ◌-◌, ◌<◌, ◌≤◌, Bool, ◌⊎◌, Some, length, slice_get}
+use Rattle.std.specs.Prelude.{◌≡◌, ℕ, ◌+◌, ◌-◌, ◌<◌, ◌≤◌, Bool, true, false, ◌⊎◌, Some, length, slice_get}
 use Rattle.u_source.specs.declared.form.Form.{Form}
+use Rattle.u_source.specs.declared.form.Form.TheVariants as forms
 use Rattle.u_source.specs.declared.form.Form.TheVariants.{Write, Loop, For, AddVariable, NoVariables}
 use Rattle.u_source.specs.declared.form.Node.{Node}
 use Rattle.u_source.specs.declared.token.Word.{Word}
@@ -56,3 +57,45 @@ pub record IsUsedFrom (t : Tree) (first last name : ℕ) : Type 0 where
 pub record IsGiven (t : Tree) (block loop name : ℕ) : Type 0 where
   pub variable : IsVariable t loop name
   pub used : IsUsedFrom t block loop name
+
+-- a node of that form is a name or a constant
+abbrev pub is_atom : Form → Bool
+is_atom forms.Name = true
+is_atom forms.Number = true
+is_atom forms.Negative = true
+is_atom forms.True = true
+is_atom forms.False = true
+is_atom _ = false
+
+abbrev pub IsAtomAt : Tree → ℕ → Type 0
+IsAtomAt t node = (form : Form) × HasForm t node form × (is_atom form ≡ true)
+
+-- the block whose items begin at the node is just a name or a constant
+pub record IsJustAtom (t : Tree) (first : ℕ) : Type 0 where
+  pub items : HasForm t first forms.NoItems
+  pub atom : IsAtomAt t (first + 1)
+  pub value : HasForm t (first + 2) forms.AddValue
+  pub block : HasForm t (first + 3) forms.Block
+
+-- Both sides of the `if` are just a name or a constant: it ends with that node, and its first side begins at the other.
+pub record IsChoice (t : Tree) (first whole : ℕ) : Type 0 where
+  pub one : IsJustAtom t first
+  pub otherwise : HasForm t (first + 4) forms.Otherwise
+  pub other : IsJustAtom t (first + 5)
+  pub ends : HasForm t (first + 9) forms.Else
+  pub is : whole ≡ first + 10
+
+-- what stands below a node of that form is no part of the test of the loop around it: it is in a side, in an inner loop, or in
+-- what a loop gives
+abbrev pub is_apart : Form → Bool
+is_apart forms.Block = true
+is_apart forms.Else = true
+is_apart forms.Loop = true
+is_apart forms.For = true
+is_apart forms.Give = true
+is_apart _ = false
+
+-- the node stands in the test of the loop, outside of sides and inner loops
+pub data StandsInTest (t : Tree) (loop : ℕ) : ℕ → Type 0 where
+  below : (node : ℕ) → IsParent t loop node → StandsInTest t loop node
+  further : (node between : ℕ) (form : Form) → IsParent t between node → HasForm t between form → is_apart form ≡ false → StandsInTest t loop between → StandsInTest t loop node

@@ -1,9 +1,9 @@
 -- Uses of names: which value leads to the port where an operand is used, and where that value comes from.
-use Rattle.std.specs.Prelude.{◌≡◌, ℕ, ◌+◌, false, List, [], ◌∷◌, ◌++◌, length, Some, slice_get}
+use Rattle.std.specs.Prelude.{◌≡◌, ℕ, ◌+◌, true, false, List, [], ◌∷◌, ◌++◌, length, Some, slice_get}
 use Rattle.u_program.specs.Parts.{BlockParts}
 use Rattle.u_program.specs.declared.program.Constant.{Constant}
 use Rattle.u_program.specs.declared.program.Kind.{Kind}
-use Rattle.u_program.specs.declared.program.Kind.TheVariants.{Apply, Binary, Unary, Alloc, Fetch, Store, Select, Last, Leave, End}
+use Rattle.u_program.specs.declared.program.Kind.TheVariants.{Apply, Binary, Unary, Alloc, Fetch, Store, Select, Pass, Last, Leave, End}
 use Rattle.u_program.specs.declared.program.Arguments.{Arguments as CountParts}
 use Rattle.u_value.specs.declared.operators.BinaryOperator.TheVariants as binary
 use Rattle.u_value.specs.declared.operators.UnaryOperator.TheVariants as unary
@@ -25,9 +25,9 @@ use Rattle.u_compile.specs.Graphs.{output}
 use Rattle.u_compile.specs.Scoped.{IsOf}
 use Rattle.u_compile.specs.Drawings.{DrawingParts, GoesOn as Continues, IsOfKind, IsFedBy, IsParameter, IsEntered, Comes}
 use Rattle.u_compile.specs.Namings.{IsNamed, IsConstant}
-use Rattle.u_compile.specs.Trees.{HasForm, IsParent, IsCellWritten, IsGiven}
+use Rattle.u_compile.specs.Trees.{HasForm, IsParent, IsAround, IsCellWritten, IsGiven}
 use Rattle.u_compile.specs.Operands.{LoweringParts, IsWritten, IsNoConstant, IsOperand}
-use Rattle.u_compile.specs.Sides.{IsLastFrame}
+use Rattle.u_compile.specs.Sides.{IsLastFrame, IsSelect}
 use Rattle.u_compile.specs.Bodies.{IsBlockOf}
 use Rattle.u_compile.specs.Walks.{IsDone, GoesThrough, IsMadeOfNodes}
 
@@ -150,6 +150,41 @@ pub record Called (x : Moment) : Type 0 where
   pub arc : IsArc x statement 1 callee
   pub arcs : AreArcs x statement (ports_from 2 given) given
 
+-- the output says what the value is: it is its one output, or that of a `pass` to which exactly the value leads
+pub data Tells (d : DrawingParts) (v : ℕ) (o : Output) : Type 0 where
+  own : slice_get d.values v ≡ Some (o ∷ []) → Tells d v o
+  pass : (statement : ℕ) → IsOfKind d.statements statement Pass → IsFedBy d.links d.values statement 1 v → o ≡ output statement false → Tells d v o
+
+-- The operand that waits last chooses a side: an output tells its value, and a side of that control is entered in that scope, where
+-- it is true.
+pub record Controls (around : ℕ) (x : Moment) : Type 0 where
+  pub operand : Operand
+  pub waits : WaitsLast x.at operand
+  pub value : ℕ
+  pub from : IsFrom x operand value
+  pub control : Output
+  pub tells : Tells x.whole.drawing value control
+  pub side : ℕ
+  pub inside : IsInside x.whole.drawing.scopes around (Side control true) side
+
+-- What chooses at the beginning of a block of a node of that form: in the scope that is gone through if it is an `if` with scopes, and
+-- in the scope of the turns if it is a loop.
+abbrev pub ControlsOf : Form → ℕ → Moment → Type 0
+ControlsOf forms.If whole x = (IsSelect x.at.scene.tree x.node whole → ⊥) → Controls x.at.scene.scope x
+ControlsOf forms.Loop whole x = (turns : Turns) → IsLastFrame x.at (frames.Test turns) → Controls turns.turn x
+ControlsOf forms.For whole x = (turns : Turns) → IsLastFrame x.at (frames.Test turns) → Controls turns.turn x
+ControlsOf _ whole x = Unit {0}
+
+-- what the items of a block begin with, by what the block is of
+pub record OpensWith (x : Moment) : Type 0 where
+  pub block : ℕ
+  pub around : IsAround x.at.scene.tree forms.Block forms.Block block x.node
+  pub whole : ℕ
+  pub parent : IsParent x.at.scene.tree whole block
+  pub form : Form
+  pub of : HasForm x.at.scene.tree whole form
+  pub controls : ControlsOf form whole x
+
 -- What leads where at a node of that form, in the whole procedure.
 abbrev pub Uses : Form → Moment → Type 0
 Uses forms.Or x = Takes (Binary binary.Or) (1 ∷ 2 ∷ []) x
@@ -173,6 +208,7 @@ Uses forms.Index x = (IsCellWritten x.at.scene.tree x.node → ⊥) → Takes Fe
 Uses forms.Write x = Takes Store (1 ∷ 2 ∷ 3 ∷ []) x
 Uses forms.Call x = Called x
 Uses forms.If x = (control : ℕ) → IsLastFrame x.at (frames.Choice control) → Takes Select (2 ∷ 3 ∷ []) x
+Uses forms.NoItems x = OpensWith x
 Uses forms.AddProcedure x = Takes End (1 ∷ []) x
 Uses _ x = Unit {0}
 

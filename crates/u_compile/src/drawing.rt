@@ -1,5 +1,5 @@
 //! A procedure under construction: its graph, its scopes and its values.
-ghost use Rattle.std.specs.Prelude.{◌≡◌, ℕ, ◌+◌, ◌≤◌, List, [], ◌∷◌, ◌++◌, length, slice_get, slice_set, get_or, false, Some, None, IfOk, OnOk, IfSome, IfNone};
+ghost use Rattle.std.specs.Prelude.{◌≡◌, ℕ, ◌+◌, ◌≤◌, List, [], ◌∷◌, ◌++◌, length, slice_get, slice_set, get_or, false, Some, None, IfOk, OnOk, IfSome, IfNone, MatchResult};
 ghost use Rattle.u_program.specs.Limits.{IsBlockOf, limits_of, place_of};
 ghost use Rattle.u_program.specs.declared.program.Version.TheVariants as versions;
 ghost use Rattle.u_determinate.specs.Determinate.{IsDeterminateBlock};
@@ -10,7 +10,7 @@ ghost use Rattle.u_compile.specs.declared.drawing.Carried.{Carried as a_carried_
 ghost use Rattle.u_compile.specs.Fanning.{IsFinished};
 ghost use Rattle.u_compile.specs.Graphs.{graph, output};
 ghost use Rattle.u_compile.specs.Scoped.{IsOf};
-ghost use Rattle.u_compile.specs.Drawings.{Adds, AddsNext, AreValues, Calls, Chooses, EachIsFed, Gives, Grows, IsGate, IsGated, IsNextOf, IsOnly, IsOpen, IsOwn, IsParameter, IsValue, LeadsOn, Leaves, Merges, SetsNext, a_carried, a_gate, input_links, links_to, no_statements, with_links, with_scope, with_value};
+ghost use Rattle.u_compile.specs.Drawings.{Adds, AddsNext, AreValues, Calls, Chooses, EachIsFed, Gives, Grows, HasNoGate, IsGate, IsGated, IsNextOf, IsOnly, IsOpen, IsOwn, IsParameter, IsValue, LeadsOn, Leaves, Merges, SetsNext, SharesGate, a_carried, a_gate, input_links, links_to, no_statements, with_links, with_scope, with_value};
 
 use crate::graph::{Full, Output, STATEMENTS};
 use crate::place::{Guard, Place};
@@ -183,7 +183,8 @@ fn lead_values(graph: &mut Noted, values: &[Outputs], inputs: &[usize]) -> Resul
 
 /// The `switch` of the gate of a value under a control.
 fn gate_of(gates: &[Gate], control: Output, value: usize) -> Option<u16>
-    ensures { IfSome result (λ s. IsOf gates.now (a_gate control value s)) }
+    ensures some { IfSome result (λ s. IsOf gates.now (a_gate control value s)) }
+    ensures none { IfNone result (HasNoGate gates.now control value) }
 {
     let mut rest = gates;
     while let Some((gate, others)) = rest.split_first() {
@@ -285,7 +286,8 @@ impl Drawing {
 
     /// The scope with this number.
     pub fn scope(&self, number: usize) -> Result<Scope, Full>
-        ensures { IfOk result (λ s. slice_get self.now.scopes number ≡ Some s) }
+        ensures { MatchResult result (λ s. slice_get self.now.scopes number ≡ Some s)
+            (λ _. length self.now.scopes ≤ number) }
     {
         match self.scopes.get(number) {
             Some(scope) => Ok(*scope),
@@ -390,6 +392,7 @@ impl Drawing {
         ensures number { IfOk result (λ n. n ≡ length self.old.statements + 1) }
         ensures adds { OnOk result (Adds self.old self.new kind.now inputs.now) }
         ensures carried { OnOk result (self.new.carried ≡ self.old.carried) }
+        ensures gates { OnOk result (self.new.gates ≡ self.old.gates) }
     {
         let statement = self.graph.put(place, kind, control)?;
         if let Err(full) = lead_values(&mut self.graph, &self.values, inputs) {
@@ -552,6 +555,8 @@ impl Drawing {
         ensures grows { OnOk result (Grows self.old self.new) }
         ensures gate { IfOk result (λ s. IsGate self.new.statements self.new.links
             self.new.values (a_gate control value s)) }
+        ensures notes { IfOk result (λ s. self.new.gates
+            ≡ self.old.gates ++ (a_gate control value s ∷ [])) }
     {
         let place = self.place(scope)?;
         let switch = self.add(&place, &Kind::Switch, control.statement, &[value])?;
@@ -582,12 +587,14 @@ impl Drawing {
         ensures grows { OnOk result (Grows self.old self.new) }
         ensures gate { IfOk result (λ s. IsGate self.new.statements self.new.links
             self.new.values (a_gate control value s)) }
+        ensures shared { OnOk result (SharesGate self.old self.new control value) }
     {
         match gate_of(&self.gates, control, value) {
             Some(switch) => Ok(switch),
             None => {
                 let around = self.scope(side)?.around;
-                self.add_gate(around, control, value)
+                let switch = self.add_gate(around, control, value)?;
+                Ok(switch)
             }
         }
     }
@@ -602,6 +609,7 @@ impl Drawing {
     ) -> Result<usize, Full>
         ensures grows { OnOk result (Grows self.old self.new) }
         ensures gated { IfOk result (λ w. IsGated self.new control on value w) }
+        ensures shared { OnOk result (SharesGate self.old self.new control value) }
     {
         let switch = self.gate(side, control, value)?;
         self.add_value(Output {

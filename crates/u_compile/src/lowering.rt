@@ -1,5 +1,5 @@
 //! The lowering: one pass over the nodes of a source.
-ghost use Rattle.std.specs.Prelude.{◌≡◌, IfOk, OnOk};
+ghost use Rattle.std.specs.Prelude.{◌≡◌, [], IfOk, MatchResult, OnOk};
 ghost use Rattle.u_program.specs.Limits.{IsBlockOf, limits_of};
 ghost use Rattle.u_program.specs.declared.program.Version.TheVariants as versions;
 ghost use Rattle.u_determinate.specs.Determinate.{IsDeterminateBlock};
@@ -169,7 +169,8 @@ impl<'a> Lowering<'a> {
 impl Lowering<'_> {
     /// What has begun last and not ended.
     pub fn pop_frame(&mut self) -> Result<Frame, Full>
-        ensures { IfOk result (IsFramePopped (lowering self.old) (lowering self.new)) }
+        ensures { MatchResult result (IsFramePopped (lowering self.old) (lowering self.new))
+            (λ _. self.old.frames.items ≡ []) }
     {
         match self.frames.pop() {
             Some(frame) => Ok(frame),
@@ -179,7 +180,8 @@ impl Lowering<'_> {
 
     /// What has begun last and not ended, which goes on.
     pub fn last_frame(&self) -> Result<Frame, Full>
-        ensures { IfOk result (IsLastFrame (lowering self.now)) }
+        ensures { MatchResult result (IsLastFrame (lowering self.now))
+            (λ _. self.now.frames.items ≡ []) }
     {
         match self.frames.last() {
             Some(frame) => Ok(*frame),
@@ -290,7 +292,8 @@ impl Lowering<'_> {
 
     /// The items of a block of a node of that form begin.
     fn open_of(&mut self, form: Form, number: usize, whole: usize) -> Result<(), Full>
-        ensures { OnOk result (Opens form (lowering self.old) (lowering self.new)) }
+        ensures { OnOk result (Opens form number whole (lowering self.old)
+            (lowering self.new)) }
     {
         match form {
             Form::If => self.open_if(number, whole),

@@ -1,5 +1,6 @@
 //! The values of names and constants in scopes.
-ghost use Rattle.std.specs.Prelude.{◌≡◌, IfNone, IfOk, IfSome, OnOk};
+ghost use Rattle.std.specs.Prelude.{◌≡◌, IfNone, IfOk, IfSome, MatchResult, OnOk};
+ghost use Rattle.u_compile.specs.declared.graph.Full.TheVariants as fulls;
 ghost use Rattle.u_compile.specs.Scoped.{IsOf};
 ghost use Rattle.u_compile.specs.Drawings.{Carries, Grows};
 ghost use Rattle.u_compile.specs.Namings.{AddsNamed, Brings, HasConstant, HasNoAlias, IsNamed, IsRightAround, IsWithin, Learns, a_binding, a_constant, an_alias, known, nothing_known, with_alias, with_binding};
@@ -227,8 +228,9 @@ impl Names {
 
     /// Gives a name its value in a scope.
     fn bind(&mut self, scope: usize, name: usize, value: usize) -> Result<(), Full>
-        ensures { OnOk result (known self.new
-            ≡ with_binding (known self.old) (a_binding scope name value)) }
+        ensures { MatchResult result (λ _. known self.new
+            ≡ with_binding (known self.old) (a_binding scope name value))
+            (λ e. e ≡ fulls.NoMemory) }
     {
         self.bindings.push(Binding { scope, name, value })?;
         Ok(())
@@ -261,8 +263,9 @@ impl Names {
 
     /// Lets a name be a constant.
     pub fn alias(&mut self, name: usize, constant: &Constant) -> Result<(), Full>
-        ensures { OnOk result (known self.new
-            ≡ with_alias (known self.old) (an_alias name constant.now)) }
+        ensures { MatchResult result (λ _. known self.new
+            ≡ with_alias (known self.old) (an_alias name constant.now))
+            (λ e. e ≡ fulls.NoMemory) }
     {
         self.aliases.push(Alias {
             name,

@@ -1,6 +1,7 @@
 //! The lowering of operators, calls, cells and definitions.
-ghost use Rattle.std.specs.Prelude.{◌≡◌, ℕ, [], ◌∷◌, reverse, Some, IfNone, IfOk, IfSome, OnOk, pos, neg_ℤ};
+ghost use Rattle.std.specs.Prelude.{◌≡◌, ℕ, [], ◌∷◌, reverse, Some, IfNone, IfOk, IfSome, MatchResult, OnOk, pos, neg_ℤ};
 ghost use Rattle.u_program.specs.declared.program.Kind.TheVariants as kinds;
+ghost use Rattle.u_compile.specs.declared.graph.Full.TheVariants as fulls;
 ghost use Rattle.u_compile.specs.declared.lowering.Operand.TheVariants as operands;
 ghost use Rattle.u_compile.specs.Namings.{IsUsed};
 ghost use Rattle.u_compile.specs.Definitions.{Defines, DefinesConstant, PopsName};
@@ -58,7 +59,8 @@ fn there(number: Option<i64>) -> Result<i64, Full>
 impl Lowering<'_> {
     /// What waits last for its use.
     pub fn pop(&mut self) -> Result<Operand, Full>
-        ensures { IfOk result (IsPopped (lowering self.old) (lowering self.new)) }
+        ensures { MatchResult result (IsPopped (lowering self.old) (lowering self.new))
+            (λ _. self.old.operands.items ≡ []) }
     {
         match self.operands.pop() {
             Some(operand) => Ok(operand),
@@ -68,8 +70,9 @@ impl Lowering<'_> {
 
     /// Lets a value wait for its use.
     pub fn push(&mut self, value: usize) -> Result<(), Full>
-        ensures { OnOk result (lowering self.new
-            ≡ with_operand (lowering self.old) (operands.Value value)) }
+        ensures { MatchResult result (λ _. lowering self.new
+            ≡ with_operand (lowering self.old) (operands.Value value))
+            (λ e. e ≡ fulls.NoMemory) }
     {
         self.operands.push(Operand::Value(value))?;
         Ok(())
@@ -472,7 +475,9 @@ impl Lowering<'_> {
 
     /// Lets an operand wait for its use.
     fn wait(&mut self, operand: Operand) -> Result<(), Full>
-        ensures { OnOk result (lowering self.new ≡ with_operand (lowering self.old) operand) }
+        ensures { MatchResult result
+            (λ _. lowering self.new ≡ with_operand (lowering self.old) operand)
+            (λ e. e ≡ fulls.NoMemory) }
     {
         self.operands.push(operand)?;
         Ok(())

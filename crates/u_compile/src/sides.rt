@@ -1,19 +1,32 @@
 //! The lowering of `if`.
-ghost use Rattle.std.specs.Prelude.{◌≡◌, OnOk};
+ghost use Rattle.std.specs.Prelude.{◌≡◌, ◌↔◌, IfOk, IsTrue, OnOk};
 ghost use Rattle.u_compile.specs.Operands.{lowering};
-ghost use Rattle.u_compile.specs.Sides.{ClosesElse, ClosesFirst, ClosesIf, ClosesOther, ClosesSide, ClosesSides, Joins, KeepsGate, OpensElse, OpensIf, OpensSides, Selects, left_side};
+ghost use Rattle.u_compile.specs.Sides.{ClosesElse, ClosesFirst, ClosesIf, ClosesOther, ClosesSide, ClosesSides, IsSelect, Joins, KeepsGate, OpensElse, OpensIf, OpensSides, Selects, left_side};
 
 use crate::graph::Full;
 use crate::lowering::{Frame, Lowering, Sides};
 use u_program::Kind;
 
 impl Lowering<'_> {
+    /// Whether the `if` that ends with node `whole`, and whose first side begins at the other, needs no scopes: its value
+    /// is wanted, and both sides are just a name or a constant.
+    fn is_select(&self, number: usize, whole: usize) -> Result<bool, Full>
+        ensures { IfOk result (λ b. IsTrue b ↔ IsSelect self.now.tree.now number whole) }
+    {
+        if !self.tree.is_choice(number, whole) {
+            return Ok(false);
+        }
+        let wanted = self.tree.is_wanted(whole)?;
+        Ok(wanted)
+    }
+
     /// The first side of an `if` that ends with node `whole` begins.
     pub fn open_if(&mut self, number: usize, whole: usize) -> Result<(), Full>
-        ensures { OnOk result (OpensIf (lowering self.old) (lowering self.new)) }
+        ensures { OnOk result (OpensIf number whole (lowering self.old) (lowering self.new)) }
     {
+        let is_select = self.is_select(number, whole)?;
         let value = self.pop_value()?;
-        if self.tree.is_choice(number, whole) && self.tree.is_wanted(whole)? {
+        if is_select {
             self.frames.push(Frame::Choice(value))?;
             return Ok(());
         }

@@ -1,8 +1,8 @@
 //! What stands around the nodes of a syntax tree.
-ghost use Rattle.std.specs.Prelude.{◌≡◌, ◌-◌, ◌<◌, ◌↔◌, length, slice_get, Some, IfOk, IfSome, IsTrue};
+ghost use Rattle.std.specs.Prelude.{◌≡◌, ◌+◌, ◌-◌, ◌<◌, ◌≤◌, ◌↔◌, length, slice_get, Some, IfOk, IfSome, IsTrue, MatchResult};
 ghost use Rattle.u_source.specs.declared.form.Form.TheVariants as forms;
 ghost use Rattle.u_source.specs.declared.token.Word.TheVariants as words;
-ghost use Rattle.u_compile.specs.Trees.{HasForm, IsAround, IsAtWord, IsCellWritten, IsEither, IsParent, IsUsedFrom, IsVariable, IsWanted};
+ghost use Rattle.u_compile.specs.Trees.{HasForm, IsAround, IsAtWord, IsAtomAt, IsCellWritten, IsChoice, IsEither, IsJustAtom, IsParent, IsUsedFrom, IsVariable, IsWanted, StandsInTest, is_apart, is_atom};
 
 use crate::graph::Full;
 use std::alloc::Global;
@@ -181,7 +181,8 @@ impl<'a> Tree<'a> {
 
     /// The node with this number.
     pub fn node(&self, number: usize) -> Result<Node, Full>
-        ensures { IfOk result (λ n. slice_get self.now.nodes.now number ≡ Some n) }
+        ensures { MatchResult result (λ n. slice_get self.now.nodes.now number ≡ Some n)
+            (λ _. length self.now.nodes.now ≤ number) }
     {
         match self.nodes.get(number) {
             Some(node) => Ok(*node),
@@ -191,7 +192,8 @@ impl<'a> Tree<'a> {
 
     /// The form of the node with this number.
     pub fn form(&self, number: usize) -> Result<Form, Full>
-        ensures { IfOk result (λ form. HasForm self.now number form) }
+        ensures { MatchResult result (λ form. HasForm self.now number form)
+            (λ _. length self.now.nodes.now ≤ number) }
     {
         match self.nodes.get(number) {
             Some(node) => Ok(node.form),
@@ -201,7 +203,8 @@ impl<'a> Tree<'a> {
 
     /// The parent of the node with this number; of the root, the root.
     pub fn parent(&self, number: usize) -> Result<usize, Full>
-        ensures { IfOk result (λ p. IsParent self.now p number) }
+        ensures { MatchResult result (λ p. IsParent self.now p number)
+            (λ _. length self.now.parents.items ≤ number) }
     {
         match self.parents.get(number) {
             Some(parent) => Ok(*parent),
@@ -230,7 +233,8 @@ impl<'a> Tree<'a> {
 
     /// What the node with this number means.
     pub fn meaning(&self, number: usize) -> Result<Meaning, Full>
-        ensures { IfOk result (λ m. slice_get self.now.meanings.now number ≡ Some m) }
+        ensures { MatchResult result (λ m. slice_get self.now.meanings.now number ≡ Some m)
+            (λ _. length self.now.meanings.now ≤ number) }
     {
         match self.meanings.get(number) {
             Some(meaning) => Ok(*meaning),
@@ -250,6 +254,23 @@ impl<'a> Tree<'a> {
                 return Ok(parent);
             }
             at = parent;
+        }
+        Err(Full::Misplaced)
+    }
+
+    /// Whether the node stands in the test of the loop outside of sides and inner loops.
+    pub fn is_in_test(&self, number: usize, whole: usize) -> Result<bool, Full>
+        ensures { IfOk result (λ b. IsTrue b ↔ StandsInTest self.now whole number) }
+    {
+        let mut at = number;
+        'upwards: for _ in number..whole {
+            at = self.parent(at)?;
+            if at == whole {
+                return Ok(true);
+            }
+            if is_apart(self.form(at)?) {
+                return Ok(false);
+            }
         }
         Err(Full::Misplaced)
     }
@@ -286,26 +307,50 @@ impl<'a> Tree<'a> {
         Ok(false)
     }
 
-    /// The form of the node so many behind this one.
-    fn form_behind(&self, number: usize, count: usize) -> Option<Form> {
-        let Some(behind) = self.nodes.get(number..) else {
-            return None;
-        };
-        match behind.get(count) {
-            Some(node) => Some(node.form),
-            None => None,
+    /// Whether the node has that form.
+    fn has_form(&self, number: usize, form: Form) -> bool
+        ensures { IsTrue result ↔ HasForm self.now number form }
+    {
+        match self.form(number) {
+            Ok(found) => is_either(found, form, form),
+            Err(_) => false,
         }
     }
 
-    /// Whether at the beginning of the first block of an `if` that ends with node `whole` both sides are just a name
-    /// or a constant.
-    pub fn is_choice(&self, number: usize, whole: usize) -> bool {
-        whole.checked_sub(number) == Some(10)
-            && is_atom(self.form_behind(number, 1))
-            && self.form_behind(number, 2) == Some(Form::AddValue)
-            && self.form_behind(number, 4) == Some(Form::Otherwise)
-            && is_atom(self.form_behind(number, 6))
-            && self.form_behind(number, 7) == Some(Form::AddValue)
+    /// Whether the node is a name or a constant.
+    fn is_atom(&self, number: usize) -> bool
+        ensures { IsTrue result ↔ IsAtomAt self.now number }
+    {
+        match self.form(number) {
+            Ok(form) => is_atom(form),
+            Err(_) => false,
+        }
+    }
+
+    /// Whether the block whose items begin at the first of the nodes, and which ends with the last, is just a name or a
+    /// constant.
+    fn is_just_atom(&self, first: usize, last: usize) -> bool
+        requires { last ≡ first + 3 }
+        ensures { IsTrue result ↔ IsJustAtom self.now first }
+    {
+        self.has_form(first, Form::NoItems)
+            && self.is_atom(first + 1)
+            && self.has_form(first + 2, Form::AddValue)
+            && self.has_form(last, Form::Block)
+    }
+
+    /// Whether both sides of the `if` that ends with node `whole`, and whose first side begins at the other, are just a
+    /// name or a constant.
+    pub fn is_choice(&self, number: usize, whole: usize) -> bool
+        ensures { IsTrue result ↔ IsChoice self.now number whole }
+    {
+        if whole.checked_sub(number) != Some(10) {
+            return false;
+        }
+        self.is_just_atom(number, number + 3)
+            && self.has_form(number + 4, Form::Otherwise)
+            && self.is_just_atom(number + 5, number + 8)
+            && self.has_form(number + 9, Form::Else)
     }
 
     /// The place of the token with this number, or of the first byte where there is none.
@@ -353,13 +398,22 @@ impl<'a> Tree<'a> {
     }
 }
 
-/// Whether it is a name or a constant.
-fn is_atom(form: Option<Form>) -> bool {
-    match form {
-        Some(form) => matches!(
-            form,
-            Form::Name | Form::Number | Form::Negative | Form::True | Form::False
-        ),
-        None => false,
-    }
+/// Whether a node of that form is a name or a constant.
+fn is_atom(form: Form) -> bool
+    ensures { result ≡ is_atom form }
+{
+    matches!(
+        form,
+        Form::Name | Form::Number | Form::Negative | Form::True | Form::False
+    )
+}
+
+/// Whether what stands below a node of that form is no part of the test of the loop around it.
+pub(crate) fn is_apart(form: Form) -> bool
+    ensures { result ≡ is_apart form }
+{
+    matches!(
+        form,
+        Form::Block | Form::Else | Form::Loop | Form::For | Form::Give
+    )
 }

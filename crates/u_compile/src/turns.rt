@@ -1,9 +1,9 @@
 //! The lowering of loops.
-ghost use Rattle.std.specs.Prelude.{◌≡◌, ◌↔◌, drop, length, slice_get, Some, IfOk, IfSome, IsTrue, OnOk};
+ghost use Rattle.std.specs.Prelude.{◌≡◌, ℕ, ◌↔◌, drop, length, slice_get, Some, IfNone, IfOk, IfSome, IsTrue, OnOk};
 ghost use Rattle.u_compile.specs.Trees.{IsGiven};
 ghost use Rattle.u_compile.specs.Operands.{lowering};
 ghost use Rattle.u_compile.specs.Turns.{ClosesTurn, ClosesTurns, EntersBlock, GoesRound, OpensTurn, TestsCounter};
-ghost use Rattle.u_compile.specs.Loops.{BindsLimit, CarriesEach, CarriesStart, CarriesVariables, ClosesEach, ClosesLoop, ClosesVariable, ClosesVariables, Counts, CountsOn, EndsLoop, GivesInVain, IsClock, OpensLoop, OpensTurns, OpensVariables, Starts, StartsCounter, StartsVariable, TestsLimit};
+ghost use Rattle.u_compile.specs.Loops.{BindsLimit, CarriesEach, CarriesStart, CarriesVariables, ClosesEach, ClosesLoop, ClosesVariable, ClosesVariables, Counts, CountsOn, EndsLoop, GivesInVain, HasVariable, IsClock, OpensLoop, OpensTurns, OpensVariables, Starts, StartsCounter, StartsVariable, TestsLimit, TestsVariable};
 
 use crate::drawing::{Scope, Way};
 use crate::graph::{Full, Output};
@@ -15,7 +15,7 @@ use u_value::BinaryOperator;
 
 /// Whether a variable of a loop that begins has this name.
 fn is_start(starts: &[Start], name: usize) -> bool
-    ensures { IsTrue result → IsClock starts.now name }
+    ensures { IsTrue result ↔ HasVariable starts.now name }
 {
     let mut rest = starts;
     while let Some((start, others)) = rest.split_first() {
@@ -75,27 +75,12 @@ impl Lowering<'_> {
         Ok(())
     }
 
-    /// Whether the node stands in the test of the loop outside of sides and inner loops.
-    fn is_in_test(&self, number: usize, whole: usize) -> Result<bool, Full> {
-        let mut at = number;
-        for _ in number..whole {
-            at = self.tree.parent(at)?;
-            if at == whole {
-                return Ok(true);
-            }
-            if matches!(
-                self.tree.form(at)?,
-                Form::Block | Form::Else | Form::Loop | Form::For | Form::Give
-            ) {
-                return Ok(false);
-            }
-        }
-        Ok(false)
-    }
-
     /// The variable of a loop that the node uses in the loop's test, outside of sides and inner loops.
     fn tested(&self, number: usize, whole: usize, waiting: usize) -> Result<Option<usize>, Full>
-        ensures { IfOk result (λ o. IfSome o (IsClock (drop waiting self.now.starts.items))) }
+        ensures some { IfOk result (λ o. IfSome o (TestsVariable self.now.tree.now
+            (drop waiting self.now.starts.items) whole number)) }
+        ensures none { IfOk result (λ o. IfNone o ((name : ℕ) → TestsVariable self.now.tree.now
+            (drop waiting self.now.starts.items) whole number name → ⊥)) }
     {
         let Meaning::Name(name) = self.tree.meaning(number)? else {
             return Ok(None);
@@ -103,7 +88,7 @@ impl Lowering<'_> {
         let Some(starts) = self.starts.get(waiting..) else {
             return Err(Full::Misplaced);
         };
-        if is_start(starts, name) && self.is_in_test(number, whole)? {
+        if is_start(starts, name) && self.tree.is_in_test(number, whole)? {
             Ok(Some(name))
         } else {
             Ok(None)
@@ -112,17 +97,16 @@ impl Lowering<'_> {
 
     /// The loop variable that is the clock of a turn: the first that the test uses, or else the first.
     fn clock_of(&self, number: usize, whole: usize, waiting: usize) -> Result<usize, Full>
-        ensures { IfOk result (IsClock (drop waiting self.now.starts.items)) }
+        ensures { IfOk result (IsClock self.now.tree.now (drop waiting self.now.starts.items)
+            number whole) }
     {
         for at in number..whole {
             if let Some(name) = self.tested(at, whole, waiting)? {
                 return Ok(name);
             }
         }
-        match self.starts.get(waiting) {
-            Some(start) => Ok(start.name),
-            None => Err(Full::Misplaced),
-        }
+        let start = self.start_at(waiting)?;
+        Ok(start.name)
     }
 
     /// Lets a loop carry its variables, which are those behind so many others.
