@@ -23,6 +23,7 @@ pub mod DefinitionLaws
 pub mod SideLaws
 pub mod LoopLaws
 pub mod TreeLaws
+pub mod ForestLaws
 pub mod ExtendLaws
 pub mod FollowLaws
 pub mod WalkLaws

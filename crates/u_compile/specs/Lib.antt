@@ -8,6 +8,7 @@ pub mod Orderly
 pub mod Placed
 pub mod Drawings
 pub mod Namings
+pub mod Forests
 pub mod Trees
 pub mod Operands
 pub mod Definitions

@@ -1,5 +1,7 @@
 //! What stands around the nodes of a syntax tree.
-ghost use Rattle.std.specs.Prelude.{◌≡◌, ◌+◌, ◌-◌, ◌<◌, ◌≤◌, ◌↔◌, length, slice_get, Some, IfOk, IfSome, IsTrue, MatchResult};
+ghost use Rattle.std.specs.Prelude.{◌≡◌, ◌+◌, ◌-◌, ◌<◌, ◌≤◌, ◌↔◌, length, slice_get, slice_set, Some, IfNone, IfOk, IfSome, IsTrue, MatchResult, OnOk};
+ghost use Rattle.u_source.specs.Trees.{children};
+ghost use Rattle.u_compile.specs.Forests.{Adopts, AreParents, AreWanted, IsWantedBy, wanted_below};
 ghost use Rattle.u_source.specs.declared.form.Form.TheVariants as forms;
 ghost use Rattle.u_source.specs.declared.token.Word.TheVariants as words;
 ghost use Rattle.u_compile.specs.Trees.{HasForm, IsAround, IsAtWord, IsAtomAt, IsCellWritten, IsChoice, IsEither, IsJustAtom, IsParent, IsUsedFrom, IsVariable, IsWanted, StandsInTest, is_apart, is_atom};
@@ -11,7 +13,9 @@ use u_scope::Meaning;
 use u_source::{Form, Node, Place, Token, Word};
 
 /// How many children a node of the form has.
-fn children(form: Form) -> usize {
+fn children(form: Form) -> usize
+    ensures { result ≡ length (children form) }
+{
     match form {
         Form::Name
         | Form::Number
@@ -41,48 +45,83 @@ fn children(form: Form) -> usize {
     }
 }
 
+/// Lets a node have that parent.
+fn set_parent(parents: &mut Vec<usize>, child: usize, parent: usize) -> Result<(), Full>
+    ensures there { OnOk result (child < length parents.old.items) }
+    ensures sets { OnOk result (parents.new.items ≡ slice_set parents.old.items child parent) }
+{
+    if child >= parents.len() {
+        return Err(Full::Misplaced);
+    }
+    parents[child] = parent;
+    Ok(())
+}
+
 /// Takes so many of the last roots as children of the node with this number.
 fn adopt(
     parents: &mut Vec<usize>,
     roots: &mut Vec<usize>,
     number: usize,
     count: usize,
-) -> Result<(), Full> {
-    for _ in 0..count {
+) -> Result<(), Full>
+    ensures { OnOk result (Adopts number count parents.old.items roots.old.items
+        parents.new.items roots.new.items) }
+{
+    'adopting: for _ in 0..count {
         let Some(child) = roots.pop() else {
             return Err(Full::Misplaced);
         };
-        let Some(parent) = parents.get_mut(child) else {
-            return Err(Full::Misplaced);
-        };
-        *parent = number;
+        set_parent(parents, child, number)?;
     }
     Ok(())
 }
 
+/// The node with this number.
+fn node_at(nodes: &[Node], number: usize) -> Result<Node, Full>
+    ensures { IfOk result (λ n. slice_get nodes.now number ≡ Some n) }
+{
+    match nodes.get(number) {
+        Some(node) => Ok(*node),
+        None => Err(Full::Misplaced),
+    }
+}
+
 /// For each node its parent; for the root, its own number.
-fn parents(alloc: Global, nodes: &[Node]) -> Result<Vec<usize>, Full> {
+fn parents(alloc: Global, nodes: &[Node]) -> Result<Vec<usize>, Full>
+    ensures { IfOk result (λ ps. AreParents nodes.now ps.items) }
+{
     let mut parents: Vec<usize> = Vec::new(alloc);
     let mut roots: Vec<usize> = Vec::new(alloc);
-    let mut number: usize = 0;
-    for node in nodes {
+    for number in 0..nodes.len() {
+        let node = node_at(nodes, number)?;
         adopt(&mut parents, &mut roots, number, children(node.form))?;
         parents.push(number)?;
         roots.push(number)?;
-        number = parents.len();
     }
     Ok(parents)
 }
 
 /// Whether the value of a node is wanted, if it is an `if`, a loop or a block, where its parent has this form, and
 /// the value of the parent is wanted or not.
-fn is_wanted_below(form: Form, parent: Form, wanted: bool) -> bool {
+fn is_wanted_below(form: Form, parent: Form, wanted: bool) -> bool
+    ensures { result ≡ wanted_below form parent wanted }
+{
     match parent {
         Form::AddItem => false,
         Form::Loop | Form::For => !matches!(form, Form::Block),
         Form::AddValue | Form::Else | Form::Block => wanted,
         Form::If => wanted || !matches!(form, Form::Block | Form::Else),
         _ => true,
+    }
+}
+
+/// The parent of the node with this number.
+fn parent_at(parents: &[usize], number: usize) -> Result<usize, Full>
+    ensures { IfOk result (λ p. slice_get parents.now number ≡ Some p) }
+{
+    match parents.get(number) {
+        Some(parent) => Ok(*parent),
+        None => Err(Full::Misplaced),
     }
 }
 
@@ -93,22 +132,23 @@ fn is_wanted_with(
     parents: &[usize],
     behind: &[bool],
     number: usize,
-) -> Result<bool, Full> {
-    let (Some(node), Some(parent)) = (nodes.get(number), parents.get(number)) else {
-        return Err(Full::Misplaced);
-    };
-    let Some(above) = nodes.get(*parent) else {
-        return Err(Full::Misplaced);
-    };
-    let wanted = match is_wanted_at(behind, nodes.len(), *parent) {
-        Some(wanted) => wanted,
-        None => true,
-    };
-    Ok(is_wanted_below(node.form, above.form, wanted))
+) -> Result<bool, Full>
+    requires { length behind.now + 1 + number ≡ length nodes.now }
+    ensures { IfOk result (IsWantedBy nodes.now parents.now behind.now number) }
+{
+    let node = node_at(nodes, number)?;
+    let parent = parent_at(parents, number)?;
+    let above = node_at(nodes, parent)?;
+    match is_wanted_at(behind, nodes.len(), parent) {
+        Some(wanted) => Ok(is_wanted_below(node.form, above.form, wanted)),
+        None => Ok(is_wanted_below(node.form, above.form, true)),
+    }
 }
 
 /// For each node, from the last one on, whether its value is wanted, if it is an `if`, a loop or a block.
-fn wanted(alloc: Global, nodes: &[Node], parents: &[usize]) -> Result<Vec<bool>, Full> {
+fn wanted(alloc: Global, nodes: &[Node], parents: &[usize]) -> Result<Vec<bool>, Full>
+    ensures { IfOk result (λ ws. AreWanted nodes.now parents.now ws.items) }
+{
     let mut wanted: Vec<bool> = Vec::new(alloc);
     for back in 0..nodes.len() {
         let number = nodes.len() - 1 - back;
@@ -120,8 +160,9 @@ fn wanted(alloc: Global, nodes: &[Node], parents: &[usize]) -> Result<Vec<bool>,
 
 /// Of a list from the last of so many nodes on, what it says of the node with this number.
 fn is_wanted_at(wanted: &[bool], count: usize, number: usize) -> Option<bool>
-    ensures { IfSome result (λ b. (number < count)
+    ensures some { IfSome result (λ b. (number < count)
         × (slice_get wanted.now (count - 1 - number) ≡ Some b)) }
+    ensures none { IfNone result (number < count → length wanted.now ≤ count - 1 - number) }
 {
     if number >= count {
         return None;
@@ -160,6 +201,9 @@ impl<'a> Tree<'a> {
         ensures tokens { IfOk result (λ t. t.tokens.now ≡ tokens.now) }
         ensures nodes { IfOk result (λ t. t.nodes.now ≡ nodes.now) }
         ensures meanings { IfOk result (λ t. t.meanings.now ≡ meanings.now) }
+        ensures parents { IfOk result (λ t. AreParents nodes.now t.parents.items) }
+        ensures wanted { IfOk result
+            (λ t. AreWanted nodes.now t.parents.items t.wanted.items) }
     {
         let parents = parents(alloc, nodes)?;
         let wanted = wanted(alloc, nodes, &parents)?;
