@@ -49,8 +49,8 @@ not_in_test t loop node p form up never has apart stands =
     differ : true ≡ false → ⊥
     differ f = cc
 
-pub no_form : (t : Tree) (node : ℕ) (form : Form) → length t.nodes.now ≤ node → HasForm t node form → ⊥
-no_form t node form h is = let w = slice_get_within t.nodes.now node is.0 is.1 in omega (arith, h, w)
+pub no_form : (t : Tree) (node : ℕ) (f : Form) → length t.nodes.now ≤ node → HasForm t node f → ⊥
+no_form t node f h is = let w = slice_get_within t.nodes.now node is.0 is.1 in omega (arith, h, w)
 
 -- what a test does not find is not so
 pub not_found : {P : Type 0} (b : Bool) → (P → IsTrue b) → b ≡ false → P → ⊥

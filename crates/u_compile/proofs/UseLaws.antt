@@ -1,5 +1,5 @@
 -- Arcs are uses: what leads to a port of a whole procedure is the operand that was taken there.
-use Rattle.std.proofs.Common.{◌≡◌, ℕ, ◌+◌, ◌≤◌, arith, refl, sym, ap, ◌∙◌, subst, Bool, true, false, List, [], ◌∷◌, ◌++◌, length, Some}
+use Rattle.std.proofs.Common.{◌≡◌, ℕ, ◌+◌, ◌≤◌, arith, ◌⊎◌, inl, inr, refl, sym, ap, ◌∙◌, subst, Bool, true, false, List, [], ◌∷◌, ◌++◌, length, drop, Option, Some}
 use Rattle.std.proofs.lemmas.Bool.{false≢true}
 use Rattle.std.specs.Prelude.{slice_get}
 use Rattle.u_program.specs.Parts.{BlockParts}
@@ -15,30 +15,33 @@ use Rattle.u_scope.specs.declared.checked.Meaning.{Meaning}
 use Rattle.u_compile.specs.declared.naming.Binding.{Binding}
 use Rattle.u_compile.specs.declared.lowering.Frame.TheVariants as frames
 use Rattle.u_compile.specs.declared.lowering.Operand.{Operand}
+use Rattle.u_compile.specs.declared.lowering.Start.{Start}
 use Rattle.u_compile.specs.declared.lowering.Turns.{Turns}
 use Rattle.u_compile.specs.declared.graph.Output.{Output}
 use Rattle.u_compile.specs.declared.drawing.Scope.{Scope}
-use Rattle.u_compile.specs.declared.drawing.Way.TheVariants.{Side}
+use Rattle.u_compile.specs.declared.drawing.Way.TheVariants.{Side, Turn}
 use Rattle.u_compile.specs.declared.lowering.Operand.TheVariants.{Atom}
 use Rattle.u_compile.specs.declared.tree.Tree.{Tree}
 use Rattle.u_compile.specs.Scoped.{IsOf}
 use Rattle.u_compile.specs.Trees.{HasForm}
-use Rattle.u_compile.specs.Drawings.{DrawingParts, IsOfKind, IsFedBy, AreFed, Adds, Chooses}
+use Rattle.u_compile.specs.Drawings.{DrawingParts, IsOfKind, IsFedBy, AreFed, IsEntered, Adds, Chooses}
 use Rattle.u_compile.specs.Namings.{KnownParts, IsConstant, HasConstant, a_constant}
 use Rattle.u_compile.specs.Operands.{SceneParts, LoweringParts, IsAtom, IsOperand, AreOperands, Pops, TakesOne, TakesTwo, TakesSwapped, Negates, Differs, Operates, Reads, Writes, TakesCall}
 use Rattle.u_compile.specs.Sides.{AddsSide, IsLastFrame, IsFramePopped, IsSelect, OpensIf, Selects, ClosesIf}
 use Rattle.u_compile.specs.Turns.{OpensTurn}
+use Rattle.u_compile.specs.Loops.{CarriesEach, OpensLoop}
 use Rattle.u_compile.specs.Bodies.{IsBlockOf, EndsProcedure, Opens, OpensBlock}
 use Rattle.u_compile.specs.Steps.{IsItem, IsWhole}
 use Rattle.u_compile.specs.Walks.{IsDone, item, whole, is_item, GoesThrough, AllMade, IsFresh, IsWithinOne, IsMadeOfNodes, AreLowered}
 use Rattle.u_compile.specs.Made.{IsTreeOf, AreMadeOf}
-use Rattle.u_compile.specs.Uses.{Binds, GivesParameter, Passes, Moment, IsBound, IsFrom, AreArcs, Takes, Called, WaitsLast, IsInside, Tells, Controls, ControlsOf, OpensWith, ports_from, Uses, ArcsAreUses}
+use Rattle.u_compile.specs.Uses.{Begins, Binds, GivesParameter, HasBegun, Passes, Moment, IsBound, IsFrom, AreArcs, Takes, Called, WaitsLast, IsInside, Tells, Controls, ControlsOf, OpensWith, ports_from, Uses, ArcsAreUses}
 use Rattle.u_compile.proofs.DrawingLaws.{on_then, get_last}
 use Rattle.u_compile.proofs.KnownLaws.{comes_then}
+use Rattle.u_compile.proofs.GateLaws.{of_append}
 use Rattle.u_compile.proofs.TreeLaws.{form_one}
-use Rattle.u_compile.proofs.ExtendLaws.{Extends, extends_grown, extends_then, value_extends, stands_extends, fed_extends, entered_extends, inside_extends, comes_extends, named_extends, constant_extends, left_extends, constant_on}
-use Rattle.u_compile.proofs.FollowLaws.{Follows, plain_same, plain_then, plain_grown, Traced, Keeps, Goes, on, begins, ends, done_goes, side_grows, chooses_grow}
-use Rattle.u_compile.proofs.WalkLaws.{all_made, none_made, stays, within_before, through_within, named_follows, blocks_of_nodes}
+use Rattle.u_compile.proofs.ExtendLaws.{Extends, extends_grown, extends_then, value_extends, scope_extends, stands_extends, fed_extends, entered_extends, inside_extends, comes_extends, named_extends, constant_extends, left_extends, constant_on}
+use Rattle.u_compile.proofs.FollowLaws.{Follows, plain_same, plain_then, plain_grown, AllStarted, AreTurns, Traced, Keeps, Goes, on, begins, ends, done_goes, each_carried, limit_starts, limit_tested, of_drop, side_grows, chooses_grow}
+use Rattle.u_compile.proofs.WalkLaws.{Any, AnyStart, any_grows, any_starts, all_made, none_made, stays, within_before, through_within, named_follows, blocks_of_nodes}
 
 constant_later : (d e : DrawingParts) → Extends d e → (k : KnownParts) (scope : ℕ) (c : Constant) (v : ℕ) → HasConstant d k scope c v → HasConstant e k scope c v
 constant_later d e g k scope c v (HasConstant.noted is) = HasConstant.noted is
@@ -89,24 +92,69 @@ traced_more first begun n k m done all b h =
     let r = all b h in
     record { root = r.root; is = bound_more first begun n k m k r.root done r.is; named = r.named; comes = r.comes }
 
-traced_on : (t : Tree) (f : Form) (n : ℕ) (P : LoweringParts → Binding → Type 0) (l m : LoweringParts) → Goes P f n l m → HasForm t n f → (HasForm t n forms.NoParameters → ⊥) × (HasForm t n forms.AddProcedure → ⊥) → Keeps P l m
-traced_on t f n P l m (on keeps a b) is never = keeps
-traced_on t f n P l m (begins at same) is never = absurd (never.0 (subst (λ (g : Form). HasForm t n g) at is))
-traced_on t f n P l m (ends at e) is never = absurd (never.1 (subst (λ (g : Form). HasForm t n g) at is))
+traced_on : (t : Tree) (f : Form) (n : ℕ) (P : LoweringParts → Binding → Type 0) (Q : LoweringParts → Start → Type 0) (l m : LoweringParts) → Goes P Q f n l m → HasForm t n f → (HasForm t n forms.NoParameters → ⊥) × (HasForm t n forms.AddProcedure → ⊥) → Keeps P Q l m
+traced_on t f n P Q l m (on keeps a b) is never = keeps
+traced_on t f n P Q l m (begins at same) is never = absurd (never.0 (subst (λ (g : Form). HasForm t n g) at is))
+traced_on t f n P Q l m (ends at e) is never = absurd (never.1 (subst (λ (g : Form). HasForm t n g) at is))
 
--- In a procedure that is gone through, each value of a name comes from one that was bound to it at a node before.
-pub all_traced : (t : Tree) (first : ℕ) (begun : LoweringParts) → IsFresh t begun → (n : ℕ) (m : LoweringParts) → IsWithinOne t first n → GoesThrough first begun n m → Traced (BoundBefore first begun n m) m
-all_traced t first begun fresh n m within GoesThrough.none = λ b h. absurd (subst (λ (k : KnownParts). IsOf k.bindings b) fresh.names h)
-all_traced t first begun fresh n m within (GoesThrough.one_more node k x through done) =
+begins_later : (n : ℕ) (at l m : LoweringParts) (s : Start) → Follows l m → Begins n at l s → Begins n at m s
+begins_later n at l m s f (Begins.variable o form name waits is) = Begins.variable o form name waits (operand_later at.scene l.drawing m.drawing f.extends o s.value is)
+begins_later n at l m s f (Begins.counter before o limit form name were is) = Begins.counter before o limit form name were (operand_later at.scene l.drawing m.drawing f.extends o s.value is)
+
+-- at a node before that one the variable began
+record BegunBefore (first : ℕ) (begun : LoweringParts) (n : ℕ) (k e : LoweringParts) (s : Start) : Type 0 where
+  node : ℕ
+  at : LoweringParts
+  next : LoweringParts
+  passes : Passes first begun node at next n k
+  begins : Begins node at e s
+
+begun_later : (first : ℕ) (begun : LoweringParts) (n : ℕ) (k l m : LoweringParts) (s : Start) → Follows l m → BegunBefore first begun n k l s → BegunBefore first begun n k m s
+begun_later first begun n k l m s f is = record { node = is.node; at = is.at; next = is.next; passes = is.passes; begins = begins_later is.node is.at l m s f is.begins }
+
+begun_more : (first : ℕ) (begun : LoweringParts) (n : ℕ) (k m e : LoweringParts) (s : Start) → IsDone n k m → BegunBefore first begun n k e s → BegunBefore first begun (n + 1) m e s
+begun_more first begun n k m e s done is = record {
+  node = is.node;
+  at = is.at;
+  next = is.next;
+  passes = record { reached = is.passes.reached; done = is.passes.done; on = GoesThrough.one_more n k m is.passes.on done };
+  begins = is.begins;
+}
+
+-- or before the procedure began
+abbrev BegunOr : ℕ → LoweringParts → ℕ → LoweringParts → LoweringParts → Start → Type 0
+BegunOr first begun n k e s = IsOf begun.starts s ⊎ BegunBefore first begun n k e s
+
+-- In a procedure that is gone through, what is known at a node: each value of a name comes from one that was bound to it at a node
+-- before, and each variable of a loop that begins has begun at one, or had begun before the procedure.
+record AreKnown (first : ℕ) (begun : LoweringParts) (n : ℕ) (m : LoweringParts) : Type 0 where
+  traced : Traced (BoundBefore first begun n m) m
+  started : AllStarted (BegunOr first begun n m) m
+
+all_known : (t : Tree) (first : ℕ) (begun : LoweringParts) → IsFresh t begun → (n : ℕ) (m : LoweringParts) → IsWithinOne t first n → GoesThrough first begun n m → AreKnown first begun n m
+all_known t first begun fresh n m within GoesThrough.none = record { traced = λ b h. absurd (subst (λ (k : KnownParts). IsOf k.bindings b) fresh.names h); started = λ s h. inl h }
+all_known t first begun fresh n m within (GoesThrough.one_more node k x through done) =
     let within_k = within_before t first node within in
-    let before = all_traced t first begun fresh node k within_k through in
+    let before = all_known t first begun fresh node k within_k through in
     let tree = (stays t first begun node k fresh.tree within_k through).tree ∙ fresh.tree in
     let P : LoweringParts → Binding → Type 0 = BoundBefore first begun (node + 1) m in
+    let Q : LoweringParts → Start → Type 0 = BegunOr first begun (node + 1) m in
     let grow : (l e : LoweringParts) (b : Binding) → Follows l e → P l b → P e b = λ l e b f h. bound_later first begun (node + 1) m l e b f h in
-    let bind : (e : LoweringParts) (b : Binding) → Binds node k e b → P e b = λ e b h. record { node = node; at = k; next = m; passes = record { reached = through; done = done; on = GoesThrough.none }; binds = h } in
-    let goes = done_goes P grow node k m bind done in
+    let grow_start : (l e : LoweringParts) (s : Start) → Follows l e → Q l s → Q e s = λ l e s f h. elim h [ inl i ↦ inl i | inr i ↦ inr (begun_later first begun (node + 1) m l e s f i) ] in
+    let here : Passes first begun node k m (node + 1) m = record { reached = through; done = done; on = GoesThrough.none } in
+    let bind : (e : LoweringParts) (b : Binding) → Binds node k e b → P e b = λ e b h. record { node = node; at = k; next = m; passes = here; binds = h } in
+    let begin : (e : LoweringParts) (s : Start) → Begins node k e s → Q e s = λ e s h. inr (record { node = node; at = k; next = m; passes = here; begins = h }) in
+    let goes = done_goes P Q grow grow_start node k m bind begin done in
     let is : HasForm t node goes.0 = subst (λ (y : Tree). HasForm y node goes.0) tree goes.1 in
-    (traced_on t goes.0 node P k m goes.2 is (within node (omega arith) (through_within first begun node k through))).traced (traced_more first begun node k m done before)
+    let keeps = traced_on t goes.0 node P Q k m goes.2 is (within node (omega arith) (through_within first begun node k through)) in
+    record {
+      traced = keeps.traced (traced_more first begun node k m done before.traced);
+      started = keeps.started (λ s h. elim (before.started s h) [ inl i ↦ inl i | inr i ↦ inr (begun_more first begun node k m k s done i) ]);
+    }
+
+-- each value of a name comes from one that was bound to it at a node before
+pub all_traced : (t : Tree) (first : ℕ) (begun : LoweringParts) → IsFresh t begun → (n : ℕ) (m : LoweringParts) → IsWithinOne t first n → GoesThrough first begun n m → Traced (BoundBefore first begun n m) m
+all_traced t first begun fresh n m within through = (all_known t first begun fresh n m within through).traced
 
 -- what is known at a node of a procedure, and that this goes on to the end
 record Known (x : Moment) : Type 0 where
@@ -332,10 +380,63 @@ module _ (x : Moment) (known : Known x) where
   item_uses forms.Next m h e g = tt
   item_uses f m h e g = absurd (false≢true e)
 
+-- the variables of a loop go into the turns
+carried_in : (turn around : ℕ) (l : LoweringParts) (ss : List Start) (m : LoweringParts) → AreTurns l.drawing.scopes around turn → CarriesEach turn l ss m → (e : DrawingParts) → Extends m.drawing e → (s : Start) → IsOf ss s → (loop : ℕ) × IsInside e.scopes around (Turn loop) turn × (w : ℕ) × IsEntered e loop s.value w
+carried_in turn around l ss m within CarriesEach.none e g s h = absurd h
+carried_in turn around l ss m within (CarriesEach.one_more rest t k x before carries) e g s h =
+    elim (of_append rest (t ∷ []) s h) [
+      | inl i ↦ carried_in turn around l rest k within before e (extends_then k.drawing m.drawing e grown g) s i
+      | inr i ↦ here i
+    ]
+  where
+    grown : Extends k.drawing m.drawing
+    grown = extends_grown k.drawing m.drawing carries.carries.gives.adds.grows
+
+    some_one : (a b : Scope) → Some a ≡ Some b → a ≡ b
+    some_one a b q = cc
+
+    here : IsOf (t ∷ []) s → (loop : ℕ) × IsInside e.scopes around (Turn loop) turn × (w : ℕ) × IsEntered e loop s.value w
+    here (inl q) =
+        let c = carries.carries in
+        let first = (each_carried Any AnyStart any_grows any_starts turn around l rest k within (λ y i d loop w a b. tt) before).follows.extends in
+        let at = scope_extends l.drawing k.drawing first turn within.0 within.1 in
+        let same : c.scope ≡ within.0 = some_one c.scope within.0 (sym c.is ∙ at) in
+        let is : IsInside k.drawing.scopes around (Turn c.loop) turn = (c.scope, c.is, ap (λ (y : Scope). y.around) same ∙ within.2, c.way) in
+        let entered : IsEntered m.drawing c.loop t.value carries.inner = record { enter = length k.drawing.statements + 1; stands = c.gives.adds.stands; fed = c.gives.adds.fed.0; sends = c.gives.value } in
+        (c.loop, inside_extends m.drawing e g around (Turn c.loop) turn (inside_extends k.drawing m.drawing grown around (Turn c.loop) turn is), carries.inner, subst (λ (y : Start). IsEntered e c.loop y.value carries.inner) q (entered_extends m.drawing e g c.loop t.value carries.inner entered))
+    here (inr q) = absurd q
+
+module _ (x : Moment) (known : Known x) (began : (s : Start) → IsOf x.at.starts s → (IsOf x.begun.starts s → ⊥) → HasBegun x s) where
+  variables_uses : (m : LoweringParts) → OpensLoop x.node x.at m → Extends m.drawing x.whole.drawing → Uses forms.Variables x
+  variables_uses m o g waiting limit last s h =
+      let same : o.waiting ≡ waiting = begun_one o.waiting waiting o.limit limit (one_end o.ended.frames last.0 (frames.Begun o.waiting o.limit) (frames.Begun waiting limit) (sym o.frame.0 ∙ last.1)) in
+      let starts : o.bound.starts ≡ x.at.starts = limit_starts Any AnyStart any_grows any_starts x.node o.limit o.ended o.bound o.binds ∙ ap (λ (y : LoweringParts). y.starts) o.frame.1 in
+      let there : IsOf (drop o.waiting o.bound.starts) s = subst (λ (k : ℕ). IsOf (drop k o.bound.starts) s) (sym same) (subst (λ (ss : List Start). IsOf (drop waiting ss) s) (sym starts) h) in
+      let turned : LoweringParts = record o.bound { drawing = o.turned } in
+      let inner : LoweringParts = record o.carried { scene = record o.carried.scene { scope = o.turn } } in
+      let new : Scope = record { region = o.turns.loop; around = x.at.scene.scope; way = Turn o.turns.loop; clock = o.clock } in
+      let at : slice_get o.turned.scopes o.turn ≡ Some new = ap (λ (d : DrawingParts). slice_get d.scopes o.turn) o.turns.adds ∙ (ap (λ (k : ℕ). slice_get (o.bound.drawing.scopes ++ (new ∷ [])) k) o.turns.number ∙ get_last o.bound.drawing.scopes new) in
+      let tested = (limit_tested Any AnyStart any_grows any_starts o.turn o.clock x.node o.limit inner o.tested o.tests).follows.extends in
+      let drawn : m.drawing ≡ o.tested.drawing = ap (λ (y : LoweringParts). y.drawing) o.rest in
+      let on_to = extends_then o.carried.drawing o.tested.drawing x.whole.drawing tested (subst (λ (d : DrawingParts). Extends d x.whole.drawing) drawn g) in
+      let carried : o.carried.drawing ≡ o.carries.carried.drawing = ap (λ (y : LoweringParts). y.drawing) o.carries.rest in
+      let gone = carried_in o.turn x.at.scene.scope turned (drop o.waiting o.bound.starts) o.carries.carried (new, at, refl) o.carries.each x.whole.drawing (subst (λ (d : DrawingParts). Extends d x.whole.drawing) carried on_to) s there in
+      record {
+        begun = began s (of_drop waiting x.at.starts s h);
+        turn = o.turn;
+        loop = gone.0;
+        inside = gone.1;
+        inner = gone.2;
+        entered = gone.3;
+      }
+    where
+      begun_one : (a b : ℕ) (p q : Option ℕ) → frames.Begun a p ≡ frames.Begun b q → a ≡ b
+      begun_one a b p q e = cc
+
   form_controls : (f : Form) (w : ℕ) (m : LoweringParts) → Opens f x.node w x.at m → Extends m.drawing x.whole.drawing → ControlsOf f w x
-  form_controls forms.If w m h g = if_controls w m h g
-  form_controls forms.Loop w m h g = turn_controls m h g
-  form_controls forms.For w m h g = turn_controls m h g
+  form_controls forms.If w m h g = if_controls x known w m h g
+  form_controls forms.Loop w m h g = turn_controls x known m h g
+  form_controls forms.For w m h g = turn_controls x known m h g
   form_controls f w m h g = tt
 
   block_uses : (m : LoweringParts) → OpensBlock x.node x.at m → Extends m.drawing x.whole.drawing → OpensWith x
@@ -346,6 +447,7 @@ module _ (x : Moment) (known : Known x) where
   alike k m same g = subst (λ (y : LoweringParts). Extends y.drawing x.whole.drawing) same g
 
   whole_uses : (f : Form) (k m : LoweringParts) → Operates f x.at k → IsWhole f x.node k m → is_item f ≡ false → (f ≡ forms.AddProcedure → ⊥) → Extends m.drawing x.whole.drawing → Uses f x
+  whole_uses forms.Variables k m o h e b g = variables_uses m (subst (λ (y : LoweringParts). OpensLoop x.node y m) o h) g
   whole_uses forms.Or k m o h e b g = two_uses x known (Binary binary.Or) k o (alike k m h g)
   whole_uses forms.And k m o h e b g = two_uses x known (Binary binary.And) k o (alike k m h g)
   whole_uses forms.Not k m o h e b g = one_uses x known (Unary unary.Not) k o (alike k m h g)
@@ -364,7 +466,7 @@ module _ (x : Moment) (known : Known x) where
   whole_uses forms.Array k m o h e b g = one_uses x known Alloc k o (alike k m h g)
   whole_uses forms.Length k m o h e b g = one_uses x known (Unary unary.Length) k o (alike k m h g)
   whole_uses forms.NoItems k m o h e b g = block_uses m (subst (λ (y : LoweringParts). OpensBlock x.node y m) o h) g
-  whole_uses forms.If k m o h e b g = if_uses m (subst (λ (y : LoweringParts). ClosesIf y m) o h) g
+  whole_uses forms.If k m o h e b g = if_uses x known m (subst (λ (y : LoweringParts). ClosesIf y m) o h) g
   whole_uses forms.Index k m o h e b g = absurd (false≢true (sym e))
   whole_uses forms.Write k m o h e b g = absurd (false≢true (sym e))
   whole_uses forms.Call k m o h e b g = absurd (false≢true (sym e))
@@ -372,7 +474,7 @@ module _ (x : Moment) (known : Known x) where
   whole_uses f k m o h e b g = tt
 
   done_uses : (f : Form) (m : LoweringParts) → HasForm x.at.scene.tree x.node f → (f ≡ forms.AddProcedure → ⊥) → IsDone x.node x.at m → Follows m x.whole → Uses f x
-  done_uses f m has never (item g is items h) follows = subst (λ (y : Form). Uses y x) (form_one x.at.scene.tree x.node g f is has) (item_uses g m h items follows.extends)
+  done_uses f m has never (item g is items h) follows = subst (λ (y : Form). Uses y x) (form_one x.at.scene.tree x.node g f is has) (item_uses x known g m h items follows.extends)
   done_uses f m has never (whole g k is other o h) follows =
       let same : g ≡ f = form_one x.at.scene.tree x.node g f is has in
       subst (λ (y : Form). Uses y x) same (whole_uses g k m o h other (λ q. never (sym same ∙ q)) follows.extends)
@@ -403,12 +505,50 @@ module _ (t : Tree) (b : BlockParts) (m : IsMadeOfNodes t b) where
       let d = m.closes.finishes.ends.ended in
       plain_then m.ended named ending (named_follows m.ended m.closed m.closes) (plain_grown named ending d named.scene.scope named.operands named.frames named.starts m.closes.finishes.ends.gives.grows refl)
 
+  passes_follow : (node : ℕ) (at next : LoweringParts) (n : ℕ) (k : LoweringParts) → Passes m.first m.begun node at next n k → n ≤ m.last → Follows at k × Follows next k
+  passes_follow node at next n k p h =
+      let before = through_within m.first m.begun node at p.reached in
+      let behind = through_within (node + 1) next n k p.on in
+      let within = within_to t m.first m.last n h m.within in
+      let first = stays t m.first m.begun node at m.fresh.tree (within_to t m.first n node (omega (arith, behind)) within) p.reached in
+      let both = stays t m.first m.begun (node + 1) next m.fresh.tree (within_to t m.first n (node + 1) behind within) (GoesThrough.one_more node at next p.reached p.done) in
+      let one = stays t node at (node + 1) next (first.tree ∙ m.fresh.tree) (within_from t m.first node (node + 1) before (within_to t m.first n (node + 1) behind within)) (GoesThrough.one_more node at next GoesThrough.none p.done) in
+      let on_to = stays t (node + 1) next n k (both.tree ∙ m.fresh.tree) (within_from t m.first (node + 1) n (omega (arith, before)) within) p.on in
+      (plain_then at next k one on_to, on_to)
+
   known_at : (node : ℕ) (at : LoweringParts) → GoesThrough m.first m.begun node at → node ≤ m.last → Follows at ending → Known (moment m.first m.begun node at ending)
   known_at node at reached h follows = record {
     traced = all_traced t m.first m.begun m.fresh node at (within_to t m.first m.last node h m.within) reached;
     made = all_made m.first m.begun node at reached (none_made m.begun m.fresh.names);
     follows = follows;
   }
+
+  began_at : (node : ℕ) (at : LoweringParts) → GoesThrough m.first m.begun node at → node ≤ m.last → Follows at ending → (s : Start) → IsOf at.starts s → (IsOf m.begun.starts s → ⊥) → HasBegun (moment m.first m.begun node at ending) s
+  began_at node at reached h follows s i never =
+      by ((all_known t m.first m.begun m.fresh node at (within_to t m.first m.last node h m.within) reached).started s i)
+    where
+      has : (b : BegunBefore m.first m.begun node at at s) (o : Operand) → IsOperand b.at.scene at.drawing o s.value → HasBegun (moment m.first m.begun node at ending) s
+      has b o is =
+          let behind = through_within (b.node + 1) b.next node at b.passes.on in
+          let on_to = (passes_follow b.node b.at b.next node at b.passes h).0 in
+          let known = known_at b.node b.at b.passes.reached (omega (arith, behind, h)) (plain_then b.at at ending on_to follows) in
+          record {
+            node = b.node;
+            at = b.at;
+            next = b.next;
+            passes = b.passes;
+            begins = begins_later b.node b.at at ending s follows b.begins;
+            operand = o;
+            from = from_operand (moment m.first m.begun b.node b.at ending) known at.drawing follows.extends o s.value is;
+          }
+
+      begun_by : (b : BegunBefore m.first m.begun node at at s) → Begins b.node b.at at s → HasBegun (moment m.first m.begun node at ending) s
+      begun_by b (Begins.variable o form name waits is) = has b o is
+      begun_by b (Begins.counter before o limit form name were is) = has b o is
+
+      by : BegunOr m.first m.begun node at at s → HasBegun (moment m.first m.begun node at ending) s
+      by (inl j) = absurd (never j)
+      by (inr b) = begun_by b b.begins
 
   uses_at : (node : ℕ) (at next : LoweringParts) (form : Form) → Passes m.first m.begun node at next m.last m.ended → HasForm t node form → Uses form (moment m.first m.begun node at ending)
   uses_at node at next form p has =
@@ -421,11 +561,11 @@ module _ (t : Tree) (b : BlockParts) (m : IsMadeOfNodes t b) where
       let later = plain_then next m.ended ending on_to ends_follow in
       let known = known_at node at p.reached (omega (arith, behind)) (plain_then at next ending one later) in
       let never : form ≡ forms.AddProcedure → ⊥ = λ q. (m.within node (omega (arith, behind)) before).1 (subst (λ (f : Form). HasForm t node f) q has) in
-      done_uses (moment m.first m.begun node at ending) known form next (subst (λ (y : Tree). HasForm y node form) (sym (first.tree ∙ m.fresh.tree)) has) never p.done later
+      done_uses (moment m.first m.begun node at ending) known (began_at node at p.reached (omega (arith, behind)) (plain_then at next ending one later)) form next (subst (λ (y : Tree). HasForm y node form) (sym (first.tree ∙ m.fresh.tree)) has) never p.done later
 
   end_at : Uses forms.AddProcedure (moment m.first m.begun m.last m.ended ending)
   unfolding ending
-  end_at = end_uses (moment m.first m.begun m.last m.ended ending) (known_at m.last m.ended m.through (omega arith) ends_follow) m.closed m.closes (plain_same ending ending refl).extends
+  end_at = end_uses (moment m.first m.begun m.last m.ended ending) (known_at m.last m.ended m.through (omega arith) ends_follow) (began_at m.last m.ended m.through (omega arith) ends_follow) m.closed m.closes (plain_same ending ending refl).extends
 
   -- Arcs are uses.
   pub arcs_are_uses : ArcsAreUses t b

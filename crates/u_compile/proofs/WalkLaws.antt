@@ -4,6 +4,7 @@ use Rattle.u_program.specs.Parts.{BlockParts}
 use Rattle.u_source.specs.declared.form.Form.{Form}
 use Rattle.u_source.specs.declared.form.Form.TheVariants as forms
 use Rattle.u_compile.specs.declared.naming.Binding.{Binding}
+use Rattle.u_compile.specs.declared.lowering.Start.{Start}
 use Rattle.u_compile.specs.declared.tree.Tree.{Tree}
 use Rattle.u_compile.specs.Scoped.{IsOf}
 use Rattle.u_compile.specs.Trees.{HasForm}
@@ -22,8 +23,14 @@ Any l b = Unit {0}
 pub any_grows : (l m : LoweringParts) (b : Binding) → Follows l m → Any l b → Any m b
 any_grows l m b f h = tt
 
-any_goes : (n : ℕ) (l m : LoweringParts) → IsDone n l m → (f : Form) × HasForm l.scene.tree n f × Goes Any f n l m
-any_goes n l m done = done_goes Any any_grows n l m (λ e b h. tt) done
+abbrev pub AnyStart : LoweringParts → Start → Type 0
+AnyStart l s = Unit {0}
+
+pub any_starts : (l m : LoweringParts) (s : Start) → Follows l m → AnyStart l s → AnyStart m s
+any_starts l m s f h = tt
+
+any_goes : (n : ℕ) (l m : LoweringParts) → IsDone n l m → (f : Form) × HasForm l.scene.tree n f × Goes Any AnyStart f n l m
+any_goes n l m done = done_goes Any AnyStart any_grows any_starts n l m (λ e b h. tt) (λ e s h. tt) done
 
 pub none_made : (m : LoweringParts) → m.scene.names ≡ nothing_known → AllMade m
 none_made m same c h = absurd (subst (λ (k : KnownParts). IsOf k.constants c) same h)
@@ -34,7 +41,7 @@ begun_names n l m same = ap (λ (x : LoweringParts). x.scene.names) same
 closed_names : (l m : LoweringParts) → EndsProcedure l m → m.scene.names ≡ nothing_known
 closed_names l m e = ap (λ (x : LoweringParts). x.scene.names) e.finishes.rest
 
-goes_made : (f : Form) (n : ℕ) (l m : LoweringParts) → Goes Any f n l m → AllMade l → AllMade m
+goes_made : (f : Form) (n : ℕ) (l m : LoweringParts) → Goes Any AnyStart f n l m → AllMade l → AllMade m
 goes_made f n l m (on follows a b) all = follows.follows.made all
 goes_made f n l m (begins is same) all = none_made m (begun_names n l m same)
 goes_made f n l m (ends is e) all = none_made m (closed_names l m e)
@@ -76,7 +83,7 @@ within_more t first n f before is a b = below_more (λ (x : ℕ). first ≤ x �
 
 -- what is taken where a procedure ends changes nothing else
 pub named_follows : (l m : LoweringParts) (e : EndsProcedure l m) → Follows l e.named
-named_follows l m e = plain_then l e.taken e.named (pops_follow Any any_grows l e.taken _ e.pops).follows (popped_follows Any any_grows e.taken e.named _ e.name_taken).follows
+named_follows l m e = plain_then l e.taken e.named (pops_follow Any AnyStart any_grows any_starts l e.taken _ e.pops).follows (popped_follows Any AnyStart any_grows any_starts e.taken e.named _ e.name_taken).follows
 
 closed_tree : (l m : LoweringParts) → EndsProcedure l m → m.scene.tree ≡ l.scene.tree
 closed_tree l m e = ap (λ (x : LoweringParts). x.scene.tree) e.finishes.rest ∙ (named_follows l m e).tree
@@ -101,7 +108,7 @@ made_of_nodes t n k m s is e = record {
   is = refl;
 }
 
-stands_more : (t : Tree) (f : Form) (n : ℕ) (k m : LoweringParts) → GoesThrough 0 (beginning t) (n + 1) m → Stands t n k → IsDone n k m → HasForm k.scene.tree n f → Goes Any f n k m → Stands t (n + 1) m
+stands_more : (t : Tree) (f : Form) (n : ℕ) (k m : LoweringParts) → GoesThrough 0 (beginning t) (n + 1) m → Stands t n k → IsDone n k m → HasForm k.scene.tree n f → Goes Any AnyStart f n k m → Stands t (n + 1) m
 stands_more t f n k m reached s done is (on follows a b) = record {
   first = s.first;
   begun = s.begun;
@@ -142,7 +149,7 @@ pub through_within : (first : ℕ) (l : LoweringParts) (n : ℕ) (m : LoweringPa
 through_within first l n m GoesThrough.none = omega arith
 through_within first l n m (GoesThrough.one_more node k x through done) = omega (arith, through_within first l node k through)
 
-goes_on_within : (t : Tree) (f : Form) (n : ℕ) (l m : LoweringParts) → Goes Any f n l m → HasForm t n f → (HasForm t n forms.NoParameters → ⊥) × (HasForm t n forms.AddProcedure → ⊥) → Follows l m
+goes_on_within : (t : Tree) (f : Form) (n : ℕ) (l m : LoweringParts) → Goes Any AnyStart f n l m → HasForm t n f → (HasForm t n forms.NoParameters → ⊥) × (HasForm t n forms.AddProcedure → ⊥) → Follows l m
 goes_on_within t f n l m (on follows a b) is never = follows.follows
 goes_on_within t f n l m (begins at same) is never = absurd (never.0 (subst (λ (g : Form). HasForm t n g) at is))
 goes_on_within t f n l m (ends at e) is never = absurd (never.1 (subst (λ (g : Form). HasForm t n g) at is))

@@ -1,5 +1,5 @@
 -- Uses of names: which value leads to the port where an operand is used, and where that value comes from.
-use Rattle.std.specs.Prelude.{◌≡◌, ℕ, ◌+◌, true, false, List, [], ◌∷◌, ◌++◌, length, Some, slice_get}
+use Rattle.std.specs.Prelude.{◌≡◌, ℕ, ◌+◌, true, false, List, [], ◌∷◌, ◌++◌, length, drop, Option, Some, slice_get}
 use Rattle.u_program.specs.Parts.{BlockParts}
 use Rattle.u_program.specs.declared.program.Constant.{Constant}
 use Rattle.u_program.specs.declared.program.Kind.{Kind}
@@ -71,6 +71,12 @@ pub data Binds (node : ℕ) (at e : LoweringParts) (b : Binding) : Type 0 where
   -- as a variable that a loop gives, around it: to what comes out over a `last` and a `leave`, which take what the name is, by
   -- what was bound before, in the side where the test is false
   last : (turns : Turns) (control : Output) (block whole end value : ℕ) (before : List Binding) → HasForm at.scene.tree node forms.Block → IsParent at.scene.tree whole node → IsLastFrame at (frames.Block turns control block) → IsGiven at.scene.tree node whole b.name → b.scope ≡ turns.around → IsInside e.drawing.scopes turns.turn (Side control false) end → Continues (before ++ (b ∷ [])) e.scene.names.bindings → IsNamed e.drawing before end b.name value → IsLeft e.drawing value b.value → Binds node at e b
+
+-- A variable of a loop begins at the node, whose name it has: with what the operand is that waits last, or, if it is the counter of a
+-- `for`, with what the one before is. Before the node that is there what `at` says, and later what `e` says.
+pub data Begins (node : ℕ) (at e : LoweringParts) (s : Start) : Type 0 where
+  variable : (o : Operand) → HasForm at.scene.tree node forms.AddVariable → s.name ≡ node → WaitsLast at o → IsOperand at.scene e.drawing o s.value → Begins node at e s
+  counter : (before : List Operand) (o limit : Operand) → HasForm at.scene.tree node forms.NoVariables → s.name ≡ node → at.operands ≡ before ++ (o ∷ limit ∷ []) → IsOperand at.scene e.drawing o s.value → Begins node at e s
 
 -- The node is passed on the way from the first one to the last: what is there before it and behind it.
 pub record Passes (first : ℕ) (begun : LoweringParts) (node : ℕ) (at next : LoweringParts) (last : ℕ) (ended : LoweringParts) : Type 0 where
@@ -185,6 +191,26 @@ pub record OpensWith (x : Moment) : Type 0 where
   pub of : HasForm x.at.scene.tree whole form
   pub controls : ControlsOf form whole x
 
+-- at a node of the procedure, before this one, the variable began so
+pub record HasBegun (x : Moment) (s : Start) : Type 0 where
+  pub node : ℕ
+  pub at : LoweringParts
+  pub next : LoweringParts
+  pub passes : Passes x.first x.begun node at next x.node x.at
+  pub begins : Begins node at x.whole s
+  pub operand : Operand
+  pub from : IsFrom (record x { node = node; at = at }) operand s.value
+
+-- The variable of a loop goes into the turns, which are in the scope that is gone through: exactly the value leads to its `enter` with
+-- which it began, and that is what its operand was, unless it began before the procedure.
+pub record GoesIn (x : Moment) (s : Start) : Type 0 where
+  pub begun : (IsOf x.begun.starts s → ⊥) → HasBegun x s
+  pub turn : ℕ
+  pub loop : ℕ
+  pub inside : IsInside x.whole.drawing.scopes x.at.scene.scope (Turn loop) turn
+  pub inner : ℕ
+  pub entered : IsEntered x.whole.drawing loop s.value inner
+
 -- What leads where at a node of that form, in the whole procedure.
 abbrev pub Uses : Form → Moment → Type 0
 Uses forms.Or x = Takes (Binary binary.Or) (1 ∷ 2 ∷ []) x
@@ -209,6 +235,7 @@ Uses forms.Write x = Takes Store (1 ∷ 2 ∷ 3 ∷ []) x
 Uses forms.Call x = Called x
 Uses forms.If x = (control : ℕ) → IsLastFrame x.at (frames.Choice control) → Takes Select (2 ∷ 3 ∷ []) x
 Uses forms.NoItems x = OpensWith x
+Uses forms.Variables x = (waiting : ℕ) (limit : Option ℕ) → IsLastFrame x.at (frames.Begun waiting limit) → (s : Start) → IsOf (drop waiting x.at.starts) s → GoesIn x s
 Uses forms.AddProcedure x = Takes End (1 ∷ []) x
 Uses _ x = Unit {0}
 
