@@ -14,6 +14,7 @@ pub mod PlacedLaws
 pub mod PlacedTests
 pub mod DrawingLaws
 pub mod LeadLaws
+pub mod ScopeLaws
 pub mod CarriedLaws
 pub mod GateLaws
 pub mod ComesLaws

@@ -4,6 +4,7 @@ pub mod Kept
 pub mod Blocks
 pub mod Fanning
 pub mod Scoped
+pub mod Scopes
 pub mod Orderly
 pub mod Placed
 pub mod Drawings

@@ -10,6 +10,7 @@ ghost use Rattle.u_compile.specs.declared.drawing.Carried.{Carried as a_carried_
 ghost use Rattle.u_compile.specs.Fanning.{IsFinished};
 ghost use Rattle.u_compile.specs.Graphs.{graph, output};
 ghost use Rattle.u_compile.specs.Scoped.{IsOf};
+ghost use Rattle.u_compile.specs.Scopes.{HasRegion, IsPlaceOf};
 ghost use Rattle.u_compile.specs.Drawings.{Adds, AddsNext, AreValues, Calls, Chooses, EachIsFed, Gives, Grows, HasNoGate, IsGate, IsGated, IsNextOf, IsOnly, IsOpen, IsOwn, IsParameter, IsValue, LeadsOn, Leaves, Merges, SetsNext, SharesGate, a_carried, a_gate, input_links, links_to, no_statements, with_links, with_scope, with_value};
 
 use crate::graph::{Full, Output, STATEMENTS};
@@ -296,7 +297,9 @@ impl Drawing {
     }
 
     /// The region of the scope with this number.
-    fn region(&self, scope: usize) -> Result<u8, Full> {
+    fn region(&self, scope: usize) -> Result<u8, Full>
+        ensures { IfOk result (HasRegion self.now.scopes scope) }
+    {
         match self.scopes.get(scope) {
             Some(scope) => Ok(scope.region),
             None => Err(Full::Misplaced),
@@ -314,21 +317,27 @@ impl Drawing {
     }
 
     /// Where the statements of a scope lie: in its region, and in the sides of controls there that it stands in.
-    fn place(&self, scope: usize) -> Result<Place, Full> {
+    fn place(&self, scope: usize) -> Result<Place, Full>
+        ensures { IfOk result (IsPlaceOf self.now.scopes scope) }
+    {
+        let region = self.region(scope)?;
         let mut guards = Vec::new(self.alloc);
         let mut at = scope;
-        for _ in 0..=scope {
-            let Scope { around, way, .. } = self.scope(at)?;
-            let Way::Side(control, value) = way else {
-                break;
-            };
-            guards.push(Guard {
-                control: control.statement,
-                value,
-            })?;
-            at = around;
+        'outwards: for _ in 0..=scope {
+            let outer = self.scope(at)?;
+            match outer.way {
+                Way::Procedure => return Ok(Place::of(region, guards)),
+                Way::Turn(_) => return Ok(Place::of(region, guards)),
+                Way::Side(control, value) => {
+                    guards.push(Guard {
+                        control: control.statement,
+                        value,
+                    })?;
+                    at = outer.around;
+                }
+            }
         }
-        Ok(Place::of(self.region(scope)?, guards))
+        Err(Full::Misplaced)
     }
 
     /// Adds a loop, which stands in that scope, and returns its number.
