@@ -12,6 +12,7 @@ use Rattle.u_compile.specs.declared.drawing.Scope.{Scope}
 use Rattle.u_compile.specs.declared.drawing.Gate.{Gate}
 use Rattle.u_compile.specs.declared.drawing.Carried.{Carried}
 use Rattle.u_compile.specs.Drafts.{DraftParts}
+use Rattle.u_compile.specs.Scoped.{PlaceParts}
 use Rattle.u_compile.specs.Graphs.{link, output, draft_at}
 use Rattle.u_compile.specs.Drawings.{leads_to, feeders, DrawingParts, drawing, IsOfKind, IsFedBy, AreFed, IsFed, from_nothing, from_value, from_control, IsGate, IsDrawn, GoesOn, Grows, Adds, Gives, Merges, IsGated, a_gate, with_value, links_to, input_links, AreValues, OnlyTo}
 use Rattle.u_compile.proofs.Numbers.{at_within, at_last}
@@ -184,6 +185,7 @@ grows_self d = record {
   scopes = on_self d.scopes;
   values = on_self d.values;
   carried = on_self d.carried;
+  places = on_self d.places;
   fed = λ n port h. refl;
 }
 
@@ -194,18 +196,20 @@ grows_then a b c f g = record {
   scopes = on_then a.scopes b.scopes c.scopes f.scopes g.scopes;
   values = on_then a.values b.values c.values f.values g.values;
   carried = on_then a.carried b.carried c.carried f.carried g.carried;
+  places = on_then a.places b.places c.places f.places g.places;
   fed = λ n port h. g.fed n port (omega (arith, h, on_length a.statements b.statements f.statements)) ∙ f.fed n port h;
 }
 
 -- what a statement adds to whose ports those values lead
-pub adds_inputs : (d : DrawingParts) (gs : List Gate) (b : Bool) → IsDrawn d.statements d.links d.values gs b → (x : DraftParts) (ins : List ℕ) → AreValues d.values ins → Adds d (record d { statements = d.statements ++ (x ∷ []); links = d.links ++ input_links d.values (length d.statements + 1) 1 ins }) x.kind ins
-adds_inputs d gs b is x ins all = record {
+pub adds_inputs : (d : DrawingParts) (gs : List Gate) (b : Bool) → IsDrawn d.statements d.links d.values gs b → (x : DraftParts) (at : PlaceParts) (ins : List ℕ) → AreValues d.values ins → Adds d (record d { statements = d.statements ++ (x ∷ []); links = d.links ++ input_links d.values (length d.statements + 1) 1 ins; places = d.places ++ (at ∷ []) }) x.kind ins
+adds_inputs d gs b is x at ins all = record {
   grows = record {
     statements = on_one d.statements x;
     links = (input_links d.values (length d.statements + 1) 1 ins, refl);
     scopes = on_self d.scopes;
     values = on_self d.values;
     carried = on_self d.carried;
+    places = on_one d.places at;
     fed = λ n port h. feeders_none n port d.links (input_links d.values (length d.statements + 1) 1 ins) (only_inputs d.values (length d.statements + 1) 1 ins n port (λ e. omega (arith, h, e)));
   };
   one = length-append d.statements (x ∷ []);
@@ -220,6 +224,7 @@ grows_value d os = record {
   scopes = on_self d.scopes;
   values = on_one d.values os;
   carried = on_self d.carried;
+  places = on_self d.places;
   fed = λ n port h. refl;
 }
 
@@ -252,9 +257,9 @@ merged d e left right v ones others both l r b at is =
     subst (λ (w : ℕ). Merges d e left right w) (sym at) (subst (λ (f : DrawingParts). Merges d f left right (length d.values)) (sym is) good)
 
 -- gates, and what is carried in addition, change nothing of it
-pub adds_again : (d : DrawingParts) (ds : List DraftParts) (ls : List Link) (ss : List Scope) (vs : List (List Output)) (gs hs : List Gate) (cs es : List Carried) (kind : Kind) (ins : List ℕ) → Adds d (drawing ds ls ss vs gs cs) kind ins → GoesOn cs es → Adds d (drawing ds ls ss vs hs es) kind ins
-adds_again d ds ls ss vs gs hs cs es kind ins a more = record {
-  grows = record { statements = a.grows.statements; links = a.grows.links; scopes = a.grows.scopes; values = a.grows.values; carried = on_then d.carried cs es a.grows.carried more; fed = a.grows.fed };
+pub adds_again : (d : DrawingParts) (ds : List DraftParts) (ls : List Link) (ss : List Scope) (vs : List (List Output)) (gs hs : List Gate) (cs es : List Carried) (ps : List PlaceParts) (kind : Kind) (ins : List ℕ) → Adds d (drawing ds ls ss vs gs cs ps) kind ins → GoesOn cs es → Adds d (drawing ds ls ss vs hs es ps) kind ins
+adds_again d ds ls ss vs gs hs cs es ps kind ins a more = record {
+  grows = record { statements = a.grows.statements; links = a.grows.links; scopes = a.grows.scopes; values = a.grows.values; carried = on_then d.carried cs es a.grows.carried more; places = a.grows.places; fed = a.grows.fed };
   one = a.one;
   stands = a.stands;
   fed = a.fed;

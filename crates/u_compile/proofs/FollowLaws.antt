@@ -122,6 +122,7 @@ scope_grows d s = record {
   scopes = on_one d.scopes s;
   values = on_self d.values;
   carried = on_self d.carried;
+  places = on_self d.places;
   fed = λ n port h. refl;
 }
 

@@ -1,7 +1,7 @@
 -- Links from values to ports, when they are led one by one.
 use Rattle.std.proofs.Common.{◌≡◌, ℕ, ◌+◌, refl, sym, ap, ◌∙◌, subst, Bool, true, List, [], ◌∷◌, ◌++◌, length, Some, append_assoc, length-append}
 use Rattle.std.specs.Prelude.{get_or}
-use Rattle.std.proofs.lemmas.List.{append-nil}
+use Rattle.std.proofs.lemmas.List.{append-nil, map-append}
 use Rattle.u_compile.specs.declared.graph.Link.{Link}
 use Rattle.u_compile.specs.declared.graph.Output.{Output}
 use Rattle.u_compile.specs.declared.drawing.Scope.{Scope}
@@ -10,7 +10,7 @@ use Rattle.u_compile.specs.declared.drawing.Carried.{Carried}
 use Rattle.u_compile.specs.Drafts.{DraftParts}
 use Rattle.u_compile.specs.Graphs.{graph, draft_at}
 use Rattle.u_compile.specs.Scoped.{PlaceParts}
-use Rattle.u_compile.specs.Placed.{PlacedParts, with_link, with_statement}
+use Rattle.u_compile.specs.Placed.{PlacedParts, NoteParts, note, places_of, with_link, with_statement}
 use Rattle.u_compile.specs.Drawings.{DrawingParts, drawing, from_nothing, IsDrawn, Adds, links_to, input_links, AreValues, OnlyTo, with_links, LeadsOn}
 use Rattle.u_compile.proofs.Numbers.{at_last}
 use Rattle.u_compile.proofs.DrawingLaws.{only_links, only_both, drawn_inputs, drawn_broken, adds_inputs}
@@ -98,13 +98,23 @@ all_drawn p q r x at c u vs gs b ins is e f all =
     subst (λ (v : PlacedParts). as_drawn v vs gs b) (sym (whole p q r x at c u vs ins e f)) (drawn_inputs p.graph.statements p.graph.links vs gs b is x ins all)
 
 abbrev pub seen : PlacedParts → List Scope → List (List Output) → List Gate → List Carried → DrawingParts
-seen p scopes vs gs carried = drawing p.graph.statements p.graph.links scopes vs gs carried
+seen p scopes vs gs carried = drawing p.graph.statements p.graph.links scopes vs gs carried (places_of p)
+
+places_more : (p : PlacedParts) (x : DraftParts) (at : PlaceParts) (c u : ℕ) → places_of (with_statement p x at c u) ≡ places_of p ++ (at ∷ [])
+places_more p x at c u = map-append (λ (n : NoteParts). n.place) p.notes (note at c ∷ [])
 
 pub all_added : (p q r : PlacedParts) (x : DraftParts) (at : PlaceParts) (c u : ℕ) (scopes : List Scope) (vs : List (List Output)) (gs : List Gate) (carried : List Carried) (b : Bool) (ins : List ℕ) (d : DrawingParts) → as_drawn p vs gs b → q ≡ with_statement p x at c u → r ≡ with_links q (input_links vs (length q.graph.statements) 1 ins) → AreValues vs ins → seen p scopes vs gs carried ≡ d → Adds d (seen r scopes vs gs carried) x.kind ins
 all_added p q r x at c u scopes vs gs carried b ins d is e f all same =
     subst (λ (v : DrawingParts). Adds v (seen r scopes vs gs carried) x.kind ins) same
     (subst (λ (v : PlacedParts). Adds (seen p scopes vs gs carried) (seen v scopes vs gs carried) x.kind ins) (sym (whole p q r x at c u vs ins e f))
-    (adds_inputs (seen p scopes vs gs carried) gs b is x ins all))
+    (subst (λ (ps : List PlaceParts). Adds (seen p scopes vs gs carried) (drawing (p.graph.statements ++ (x ∷ [])) (p.graph.links ++ input_links vs (length p.graph.statements + 1) 1 ins) scopes vs gs carried ps) x.kind ins) (sym (places_more p x at c u))
+    (adds_inputs (seen p scopes vs gs carried) gs b is x at ins all)))
+
+-- and in the place where it was put
+pub all_placed : (p q r : PlacedParts) (x : DraftParts) (at : PlaceParts) (c u : ℕ) (scopes : List Scope) (vs : List (List Output)) (gs : List Gate) (carried : List Carried) (ins : List ℕ) (d : DrawingParts) → q ≡ with_statement p x at c u → r ≡ with_links q (input_links vs (length q.graph.statements) 1 ins) → seen p scopes vs gs carried ≡ d → places_of r ≡ d.places ++ (at ∷ [])
+all_placed p q r x at c u scopes vs gs carried ins d e f same =
+    ap (λ (v : PlacedParts). places_of v) (whole p q r x at c u vs ins e f)
+    ∙ (places_more p x at c u ∙ ap (λ (v : DrawingParts). v.places ++ (at ∷ [])) same)
 
 -- it stands as it was put
 pub all_stands : (p q r : PlacedParts) (x : DraftParts) (at : PlaceParts) (c u : ℕ) (scopes : List Scope) (vs : List (List Output)) (gs : List Gate) (carried : List Carried) (ins : List ℕ) (d : DrawingParts) → q ≡ with_statement p x at c u → r ≡ with_links q (input_links vs (length q.graph.statements) 1 ins) → seen p scopes vs gs carried ≡ d → draft_at r.graph.statements (length d.statements + 1) ≡ Some x

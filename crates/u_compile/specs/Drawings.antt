@@ -14,7 +14,8 @@ use Rattle.u_compile.specs.declared.drawing.Gate.{Gate}
 use Rattle.u_compile.specs.declared.drawing.Carried.{Carried}
 use Rattle.u_compile.specs.Drafts.{DraftParts}
 use Rattle.u_compile.specs.Graphs.{graph, link, output, draft_at, is_enter}
-use Rattle.u_compile.specs.Scoped.{IsOf}
+use Rattle.u_compile.specs.Scoped.{IsOf, PlaceParts}
+use Rattle.u_compile.specs.Scopes.{IsPlaceOf}
 use Rattle.u_compile.specs.Placed.{PlacedParts}
 
 abbrev pub leads_to : ℕ → ℕ → Link → Bool
@@ -25,8 +26,8 @@ abbrev pub feeders : ℕ → ℕ → List Link → List Output
 feeders n port [] = []
 feeders n port (l ∷ ls) = cond (leads_to n port l) (l.from ∷ feeders n port ls) (feeders n port ls)
 
--- A procedure under construction: its statements and links, its scopes, the outputs of each of its values, its gates, and
--- what its loops carry.
+-- A procedure under construction: its statements and links, its scopes, the outputs of each of its values, its gates, what its
+-- loops carry, and the places of its statements.
 pub record DrawingParts : Type 0 where
   pub statements : List DraftParts
   pub links : List Link
@@ -34,9 +35,10 @@ pub record DrawingParts : Type 0 where
   pub values : List (List Output)
   pub gates : List Gate
   pub carried : List Carried
+  pub places : List PlaceParts
 
-abbrev pub drawing : List DraftParts → List Link → List Scope → List (List Output) → List Gate → List Carried → DrawingParts
-drawing statements links scopes values gates carried = record { statements = statements; links = links; scopes = scopes; values = values; gates = gates; carried = carried }
+abbrev pub drawing : List DraftParts → List Link → List Scope → List (List Output) → List Gate → List Carried → List PlaceParts → DrawingParts
+drawing statements links scopes values gates carried places = record { statements = statements; links = links; scopes = scopes; values = values; gates = gates; carried = carried; places = places }
 
 -- statement n is of that kind
 abbrev pub IsOfKind : List DraftParts → ℕ → Kind → Type 0
@@ -79,7 +81,7 @@ pub record IsDrawn (ds : List DraftParts) (ls : List Link) (vs : List (List Outp
 abbrev pub GoesOn : {A : Type 0} → List A → List A → Type 0
 GoesOn {A} xs ys = (more : List A) × (ys ≡ xs ++ more)
 
--- Statements, links, scopes, values and what loops carry are only added, and what led to the ports of the statements that
+-- Statements in their places, links, scopes, values and what loops carry are only added, and what led to the ports of the statements that
 -- were there leads to them as before.
 pub record Grows (d e : DrawingParts) : Type 0 where
   pub statements : GoesOn d.statements e.statements
@@ -87,6 +89,7 @@ pub record Grows (d e : DrawingParts) : Type 0 where
   pub scopes : GoesOn d.scopes e.scopes
   pub values : GoesOn d.values e.values
   pub carried : GoesOn d.carried e.carried
+  pub places : GoesOn d.places e.places
   pub fed : (n port : ℕ) → n ≤ length d.statements → feeders n port e.links ≡ feeders n port d.links
 
 -- One statement is added, of that kind. Exactly those values lead to its ports, one to each.
@@ -95,6 +98,12 @@ pub record Adds (d e : DrawingParts) (kind : Kind) (inputs : List ℕ) : Type 0 
   pub one : length e.statements ≡ length d.statements + 1
   pub stands : IsOfKind e.statements (length d.statements + 1) kind
   pub fed : AreFed e.links e.values (length d.statements + 1) 1 inputs
+
+-- The statement that is added stands in the place of that scope.
+pub record StandsIn (d e : DrawingParts) (scope : ℕ) : Type 0 where
+  pub at : PlaceParts
+  pub is : IsPlaceOf d.scopes scope at
+  pub adds : e.places ≡ d.places ++ (at ∷ [])
 
 -- One statement is added so, and value v is what it gives.
 pub record Gives (d e : DrawingParts) (kind : Kind) (inputs : List ℕ) (v : ℕ) : Type 0 where
@@ -186,7 +195,7 @@ pub record Carries (turn name v : ℕ) (d e : DrawingParts) (w : ℕ) : Type 0 w
 
 -- a procedure without statements, the first parameter of which is that name
 abbrev pub no_statements : ℕ → DrawingParts
-no_statements clock = drawing [] [] (record { region = 0; around = 0; way = Procedure; clock = clock } ∷ []) [] [] []
+no_statements clock = drawing [] [] (record { region = 0; around = 0; way = Procedure; clock = clock } ∷ []) [] [] [] []
 
 -- a statement of that kind takes the parameter behind so many others
 pub data IsParameter (n : ℕ) (k : Kind) : Type 0 where

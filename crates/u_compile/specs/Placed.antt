@@ -38,6 +38,10 @@ pub record PlacedParts : Type 0 where
 abbrev pub placed : GraphParts → List NoteParts → List PlaceParts → List Test → ℕ → PlacedParts
 placed graph notes arounds tests unfinished = record { graph = graph; notes = notes; arounds = arounds; tests = tests; unfinished = unfinished }
 
+-- the places of its statements, in their order
+abbrev pub places_of : PlacedParts → List PlaceParts
+places_of p = map (λ (n : NoteParts). n.place) p.notes
+
 -- what is noted of no statement, and the place that holds no loop
 abbrev pub no_note : NoteParts
 no_note = note (place 0 []) 0

@@ -11,7 +11,7 @@ ghost use Rattle.u_compile.specs.Fanning.{IsFinished};
 ghost use Rattle.u_compile.specs.Graphs.{graph, output};
 ghost use Rattle.u_compile.specs.Scoped.{IsOf};
 ghost use Rattle.u_compile.specs.Scopes.{HasRegion, IsPlaceOf};
-ghost use Rattle.u_compile.specs.Drawings.{Adds, AddsNext, AreValues, Calls, Chooses, EachIsFed, Gives, Grows, HasNoGate, IsGate, IsGated, IsNextOf, IsOnly, IsOpen, IsOwn, IsParameter, IsValue, LeadsOn, Leaves, Merges, SetsNext, SharesGate, a_carried, a_gate, input_links, links_to, no_statements, with_links, with_scope, with_value};
+ghost use Rattle.u_compile.specs.Drawings.{Adds, AddsNext, AreValues, Calls, Chooses, EachIsFed, Gives, Grows, HasNoGate, IsGate, IsGated, IsNextOf, IsOnly, IsOpen, IsOwn, IsParameter, IsValue, LeadsOn, Leaves, Merges, SetsNext, SharesGate, StandsIn, a_carried, a_gate, input_links, links_to, no_statements, with_links, with_scope, with_value};
 
 use crate::graph::{Full, Output, STATEMENTS};
 use crate::place::{Guard, Place};
@@ -108,11 +108,12 @@ pub(crate) struct Drawing {
 
 impl Model for Drawing {
     ghost use Rattle.u_compile.specs.Drawings.{DrawingParts, drawing, IsDrawn};
+    ghost use Rattle.u_compile.specs.Placed.{places_of};
 
     ghost Value = { DrawingParts };
 
     ghost view = { λ d. drawing d.graph.graph.statements d.graph.graph.links d.scopes.items
-        d.values.items d.gates.items d.carried.items };
+        d.values.items d.gates.items d.carried.items (places_of d.graph) };
 
     ghost invariant = { λ d. IsDrawn d.graph.graph.statements d.graph.graph.links
         d.values.items d.gates.items d.broken };
@@ -402,6 +403,7 @@ impl Drawing {
         ensures adds { OnOk result (Adds self.old self.new kind.now inputs.now) }
         ensures carried { OnOk result (self.new.carried ≡ self.old.carried) }
         ensures gates { OnOk result (self.new.gates ≡ self.old.gates) }
+        ensures places { OnOk result (self.new.places ≡ self.old.places ++ (place.now ∷ [])) }
     {
         let statement = self.graph.put(place, kind, control)?;
         if let Err(full) = lead_values(&mut self.graph, &self.values, inputs) {
@@ -428,7 +430,8 @@ impl Drawing {
     /// Adds a statement in a scope, and links values to its ports, one to each. Returns what it gives.
     fn add_giving(&mut self, scope: usize, kind: &Kind, inputs: &[usize]) -> Result<usize, Full>
         requires { length inputs.now ≤ 5 }
-        ensures { IfOk result (λ v. Gives self.old self.new kind.now inputs.now v) }
+        ensures gives { IfOk result (λ v. Gives self.old self.new kind.now inputs.now v) }
+        ensures stands { IfOk result (λ _. StandsIn self.old self.new scope) }
     {
         let place = self.place(scope)?;
         let statement = self.add(&place, kind, 0, inputs)?;
@@ -451,7 +454,8 @@ impl Drawing {
 
     /// Adds a statement of one port, and returns its value.
     pub fn add_unary(&mut self, scope: usize, kind: &Kind, value: usize) -> Result<usize, Full>
-        ensures { IfOk result (λ v. Gives self.old self.new kind.now (value ∷ []) v) }
+        ensures gives { IfOk result (λ v. Gives self.old self.new kind.now (value ∷ []) v) }
+        ensures stands { IfOk result (λ _. StandsIn self.old self.new scope) }
     {
         self.add_giving(scope, kind, &[value])
     }
@@ -464,7 +468,9 @@ impl Drawing {
         left: usize,
         right: usize,
     ) -> Result<usize, Full>
-        ensures { IfOk result (λ v. Gives self.old self.new kind.now (left ∷ right ∷ []) v) }
+        ensures gives { IfOk result
+            (λ v. Gives self.old self.new kind.now (left ∷ right ∷ []) v) }
+        ensures stands { IfOk result (λ _. StandsIn self.old self.new scope) }
     {
         self.add_giving(scope, kind, &[left, right])
     }
@@ -478,8 +484,9 @@ impl Drawing {
         second: usize,
         third: usize,
     ) -> Result<usize, Full>
-        ensures { IfOk result
+        ensures gives { IfOk result
             (λ v. Gives self.old self.new kind.now (first ∷ second ∷ third ∷ []) v) }
+        ensures stands { IfOk result (λ _. StandsIn self.old self.new scope) }
     {
         self.add_giving(scope, kind, &[first, second, third])
     }
