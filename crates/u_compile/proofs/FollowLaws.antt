@@ -37,22 +37,24 @@ use Rattle.u_compile.specs.Steps.{IsItem, IsWhole}
 use Rattle.u_compile.specs.Walks.{IsDone, item, whole, is_item, AllMade}
 use Rattle.u_compile.specs.Uses.{IsLeft, IsInside, GivesParameter, Binds, Begins}
 use Rattle.u_compile.proofs.DrawingLaws.{get_goes_on, get_last, on_self, on_then, on_one, grows_self, grows_then}
+use Rattle.u_compile.proofs.CarriedLaws.{MayHave, NotesStay, none_may, given_may, more_may, notes_stay}
 use Rattle.u_compile.proofs.GateLaws.{of_append, of_last}
 use Rattle.u_compile.proofs.KnownLaws.{comes_then}
 use Rattle.u_compile.proofs.LoopLaws.{each_starts}
 use Rattle.u_compile.proofs.ExtendLaws.{Extends, extends_grown, extends_carried, extends_then, comes_extends, named_extends, constant_extends, inside_extends, named_more, constant_more, of_more, leaves_left}
 
--- What stays when a procedure goes on: the tree and the blocks before, its statements, arcs, scopes and values, the bindings, and
--- that each constant was made so.
+-- What stays when a procedure goes on: the tree and the blocks before, its statements, arcs, scopes and values, the bindings, the
+-- values for the next turn, and that each constant was made so.
 pub record Follows (l m : LoweringParts) : Type 0 where
   pub tree : m.scene.tree ≡ l.scene.tree
   pub blocks : m.blocks ≡ l.blocks
   pub extends : Extends l.drawing m.drawing
   pub bindings : Continues l.scene.names.bindings m.scene.names.bindings
+  pub notes : NotesStay l.drawing m.drawing
   pub made : AllMade l → AllMade m
 
 pub plain_same : (l m : LoweringParts) → m ≡ l → Follows l m
-plain_same l m e = subst (λ (x : LoweringParts). Follows l x) (sym e) (record { tree = refl; blocks = refl; extends = extends_grown l.drawing l.drawing (grows_self l.drawing); bindings = on_self l.scene.names.bindings; made = λ all. all })
+plain_same l m e = subst (λ (x : LoweringParts). Follows l x) (sym e) (record { tree = refl; blocks = refl; extends = extends_grown l.drawing l.drawing (grows_self l.drawing); bindings = on_self l.scene.names.bindings; notes = λ number v c is has. is; made = λ all. all })
 
 pub plain_then : (l k m : LoweringParts) → Follows l k → Follows k m → Follows l m
 plain_then l k m f g = record {
@@ -60,6 +62,7 @@ plain_then l k m f g = record {
   blocks = g.blocks ∙ f.blocks;
   extends = extends_then l.drawing k.drawing m.drawing f.extends g.extends;
   bindings = on_then l.scene.names.bindings k.scene.names.bindings m.scene.names.bindings f.bindings g.bindings;
+  notes = λ number v c is has. g.notes number v c (f.notes number v c is has) has;
   made = λ all. g.made (f.made all);
 }
 
@@ -72,6 +75,7 @@ plain_grown l m d scope os fs ss g same = subst (λ (x : LoweringParts). Follows
   blocks = refl;
   extends = extends_grown l.drawing d g;
   bindings = on_self l.scene.names.bindings;
+  notes = λ number v c is has. get_goes_on l.drawing.carried d.carried number c g.carried is;
   made = λ all c h. constant_extends l.drawing d (extends_grown l.drawing d g) l.scene.names.bindings c.scope c.constant c.value (all c h);
 })
 
@@ -81,22 +85,27 @@ plain_bound l m d b g same = subst (λ (x : LoweringParts). Follows l x) (sym sa
   blocks = refl;
   extends = extends_grown l.drawing d g;
   bindings = on_one l.scene.names.bindings b;
+  notes = λ number v c is has. get_goes_on l.drawing.carried d.carried number c g.carried is;
   made = λ all c h. constant_more d l.scene.names.bindings (b ∷ []) c.scope c.constant c.value (constant_extends l.drawing d (extends_grown l.drawing d g) l.scene.names.bindings c.scope c.constant c.value (all c h));
 })
 
 plain_aliased : (l m : LoweringParts) (a : Alias) → m ≡ with_names l (with_alias l.scene.names a) → Follows l m
-plain_aliased l m a same = subst (λ (x : LoweringParts). Follows l x) (sym same) (record { tree = refl; blocks = refl; extends = extends_grown l.drawing l.drawing (grows_self l.drawing); bindings = on_self l.scene.names.bindings; made = λ all. all })
+plain_aliased l m a same = subst (λ (x : LoweringParts). Follows l x) (sym same) (record { tree = refl; blocks = refl; extends = extends_grown l.drawing l.drawing (grows_self l.drawing); bindings = on_self l.scene.names.bindings; notes = λ number v c is has. is; made = λ all. all })
 
-plain_noted : (l m : LoweringParts) (number value : ℕ) → NotesNext l.drawing m.drawing number value → m ≡ record l { drawing = m.drawing } → Follows l m
-plain_noted l m number value notes same = subst (λ (x : LoweringParts). Follows l x) (sym (same ∙ ap (λ (d : DrawingParts). record l { drawing = d }) notes.now)) (record {
+pub plain_noted : (l m : LoweringParts) (number value : ℕ) → NotesNext l.drawing m.drawing number value → MayHave l.drawing.carried number value → m ≡ record l { drawing = m.drawing } → Follows l m
+plain_noted l m number value notes may same = subst (λ (x : LoweringParts). Follows l x) (sym same) (record {
   tree = refl;
   blocks = refl;
-  extends = extends_carried l.drawing _;
+  extends = carried;
   bindings = on_self l.scene.names.bindings;
-  made = λ all c h. constant_extends l.drawing _ (extends_carried l.drawing _) l.scene.names.bindings c.scope c.constant c.value (all c h);
+  notes = notes_stay l.drawing m.drawing number value notes may;
+  made = λ all c h. constant_extends l.drawing m.drawing carried l.scene.names.bindings c.scope c.constant c.value (all c h);
 })
+  where
+    carried : Extends l.drawing m.drawing
+    carried = subst (λ (d : DrawingParts). Extends l.drawing d) (sym notes.now) (extends_carried l.drawing _)
 
-plain_goes : (l m : LoweringParts) → GoesOn l m → Follows l m
+pub plain_goes : (l m : LoweringParts) → GoesOn l m → Follows l m
 plain_goes l m a =
     let bs = l.scene.names.bindings in
     let same : m.scene.names.bindings ≡ bs ++ a.learns.bindings = ap (λ (k : KnownParts). k.bindings) a.learns.are in
@@ -105,6 +114,7 @@ plain_goes l m a =
       blocks = ap (λ (x : LoweringParts). x.blocks) a.rest;
       extends = extends_grown l.drawing m.drawing a.grows;
       bindings = (a.learns.bindings, same);
+      notes = λ number v c is has. get_goes_on l.drawing.carried m.drawing.carried number c a.grows.carried is;
       made = λ all c h. subst (λ (xs : List Binding). IsConstant m.drawing xs c.scope c.constant c.value) (sym same) (constant_more m.drawing bs a.learns.bindings c.scope c.constant c.value (before all c (of_append l.scene.names.constants a.learns.constants c (subst (λ (k : KnownParts). IsOf k.constants c) a.learns.are h))));
     }
   where
@@ -248,8 +258,8 @@ module _ (P : LoweringParts → Binding → Type 0) (Q : LoweringParts → Start
   aliased_follows : (l m : LoweringParts) (a : Alias) → m ≡ with_names l (with_alias l.scene.names a) → Keeps P Q l m
   aliased_follows l m a same = unbound l m (plain_aliased l m a same) (ap (λ (x : LoweringParts). x.scene.names.bindings) same) (ap (λ (x : LoweringParts). x.starts) same)
 
-  noted_follows : (l m : LoweringParts) (number value : ℕ) → NotesNext l.drawing m.drawing number value → m ≡ record l { drawing = m.drawing } → Keeps P Q l m
-  noted_follows l m number value notes same = unbound l m (plain_noted l m number value notes same) (ap (λ (x : LoweringParts). x.scene.names.bindings) same) (ap (λ (x : LoweringParts). x.starts) same)
+  noted_follows : (l m : LoweringParts) (number value : ℕ) → NotesNext l.drawing m.drawing number value → MayHave l.drawing.carried number value → m ≡ record l { drawing = m.drawing } → Keeps P Q l m
+  noted_follows l m number value notes may same = unbound l m (plain_noted l m number value notes may same) (ap (λ (x : LoweringParts). x.scene.names.bindings) same) (ap (λ (x : LoweringParts). x.starts) same)
 
   -- a name is bound
   bound_follows : (l m : LoweringParts) (d : DrawingParts) (b : Binding) → Grows l.drawing d → P m b → m ≡ record (with_names l (with_binding l.scene.names b)) { drawing = d } → Keeps P Q l m
@@ -340,7 +350,7 @@ module _ (P : LoweringParts → Binding → Type 0) (Q : LoweringParts → Start
       then_follows l t.named m (popped_follows l t.named _ t.name.1) (bound_follows t.named m m.drawing b t.gives.adds.grows (bind m b (Binds.parameter form refl refl gives)) t.rest)
 
   next_follows : (l m : LoweringParts) → TakesNext l m → Keeps P Q l m
-  next_follows l m t = then_follows l t.named m (then_follows l t.taken t.named (pops_follow l t.taken _ t.pops) (popped_follows t.taken t.named _ t.name.taken)) (noted_follows t.named m _ _ t.sets.notes t.rest)
+  next_follows l m t = then_follows l t.named m (then_follows l t.taken t.named (pops_follow l t.taken _ t.pops) (popped_follows t.taken t.named _ t.name.taken)) (noted_follows t.named m _ _ t.sets.notes (none_may t.named.drawing.carried t.sets.number t.value _ t.sets.open_before.1 refl) t.rest)
 
   sides_open : (v : ℕ) (l m : LoweringParts) → OpensSides v l m → Keeps P Q l m
   sides_open v l m o = grown_follows l m m.drawing o.side l.operands (l.frames ++ (frames.Sides (some_sides o.control l.scene.scope None) ∷ [])) (grows_then l.drawing o.chosen m.drawing (chooses_grow _ _ _ _ o.chooses) (side_grows _ _ _ _ _ _ o.adds)) o.rest
@@ -399,18 +409,18 @@ module _ (P : LoweringParts → Binding → Type 0) (Q : LoweringParts → Start
   counter_tested : (turn counter limit : ℕ) (l m : LoweringParts) → TestsCounter turn counter limit l m → Keeps P Q l m
   counter_tested turn counter limit l m t = then_follows l t.both m (then_follows l t.one t.both (goes_follows l t.one t.goes_on) (goes_follows t.one t.both t.goes_further)) (pushes_follow t.both m _ _ t.pushes)
 
-  round_goes : (number value : ℕ) (l m : LoweringParts) → GoesRound number value l m → Keeps P Q l m
-  round_goes number value l m g =
+  round_goes : (number value : ℕ) (l m : LoweringParts) → MayHave l.drawing.carried number value → GoesRound number value l m → Keeps P Q l m
+  round_goes number value l m may g =
       let d = g.adds.between in
       let between : LoweringParts = record l { drawing = d } in
-      then_follows l between m (grown_follows l between d l.scene.scope l.operands l.frames g.adds.adds.grows refl) (noted_follows between m number value g.adds.notes g.rest)
+      then_follows l between m (grown_follows l between d l.scene.scope l.operands l.frames g.adds.adds.grows refl) (noted_follows between m number value g.adds.notes (more_may l.drawing.carried d.carried number value g.adds.of.0 g.adds.adds.grows.carried g.adds.of.1 may) g.rest)
 
-  turn_closes : (turn block number : ℕ) (l m : LoweringParts) → ClosesTurn turn block number l m → Keeps P Q l m
+  pub turn_closes : (turn block number : ℕ) (l m : LoweringParts) → ClosesTurn turn block number l m → Keeps P Q l m
   turn_closes turn block number l m (ClosesTurn.other c is never same) = same_follows l m same
-  turn_closes turn block number l m (ClosesTurn.given c v is of next goes) = round_goes number v l m goes
-  turn_closes turn block number l m (ClosesTurn.kept c v between is of next goes_on named goes) = then_follows l between m (goes_follows l between goes_on) (round_goes number v between m goes)
+  turn_closes turn block number l m (ClosesTurn.given c v is of next goes) = round_goes number v l m (given_may l.drawing.carried number v c is next) goes
+  turn_closes turn block number l m (ClosesTurn.kept c v between is of next goes_on named goes) = then_follows l between m (goes_follows l between goes_on) (round_goes number v between m (none_may between.drawing.carried number v c (get_goes_on l.drawing.carried between.drawing.carried number c goes_on.grows.carried is) next) goes)
 
-  turns_close : (turn block : ℕ) (l : LoweringParts) (n : ℕ) (m : LoweringParts) → ClosesTurns turn block l n m → Keeps P Q l m
+  pub turns_close : (turn block : ℕ) (l : LoweringParts) (n : ℕ) (m : LoweringParts) → ClosesTurns turn block l n m → Keeps P Q l m
   turns_close turn block l n m ClosesTurns.none = same_follows l l refl
   turns_close turn block l n m (ClosesTurns.one_more number k x before closes) = then_follows l k m (turns_close turn block l number k before) (turn_closes turn block number k m closes)
 
@@ -503,13 +513,13 @@ module _ (P : LoweringParts → Binding → Type 0) (Q : LoweringParts → Start
       let e = then_follows l inner o.tested d (limit_tested o.turn o.clock n o.limit inner o.tested o.tests) in
       then_follows l o.tested m e (stacked_follows o.tested m o.tested.scene.scope o.tested.operands (o.tested.frames ++ (frames.Test (some_turns l.scene.scope o.turn) ∷ [])) o.rest)
 
-  counts_follow : (turn w : ℕ) (l m : LoweringParts) → Counts turn w l m → Keeps P Q l m
+  pub counts_follow : (turn w : ℕ) (l m : LoweringParts) → Counts turn w l m → Keeps P Q l m
   counts_follow turn w l m (Counts.not never same) = same_follows l m same
   counts_follow turn w l m (Counts.on is c) =
       let added : LoweringParts = record c.both { drawing = c.added } in
       let on = then_follows l c.one c.both (goes_follows l c.one c.goes_on) (goes_follows c.one c.both c.goes_further) in
       let next = then_follows l c.both added on (grown_follows c.both added c.added c.both.scene.scope c.both.operands c.both.frames c.gives.adds.grows refl) in
-      then_follows l added m next (noted_follows added m _ _ c.sets.notes c.rest)
+      then_follows l added m next (noted_follows added m _ _ c.sets.notes (none_may c.added.carried c.sets.number c.sum _ c.sets.open_before.1 refl) c.rest)
 
   variable_closes : (t : Tree) (turns : Turns) (control : Output) (end block w number : ℕ) (l m : LoweringParts) → l.scene.tree ≡ t → IsInside l.drawing.scopes turns.turn (Side control false) end → IsLastBound P t turns control end block w → ClosesVariable turns end block w number l m → Keeps P Q l m
   variable_closes t turns control end block w number l m tree within bind (ClosesVariable.other c is never same) = same_follows l m same
@@ -532,18 +542,23 @@ module _ (P : LoweringParts → Binding → Type 0) (Q : LoweringParts → Start
       let at = inside_extends l.drawing k.drawing first.follows.extends turns.turn (Side control false) end within in
       then_follows l k m first (variable_closes t turns control end block w number k m (first.follows.tree ∙ tree) at bind closes)
 
-  loop_closes : (n w : ℕ) (l m : LoweringParts) → HasForm l.scene.tree n forms.Block → IsParent l.scene.tree w n → AreBound P n l → ClosesLoop n w l m → Keeps P Q l m
-  loop_closes n w l m form parent bind c =
+  -- what is done where the block of a loop ends, once all that it carries goes round
+  pub loop_left : (n w : ℕ) (l m : LoweringParts) → HasForm l.scene.tree n forms.Block → IsParent l.scene.tree w n → AreBound P n l → (c : ClosesLoop n w l m) → c.closed.scene.tree ≡ l.scene.tree → Keeps P Q c.closed m
+  loop_left n w l m form parent bind c tree =
       let v = c.variables in
       let opened : LoweringParts = record c.closed { drawing = v.ended } in
-      let x = then_follows l c.ended c.counted (ended_follows l c.ended _ c.frame) (counts_follow _ _ c.ended c.counted c.counts) in
-      let y = then_follows l c.counted c.closed x (turns_close _ _ c.counted _ c.closed c.turn) in
-      let z = then_follows l c.closed opened y (grown_follows c.closed opened v.ended c.closed.scene.scope c.closed.operands c.closed.frames (side_grows _ _ _ _ _ _ v.side) refl) in
+      let z = grown_follows c.closed opened v.ended c.closed.scene.scope c.closed.operands c.closed.frames (side_grows _ _ _ _ _ _ v.side) refl in
       let new : Scope = record { region = v.side.outer.region; around = c.turns.turn; way = Side c.control false; clock = v.side.outer.clock } in
       let at : slice_get v.ended.scopes v.end ≡ Some new = ap (λ (d : DrawingParts). slice_get d.scopes v.end) v.side.adds ∙ (ap (λ (k : ℕ). slice_get (c.closed.drawing.scopes ++ (new ∷ [])) k) v.side.number ∙ get_last c.closed.drawing.scopes new) in
       let is_last : IsLastBound P l.scene.tree c.turns c.control v.end n w = λ e bs value last name given within more named left. bind e (a_binding c.turns.around name last) (Binds.last c.turns c.control c.block w v.end value bs form parent (c.ended.frames, c.frame.0) given refl within more named left) in
-      let u = then_follows l opened c.left z (each_closes l.scene.tree c.turns c.control v.end _ _ opened _ c.left z.follows.tree (new, at, refl, refl) is_last v.each) in
-      then_follows l c.left m u (stacked_follows c.left m c.turns.around c.left.operands c.left.frames c.rest)
+      let u = then_follows c.closed opened c.left z (each_closes l.scene.tree c.turns c.control v.end _ _ opened _ c.left (z.follows.tree ∙ tree) (new, at, refl, refl) is_last v.each) in
+      then_follows c.closed c.left m u (stacked_follows c.left m c.turns.around c.left.operands c.left.frames c.rest)
+
+  loop_closes : (n w : ℕ) (l m : LoweringParts) → HasForm l.scene.tree n forms.Block → IsParent l.scene.tree w n → AreBound P n l → ClosesLoop n w l m → Keeps P Q l m
+  loop_closes n w l m form parent bind c =
+      let x = then_follows l c.ended c.counted (ended_follows l c.ended _ c.frame) (counts_follow _ _ c.ended c.counted c.counts) in
+      let y = then_follows l c.counted c.closed x (turns_close _ _ c.counted _ c.closed c.turn) in
+      then_follows l c.closed m y (loop_left n w l m form parent bind c y.follows.tree)
 
   loop_ends : (n : ℕ) (l m : LoweringParts) → EndsLoop n l m → Keeps P Q l m
   loop_ends n l m (EndsLoop.let_go o vain popped) = popped_follows l m o popped

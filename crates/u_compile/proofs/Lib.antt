@@ -32,6 +32,7 @@ pub mod UseLaws
 pub mod FinishedLaws
 pub mod OrderlyTests
 pub mod OrderlyLaws
+pub mod RoundLaws
 pub mod RuleLaws
 pub mod StandLaws
 pub mod KeptLaws

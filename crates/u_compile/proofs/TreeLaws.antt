@@ -13,7 +13,7 @@ some_one x y e = cc
 pub form_one : (t : Tree) (node : ℕ) (f g : Form) → HasForm t node f → HasForm t node g → f ≡ g
 form_one t node f g a b = sym a.2 ∙ (ap (λ (n : Node). n.form) (some_one a.0 b.0 (sym a.1 ∙ b.1)) ∙ b.2)
 
-parent_one : (t : Tree) (p q node : ℕ) → IsParent t p node → IsParent t q node → p ≡ q
+pub parent_one : (t : Tree) (p q node : ℕ) → IsParent t p node → IsParent t q node → p ≡ q
 parent_one t p q node a b = some_one p q (sym a ∙ b)
 
 not_beyond : (t : Tree) (one other : Form) (p q node : ℕ) (f g : Form) → IsParent t p node → HasForm t p f → IsEither f one other → IsParent t q node → HasForm t q g → (IsEither g one other → ⊥) → ⊥

@@ -1,9 +1,11 @@
 -- Arcs are uses: what leads to a port of a whole procedure is the operand that was taken there.
-use Rattle.std.proofs.Common.{◌≡◌, ℕ, ◌+◌, ◌≤◌, arith, ◌⊎◌, inl, inr, refl, sym, ap, ◌∙◌, subst, Bool, true, false, List, [], ◌∷◌, ◌++◌, length, drop, Option, Some}
+use Rattle.std.proofs.Common.{◌≡◌, ℕ, ◌+◌, ◌≤◌, arith, ◌⊎◌, inl, inr, refl, sym, ap, ◌∙◌, subst, Bool, true, false, List, [], ◌∷◌, ◌++◌, length, drop, Option, Some, None, append_assoc}
 use Rattle.std.proofs.lemmas.Bool.{false≢true}
-use Rattle.std.specs.Prelude.{slice_get}
+use Rattle.std.proofs.lemmas.Option.{slice_get_within}
+use Rattle.std.specs.Prelude.{pos, slice_get}
 use Rattle.u_program.specs.Parts.{BlockParts}
 use Rattle.u_program.specs.declared.program.Constant.{Constant}
+use Rattle.u_program.specs.declared.program.Constant.TheVariants.{Int}
 use Rattle.u_program.specs.declared.program.Kind.{Kind}
 use Rattle.u_program.specs.declared.program.Kind.TheVariants.{Apply, Binary, Unary, Alloc, Fetch, Store, Select, Pass, End}
 use Rattle.u_value.specs.declared.operators.BinaryOperator.TheVariants as binary
@@ -12,35 +14,39 @@ use Rattle.u_source.specs.Sources.{SourceParts}
 use Rattle.u_source.specs.declared.form.Form.{Form}
 use Rattle.u_source.specs.declared.form.Form.TheVariants as forms
 use Rattle.u_scope.specs.declared.checked.Meaning.{Meaning}
+use Rattle.u_scope.specs.declared.checked.Meaning.TheVariants.{Name}
 use Rattle.u_compile.specs.declared.naming.Binding.{Binding}
 use Rattle.u_compile.specs.declared.lowering.Frame.TheVariants as frames
 use Rattle.u_compile.specs.declared.lowering.Operand.{Operand}
 use Rattle.u_compile.specs.declared.lowering.Start.{Start}
 use Rattle.u_compile.specs.declared.lowering.Turns.{Turns}
 use Rattle.u_compile.specs.declared.graph.Output.{Output}
+use Rattle.u_compile.specs.declared.drawing.Carried.{Carried}
 use Rattle.u_compile.specs.declared.drawing.Scope.{Scope}
 use Rattle.u_compile.specs.declared.drawing.Way.TheVariants.{Side, Turn}
 use Rattle.u_compile.specs.declared.lowering.Operand.TheVariants.{Atom}
 use Rattle.u_compile.specs.declared.tree.Tree.{Tree}
 use Rattle.u_compile.specs.Scoped.{IsOf}
-use Rattle.u_compile.specs.Trees.{HasForm}
-use Rattle.u_compile.specs.Drawings.{DrawingParts, IsOfKind, IsFedBy, AreFed, IsEntered, Adds, Chooses}
-use Rattle.u_compile.specs.Namings.{KnownParts, IsConstant, HasConstant, a_constant}
+use Rattle.u_compile.specs.Trees.{HasForm, IsParent, IsEither}
+use Rattle.u_compile.specs.Drawings.{DrawingParts, IsOfKind, IsFedBy, AreFed, IsEntered, Adds, Chooses, a_carried}
+use Rattle.u_compile.specs.Namings.{KnownParts, IsConstant, HasConstant, a_binding, a_constant}
 use Rattle.u_compile.specs.Operands.{SceneParts, LoweringParts, IsAtom, IsOperand, AreOperands, Pops, TakesOne, TakesTwo, TakesSwapped, Negates, Differs, Operates, Reads, Writes, TakesCall}
 use Rattle.u_compile.specs.Sides.{AddsSide, IsLastFrame, IsFramePopped, IsSelect, OpensIf, Selects, ClosesIf}
 use Rattle.u_compile.specs.Turns.{OpensTurn}
-use Rattle.u_compile.specs.Loops.{CarriesEach, OpensLoop}
-use Rattle.u_compile.specs.Bodies.{IsBlockOf, EndsProcedure, Opens, OpensBlock}
+use Rattle.u_compile.specs.Loops.{TakesNext, CarriesEach, OpensLoop, CountsOn, Counts, ClosesLoop}
+use Rattle.u_compile.specs.Bodies.{IsBlockOf, EndsProcedure, Opens, OpensBlock, Closes, ClosesBlock}
 use Rattle.u_compile.specs.Steps.{IsItem, IsWhole}
 use Rattle.u_compile.specs.Walks.{IsDone, item, whole, is_item, GoesThrough, AllMade, IsFresh, IsWithinOne, IsMadeOfNodes, AreLowered}
 use Rattle.u_compile.specs.Made.{IsTreeOf, AreMadeOf}
-use Rattle.u_compile.specs.Uses.{Begins, Binds, GivesParameter, HasBegun, Passes, Moment, IsBound, IsFrom, AreArcs, Takes, Called, WaitsLast, IsInside, Tells, Controls, ControlsOf, OpensWith, ports_from, Uses, ArcsAreUses}
-use Rattle.u_compile.proofs.DrawingLaws.{on_then, get_last}
+use Rattle.u_compile.specs.Uses.{Begins, Binds, GivesParameter, HasBegun, Passes, Moment, IsBound, IsFrom, AreArcs, Takes, Called, WaitsLast, IsInside, Tells, Controls, ControlsOf, OpensWith, ports_from, IsOfName, GoesOnWith, IsCountedOn, IsNextValue, GoesRoundWith, AllGoRound, RoundsOf, ClosesWith, Uses, EndsBehind, Arrives, ArcsAreUses}
+use Rattle.u_compile.proofs.DrawingLaws.{get_goes_on, on_then, get_last}
+use Rattle.u_compile.proofs.CarriedLaws.{same_number, some_carried, none_noted, some_noted, noted_now, noted_other, none_may}
 use Rattle.u_compile.proofs.KnownLaws.{comes_then}
 use Rattle.u_compile.proofs.GateLaws.{of_append}
-use Rattle.u_compile.proofs.TreeLaws.{form_one}
+use Rattle.u_compile.proofs.TreeLaws.{form_one, parent_one}
 use Rattle.u_compile.proofs.ExtendLaws.{Extends, extends_grown, extends_then, value_extends, scope_extends, stands_extends, fed_extends, entered_extends, inside_extends, comes_extends, named_extends, constant_extends, left_extends, constant_on}
-use Rattle.u_compile.proofs.FollowLaws.{Follows, plain_same, plain_then, plain_grown, AllStarted, AreTurns, Traced, Keeps, Goes, on, begins, ends, done_goes, each_carried, limit_starts, limit_tested, of_drop, side_grows, chooses_grow}
+use Rattle.u_compile.proofs.FollowLaws.{Follows, plain_same, plain_then, plain_grown, plain_noted, plain_goes, popped_follows, ended_follows, AllStarted, AreTurns, Root, Traced, Keeps, Goes, on, begins, ends, done_goes, each_carried, limit_starts, limit_tested, of_drop, side_grows, chooses_grow, counts_follow, turns_close, loop_left}
+use Rattle.u_compile.proofs.RoundLaws.{Round, named_root, turns_round}
 use Rattle.u_compile.proofs.WalkLaws.{Any, AnyStart, any_grows, any_starts, all_made, none_made, stays, within_before, through_within, named_follows, blocks_of_nodes}
 
 constant_later : (d e : DrawingParts) → Extends d e → (k : KnownParts) (scope : ℕ) (c : Constant) (v : ℕ) → HasConstant d k scope c v → HasConstant e k scope c v
@@ -315,6 +321,17 @@ side_later d c e around o b s a g =
     let at : slice_get c.scopes s ≡ Some new = ap (λ (y : DrawingParts). slice_get y.scopes s) a.adds ∙ (ap (λ (k : ℕ). slice_get (d.scopes ++ (new ∷ [])) k) a.number ∙ get_last d.scopes new) in
     inside_extends c e g around (Side o b) s (new, at, refl, refl)
 
+-- a variable goes on with a value, and that is noted there
+abbrev NextStands : Moment → LoweringParts → Type 0
+NextStands x m = (g : GoesOnWith x) × (slice_get m.drawing.carried g.number ≡ Some (a_carried g.turns.turn g.variable g.enter (Some g.value)))
+
+block_one : (a b : Turns) (p q : Output) (n k : ℕ) → frames.Block a p n ≡ frames.Block b q k → (a ≡ b) × (n ≡ k)
+block_one a b p q n k e = (cc, cc)
+
+loop_rounds : (f : Form) (w : ℕ) (x : Moment) → IsEither f forms.Loop forms.For → RoundsOf f w x → AllGoRound w x
+loop_rounds f w x (inl q) h = subst (λ (y : Form). RoundsOf y w x) q h
+loop_rounds f w x (inr q) h = subst (λ (y : Form). RoundsOf y w x) q h
+
 module _ (x : Moment) (known : Known x) where
   -- the operand that was taken, as it is in the end
   last_from : (b : LoweringParts) (v : ℕ) (os : List Operand) → x.at.operands ≡ b.operands ++ os → AreOperands x.at.scene b.drawing os (v ∷ []) → Extends b.drawing x.whole.drawing → (o : Operand) × WaitsLast x.at o × IsFrom x o v
@@ -365,10 +382,49 @@ module _ (x : Moment) (known : Known x) where
       other : frames.Sides s ≡ frames.Choice c → ⊥
       other e = cc
 
-  item_uses : (f : Form) (m : LoweringParts) → IsItem f x.node x.at m → is_item f ≡ true → Extends m.drawing x.whole.drawing → Uses f x
-  item_uses forms.Index m h e g = reads_uses x known m h g
-  item_uses forms.Write m h e g = writes_uses x known m h g
-  item_uses forms.Call m h e g = call_uses x known m h g
+  -- the value with which a variable of a loop goes on
+  next_uses : (m : LoweringParts) → TakesNext x.at m → Follows m x.whole → NextStands x m
+  next_uses m t f = one t.pops.operands t.pops.were t.pops.are
+    where
+      one : (os : List Operand) → x.at.operands ≡ t.taken.operands ++ os → AreOperands x.at.scene t.taken.drawing os (t.value ∷ []) → NextStands x m
+      one [] were are = absurd are
+      one (o ∷ []) were are =
+          let name = t.name.taken in
+          let sets = t.sets in
+          let named = (popped_follows Any AnyStart any_grows any_starts t.taken t.named _ name).follows in
+          let noted = plain_noted t.named m sets.number t.value sets.notes (none_may t.named.drawing.carried sets.number t.value _ sets.open_before.1 refl) t.rest in
+          let on_to = plain_then t.taken t.named x.whole named (plain_then t.named m x.whole noted f) in
+          let tree : t.taken.scene.tree ≡ x.at.scene.tree = ap (λ (y : LoweringParts). y.scene.tree) t.pops.goes_on.rest in
+          let stack : t.named.frames ≡ x.at.frames = ap (λ (y : LoweringParts). y.frames) name.1 ∙ ap (λ (y : LoweringParts). y.frames) t.pops.goes_on.rest in
+          let noted_there = noted_now t.named.drawing m.drawing sets.number t.value (a_carried t.turns.turn t.variable sets.open_before.0 None) sets.notes sets.open_before.1 in
+          let goes : GoesOnWith x = record {
+            before = t.named.operands;
+            name = t.name.node;
+            operand = o;
+            waited = were ∙ (ap (λ (ys : List Operand). ys ++ (o ∷ [])) name.0 ∙ append_assoc t.named.operands (Atom t.name.node ∷ []) (o ∷ []));
+            value = t.value;
+            from = from_operand x known t.taken.drawing on_to.extends o t.value are.0;
+            variable = t.variable;
+            means = subst (λ (y : Tree). slice_get y.meanings.now t.name.node ≡ Some (Name t.variable)) tree t.name.means;
+            turns = t.turns;
+            control = t.control;
+            block = t.block;
+            frame = (t.frame.0, sym stack ∙ t.frame.1);
+            number = sets.number;
+            enter = sets.open_before.0;
+            next = f.notes sets.number t.value (a_carried t.turns.turn t.variable sets.open_before.0 (Some t.value)) noted_there refl;
+          } in
+          (goes, noted_there)
+      one (o ∷ (p ∷ os)) were are = absurd are.1
+
+  next_done : (m : LoweringParts) → HasForm x.at.scene.tree x.node forms.Next → IsDone x.node x.at m → Follows m x.whole → NextStands x m
+  next_done m has (item g is items h) f = next_uses m (subst (λ (y : Form). IsItem y x.node x.at m) (form_one x.at.scene.tree x.node g forms.Next is has) h) f
+  next_done m has (whole g k is other o h) f = absurd (false≢true (sym other ∙ ap is_item (form_one x.at.scene.tree x.node g forms.Next is has)))
+
+  item_uses : (f : Form) (m : LoweringParts) → IsItem f x.node x.at m → is_item f ≡ true → Follows m x.whole → Uses f x
+  item_uses forms.Index m h e g = reads_uses x known m h g.extends
+  item_uses forms.Write m h e g = writes_uses x known m h g.extends
+  item_uses forms.Call m h e g = call_uses x known m h g.extends
   item_uses forms.Name m h e g = tt
   item_uses forms.Number m h e g = tt
   item_uses forms.Negative m h e g = tt
@@ -377,8 +433,111 @@ module _ (x : Moment) (known : Known x) where
   item_uses forms.NoArguments m h e g = tt
   item_uses forms.Statement m h e g = tt
   item_uses forms.Define m h e g = tt
-  item_uses forms.Next m h e g = tt
+  item_uses forms.Next m h e g = (next_uses m h g).0
   item_uses f m h e g = absurd (false≢true e)
+
+module _ (x : Moment) (known : Known x) where
+  name_of : (name scope v : ℕ) → Root (BoundBefore x.first x.begun x.node x.at) x.whole (a_binding scope name v) → IsOfName x name scope v
+  name_of name scope v r = record { binding = r.root; named = r.named; bound = r.is; comes = r.comes }
+
+  constant_whole : (l : LoweringParts) → Follows l x.whole → AllMade l → (d : DrawingParts) → Extends d x.whole.drawing → (scope : ℕ) (k : Constant) (v : ℕ) → HasConstant d l.scene.names scope k v → IsConstant x.whole.drawing x.whole.scene.names.bindings scope k v
+  constant_whole l f made d g scope k v (HasConstant.noted is) = constant_on x.whole.drawing l.scene.names.bindings x.whole.scene.names.bindings f.bindings scope k v (constant_extends l.drawing x.whole.drawing f.extends l.scene.names.bindings scope k v (made (a_constant scope k v) is))
+  constant_whole l f made d g scope k v (HasConstant.made is) = constant_on x.whole.drawing l.scene.names.bindings x.whole.scene.names.bindings f.bindings scope k v (constant_extends d x.whole.drawing g l.scene.names.bindings scope k v is)
+
+  -- the counter of a `for` goes on
+  counted_on : (turn : ℕ) (l m : LoweringParts) → l.scene ≡ x.at.scene → Traced (BoundBefore x.first x.begun x.node x.at) l → AllMade l → (c : CountsOn turn l m) → Follows m x.whole → IsCountedOn x c.turns.clock c.sum
+  counted_on turn l m scene traced made c f =
+      let added : LoweringParts = record c.both { drawing = c.added } in
+      let a = c.gives.adds in
+      let n = length c.both.drawing.statements + 1 in
+      let noted = plain_noted added m c.sets.number c.sum c.sets.notes (none_may c.added.carried c.sets.number c.sum _ c.sets.open_before.1 refl) c.rest in
+      let on_to = plain_then added m x.whole noted f in
+      let both = plain_then c.both added x.whole (plain_grown c.both added c.added c.both.scene.scope c.both.operands c.both.frames c.both.starts a.grows refl) on_to in
+      let first = plain_goes l c.one c.goes_on in
+      let one = plain_then c.one c.both x.whole (plain_goes c.one c.both c.goes_further) both in
+      let scope : l.scene.scope ≡ x.at.scene.scope = ap (λ (s : SceneParts). s.scope) scene in
+      let inner : c.one.scene.scope ≡ x.at.scene.scope = ap (λ (y : LoweringParts). y.scene.scope) c.goes_on.rest ∙ scope in
+      let root = named_root (BoundBefore x.first x.begun x.node x.at) AnyStart (bound_later x.first x.begun x.node x.at) any_starts l x.whole c.one.drawing traced (plain_then l c.one x.whole first one) one.extends l.scene.scope c.turns.clock c.value c.counts in
+      record {
+        statement = n;
+        stands = stands_extends c.added x.whole.drawing on_to.extends n (Binary binary.Add) a.stands;
+        sends = value_extends c.added x.whole.drawing on_to.extends c.sum _ c.gives.value;
+        value = c.value;
+        fed = fed_extends c.added x.whole.drawing on_to.extends n 1 c.value (omega (arith, a.one)) a.fed.0;
+        counts = subst (λ (k : ℕ). IsOfName x c.turns.clock k c.value) scope (name_of c.turns.clock l.scene.scope c.value root);
+        step = c.step;
+        stepped = fed_extends c.added x.whole.drawing on_to.extends n 2 c.step (omega (arith, a.one)) a.fed.1.0;
+        one = subst (λ (k : ℕ). IsConstant x.whole.drawing x.whole.scene.names.bindings k (Int (pos 1)) c.step) inner (constant_whole c.one one (first.made made) c.both.drawing both.extends c.one.scene.scope (Int (pos 1)) c.step c.is_one);
+      }
+
+  -- what goes round, if nothing was counted
+  round_uses : (block w number : ℕ) (c : Carried) → Round (BoundBefore x.first x.begun x.node x.at) block number c x.whole → GoesRoundWith x block w number c
+  round_uses block w number c r = record {
+    value = r.value;
+    is = elim r.is [ inl q ↦ IsNextValue.noted q | inr q ↦ IsNextValue.kept q.0 (name_of c.name block r.value q.1) ];
+    next = r.next;
+    statement = r.statement;
+    stands = r.stands;
+    fed = r.fed;
+  }
+
+  -- and if the counter was
+  count_uses : (block w number sum : ℕ) (c : Carried) → c.next ≡ None → HasForm x.at.scene.tree w forms.For → IsCountedOn x c.name sum → Round (BoundBefore x.first x.begun x.node x.at) block number (record c { next = Some sum }) x.whole → GoesRoundWith x block w number c
+  count_uses block w number sum c none form is r = record {
+    value = r.value;
+    is = IsNextValue.counted none form (subst (λ (v : ℕ). IsCountedOn x c.name v) (same r.is) is);
+    next = r.next;
+    statement = r.statement;
+    stands = r.stands;
+    fed = r.fed;
+  }
+    where
+      same : (Some sum ≡ Some r.value) ⊎ ((Some sum ≡ None) × Root (BoundBefore x.first x.begun x.node x.at) x.whole (a_binding block c.name r.value)) → sum ≡ r.value
+      same (inl q) = some_noted sum r.value q
+      same (inr q) = absurd (none_noted sum (sym q.0))
+
+  rounds_counted : (turn block w : ℕ) (l counted : LoweringParts) → l.scene ≡ x.at.scene → Traced (BoundBefore x.first x.begun x.node x.at) l → AllMade l → Counts turn w l counted → Follows counted x.whole → ((number : ℕ) (c : Carried) → slice_get counted.drawing.carried number ≡ Some c → c.turn ≡ turn → Round (BoundBefore x.first x.begun x.node x.at) block number c x.whole) → (number : ℕ) (c : Carried) → slice_get l.drawing.carried number ≡ Some c → c.turn ≡ turn → GoesRoundWith x block w number c
+  rounds_counted turn block w l counted scene traced made (Counts.not never same) f rounds number c at of = round_uses block w number c (rounds number c (subst (λ (y : LoweringParts). slice_get y.drawing.carried number ≡ Some c) (sym same) at) of)
+  rounds_counted turn block w l counted scene traced made (Counts.on form k) f rounds number c at of =
+      elim (same_number k.sets.number number) [
+        | inl q ↦ here q
+        | inr never ↦ round_uses block w number c (rounds number c (noted_other k.added counted.drawing k.sets.number k.sum number c never k.sets.notes there) of)
+      ]
+    where
+      there : slice_get k.added.carried number ≡ Some c
+      there = get_goes_on k.both.drawing.carried k.added.carried number c k.gives.adds.grows.carried (get_goes_on k.one.drawing.carried k.both.drawing.carried number c k.goes_further.grows.carried (get_goes_on l.drawing.carried k.one.drawing.carried number c k.goes_on.grows.carried at))
+
+      here : k.sets.number ≡ number → GoesRoundWith x block w number c
+      here q =
+          let free : Carried = a_carried turn k.turns.clock k.sets.open_before.0 None in
+          let was : slice_get k.added.carried number ≡ Some free = subst (λ (j : ℕ). slice_get k.added.carried j ≡ Some free) q k.sets.open_before.1 in
+          let same : free ≡ c = some_carried free c (sym was ∙ there) in
+          let now : slice_get counted.drawing.carried number ≡ Some (record c { next = Some k.sum }) = subst (λ (j : ℕ). slice_get counted.drawing.carried j ≡ Some (record c { next = Some k.sum })) q (noted_now k.added counted.drawing k.sets.number k.sum c k.sets.notes (subst (λ (j : ℕ). slice_get k.added.carried j ≡ Some c) (sym q) there)) in
+          let is = subst (λ (y : Carried). IsCountedOn x y.name k.sum) same (counted_on turn l counted scene traced made k f) in
+          count_uses block w number k.sum c (ap (λ (y : Carried). y.next) (sym same)) (subst (λ (s : SceneParts). HasForm s.tree w forms.For) scene form) is (rounds number (record c { next = Some k.sum }) now of)
+
+  all_rounds : (w : ℕ) (m : LoweringParts) → HasForm x.at.scene.tree x.node forms.Block → IsParent x.at.scene.tree w x.node → ClosesLoop x.node w x.at m → Follows m x.whole → AllGoRound w x
+  all_rounds w m form parent c f turns control block last number entry at of =
+      let first = ended_follows (BoundBefore x.first x.begun x.node x.at) AnyStart (bound_later x.first x.begun x.node x.at) any_starts x.at c.ended _ c.frame in
+      let counts = counts_follow (BoundBefore x.first x.begun x.node x.at) AnyStart (bound_later x.first x.begun x.node x.at) any_starts c.turns.turn w c.ended c.counted c.counts in
+      let closing = turns_close (BoundBefore x.first x.begun x.node x.at) AnyStart (bound_later x.first x.begun x.node x.at) any_starts c.turns.turn c.block c.counted _ c.closed c.turn in
+      let left = loop_left Any AnyStart any_grows any_starts x.node w x.at m form parent (λ e b h. tt) c (closing.follows.tree ∙ (counts.follows.tree ∙ first.follows.tree)) in
+      let closed = plain_then c.closed m x.whole left.follows f in
+      let counted = plain_then c.counted c.closed x.whole closing.follows closed in
+      let traced = first.traced known.traced in
+      let same = block_one c.turns turns c.control control c.block block (one_end c.ended.frames last.0 (frames.Block c.turns c.control c.block) (frames.Block turns control block) (sym c.frame.0 ∙ last.1)) in
+      let rounds : (j : ℕ) (y : Carried) → slice_get c.counted.drawing.carried j ≡ Some y → y.turn ≡ c.turns.turn → Round (BoundBefore x.first x.begun x.node x.at) c.block j y x.whole = λ j y is turn. turns_round (BoundBefore x.first x.begun x.node x.at) AnyStart (bound_later x.first x.begun x.node x.at) any_starts c.turns.turn c.block c.counted _ c.closed x.whole (counts.traced traced) c.turn closed j (omega (arith, slice_get_within c.counted.drawing.carried j y is)) y is turn in
+      let there : slice_get c.ended.drawing.carried number ≡ Some entry = subst (λ (y : LoweringParts). slice_get y.drawing.carried number ≡ Some entry) (sym c.frame.1) at in
+      let turn : entry.turn ≡ c.turns.turn = of ∙ sym (ap (λ (y : Turns). y.turn) same.0) in
+      subst (λ (k : ℕ). GoesRoundWith x k w number entry) same.1 (rounds_counted c.turns.turn c.block w c.ended c.counted (ap (λ (y : LoweringParts). y.scene) c.frame.1) traced (first.follows.made known.made) c.counts counted rounds number entry there turn)
+
+  rounds_of : (g : Form) (w : ℕ) (m : LoweringParts) → HasForm x.at.scene.tree x.node forms.Block → IsParent x.at.scene.tree w x.node → Closes g x.node w x.at m → Follows m x.whole → RoundsOf g w x
+  rounds_of forms.Loop w m form parent h f = all_rounds w m form parent h f
+  rounds_of forms.For w m form parent h f = all_rounds w m form parent h f
+  rounds_of g w m form parent h f = tt
+
+  closes_uses : (m : LoweringParts) → HasForm x.at.scene.tree x.node forms.Block → ClosesBlock x.node x.at m → Follows m x.whole → ClosesWith x
+  closes_uses m form h f = record { whole = h.whole; parent = h.parent; form = h.form; of = h.of; rounds = rounds_of h.form h.whole m form h.parent h.closes f }
 
 -- the variables of a loop go into the turns
 carried_in : (turn around : ℕ) (l : LoweringParts) (ss : List Start) (m : LoweringParts) → AreTurns l.drawing.scopes around turn → CarriesEach turn l ss m → (e : DrawingParts) → Extends m.drawing e → (s : Start) → IsOf ss s → (loop : ℕ) × IsInside e.scopes around (Turn loop) turn × (w : ℕ) × IsEntered e loop s.value w
@@ -446,38 +605,40 @@ module _ (x : Moment) (known : Known x) (began : (s : Start) → IsOf x.at.start
   alike : (k m : LoweringParts) → m ≡ k → Extends m.drawing x.whole.drawing → Extends k.drawing x.whole.drawing
   alike k m same g = subst (λ (y : LoweringParts). Extends y.drawing x.whole.drawing) same g
 
-  whole_uses : (f : Form) (k m : LoweringParts) → Operates f x.at k → IsWhole f x.node k m → is_item f ≡ false → (f ≡ forms.AddProcedure → ⊥) → Extends m.drawing x.whole.drawing → Uses f x
-  whole_uses forms.Variables k m o h e b g = variables_uses m (subst (λ (y : LoweringParts). OpensLoop x.node y m) o h) g
-  whole_uses forms.Or k m o h e b g = two_uses x known (Binary binary.Or) k o (alike k m h g)
-  whole_uses forms.And k m o h e b g = two_uses x known (Binary binary.And) k o (alike k m h g)
-  whole_uses forms.Not k m o h e b g = one_uses x known (Unary unary.Not) k o (alike k m h g)
-  whole_uses forms.Less k m o h e b g = two_uses x known (Binary binary.Lt) k o (alike k m h g)
-  whole_uses forms.AtMost k m o h e b g = two_uses x known (Binary binary.Le) k o (alike k m h g)
-  whole_uses forms.Greater k m o h e b g = swapped_uses x known (Binary binary.Lt) k o (alike k m h g)
-  whole_uses forms.AtLeast k m o h e b g = swapped_uses x known (Binary binary.Le) k o (alike k m h g)
-  whole_uses forms.Equal k m o h e b g = two_uses x known (Binary binary.Eq) k o (alike k m h g)
-  whole_uses forms.Unequal k m o h e b g = differs_uses x known k o (alike k m h g)
-  whole_uses forms.Add k m o h e b g = two_uses x known (Binary binary.Add) k o (alike k m h g)
-  whole_uses forms.Subtract k m o h e b g = two_uses x known (Binary binary.Sub) k o (alike k m h g)
-  whole_uses forms.Multiply k m o h e b g = two_uses x known (Binary binary.Mul) k o (alike k m h g)
-  whole_uses forms.Divide k m o h e b g = two_uses x known (Binary binary.Div) k o (alike k m h g)
-  whole_uses forms.Remainder k m o h e b g = two_uses x known (Binary binary.Rem) k o (alike k m h g)
-  whole_uses forms.Negate k m o h e b g = negates_uses x known k o (alike k m h g)
-  whole_uses forms.Array k m o h e b g = one_uses x known Alloc k o (alike k m h g)
-  whole_uses forms.Length k m o h e b g = one_uses x known (Unary unary.Length) k o (alike k m h g)
-  whole_uses forms.NoItems k m o h e b g = block_uses m (subst (λ (y : LoweringParts). OpensBlock x.node y m) o h) g
-  whole_uses forms.If k m o h e b g = if_uses x known m (subst (λ (y : LoweringParts). ClosesIf y m) o h) g
-  whole_uses forms.Index k m o h e b g = absurd (false≢true (sym e))
-  whole_uses forms.Write k m o h e b g = absurd (false≢true (sym e))
-  whole_uses forms.Call k m o h e b g = absurd (false≢true (sym e))
-  whole_uses forms.AddProcedure k m o h e b g = absurd (b refl)
-  whole_uses f k m o h e b g = tt
+  whole_uses : (f : Form) (k m : LoweringParts) → Operates f x.at k → IsWhole f x.node k m → is_item f ≡ false → (f ≡ forms.AddProcedure → ⊥) → HasForm x.at.scene.tree x.node f → Follows m x.whole → Extends m.drawing x.whole.drawing → Uses f x
+  whole_uses forms.Variables k m o h e b is w g = variables_uses m (subst (λ (y : LoweringParts). OpensLoop x.node y m) o h) g
+  whole_uses forms.Block k m o h e b is w g = closes_uses x known m is (subst (λ (y : LoweringParts). ClosesBlock x.node y m) o h) w
+  whole_uses forms.Or k m o h e b is w g = two_uses x known (Binary binary.Or) k o (alike k m h g)
+  whole_uses forms.And k m o h e b is w g = two_uses x known (Binary binary.And) k o (alike k m h g)
+  whole_uses forms.Not k m o h e b is w g = one_uses x known (Unary unary.Not) k o (alike k m h g)
+  whole_uses forms.Less k m o h e b is w g = two_uses x known (Binary binary.Lt) k o (alike k m h g)
+  whole_uses forms.AtMost k m o h e b is w g = two_uses x known (Binary binary.Le) k o (alike k m h g)
+  whole_uses forms.Greater k m o h e b is w g = swapped_uses x known (Binary binary.Lt) k o (alike k m h g)
+  whole_uses forms.AtLeast k m o h e b is w g = swapped_uses x known (Binary binary.Le) k o (alike k m h g)
+  whole_uses forms.Equal k m o h e b is w g = two_uses x known (Binary binary.Eq) k o (alike k m h g)
+  whole_uses forms.Unequal k m o h e b is w g = differs_uses x known k o (alike k m h g)
+  whole_uses forms.Add k m o h e b is w g = two_uses x known (Binary binary.Add) k o (alike k m h g)
+  whole_uses forms.Subtract k m o h e b is w g = two_uses x known (Binary binary.Sub) k o (alike k m h g)
+  whole_uses forms.Multiply k m o h e b is w g = two_uses x known (Binary binary.Mul) k o (alike k m h g)
+  whole_uses forms.Divide k m o h e b is w g = two_uses x known (Binary binary.Div) k o (alike k m h g)
+  whole_uses forms.Remainder k m o h e b is w g = two_uses x known (Binary binary.Rem) k o (alike k m h g)
+  whole_uses forms.Negate k m o h e b is w g = negates_uses x known k o (alike k m h g)
+  whole_uses forms.Array k m o h e b is w g = one_uses x known Alloc k o (alike k m h g)
+  whole_uses forms.Length k m o h e b is w g = one_uses x known (Unary unary.Length) k o (alike k m h g)
+  whole_uses forms.NoItems k m o h e b is w g = block_uses m (subst (λ (y : LoweringParts). OpensBlock x.node y m) o h) g
+  whole_uses forms.If k m o h e b is w g = if_uses x known m (subst (λ (y : LoweringParts). ClosesIf y m) o h) g
+  whole_uses forms.Index k m o h e b is w g = absurd (false≢true (sym e))
+  whole_uses forms.Write k m o h e b is w g = absurd (false≢true (sym e))
+  whole_uses forms.Call k m o h e b is w g = absurd (false≢true (sym e))
+  whole_uses forms.Next k m o h e b is w g = absurd (false≢true (sym e))
+  whole_uses forms.AddProcedure k m o h e b is w g = absurd (b refl)
+  whole_uses f k m o h e b is w g = tt
 
   done_uses : (f : Form) (m : LoweringParts) → HasForm x.at.scene.tree x.node f → (f ≡ forms.AddProcedure → ⊥) → IsDone x.node x.at m → Follows m x.whole → Uses f x
-  done_uses f m has never (item g is items h) follows = subst (λ (y : Form). Uses y x) (form_one x.at.scene.tree x.node g f is has) (item_uses x known g m h items follows.extends)
+  done_uses f m has never (item g is items h) follows = subst (λ (y : Form). Uses y x) (form_one x.at.scene.tree x.node g f is has) (item_uses x known g m h items follows)
   done_uses f m has never (whole g k is other o h) follows =
       let same : g ≡ f = form_one x.at.scene.tree x.node g f is has in
-      subst (λ (y : Form). Uses y x) same (whole_uses g k m o h other (λ q. never (sym same ∙ q)) follows.extends)
+      subst (λ (y : Form). Uses y x) same (whole_uses g k m o h other (λ q. never (sym same ∙ q)) is follows follows.extends)
 
   -- where a procedure ends
   end_uses : (m : LoweringParts) (e : EndsProcedure x.at m) → Extends e.finishes.ends.ended x.whole.drawing → Takes End (1 ∷ []) x
@@ -563,6 +724,33 @@ module _ (t : Tree) (b : BlockParts) (m : IsMadeOfNodes t b) where
       let never : form ≡ forms.AddProcedure → ⊥ = λ q. (m.within node (omega (arith, behind)) before).1 (subst (λ (f : Form). HasForm t node f) q has) in
       done_uses (moment m.first m.begun node at ending) known (began_at node at p.reached (omega (arith, behind)) (plain_then at next ending one later)) form next (subst (λ (y : Tree). HasForm y node form) (sym (first.tree ∙ m.fresh.tree)) has) never p.done later
 
+  -- the value with which a variable goes on goes round
+  arrives_at : (node : ℕ) (at : LoweringParts) → EndsBehind t b m node at → Arrives (moment m.first m.begun node at ending)
+  arrives_at node at e =
+      let h = through_within (e.end + 1) e.behind m.last m.ended e.ends.on in
+      let below : e.end ≤ m.last = omega (arith, h) in
+      let before = through_within (node + 1) e.next e.end e.there e.passes.on in
+      let first : node ≤ m.last = omega (arith, before, below) in
+      let p = passes_follow node at e.next e.end e.there e.passes below in
+      let q = passes_follow e.end e.there e.behind m.last m.ended e.ends (omega arith) in
+      let from_there = plain_then e.there m.ended ending q.0 ends_follow in
+      let from_next = plain_then e.next e.there ending p.1 from_there in
+      let known = known_at node at e.passes.reached first (plain_then at e.there ending p.0 from_there) in
+      let tree = (stays t m.first m.begun node at m.fresh.tree (within_to t m.first m.last node first m.within) e.passes.reached).tree ∙ m.fresh.tree in
+      let n = next_done (moment m.first m.begun node at ending) known e.next (subst (λ (y : Tree). HasForm y node forms.Next) (sym tree) e.is) e.passes.done from_next in
+      let g = n.0 in
+      let same = block_one g.turns e.turns g.control e.control g.block e.block (one_end g.frame.0 e.frame.0 (frames.Block g.turns g.control g.block) (frames.Block e.turns e.control e.block) (sym g.frame.1 ∙ e.frame.1)) in
+      let c : ClosesWith (moment m.first m.begun e.end e.there ending) = uses_at e.end e.there e.behind forms.Block e.ends e.closes in
+      let there_tree = p.0.tree ∙ tree in
+      let one : c.whole ≡ e.outer = parent_one t c.whole e.outer e.end (subst (λ (y : Tree). IsParent y c.whole e.end) there_tree c.parent) e.parent in
+      let form : c.form ≡ e.form = form_one t e.outer c.form e.form (subst (λ (w : ℕ). HasForm t w c.form) one (subst (λ (y : Tree). HasForm y c.whole c.form) there_tree c.of)) e.of in
+      let rounds = loop_rounds c.form c.whole (moment m.first m.begun e.end e.there ending) (subst (λ (f : Form). IsEither f forms.Loop forms.For) (sym form) e.loop) c.rounds in
+      let carried : Carried = a_carried g.turns.turn g.variable g.enter (Some g.value) in
+      let there = p.1.notes g.number g.value carried n.1 refl in
+      let r = rounds e.turns e.control e.block e.same g.number carried there (ap (λ (y : Turns). y.turn) same.0) in
+      let value : r.value ≡ g.value = some_noted r.value g.value (ap (λ (y : Carried). y.next) (some_carried (record carried { next = Some r.value }) carried (sym r.next ∙ g.next))) in
+      record { goes = g; statement = r.statement; stands = r.stands; fed = subst (λ (v : ℕ). IsFedBy ending.drawing.links ending.drawing.values r.statement 1 v) value r.fed }
+
   end_at : Uses forms.AddProcedure (moment m.first m.begun m.last m.ended ending)
   unfolding ending
   end_at = end_uses (moment m.first m.begun m.last m.ended ending) (known_at m.last m.ended m.through (omega arith) ends_follow) (began_at m.last m.ended m.through (omega arith) ends_follow) m.closed m.closes (plain_same ending ending refl).extends
@@ -576,6 +764,7 @@ module _ (t : Tree) (b : BlockParts) (m : IsMadeOfNodes t b) where
     name = m.closes.name;
     of = subst (λ (y : BlockParts). IsBlockOf m.closes.name m.closes.finishes.ends.ended y) m.is m.closes.finishes.ends.of;
     uses = uses_at;
+    round = arrives_at;
     end = end_at;
   }
 

@@ -1,7 +1,8 @@
 -- Uses of names: which value leads to the port where an operand is used, and where that value comes from.
-use Rattle.std.specs.Prelude.{◌≡◌, ℕ, ◌+◌, true, false, List, [], ◌∷◌, ◌++◌, length, drop, Option, Some, slice_get}
+use Rattle.std.specs.Prelude.{◌≡◌, ℕ, ◌+◌, true, false, List, [], ◌∷◌, ◌++◌, length, drop, pos, Option, Some, None, slice_get}
 use Rattle.u_program.specs.Parts.{BlockParts}
 use Rattle.u_program.specs.declared.program.Constant.{Constant}
+use Rattle.u_program.specs.declared.program.Constant.TheVariants.{Int}
 use Rattle.u_program.specs.declared.program.Kind.{Kind}
 use Rattle.u_program.specs.declared.program.Kind.TheVariants.{Apply, Binary, Unary, Alloc, Fetch, Store, Select, Pass, Last, Leave, End}
 use Rattle.u_program.specs.declared.program.Arguments.{Arguments as CountParts}
@@ -11,6 +12,7 @@ use Rattle.u_source.specs.declared.form.Form.{Form}
 use Rattle.u_source.specs.declared.form.Form.TheVariants as forms
 use Rattle.u_scope.specs.declared.checked.Meaning.TheVariants.{Name}
 use Rattle.u_compile.specs.declared.graph.Output.{Output}
+use Rattle.u_compile.specs.declared.drawing.Carried.{Carried}
 use Rattle.u_compile.specs.declared.drawing.Scope.{Scope}
 use Rattle.u_compile.specs.declared.drawing.Way.{Way}
 use Rattle.u_compile.specs.declared.drawing.Way.TheVariants.{Side, Turn}
@@ -23,9 +25,9 @@ use Rattle.u_compile.specs.declared.lowering.Turns.{Turns}
 use Rattle.u_compile.specs.declared.tree.Tree.{Tree}
 use Rattle.u_compile.specs.Graphs.{output}
 use Rattle.u_compile.specs.Scoped.{IsOf}
-use Rattle.u_compile.specs.Drawings.{DrawingParts, GoesOn as Continues, IsOfKind, IsFedBy, IsParameter, IsEntered, Comes}
+use Rattle.u_compile.specs.Drawings.{DrawingParts, GoesOn as Continues, IsOfKind, IsFedBy, IsNextOf, a_carried, IsParameter, IsEntered, Comes}
 use Rattle.u_compile.specs.Namings.{IsNamed, IsConstant}
-use Rattle.u_compile.specs.Trees.{HasForm, IsParent, IsAround, IsCellWritten, IsGiven}
+use Rattle.u_compile.specs.Trees.{HasForm, IsParent, IsEither, IsAround, IsCellWritten, IsGiven}
 use Rattle.u_compile.specs.Operands.{LoweringParts, IsWritten, IsNoConstant, IsOperand}
 use Rattle.u_compile.specs.Sides.{IsLastFrame, IsSelect}
 use Rattle.u_compile.specs.Bodies.{IsBlockOf}
@@ -211,6 +213,79 @@ pub record GoesIn (x : Moment) (s : Start) : Type 0 where
   pub inner : ℕ
   pub entered : IsEntered x.whole.drawing loop s.value inner
 
+-- Value v is in that scope what the name is: it comes from the value to which that was bound, over exactly the scopes between.
+pub record IsOfName (x : Moment) (name scope v : ℕ) : Type 0 where
+  pub binding : Binding
+  pub named : binding.name ≡ name
+  pub bound : IsBound x binding
+  pub comes : Comes x.whole.drawing binding.scope binding.value scope v
+
+-- The operand that waits last is the value with which a variable of the innermost loop goes on. The name before it means the
+-- variable, and what the loop carries under that has the value in the next turn.
+pub record GoesOnWith (x : Moment) : Type 0 where
+  pub before : List Operand
+  pub name : ℕ
+  pub operand : Operand
+  pub waited : x.at.operands ≡ before ++ (Atom name ∷ operand ∷ [])
+  pub value : ℕ
+  pub from : IsFrom x operand value
+  pub variable : ℕ
+  pub means : slice_get x.at.scene.tree.meanings.now name ≡ Some (Name variable)
+  pub turns : Turns
+  pub control : Output
+  pub block : ℕ
+  pub frame : IsLastFrame x.at (frames.Block turns control block)
+  pub number : ℕ
+  pub enter : ℕ
+  pub next : slice_get x.whole.drawing.carried number ≡ Some (a_carried turns.turn variable enter (Some value))
+
+-- The counter of a `for` has that name. Value v is what an `add` gives of what it is in the scope that is gone through and of the
+-- constant 1.
+pub record IsCountedOn (x : Moment) (name v : ℕ) : Type 0 where
+  pub statement : ℕ
+  pub stands : IsOfKind x.whole.drawing.statements statement (Binary binary.Add)
+  pub sends : slice_get x.whole.drawing.values v ≡ Some (output statement false ∷ [])
+  pub value : ℕ
+  pub fed : IsFedBy x.whole.drawing.links x.whole.drawing.values statement 1 value
+  pub counts : IsOfName x name x.at.scene.scope value
+  pub step : ℕ
+  pub stepped : IsFedBy x.whole.drawing.links x.whole.drawing.values statement 2 step
+  pub one : IsConstant x.whole.drawing x.whole.scene.names.bindings x.at.scene.scope (Int (pos 1)) step
+
+-- A variable goes on with value v: with the one that is noted for it, with what the counter of a `for` counts on to, or with what its
+-- name is in the block.
+pub data IsNextValue (x : Moment) (block whole : ℕ) (c : Carried) (v : ℕ) : Type 0 where
+  noted : c.next ≡ Some v → IsNextValue x block whole c v
+  counted : c.next ≡ None → HasForm x.at.scene.tree whole forms.For → IsCountedOn x c.name v → IsNextValue x block whole c v
+  kept : c.next ≡ None → IsOfName x c.name block v → IsNextValue x block whole c v
+
+-- What is carried under that number goes on: exactly the value leads to a `next` of its `enter` with which it goes on.
+pub record GoesRoundWith (x : Moment) (block whole number : ℕ) (c : Carried) : Type 0 where
+  pub value : ℕ
+  pub is : IsNextValue x block whole c value
+  pub next : slice_get x.whole.drawing.carried number ≡ Some (record c { next = Some value })
+  pub statement : ℕ
+  pub stands : IsNextOf x.whole.drawing.statements statement c.enter
+  pub fed : IsFedBy x.whole.drawing.links x.whole.drawing.values statement 1 value
+
+-- so does all that the loop carries whose block ends
+abbrev pub AllGoRound : ℕ → Moment → Type 0
+AllGoRound whole x = (turns : Turns) (control : Output) (block : ℕ) → IsLastFrame x.at (frames.Block turns control block) → (number : ℕ) (c : Carried) → slice_get x.at.drawing.carried number ≡ Some c → c.turn ≡ turns.turn → GoesRoundWith x block whole number c
+
+-- if the block is that of a loop
+abbrev pub RoundsOf : Form → ℕ → Moment → Type 0
+RoundsOf forms.Loop whole x = AllGoRound whole x
+RoundsOf forms.For whole x = AllGoRound whole x
+RoundsOf _ whole x = Unit {0}
+
+-- what a block ends with, by what it is of
+pub record ClosesWith (x : Moment) : Type 0 where
+  pub whole : ℕ
+  pub parent : IsParent x.at.scene.tree whole x.node
+  pub form : Form
+  pub of : HasForm x.at.scene.tree whole form
+  pub rounds : RoundsOf form whole x
+
 -- What leads where at a node of that form, in the whole procedure.
 abbrev pub Uses : Form → Moment → Type 0
 Uses forms.Or x = Takes (Binary binary.Or) (1 ∷ 2 ∷ []) x
@@ -236,16 +311,48 @@ Uses forms.Call x = Called x
 Uses forms.If x = (control : ℕ) → IsLastFrame x.at (frames.Choice control) → Takes Select (2 ∷ 3 ∷ []) x
 Uses forms.NoItems x = OpensWith x
 Uses forms.Variables x = (waiting : ℕ) (limit : Option ℕ) → IsLastFrame x.at (frames.Begun waiting limit) → (s : Start) → IsOf (drop waiting x.at.starts) s → GoesIn x s
+Uses forms.Next x = GoesOnWith x
+Uses forms.Block x = ClosesWith x
 Uses forms.AddProcedure x = Takes End (1 ∷ []) x
 Uses _ x = Unit {0}
 
+-- At the node a variable of a loop goes on with a value, and behind it the block of that loop ends.
+pub record EndsBehind (t : Tree) (b : BlockParts) (made : IsMadeOfNodes t b) (node : ℕ) (at : LoweringParts) : Type 0 where
+  pub is : HasForm t node forms.Next
+  pub turns : Turns
+  pub control : Output
+  pub block : ℕ
+  pub frame : IsLastFrame at (frames.Block turns control block)
+  pub next : LoweringParts
+  pub end : ℕ
+  pub there : LoweringParts
+  pub passes : Passes made.first made.begun node at next end there
+  pub closes : HasForm t end forms.Block
+  pub same : IsLastFrame there (frames.Block turns control block)
+  pub outer : ℕ
+  pub parent : IsParent t outer end
+  pub form : Form
+  pub of : HasForm t outer form
+  pub loop : IsEither form forms.Loop forms.For
+  pub behind : LoweringParts
+  pub ends : Passes made.first made.begun end there behind made.last made.ended
+
+-- The value with which a variable goes on at the node goes round: exactly that leads to a `next` of the `enter` of the variable.
+pub record Arrives (x : Moment) : Type 0 where
+  pub goes : GoesOnWith x
+  pub statement : ℕ
+  pub stands : IsNextOf x.whole.drawing.statements statement goes.enter
+  pub fed : IsFedBy x.whole.drawing.links x.whole.drawing.values statement 1 goes.value
+
 -- Arcs are uses. Of the block, the procedure with its statements, links, scopes and values as they are in the end; and where a node
 -- of it takes operands to ports, each is led to by exactly what one value gives: the one that was bound to what a name means that
--- is used there, brought over exactly the scopes between.
+-- is used there, brought over exactly the scopes between. The value with which a variable of a loop goes on leads into
+-- the next turn, where the block of the loop ends.
 pub record ArcsAreUses (t : Tree) (b : BlockParts) : Type 0 where
   pub made : IsMadeOfNodes t b
   pub whole : LoweringParts
   pub name : List ℕ
   pub of : IsBlockOf name whole.drawing b
   pub uses : (node : ℕ) (at next : LoweringParts) (form : Form) → Passes made.first made.begun node at next made.last made.ended → HasForm t node form → Uses form (record { first = made.first; begun = made.begun; node = node; at = at; whole = whole })
+  pub round : (node : ℕ) (at : LoweringParts) → EndsBehind t b made node at → Arrives (record { first = made.first; begun = made.begun; node = node; at = at; whole = whole })
   pub end : Uses forms.AddProcedure (record { first = made.first; begun = made.begun; node = made.last; at = made.ended; whole = whole })
