@@ -38,7 +38,7 @@ use Rattle.u_compile.specs.Bodies.{IsBlockOf, EndsProcedure, Opens, OpensBlock, 
 use Rattle.u_compile.specs.Steps.{IsItem, IsWhole}
 use Rattle.u_compile.specs.Walks.{IsDone, item, whole, is_item, GoesThrough, AllMade, IsFresh, IsWithinOne, IsMadeOfNodes, AreLowered}
 use Rattle.u_compile.specs.Made.{IsTreeOf, AreMadeOf}
-use Rattle.u_compile.specs.Uses.{Begins, Binds, GivesParameter, HasBegun, Passes, Moment, IsBound, IsFrom, AreArcs, Takes, Called, WaitsLast, IsInside, Tells, Controls, ControlsOf, OpensWith, ports_from, IsOfName, GoesOnWith, IsCountedOn, IsNextValue, GoesRoundWith, AllGoRound, RoundsOf, ClosesWith, Uses, EndsBehind, Arrives, ArcsAreUses}
+use Rattle.u_compile.specs.Uses.{Begins, Binds, GivesParameter, HasBegun, Passes, Moment, IsBound, IsFrom, AreArcs, Takes, Selected, Called, WaitsLast, IsInside, Tells, Controls, ControlsOf, OpensWith, ports_from, IsOfName, GoesOnWith, IsCountedOn, IsNextValue, GoesRoundWith, AllGoRound, RoundsOf, ClosesWith, Uses, EndsBehind, Arrives, ArcsAreUses}
 use Rattle.u_compile.proofs.DrawingLaws.{get_goes_on, on_then, get_last}
 use Rattle.u_compile.proofs.CarriedLaws.{same_number, some_carried, none_noted, some_noted, noted_now, noted_other, none_may}
 use Rattle.u_compile.proofs.KnownLaws.{comes_then}
@@ -281,21 +281,25 @@ module _ (x : Moment) (known : Known x) where
       }
 
   -- an `if` that chooses one of two values
-  selects_uses : (control : ℕ) (ended m : LoweringParts) → IsFramePopped x.at ended (frames.Choice control) → Selects control ended m → Extends m.drawing x.whole.drawing → Takes Select (2 ∷ 3 ∷ []) x
+  selects_uses : (control : ℕ) (ended m : LoweringParts) → IsFramePopped x.at ended (frames.Choice control) → Selects control ended m → Extends m.drawing x.whole.drawing → Selected control x
   selects_uses control ended m popped s g =
       let p = s.pops in
       let n = length s.taken.drawing.statements + 1 in
       let scene : ended.scene ≡ x.at.scene = ap (λ (y : LoweringParts). y.scene) popped.1 in
       let grown = extends_then s.taken.drawing m.drawing x.whole.drawing (extends_grown s.taken.drawing m.drawing s.pushes.gives.adds.grows) g in
       let fed = added_fed s.taken.drawing m.drawing x.whole.drawing Select _ s.pushes.gives.adds g in
-      record {
+      let takes : Takes Select (2 ∷ 3 ∷ []) x = record {
         before = s.taken.operands;
         operands = p.operands;
         waited = sym (ap (λ (y : LoweringParts). y.operands) popped.1) ∙ p.were;
         statement = n;
         stands = stands_extends m.drawing x.whole.drawing g n Select s.pushes.gives.adds.stands;
         arcs = arcs_all s.taken.drawing grown n (2 ∷ 3 ∷ []) p.operands (s.left ∷ s.right ∷ []) (subst (λ (y : SceneParts). AreOperands y s.taken.drawing p.operands (s.left ∷ s.right ∷ [])) scene p.are) fed.1;
-      }
+      } in
+      record { takes = takes; fed = fed.0 }
+
+choice_one : (a b : ℕ) → frames.Choice a ≡ frames.Choice b → a ≡ b
+choice_one a b e = cc
 
 no_end : {A : Type 0} (ys : List A) (y : A) → [] ≡ ys ++ (y ∷ []) → ⊥
 no_end [] y e = cc
@@ -376,7 +380,7 @@ module _ (x : Moment) (known : Known x) where
       test_one a b q = cc
 
   if_uses : (m : LoweringParts) → ClosesIf x.at m → Extends m.drawing x.whole.drawing → Uses forms.If x
-  if_uses m (ClosesIf.choice control ended popped selects) g c last = selects_uses x known control ended m popped selects g
+  if_uses m (ClosesIf.choice control ended popped selects) g c last = subst (λ (k : ℕ). Selected k x) (choice_one control c (one_end ended.frames last.0 (frames.Choice control) (frames.Choice c) (sym popped.0 ∙ last.1))) (selects_uses x known control ended m popped selects g)
   if_uses m (ClosesIf.sides s ended popped closes) g c last = absurd (other (one_end ended.frames last.0 (frames.Sides s) (frames.Choice c) (sym popped.0 ∙ last.1)))
     where
       other : frames.Sides s ≡ frames.Choice c → ⊥

@@ -140,6 +140,11 @@ pub record Takes (kind : Kind) (ports : List ℕ) (x : Moment) : Type 0 where
   pub stands : IsOfKind x.whole.drawing.statements statement kind
   pub arcs : AreArcs x statement ports operands
 
+-- The two operands that wait last lead to a `select`, to port 1 of which exactly the control leads.
+pub record Selected (control : ℕ) (x : Moment) : Type 0 where
+  pub takes : Takes Select (2 ∷ 3 ∷ []) x
+  pub fed : IsFedBy x.whole.drawing.links x.whole.drawing.values takes.statement 1 control
+
 -- the ports from that one on, one for each
 abbrev pub ports_from : {A : Type 0} → ℕ → List A → List ℕ
 ports_from port [] = []
@@ -308,7 +313,7 @@ Uses forms.Length x = Takes (Unary unary.Length) (1 ∷ []) x
 Uses forms.Index x = (IsCellWritten x.at.scene.tree x.node → ⊥) → Takes Fetch (1 ∷ 2 ∷ []) x
 Uses forms.Write x = Takes Store (1 ∷ 2 ∷ 3 ∷ []) x
 Uses forms.Call x = Called x
-Uses forms.If x = (control : ℕ) → IsLastFrame x.at (frames.Choice control) → Takes Select (2 ∷ 3 ∷ []) x
+Uses forms.If x = (control : ℕ) → IsLastFrame x.at (frames.Choice control) → Selected control x
 Uses forms.NoItems x = OpensWith x
 Uses forms.Variables x = (waiting : ℕ) (limit : Option ℕ) → IsLastFrame x.at (frames.Begun waiting limit) → (s : Start) → IsOf (drop waiting x.at.starts) s → GoesIn x s
 Uses forms.Next x = GoesOnWith x
