@@ -1,5 +1,8 @@
 -- The order of contexts is that of their paths.
 use Rattle.std.specs.Prelude.{◌≡◌, ℕ, ◌+◌, ◌*◌, max, List, [], ◌∷◌, ◌++◌, length, refl}
+use Rattle.std.proofs.lemmas.Map.Text.{is_eq-slice_cmp}
+use Rattle.std.specs.Ordering.{is_eq, eq_by_cmp}
+use Rattle.std.specs.Str.{bytes_eq}
 use Rattle.std.proofs.Common.{sym, ◌∙◌, ap, arith, length-append, append_assoc}
 use Rattle.std.specs.Ordering.{ordering_then, nat_cmp}
 use Rattle.std.specs.declared.cmp.Ordering.{Ordering}
@@ -120,3 +123,7 @@ path_deep t =
 pub greatest_by : (s : Linkage) (o : Tree) (b : List ℕ) (i : ℕ) → max (greatest_turn o) i ≡ greatest_turn (tree_by s o b i)
 greatest_by (Loop n) o b i = refl
 greatest_by (Call n) o b i = refl
+
+-- two contexts are the same exactly where their paths are
+pub same_paths : (x y : Tree) → IsContext x → IsContext y → bytes_eq (path x) (path y) ≡ eq_by_cmp context_cmp x y
+same_paths x y f g = sym (is_eq-slice_cmp (path x) (path y)) ∙ ap is_eq (by_paths x y f g)

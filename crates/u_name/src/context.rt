@@ -202,7 +202,7 @@ impl Inner {
     }
 
     /// Whether they are the same. Where the digests differ, nothing else is looked at.
-    #[tactic(auto, using(crate::proofs::EqualContexts::other_digest))]
+    #[tactic(auto, using(crate::proofs::EqualContexts::other_digest, crate::proofs::PathOrder::same_paths))]
     fn is_same(&self, other: &Inner) -> bool
         requires own { IsBeside self.now }
         requires own_in { IsContext (inner_tree self.now) }
@@ -213,7 +213,7 @@ impl Inner {
         if self.digest != other.digest {
             return false;
         }
-        self.compare(other).is_eq()
+        self.path == other.path
     }
 }
 
