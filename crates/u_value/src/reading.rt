@@ -7,6 +7,7 @@ ghost use Rattle.u_value.specs.Reading.{length_at, pointer_at, reference_of, fal
 ghost use Rattle.u_value.specs.declared.reading.ValueTextError.TheVariants.{NoMemory, BadValue};
 ghost use Rattle.u_value.specs.declared.value.Value.TheVariants as values;
 
+use crate::procedure::Procedure;
 use crate::reference::Reference;
 use crate::value::Value;
 use std::alloc::{AllocError, Global};
@@ -72,15 +73,15 @@ fn front_reference(alloc: Global, bytes: &[u8]) -> Result<Front<'_, Value>, Allo
     }
 }
 
-/// The name of a block, behind the `@`.
-fn front_procedure(bytes: &[u8]) -> Front<'_, Value>
-    ensures { MatchResult result
+/// The procedure of a block, behind the `@`.
+fn front_procedure(alloc: Global, bytes: &[u8]) -> Result<Front<'_, Value>, AllocError>
+    ensures { IfOk result (λ front. MatchResult front
         (λ found. mapped values.Proc block_at bytes.now ≡ Ok (found.0, found.1.now))
-        (λ rest. mapped values.Proc block_at bytes.now ≡ Err rest.now) }
+        (λ rest. mapped values.Proc block_at bytes.now ≡ Err rest.now)) }
 {
     match front_block(bytes) {
-        Ok((block, rest)) => Ok((Value::Proc(block), rest)),
-        Err(rest) => Err(rest),
+        Ok((block, rest)) => Ok(Ok((Value::Proc(Procedure::new(alloc, block)?), rest))),
+        Err(rest) => Ok(Err(rest)),
     }
 }
 
@@ -130,7 +131,7 @@ pub fn front_value(alloc: Global, bytes: &[u8]) -> Result<Front<'_, Value>, Allo
     };
     match *first {
         b'&' => front_reference(alloc, rest),
-        b'@' => Ok(front_procedure(rest)),
+        b'@' => front_procedure(alloc, rest),
         b'f' => Ok(front_false(rest)),
         b't' => Ok(front_true(rest)),
         _ => Ok(front_number(bytes)),

@@ -3,6 +3,7 @@ ghost use Rattle.std.specs.Prelude.{◌≡◌, ◌++◌, ◌∷◌, IfOk, OnOk, 
 ghost use Rattle.u_text.specs.Appending.{Extends};
 ghost use Rattle.u_value.specs.Values.{value_cmp, value_text};
 
+use crate::procedure::Procedure;
 use crate::reference::Reference;
 use std::alloc::AllocError;
 use std::cmp::Ordering;
@@ -10,15 +11,16 @@ use u_name::BlockName;
 use u_text::{cut_back, push_signed};
 
 /// A value, as a token carries one. The kinds come in this order, and then the values by number,
-/// false before true, the bytes of the block's name, and the reference's name and length.
+/// false before true, the bytes of the block's name, and the reference's name and length. A value takes two
+/// words: what is longer is shared by its copies.
 #[derive(PartialEq, Eq, PartialOrd, Ord, Hash, Drop)]
 pub enum Value {
     /// A signed number of 64 bits.
     Int(i64),
     /// A truth value.
     Bool(bool),
-    /// A procedure, by the name of its block.
-    Proc(BlockName),
+    /// A procedure.
+    Proc(Procedure),
     /// A structure.
     Ref(Reference),
 }
@@ -39,7 +41,7 @@ impl Value {
         Ok(match self {
             Value::Int(number) => Value::Int(*number),
             Value::Bool(truth) => Value::Bool(*truth),
-            Value::Proc(block) => Value::Proc(*block),
+            Value::Proc(procedure) => Value::Proc(procedure.copy()?),
             Value::Ref(reference) => Value::Ref(reference.copy()?),
         })
     }
@@ -69,7 +71,7 @@ fn push_value(out: &mut Vec<u8>, value: &Value) -> Result<(), AllocError>
         Value::Int(number) => push_signed(out, *number),
         Value::Bool(true) => out.extend_from_slice(b"true"),
         Value::Bool(false) => out.extend_from_slice(b"false"),
-        Value::Proc(block) => push_block(out, block),
+        Value::Proc(procedure) => push_block(out, procedure.block()),
         Value::Ref(reference) => reference.write_text(out),
     }
 }

@@ -15,7 +15,7 @@ returns-in-38 c =
 pub returns-in-64 : goal.returns-in-64
 returns-in-64 c =
     let e : c.args.bytes.now ≡ 64 ∷ c.in-Some.rest.now = search rules in
-    subst (λ (r : R). MatchResult c.front_procedure.result (λ found. r ≡ Ok (found.0, found.1.now)) (λ rest. r ≡ Err rest.now)) (sym (behind_at c.args.bytes.now c.in-Some.rest.now e)) c.front_procedure.ensures
+    subst (λ (r : R). IfOk c.front_procedure.result (λ front. MatchResult front (λ found. r ≡ Ok (found.0, found.1.now)) (λ rest. r ≡ Err rest.now))) (sym (behind_at c.args.bytes.now c.in-Some.rest.now e)) c.front_procedure.ensures
 
 pub returns-in-102 : goal.returns-in-102
 returns-in-102 c =
