@@ -27,8 +27,8 @@ fn value_in_range(value: &Value)
             let _number = *number;
         }
         Value::Bool(_) => {}
-        Value::Proc(block) => {
-            let _ = block.as_bytes();
+        Value::Proc(procedure) => {
+            let _ = procedure.block().as_bytes();
         }
         Value::Ref(reference) => {
             let _ = reference.length();

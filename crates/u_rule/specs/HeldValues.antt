@@ -5,5 +5,5 @@ use Rattle.u_rule.specs.declared.values.Held.TheVariants.{One, Two, More}
 
 abbrev pub values_held : Held → ValueList
 values_held (One vs) = vs
-values_held (Two vs) = vs.value
+values_held (Two vs) = vs
 values_held (More vs) = vs.value.items

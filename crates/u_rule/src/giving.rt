@@ -25,16 +25,16 @@ use crate::structures::{cell_named, wrote};
 use std::alloc::{AllocError, Global};
 use u_name::{BlockName, Name, NameError, Node};
 use u_program::{Constant, Destination, Kind, Program, Statement, Version};
-use u_value::{FaultKind, Reference, Value, apply1, apply2, select};
+use u_value::{FaultKind, Procedure, Reference, Value, apply1, apply2, select};
 
 /// The constant as a value.
-fn value_of(constant: &Constant) -> Value
-    ensures { result ≡ value_of constant.now }
+fn value_of(alloc: Global, constant: &Constant) -> Result<Value, AllocError>
+    ensures { IfOk result (λ v. v ≡ value_of constant.now) }
 {
     match constant {
-        Constant::Int(number) => Value::Int(*number),
-        Constant::Bool(truth) => Value::Bool(*truth),
-        Constant::Proc(block) => Value::Proc(*block),
+        Constant::Int(number) => Ok(Value::Int(*number)),
+        Constant::Bool(truth) => Ok(Value::Bool(*truth)),
+        Constant::Proc(block) => Ok(Value::Proc(Procedure::new(alloc, *block)?)),
     }
 }
 
@@ -92,7 +92,7 @@ fn made_by(alloc: Global, kind: &Kind, firing: &Firing) -> Result<Made, AllocErr
         ≡ outcome_of m) }
 {
     match (kind, firing.values.as_slice()) {
-        (Kind::Const(constant), _) => Ok(Made::Value(value_of(constant))),
+        (Kind::Const(constant), _) => Ok(Made::Value(value_of(alloc, constant)?)),
         (Kind::Alloc, values) => allocated(alloc, &firing.activity, values),
         (Kind::Fetch, _) => fetched(firing),
         (Kind::Unary(operator), [first, ..]) => Ok(operated(apply1(*operator, first))),
@@ -284,9 +284,10 @@ fn called(
 ) -> Result<Vec<Entry>, AllocError>
     ensures { IfOk result (λ v. v.items ≡ called program.now.blocks activity.now values.now) }
 {
-    let Some((Value::Proc(name), arguments)) = values.split_first() else {
+    let Some((Value::Proc(procedure), arguments)) = values.split_first() else {
         return fault(alloc, activity, FaultKind::Kind);
     };
+    let name = procedure.block();
     match block_of(program, name) {
         None => fault(alloc, activity, FaultKind::Kind),
         Some(block) if arguments.len() == parameters_of(block) => {

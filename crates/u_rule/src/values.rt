@@ -17,17 +17,17 @@ use u_value::Value;
 
 /// The values at an activity's ports, in the order of the ports: one at least, and as many as an activity
 /// has ports at most. Contracts see a list. Lists are ordered value by value, and a list comes before those
-/// that go on behind it. One value takes no memory of its own, and copies of two or more share them.
+/// that go on behind it. One value or two take no memory of their own, and copies of more share them.
 #[derive(Drop)]
 pub struct Values {
     held: Held,
 }
 
-/// One value in its place, or a way to more.
+/// One value or two in their places, or a way to more.
 #[derive(Drop)]
 enum Held {
     One([Value; 1]),
-    Two(Arc<[Value; 2], Global>),
+    Two([Value; 2]),
     More(Arc<Vec<Value>, Global>),
 }
 
@@ -74,12 +74,11 @@ impl Values {
     ///
     /// # Errors
     /// `AllocError` where there is no memory.
-    pub fn two(alloc: Global, first: Value, second: Value) -> Result<Values, AllocError>
+    pub fn two(_: Global, first: Value, second: Value) -> Result<Values, AllocError>
         ensures { IfOk result (λ v. v ≡ first ∷ second ∷ []) }
     {
-        let two = Arc::new(alloc, [first, second])?;
         Ok(Values {
-            held: Held::Two(two),
+            held: Held::Two([first, second]),
         })
     }
 
@@ -121,7 +120,7 @@ impl Values {
         }
     }
 
-    /// An equal list. Two values and more are shared.
+    /// An equal list. Three values and more are shared.
     ///
     /// # Errors
     /// `AllocError` where there is no memory.
@@ -130,7 +129,7 @@ impl Values {
     {
         let held = match &self.held {
             Held::One([only]) => Held::One([only.copy()?]),
-            Held::Two(two) => Held::Two(Arc::try_clone(two)?),
+            Held::Two([first, second]) => Held::Two([first.copy()?, second.copy()?]),
             Held::More(more) => Held::More(Arc::try_clone(more)?),
         };
         Ok(Values { held })
