@@ -9,7 +9,7 @@ at_place [] i x e = absurd (cc)
 at_place (y ∷ ys) zero x e = (0, omega arith, let h : y ≡ x = cc in h)
 at_place (y ∷ ys) (suc i) x e = let m = at_place ys i x e in (suc m.0, omega (arith, m.1), m.2)
 
-one_place : {X : Type 0} (xs : List X) → Distinct xs → (i j : ℕ) (x : X) → slice_get xs i ≡ Some x → slice_get xs j ≡ Some x → i ≡ j
+pub one_place : {X : Type 0} (xs : List X) → Distinct xs → (i j : ℕ) (x : X) → slice_get xs i ≡ Some x → slice_get xs j ≡ Some x → i ≡ j
 one_place [] d i j x e f = absurd (cc)
 one_place (y ∷ ys) d zero zero x e f = refl
 one_place (y ∷ ys) d zero (suc j) x e f = let h : y ≡ x = cc in absurd (d.0 (subst (λ z. Contains ys z) (sym h) (at_place ys j x f)))

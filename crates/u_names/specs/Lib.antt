@@ -1,1 +1,7 @@
+pub mod CellPairs
+pub mod ExactOrders
+pub mod Frames
+pub mod Groups
 pub mod NameLists
+pub mod Places
+pub mod Spots

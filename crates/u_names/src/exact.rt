@@ -1,0 +1,19 @@
+//! Frames, places and spots tie with nothing but themselves.
+ghost use Rattle.u_names.specs.ExactOrders.{frame_ties, place_ties, spot_ties};
+
+use crate::frames::Frame;
+use crate::places::Place;
+use crate::spots::Spot;
+use u_order::ExactOrd;
+
+impl ExactOrd for Frame {
+    ghost exact = { frame_ties };
+}
+
+impl ExactOrd for Place {
+    ghost exact = { place_ties };
+}
+
+impl ExactOrd for Spot {
+    ghost exact = { spot_ties };
+}
