@@ -1,15 +1,16 @@
 -- The columns of a history's tables, and the tables of activities that they give.
 use Rattle.std.proofs.Common.{◌≡◌, ◌↔◌, ◌⊎◌, inl, inr, ℕ, zero, suc, ◌+◌, ◌<◌, ◌≤◌, List, [], ◌∷◌, ◌++◌, map, Contains, length, get_or, set, take, subst, sym, ◌∙◌, ap, refl, arith, append_assoc}
-use Rattle.std.specs.Prelude.{Bool, Result, Ok, Err, OnOk, OnErr, None, slice_get}
+use Rattle.std.specs.Prelude.{Bool, Result, Ok, Err, OnOk, OnErr, Option, None, slice_get}
 use Rattle.std.specs.Borrow.{Bor}
-use Rattle.std.proofs.lemmas.List.{length-set, take_more, take_all, map-append}
+use Rattle.std.proofs.lemmas.List.{length-set, length-append, take_more, take_all, map-append}
 use Rattle.u_system.specs.Firing.{Distinct}
 use Rattle.u_system.proofs.Member.{Contains-nil, Contains-head, Contains-tail, Contains-cons_cases}
 use Rattle.u_name.specs.Name.{Activity}
 use Rattle.u_value.specs.declared.value.Value.{Value}
-use Rattle.u_sets.specs.Members.{IsWith, GoesLast}
-use Rattle.u_sets.specs.Columns.{AreBelow, named, deref_value, IsNumberOf, MayNumber}
-use Rattle.u_sets.proofs.Named.{under, named_with, last_named, below_with, below_more, named_push}
+use Rattle.u_sets.specs.Members.{IsWith}
+use Rattle.u_names.specs.Groups.{Grows}
+use Rattle.u_sets.specs.Columns.{AreBelow, named, pair_under, deref_value, IsNumberOf, MayNumber}
+use Rattle.u_sets.proofs.Named.{under, named_with, below_with, below_more, named_push}
 use Rattle.u_rule.specs.Parts.{TokenParts, token}
 use Rattle.u_rule.specs.declared.entry.Entry.{Entry}
 use Rattle.u_rule.specs.declared.entry.Entry.TheVariants as entries
@@ -54,20 +55,29 @@ module _ (names : List Activity) where
   pub table_of : (cs : List Column) (n i : ℕ) (d : Column) → n ≡ suc i → i < length cs → place_at (tables_by names cs) n ≡ named names (get_or cs i d)
   table_of cs n i d e l = table_is (tables_by names cs) n i (named names d) e (omega (arith, l, tables_length cs)) ∙ tables_get cs i d
 
-  -- a new name leaves the tables
-  pub tables_still : (more : List Activity) (a : Activity) (cs : List Column) → GoesLast names a more → ((c : Column) → Contains cs c → AreBelow (length names) c) → tables_by more cs ≡ tables_by names cs
-  tables_still more a [] g b = refl
-  tables_still more a (c ∷ cs) g b =
-      ap (λ (ps : List (Activity × Value)). ps ∷ tables_by more cs) (last_named names more a c g (b c (Contains-head c cs)))
-      ∙ ap (λ (ts : PortTables). named names c ∷ ts) (tables_still more a cs g (λ d m. b d (Contains-tail c d cs m)))
+  still_at : (more : List Activity) (n : ℕ) → n < length names → slice_get (names ++ more) n ≡ slice_get names n
+  still_at more n l = front_at names more n l
+    where
+      front_at : (xs ys : List Activity) (i : ℕ) → i < length xs → slice_get (xs ++ ys) i ≡ slice_get xs i
+      front_at [] ys i k = absurd (omega (arith, k))
+      front_at (x ∷ xs) ys zero k = refl
+      front_at (x ∷ xs) ys (suc i) k = front_at xs ys i (omega (arith, k))
 
-pub goes_last_length : {X : Type 0} (xs ys : List X) (x : X) → GoesLast xs x ys → length xs ≤ length ys
-goes_last_length xs ys x (inl (m, e)) = let q = ap length e in omega (arith, q)
-goes_last_length {X} xs ys x (inr (n, e)) = let q = ap length e in let k = pushed xs x in omega (arith, q, k)
-  where
-    pushed : (zs : List X) (z : X) → length (zs ++ z ∷ []) ≡ suc (length zs)
-    pushed [] z = refl
-    pushed (y ∷ zs) z = ap suc (pushed zs z)
+  still_named : (rest : List Activity) (c : Column) → AreBelow (length names) c → named (names ++ rest) c ≡ named names c
+  still_named rest [] b = refl
+  still_named rest (p ∷ ps) b =
+      ap (λ (o : Option Activity). pair_under o p.1 ++ named (names ++ rest) ps) (still_at rest p.0 (b p (Contains-head p ps)))
+      ∙ ap (λ (qs : List (Activity × Value)). pair_under (slice_get names p.0) p.1 ++ qs) (still_named rest ps (λ q m. b q (Contains-tail p q ps m)))
+
+  -- more names behind leave the tables
+  pub tables_still : (more : List Activity) (cs : List Column) → Grows names more → ((c : Column) → Contains cs c → AreBelow (length names) c) → tables_by more cs ≡ tables_by names cs
+  tables_still more [] g b = refl
+  tables_still more (c ∷ cs) (rest, e) b =
+      ap (λ (ps : List (Activity × Value)). ps ∷ tables_by more cs) (ap (λ (ks : List Activity). named ks c) e ∙ still_named rest c (b c (Contains-head c cs)))
+      ∙ ap (λ (ts : PortTables). named names c ∷ ts) (tables_still more cs (rest, e) (λ d m. b d (Contains-tail c d cs m)))
+
+pub grown_length : (xs ys : List Activity) → Grows xs ys → length xs ≤ length ys
+grown_length xs ys (rest, e) = let q = ap length e in let k = length-append xs rest in omega (arith, q, k)
 
 module _ (t : Tables) (all : AreTables t) where
   -- what an activity has at a port is what its number has in the port's column
@@ -84,19 +94,19 @@ module _ (t : Tables) (all : AreTables t) where
       none (inl e) = ap (place_at (tables_by t.names t.columns)) e ∙ none_at_zero (tables_by t.names t.columns)
       none (inr l) = none_past (tables_by t.names t.columns) p (omega (arith, l, tables_length t.names t.columns))
 
-  -- another name
-  module _ (more : List Activity) (a : Activity) (last : GoesLast t.names a more) (apart : Distinct more) where
+  -- more names
+  module _ (more : List Activity) (grown : Grows t.names more) (apart : Distinct more) where
     abbrev pub renamed : Tables
     renamed = record t { names = more }
 
     pub renamed_same : HoldsTheSame t renamed
-    renamed_same = ap (λ (ts : PortTables). record (contents_of t) { tokens = ts }) (tables_still t.names more a t.columns last all.below)
+    renamed_same = ap (λ (ts : PortTables). record (contents_of t) { tokens = ts }) (tables_still t.names more t.columns grown all.below)
 
     pub renamed_tables : AreTables renamed
     renamed_tables = record {
       ports = all.ports;
       distinct = apart;
-      below = λ c m. below_more (length t.names) (length more) c (all.below c m) (goes_last_length t.names more a last);
+      below = λ c m. below_more (length t.names) (length more) c (all.below c m) (grown_length t.names more grown);
       others = all.others;
     }
 

@@ -10,6 +10,9 @@ pub record NumberedEntries : Type 0 where
   pub names : List Activity
   pub entries : List Entry
 
+abbrev pub numbered : List Activity → List Entry → NumberedEntries
+numbered names entries = record { names = names; entries = entries }
+
 abbrev pub numbered_code : Coded NumberedEntries
 numbered_code =
-    code_by (List Activity × List Entry) (coded× (coded_list activity_code) entries_code) (λ h. (h.names, h.entries)) (λ p. record { names = p.0; entries = p.1 }) (λ _. refl)
+    code_by (List Activity × List Entry) (coded× (coded_list activity_code) entries_code) (λ h. (h.names, h.entries)) (λ p. numbered p.0 p.1) (λ _. refl)

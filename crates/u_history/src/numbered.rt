@@ -7,6 +7,7 @@ ghost use Rattle.u_value.specs.declared.value.Value.{Value};
 ghost use Rattle.u_rule.specs.declared.parts.Written.{Written};
 ghost use Rattle.u_sets.specs.Rising.{Rises};
 ghost use Rattle.u_sets.specs.Members.{IsWith};
+ghost use Rattle.u_names.specs.Groups.{Grows};
 ghost use Rattle.u_sets.specs.Columns.{IsNumberOf, MayNumber};
 ghost use Rattle.u_rule.specs.EntryOrder.{entry_cmp};
 ghost use Rattle.u_rule.specs.declared.entry.Entry.{Entry};
@@ -39,8 +40,9 @@ impl Model for NumberedHistory {
     ghost coded = { numbered_code };
 
     ghost use Rattle.u_history.specs.Tables.{contents_of, all_entries, AreCounted};
+    ghost use Rattle.u_history.specs.Numbered.{numbered};
 
-    ghost view = { λ h. record { names = h.tables.names; entries = all_entries (contents_of h.tables) } };
+    ghost view = { λ h. numbered h.tables.names (all_entries (contents_of h.tables)) };
 
     ghost invariant = { λ h. AreCounted h.tables h.count };
 }
@@ -72,15 +74,16 @@ impl NumberedHistory {
         self.tables.contains(entry)
     }
 
-    /// The number of the activity, which it gets where it has none.
+    /// The number of the activity, which it gets where it has none. The others keep theirs.
     ///
     /// # Errors
-    /// `AllocError` where there is no memory; then it has none.
+    /// `AllocError` where there is no memory; all have the numbers that they had.
     pub fn number_of(&mut self, activity: &Name) -> Result<usize, AllocError>
         ensures number { IfOk result (IsNumberOf self.new.names activity.now) }
+        ensures names { Grows self.old.names self.new.names }
         ensures same { self.new.entries ≡ self.old.entries }
     {
-        let number = self.tables.number_of_copy(activity)?;
+        let number = self.tables.number_of(activity)?;
         Ok(number)
     }
 

@@ -1,6 +1,7 @@
 //! Where the entries of a history stand: tokens under their activities, writes under their cells.
 ghost use Rattle.std.specs.Prelude.{◌≡◌, ◌↔◌, ◌<◌, [], length, OnOk, OnErr, IfOk, IfErr, Contains, IsTrue, ◌++◌, map};
-ghost use Rattle.std.specs.Map.Iter.{deref, deref_pair};
+ghost use Rattle.std.specs.Map.Iter.{deref};
+ghost use Rattle.u_names.specs.CellPairs.{deref_at_cell};
 ghost use Rattle.u_system.specs.Firing.{Distinct};
 ghost use Rattle.u_name.specs.Context.{IsBetween};
 ghost use Rattle.u_name.specs.Name.{Activity};
@@ -10,6 +11,7 @@ ghost use Rattle.u_rule.specs.EntryOrder.{entry_cmp, write_of, written};
 ghost use Rattle.u_rule.specs.declared.entry.Entry.{Entry};
 ghost use Rattle.u_rule.specs.declared.entry.Entry.TheVariants as kinds;
 ghost use Rattle.u_sets.specs.Members.{IsWith};
+ghost use Rattle.u_names.specs.Groups.{Grows};
 ghost use Rattle.u_sets.specs.Rising.{Rises};
 ghost use Rattle.u_sets.specs.Columns.{named, deref_value, AreBelow, IsNumberOf, MayNumber};
 ghost use Rattle.u_history.specs.Tables.{PortTables, AreTables, contents_of};
@@ -20,25 +22,26 @@ ghost use Rattle.u_history.specs.Tables.{listed_entries, all_entries, Matters, A
 use std::alloc::{AllocError, AllocFailed, Global};
 use std::array;
 use u_name::{Cell, Name};
+use u_names::{Activities, CellSet};
 use u_rule::{Entry, MOST_PORTS, Token, Write, Written};
-use u_sets::{Column, KeyedSet, ListedSet, PlacedSet, put_in_order};
+use u_sets::{Column, ListedSet, put_in_order};
 use u_value::Value;
 
 /// The entries of a history.
 #[derive(Drop)]
 pub struct Tables {
     /// The activities. The number of one is its place.
-    pub names: PlacedSet<Name>,
+    pub names: Activities,
     /// For each port, the first being port 1, the values there, by the number of the activity.
     pub columns: [Column<Value>; MOST_PORTS],
     /// The writes, by cell.
-    pub writes: KeyedSet<Cell, Written>,
+    pub writes: CellSet<Written>,
     /// The faults and the answers.
     pub rest: ListedSet<Entry>,
 }
 
 /// Puts the write into the table.
-fn put_write(table: &mut KeyedSet<Cell, Written>, write: Write) -> Result<bool, AllocFailed<Entry>>
+fn put_write(table: &mut CellSet<Written>, write: Write) -> Result<bool, AllocFailed<Entry>>
     ensures ok { OnOk result
         (IsWith table.old (write.cell, written write.writer write.value) table.new) }
     ensures new { IfOk result
@@ -53,11 +56,10 @@ fn put_write(table: &mut KeyedSet<Cell, Written>, write: Write) -> Result<bool, 
         writer,
         value,
     } = write;
-    match table.insert(cell, Written { writer, value }) {
+    match table.insert(&cell, Written { writer, value }) {
         Ok(added) => Ok(added),
         Err(failed) => {
-            let (cell, pair) = failed.value;
-            let Written { writer, value } = pair;
+            let Written { writer, value } = failed.value;
             Err(AllocFailed {
                 value: Entry::Write(Write {
                     cell,
@@ -69,12 +71,11 @@ fn put_write(table: &mut KeyedSet<Cell, Written>, write: Write) -> Result<bool, 
     }
 }
 
-/// The token, of copies of its parts.
-fn token_copy(activity: &Name, port: u8, value: &Value) -> Result<Entry, AllocError>
+/// The token of a copy of the value.
+fn token_at(activity: Name, port: u8, value: &Value) -> Result<Entry, AllocError>
     requires { IsBetween 1 port most_ports }
-    ensures { IfOk result (λ e. e ≡ kinds.Token (token activity.now port value.now)) }
+    ensures { IfOk result (λ e. e ≡ kinds.Token (token activity port value.now)) }
 {
-    let activity = activity.copy()?;
     let value = value.copy()?;
     Ok(Entry::Token(Token::new(activity, port, value)))
 }
@@ -94,7 +95,7 @@ fn write_copy(cell: &Cell, pair: &Written) -> Result<Entry, AllocError>
 /// Adds copies of the tokens at the port. The pairs have the numbers of their activities.
 fn push_tokens(
     list: &mut Vec<Entry>,
-    names: &PlacedSet<Name>,
+    names: &Activities,
     pairs: &[(usize, &Value)],
     port: u8,
 ) -> Result<(), AllocError>
@@ -105,21 +106,22 @@ fn push_tokens(
         ≡ list.old.items ++ map (token_entry port) (named names.now (map deref_value pairs.now))) }
 {
     for pair in pairs {
-        let Some(activity) = names.get(pair.0) else {
+        let found = names.name_of(pair.0)?;
+        let Some(activity) = found else {
             unreachable!()
         };
-        list.push(token_copy(activity, port, pair.1)?)?;
+        list.push(token_at(activity, port, pair.1)?)?;
     }
     Ok(())
 }
 
 /// Adds copies of the writes.
-fn push_writes(list: &mut Vec<Entry>, pairs: &[(&Cell, &Written)]) -> Result<(), AllocError>
+fn push_writes(list: &mut Vec<Entry>, pairs: &[(Cell, &Written)]) -> Result<(), AllocError>
     ensures { OnOk result
-        (list.new.items ≡ list.old.items ++ map write_entry (map deref_pair pairs.now)) }
+        (list.new.items ≡ list.old.items ++ map write_entry (map deref_at_cell pairs.now)) }
 {
     for pair in pairs {
-        list.push(write_copy(pair.0, pair.1)?)?;
+        list.push(write_copy(&pair.0, pair.1)?)?;
     }
     Ok(())
 }
@@ -173,25 +175,26 @@ impl Tables {
         ensures tables { AreTables result }
     {
         Tables {
-            names: PlacedSet::new(alloc),
+            names: Activities::new(alloc),
             columns: array::from_fn(
                 |_|
                     ensures { result ≡ [] }
                 { Column::new(alloc) },
             ),
-            writes: KeyedSet::new(alloc),
+            writes: CellSet::new(alloc),
             rest: ListedSet::new(alloc),
         }
     }
 
     /// The number of the activity, which it gets where it has none.
-    pub fn number_of(&mut self, activity: Name) -> Result<usize, AllocError>
+    pub fn number_of(&mut self, activity: &Name) -> Result<usize, AllocError>
         requires { AreTables self.old }
-        ensures number { IfOk result (IsNumberOf self.new.names activity) }
+        ensures number { IfOk result (IsNumberOf self.new.names activity.now) }
+        ensures names { Grows self.old.names self.new.names }
         ensures same { HoldsTheSame self.old self.new }
         ensures tables { AreTables self.new }
     {
-        let (number, _is_new) = self.names.insert(activity)?;
+        let number = self.names.number_of(activity)?;
         Ok(number)
     }
 
@@ -199,7 +202,7 @@ impl Tables {
     pub fn number_for(&self, activity: &Name) -> usize
         ensures { MayNumber self.now.names activity.now result }
     {
-        match self.names.place_of(activity) {
+        match self.names.find(activity) {
             Some(number) => number,
             None => self.names.len(),
         }
@@ -299,18 +302,6 @@ impl Tables {
         Ok(added)
     }
 
-    /// The number of a copy of the activity, which it gets where it has none.
-    pub fn number_of_copy(&mut self, activity: &Name) -> Result<usize, AllocError>
-        requires { AreTables self.old }
-        ensures number { IfOk result (IsNumberOf self.new.names activity.now) }
-        ensures same { HoldsTheSame self.old self.new }
-        ensures tables { AreTables self.new }
-    {
-        let copy = activity.copy()?;
-        let number = self.number_of(copy)?;
-        Ok(number)
-    }
-
     /// Puts the token in. Returns whether it was new.
     fn insert_token(&mut self, item: Token) -> Result<bool, AllocFailed<Entry>>
         requires { AreTables self.old }
@@ -321,7 +312,7 @@ impl Tables {
         ensures back { IfErr result (λ e. e.value ≡ kinds.Token item) }
         ensures tables { AreTables self.new }
     {
-        let Ok(number) = self.number_of_copy(item.activity()) else {
+        let Ok(number) = self.number_of(item.activity()) else {
             return Err(AllocFailed {
                 value: Entry::Token(item),
             });
@@ -363,7 +354,7 @@ impl Tables {
         ensures err { OnErr result (HoldsTheSame self.old self.new) }
         ensures tables { AreTables self.new }
     {
-        let number = self.number_of_copy(item.activity())?;
+        let number = self.number_of(item.activity())?;
         let added = self.put_at(number, item)?;
         Ok(added)
     }

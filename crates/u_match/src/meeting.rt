@@ -9,10 +9,10 @@ ghost use Rattle.u_match.specs.ReadOrder.{read_ties};
 use std::alloc::{AllocError, Global};
 use std::slice;
 use u_history::NumberedHistory;
-use u_name::{Cell, Name};
+use u_name::Name;
+use u_names::CellSet;
 use u_order::ExactOrd;
 use u_rule::Token;
-use u_sets::KeyedSet;
 use u_value::Value;
 
 /// A read of a cell, which waits for the cell's writes: an activity, with the structure and the index
@@ -32,7 +32,7 @@ impl ExactOrd for Read {
 }
 
 /// The reads that wait for each cell, each once.
-pub(crate) type Reads = KeyedSet<Cell, Read>;
+pub(crate) type Reads = CellSet<Read>;
 
 /// The values that the token meets at that port of its activity, which has the number.
 pub(crate) fn met_at<'a>(

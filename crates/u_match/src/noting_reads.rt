@@ -34,7 +34,7 @@ fn note_read(
         structure: structure.copy()?,
         index: index.copy()?,
     };
-    reads.put(cell, read)?;
+    reads.insert(&cell, read)?;
     Ok(())
 }
 

@@ -10,11 +10,11 @@ returns-in-None-clause-ok c = notes_none c.args.activity.now c.args.structure.no
 
 pub returns-clause-ok : goal.returns-clause-ok
 returns-clause-ok c =
-    notes_one c.args.activity.now c.args.structure.now c.args.index.now c.in_ok-named.named c.in-Some.cell (read c.in_ok-copy.field-0 c.in_ok-copy-2.field-0 c.in_ok-copy-3.field-0) c.args.reads.now c.put.new.self c.in-Some.is c.in_ok-named.ensures
+    notes_one c.args.activity.now c.args.structure.now c.args.index.now c.in_ok-named.named c.in-Some.cell (read c.in_ok-copy.field-0 c.in_ok-copy-2.field-0 c.in_ok-copy-3.field-0) c.args.reads.now c.insert.new.self c.in-Some.is c.in_ok-named.ensures
     (ap (λ (a : Activity). read a c.in_ok-copy-2.field-0 c.in_ok-copy-3.field-0) c.in_ok-copy.ensures
     ∙ (ap (λ (v : Value). read c.args.activity.now v c.in_ok-copy-3.field-0) c.in_ok-copy-2.ensures
     ∙ ap (λ (v : Value). read c.args.activity.now c.args.structure.now v) c.in_ok-copy-3.ensures))
-    c.in_ok-put.ensures.ok
+    c.in_ok-insert.ensures.ok
 
 pub returns-clause-kept : goal.returns-clause-kept
-returns-clause-kept c x m = (c.in_ok-put.ensures.ok x).1 (inl m)
+returns-clause-kept c x m = (c.in_ok-insert.ensures.ok x).1 (inl m)

@@ -1,5 +1,6 @@
 use Rattle.std.proofs.Common.{◌≡◌, ◌∙◌, ◌++◌, ap, sym, subst, refl, map, List, Contains}
-use Rattle.std.specs.Map.Iter.{deref, deref_pair}
+use Rattle.std.specs.Map.Iter.{deref}
+use Rattle.u_names.specs.CellPairs.{deref_at_cell}
 use Rattle.u_system.specs.Firing.{Same, Distinct}
 use Rattle.u_rule.specs.declared.entry.Entry.{Entry}
 use Rattle.u_history.specs.Tables.{Contents, contents_of, write_entry, listed_entries}
@@ -11,8 +12,8 @@ pub put_in_order-requires : goal.put_in_order-requires
 put_in_order-requires c =
     let t = contents_of c.args.self.now in
     let s = c.in_ok-list.ensures in
-    let u : Contents = record { tokens = s.0; writes = map deref_pair c.in_ok-writes.writes.items; rest = t.rest } in
-    let writes = ap (λ ps. map write_entry (map deref_pair ps)) c.deref.ensures.value in
+    let u : Contents = record { tokens = s.0; writes = map deref_at_cell c.in_ok-writes.writes.items; rest = t.rest } in
+    let writes = ap (λ ps. map write_entry (map deref_at_cell ps)) c.deref.ensures.value in
     let others = ap (λ ps. map deref ps) c.deref-2.ensures.value ∙ c.in_ok-others.ensures.all in
     let all : c.push_others.new.list.items ≡ listed_entries u.tokens u.writes u.rest =
     three _ _ _ c.in_ok-list.list.items c.push_writes.new.list.items c.push_others.new.list.items s.2
@@ -24,8 +25,8 @@ pub returns-clause-all : goal.returns-clause-all
 returns-clause-all c e =
     let t = contents_of c.args.self.now in
     let s = c.in_ok-list.ensures in
-    let u : Contents = record { tokens = s.0; writes = map deref_pair c.in_ok-writes.writes.items; rest = t.rest } in
-    let writes = ap (λ ps. map write_entry (map deref_pair ps)) c.deref.ensures.value in
+    let u : Contents = record { tokens = s.0; writes = map deref_at_cell c.in_ok-writes.writes.items; rest = t.rest } in
+    let writes = ap (λ ps. map write_entry (map deref_at_cell ps)) c.deref.ensures.value in
     let others = ap (λ ps. map deref ps) c.deref-2.ensures.value ∙ c.in_ok-others.ensures.all in
     let all : c.push_others.new.list.items ≡ listed_entries u.tokens u.writes u.rest =
     three _ _ _ c.in_ok-list.list.items c.push_writes.new.list.items c.push_others.new.list.items s.2
