@@ -27,7 +27,7 @@ use u_sets::OrderedSet;
 /// The applied firings stand in the order in which they were applied.
 #[derive(Drop)]
 pub struct Machine<'a> {
-    parts: Parts<'a>,
+    parts: Box<Parts<'a>>,
 }
 
 impl<'a> Model for Machine<'a> {
@@ -38,9 +38,9 @@ impl<'a> Model for Machine<'a> {
 
     ghost coded = { state_code };
 
-    ghost view = { λ m. state_of m.parts };
+    ghost view = { λ m. state_of m.parts.value };
 
-    ghost invariant = { λ m. Invariant m.parts };
+    ghost invariant = { λ m. Invariant m.parts.value };
 }
 
 impl<'a> Machine<'a> {
@@ -53,7 +53,7 @@ impl<'a> Machine<'a> {
         ensures { IfOk result
             (λ m. m ≡ state job.now limit [] [] ((system_of job.now).start ∷ [])) }
     {
-        let parts = Parts::new(alloc, job, limit)?;
+        let parts = Box::new(alloc, Parts::new(alloc, job, limit)?)?;
         Ok(Machine { parts })
     }
 

@@ -8,6 +8,7 @@ use Rattle.u_sets.proofs.Shown.{shown, shown_all}
 use Rattle.u_rule.specs.declared.firing.Firing.{Firing}
 use Rattle.u_machine.specs.State.{State}
 use Rattle.u_machine.specs.Taking.{HasSoManyNew}
+use Rattle.u_machine.specs.declared.parts.Parts.{Parts}
 use Rattle.u_machine.proofs.NewOnes.{few_new, not_before_behind, counted_if_new, uncounted_if_old}
 use Rattle.u_machine.proofs.machine.Machine.new_from.Goals as goal
 use Rattle.u_machine.proofs.machine.Machine.new_from.Goals.{After-new_among, After-is_new}
@@ -29,18 +30,18 @@ few_of_log c =
 pub overflow_sub-rest : goal.overflow_sub-rest
 overflow_sub-rest c =
     let l = few_of_log (goal.at.overflow_sub-rest c).After-new_among in
-    let e = ap (λ (m : State). m.limit) c.other.view_is in
+    let e = ap (λ (p : Parts). p.limit) c.deref.ensures ∙ ap (λ (m : State). m.limit) c.other.view_is in
     omega (arith, l, e)
 
 pub loop-firing-init : goal.loop-firing-init
 loop-firing-init c =
     let a = (goal.at.loop-firing-init c).After-new_among in
     let l = few_of_log a in
-    let e = ap (λ (m : State). m.limit) c.other.view_is in
-    let n : c.new_among.result ≡ c.args.other.now.limit - (c.other.inside.parts.limit - c.new_among.result) = omega (arith, l, e) in
+    let e = ap (λ (p : Parts). p.limit) c.deref.ensures ∙ ap (λ (m : State). m.limit) c.other.view_is in
+    let n : c.new_among.result ≡ c.args.other.now.limit - (c.deref.result.now.limit - c.new_among.result) = omega (arith, l, e) in
     record {
       within = omega (arith, l, e);
-      counted = subst (λ (fs : List Firing). HasSoManyNew c.args.self.now fs (c.args.other.now.limit - (c.other.inside.parts.limit - c.new_among.result))) (sym (append-nil c.args.other.now.log))
+      counted = subst (λ (fs : List Firing). HasSoManyNew c.args.self.now fs (c.args.other.now.limit - (c.deref.result.now.limit - c.new_among.result))) (sym (append-nil c.args.other.now.log))
           (subst (λ (k : ℕ). HasSoManyNew c.args.self.now c.args.other.now.log k) n (counted_log a));
     }
 
@@ -109,7 +110,7 @@ loop-firing-preserved c =
 pub returns : goal.returns
 returns c =
     let m = c.args.self.now in
-    let e : c.args.other.now.limit ≡ c.other.inside.parts.limit = sym (ap (λ (m : State). m.limit) c.other.view_is) in
+    let e : c.args.other.now.limit ≡ c.deref-2.result.now.limit = sym (ap (λ (p : Parts). p.limit) c.deref-2.ensures ∙ ap (λ (m : State). m.limit) c.other.view_is) in
     let all : map (deref {X = Firing}) c.loop-firing.yielded ≡ c.args.other.now.parked =
     sym (shown_all c.loop-firing.yielded c.into_iter-firing-iterator.result c.loop-firing.firing-iterator c.loop-firing.yielded_by c.in-None.ensures.steps.0)
     ∙ (c.into_iter-firing-iterator.ensures.into_iter_gives ∙ (c.iter-firing-items.ensures.rest ∙ c.parked.ensures)) in
