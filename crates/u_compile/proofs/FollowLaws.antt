@@ -29,7 +29,7 @@ use Rattle.u_compile.specs.Drawings.{DrawingParts, GoesOn as Continues, Grows, I
 use Rattle.u_compile.specs.Namings.{KnownParts, IsNamed, IsConstant, a_binding, with_alias, with_binding}
 use Rattle.u_compile.specs.Operands.{SceneParts, LoweringParts, IsOperand, AreOperands, GoesOn, IsPopped, Pops, Pushes, TakesOne, TakesTwo, TakesSwapped, Negates, Differs, Operates, Reads, waits, read, Writes, TakesCall}
 use Rattle.u_compile.specs.Definitions.{Defines, PopsName, TakesParameter, with_names}
-use Rattle.u_compile.specs.Sides.{AddsSide, IsFramePopped, OpensSides, OpensIf, OpensElse, ClosesSide, ClosesFirst, ClosesOther, ClosesElse, Selects, Joins, KeepsGate, ClosesSides, ClosesIf, some_sides}
+use Rattle.u_compile.specs.Sides.{AddsSide, IsFramePopped, OpensSides, OpensIf, OpensElse, LeavesSide, ClosesSide, Selects, JoinsSides, KeepsGate, ClosesSides, ClosesIf, some_sides, on_other, noted, with_left}
 use Rattle.u_compile.specs.Turns.{OpensTurn, TestsCounter, GoesRound, ClosesTurn, ClosesTurns}
 use Rattle.u_compile.specs.Loops.{TakesNext, Starts, StartsVariable, StartsCounter, OpensVariables, BindsLimit, AddsTurns, CarriesStart, CarriesEach, CarriesVariables, TestsLimit, OpensLoop, Counts, ClosesVariable, ClosesEach, ClosesLoop, EndsLoop, some_turns}
 use Rattle.u_compile.specs.Bodies.{Opens, Closes, EndsProcedure, with_procedure}
@@ -352,52 +352,50 @@ module _ (P : LoweringParts → Binding → Type 0) (Q : LoweringParts → Start
   next_follows : (l m : LoweringParts) → TakesNext l m → Keeps P Q l m
   next_follows l m t = then_follows l t.named m (then_follows l t.taken t.named (pops_follow l t.taken _ t.pops) (popped_follows t.taken t.named _ t.name.taken)) (noted_follows t.named m _ _ t.sets.notes (none_may t.named.drawing.carried t.sets.number t.value _ t.sets.open_before.1 refl) t.rest)
 
-  sides_open : (v : ℕ) (l m : LoweringParts) → OpensSides v l m → Keeps P Q l m
-  sides_open v l m o = grown_follows l m m.drawing o.side l.operands (l.frames ++ (frames.Sides (some_sides o.control l.scene.scope None) ∷ [])) (grows_then l.drawing o.chosen m.drawing (chooses_grow _ _ _ _ o.chooses) (side_grows _ _ _ _ _ _ o.adds)) o.rest
+  sides_open : (v w : ℕ) (l m : LoweringParts) → OpensSides v w l m → Keeps P Q l m
+  sides_open v w l m o = grown_follows l m m.drawing o.side l.operands (l.frames ++ (frames.Sides (some_sides w o.control l.scene.scope o.side) ∷ [])) (grows_then l.drawing o.chosen m.drawing (chooses_grow _ _ _ _ o.chooses) (side_grows _ _ _ _ _ _ o.adds)) o.rest
 
   if_opens : (n w : ℕ) (l m : LoweringParts) → OpensIf n w l m → Keeps P Q l m
-  if_opens n w l m (OpensIf.choice may taken v pops same) = then_follows l taken m (pops_follow l taken _ pops) (stacked_follows taken m taken.scene.scope taken.operands (taken.frames ++ (frames.Choice v ∷ [])) same)
-  if_opens n w l m (OpensIf.sides never taken v pops opens) = then_follows l taken m (pops_follow l taken _ pops) (sides_open v taken m opens)
+  if_opens n w l m (OpensIf.choice may taken v pops same) = then_follows l taken m (pops_follow l taken _ pops) (stacked_follows taken m taken.scene.scope taken.operands (taken.frames ++ (frames.Choice v w ∷ [])) same)
+  if_opens n w l m (OpensIf.sides never taken v pops opens) = then_follows l taken m (pops_follow l taken _ pops) (sides_open v w taken m opens)
 
   else_opens : (l m : LoweringParts) → OpensElse l m → Keeps P Q l m
-  else_opens l m (OpensElse.choice v last same) = same_follows l m same
-  else_opens l m (OpensElse.sides s n last adds same) = grown_follows l m m.drawing n l.operands l.frames (side_grows _ _ _ _ _ _ adds) same
+  else_opens l m (OpensElse.choice v w last same) = same_follows l m same
+  else_opens l m (OpensElse.sides o) =
+      let e = o.ended in
+      then_follows l e m (ended_follows l e _ o.popped) (grown_follows e m m.drawing o.side e.operands (e.frames ++ (frames.Sides (on_other o.sides o.side) ∷ [])) (side_grows _ _ _ _ _ _ o.adds) o.rest)
 
-  side_left : (l m : LoweringParts) (s : Sides) (first : Option ℕ) → m ≡ moved l l.drawing s.around l.operands (l.frames ++ (frames.Sides (some_sides s.control s.around first) ∷ [])) l.starts → Keeps P Q l m
-  side_left l m s first same = stacked_follows l m s.around l.operands (l.frames ++ (frames.Sides (some_sides s.control s.around first) ∷ [])) same
+  side_left : (l m : LoweringParts) (s : Sides) → m ≡ with_left l s → Keeps P Q l m
+  side_left l m s same = stacked_follows l m s.around l.operands (l.frames ++ (frames.Sides s ∷ [])) same
 
-  side_closes : (s : Sides) (l m : LoweringParts) → ClosesSide s l m → Keeps P Q l m
-  side_closes s l m (ClosesSide.unwanted same) = side_left l m s None same
-  side_closes s l m (ClosesSide.wanted taken v pops same) = then_follows l taken m (pops_follow l taken _ pops) (side_left taken m s (Some v) same)
+  side_leaves : (s : Sides) (b : Bool) (l m : LoweringParts) → LeavesSide s b l m → Keeps P Q l m
+  side_leaves s b l m (LeavesSide.unwanted is same) = side_left l m s same
+  side_leaves s b l m (LeavesSide.wanted is taken v pops same) = then_follows l taken m (pops_follow l taken _ pops) (noted_left taken m s b v same)
+    where
+      noted_left : (l m : LoweringParts) (s : Sides) (b : Bool) (v : ℕ) → m ≡ with_left l (noted b v s) → Keeps P Q l m
+      noted_left l m s true v same = side_left l m (noted true v s) same
+      noted_left l m s false v same = side_left l m (noted false v s) same
 
-  first_closes : (l m : LoweringParts) → ClosesFirst l m → Keeps P Q l m
-  first_closes l m (ClosesFirst.choice v last same) = same_follows l m same
-  first_closes l m (ClosesFirst.sides s ended popped closes) = then_follows l ended m (ended_follows l ended _ popped) (side_closes s ended m closes)
-
-  other_closes : (s : Sides) (l m : LoweringParts) → ClosesOther s l m → Keeps P Q l m
-  other_closes s l m (ClosesOther.unwanted same) = stacked_follows l m s.around l.operands l.frames same
-  other_closes s l m (ClosesOther.wanted taken v pops same) = then_follows l taken m (pops_follow l taken _ pops) (stacked_follows taken m s.around (taken.operands ++ (Value v ∷ [])) taken.frames same)
-
-  else_closes : (l m : LoweringParts) → ClosesElse l m → Keeps P Q l m
-  else_closes l m (ClosesElse.choice v last same) = same_follows l m same
-  else_closes l m (ClosesElse.sides s last closes) = other_closes s l m closes
+  side_closes : (w : ℕ) (b : Bool) (l m : LoweringParts) → ClosesSide w b l m → Keeps P Q l m
+  side_closes w b l m (ClosesSide.choice last same) = same_follows l m same
+  side_closes w b l m (ClosesSide.sides s ended popped leaves) = then_follows l ended m (ended_follows l ended _ popped.popped) (side_leaves s b ended m leaves)
 
   selects_follow : (control : ℕ) (l m : LoweringParts) → Selects control l m → Keeps P Q l m
   selects_follow control l m s = then_follows l s.taken m (pops_follow l s.taken _ s.pops) (pushes_follow s.taken m _ _ s.pushes)
 
-  joins_follow : (left : ℕ) (l m : LoweringParts) → Joins left l m → Keeps P Q l m
-  joins_follow left l m j = then_follows l j.taken m (pops_follow l j.taken _ j.pops) (grown_follows j.taken m m.drawing j.taken.scene.scope (j.taken.operands ++ (Value j.value ∷ [])) j.taken.frames j.merges.grows j.rest)
+  joins_follow : (s : Sides) (l m : LoweringParts) → JoinsSides s l m → Keeps P Q l m
+  joins_follow s l m j = grown_follows l m m.drawing l.scene.scope (l.operands ++ (Value j.joins.value ∷ [])) l.frames j.joins.merges.grows j.joins.rest
 
   gate_kept_follows : (l m : LoweringParts) → KeepsGate l m → Keeps P Q l m
   gate_kept_follows l m k = grown_follows l m m.drawing l.scene.scope l.operands l.frames k.grows k.rest
 
   sides_close : (s : Sides) (l m : LoweringParts) → ClosesSides s l m → Keeps P Q l m
-  sides_close s l m (ClosesSides.unwanted none keeps) = gate_kept_follows l m keeps
-  sides_close s l m (ClosesSides.wanted left joined is joins keeps) = then_follows l joined m (joins_follow left l joined joins) (gate_kept_follows joined m keeps)
+  sides_close s l m (ClosesSides.unwanted is keeps) = gate_kept_follows l m keeps
+  sides_close s l m (ClosesSides.wanted is joined joins keeps) = then_follows l joined m (joins_follow s l joined joins) (gate_kept_follows joined m keeps)
 
-  if_closes : (l m : LoweringParts) → ClosesIf l m → Keeps P Q l m
-  if_closes l m (ClosesIf.choice control ended popped selects) = then_follows l ended m (ended_follows l ended _ popped) (selects_follow control ended m selects)
-  if_closes l m (ClosesIf.sides s ended popped closes) = then_follows l ended m (ended_follows l ended _ popped) (sides_close s ended m closes)
+  if_closes : (n : ℕ) (l m : LoweringParts) → ClosesIf n l m → Keeps P Q l m
+  if_closes n l m (ClosesIf.choice control ended popped selects) = then_follows l ended m (ended_follows l ended _ popped) (selects_follow control ended m selects)
+  if_closes n l m (ClosesIf.sides s ended popped of closes) = then_follows l ended m (ended_follows l ended _ popped) (sides_close s ended m closes)
 
   turn_opens : (l m : LoweringParts) → OpensTurn l m → Keeps P Q l m
   turn_opens l m o =
@@ -571,7 +569,7 @@ module _ (P : LoweringParts → Binding → Type 0) (Q : LoweringParts → Start
   opens_follow f n w l m h = same_follows l m h
 
   closes_follow : (f : Form) (n w : ℕ) (l m : LoweringParts) → HasForm l.scene.tree n forms.Block → IsParent l.scene.tree w n → AreBound P n l → Closes f n w l m → Keeps P Q l m
-  closes_follow forms.If n w l m form parent bind h = first_closes l m h
+  closes_follow forms.If n w l m form parent bind h = side_closes w true l m h
   closes_follow forms.Loop n w l m form parent bind h = loop_closes n w l m form parent bind h
   closes_follow forms.For n w l m form parent bind h = loop_closes n w l m form parent bind h
   closes_follow f n w l m form parent bind h = same_follows l m h
@@ -593,9 +591,9 @@ module _ (P : LoweringParts → Binding → Type 0) (Q : LoweringParts → Start
 
   -- what else is done at a node, once its operator is
   rest_goes : (f : Form) (n : ℕ) (l m : LoweringParts) → HasForm l.scene.tree n f → AreBound P n l → AreBegun Q n l → IsWhole f n l m → (f ≡ forms.NoParameters → ⊥) → (f ≡ forms.AddProcedure → ⊥) → Keeps P Q l m
-  rest_goes forms.If n l m form bind begin h a b = if_closes l m h
+  rest_goes forms.If n l m form bind begin h a b = if_closes n l m h
   rest_goes forms.Otherwise n l m form bind begin h a b = else_opens l m h
-  rest_goes forms.Else n l m form bind begin h a b = else_closes l m h
+  rest_goes forms.Else n l m form bind begin h a b = side_closes h.whole false l m h.closes
   rest_goes forms.Loop n l m form bind begin h a b = loop_ends n l m h
   rest_goes forms.For n l m form bind begin h a b = loop_ends n l m h
   rest_goes forms.NoVariables n l m form bind begin h a b = variables_open n l m form begin h

@@ -28,6 +28,8 @@ pub mod ForestLaws
 pub mod ExtendLaws
 pub mod FollowLaws
 pub mod WalkLaws
+pub mod BoundLaws
+pub mod FrameLaws
 pub mod UseLaws
 pub mod FinishedLaws
 pub mod OrderlyTests

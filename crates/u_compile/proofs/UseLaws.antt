@@ -1,5 +1,5 @@
 -- Arcs are uses: what leads to a port of a whole procedure is the operand that was taken there.
-use Rattle.std.proofs.Common.{◌≡◌, ℕ, ◌+◌, ◌≤◌, arith, ◌⊎◌, inl, inr, refl, sym, ap, ◌∙◌, subst, Bool, true, false, List, [], ◌∷◌, ◌++◌, length, drop, Option, Some, None, append_assoc}
+use Rattle.std.proofs.Common.{◌≡◌, ℕ, ◌+◌, ◌≤◌, arith, ◌⊎◌, inl, inr, refl, sym, ap, ◌∙◌, subst, true, false, List, [], ◌∷◌, ◌++◌, length, drop, Option, Some, None, append_assoc}
 use Rattle.std.proofs.lemmas.Bool.{false≢true}
 use Rattle.std.proofs.lemmas.Option.{slice_get_within}
 use Rattle.std.specs.Prelude.{pos, slice_get}
@@ -7,7 +7,7 @@ use Rattle.u_program.specs.Parts.{BlockParts}
 use Rattle.u_program.specs.declared.program.Constant.{Constant}
 use Rattle.u_program.specs.declared.program.Constant.TheVariants.{Int}
 use Rattle.u_program.specs.declared.program.Kind.{Kind}
-use Rattle.u_program.specs.declared.program.Kind.TheVariants.{Apply, Binary, Unary, Alloc, Fetch, Store, Select, Pass, End}
+use Rattle.u_program.specs.declared.program.Kind.TheVariants.{Apply, Binary, Unary, Alloc, Fetch, Store, Select, End}
 use Rattle.u_value.specs.declared.operators.BinaryOperator.TheVariants as binary
 use Rattle.u_value.specs.declared.operators.UnaryOperator.TheVariants as unary
 use Rattle.u_source.specs.Sources.{SourceParts}
@@ -15,7 +15,6 @@ use Rattle.u_source.specs.declared.form.Form.{Form}
 use Rattle.u_source.specs.declared.form.Form.TheVariants as forms
 use Rattle.u_scope.specs.declared.checked.Meaning.{Meaning}
 use Rattle.u_scope.specs.declared.checked.Meaning.TheVariants.{Name}
-use Rattle.u_compile.specs.declared.naming.Binding.{Binding}
 use Rattle.u_compile.specs.declared.lowering.Frame.TheVariants as frames
 use Rattle.u_compile.specs.declared.lowering.Operand.{Operand}
 use Rattle.u_compile.specs.declared.lowering.Start.{Start}
@@ -23,150 +22,32 @@ use Rattle.u_compile.specs.declared.lowering.Turns.{Turns}
 use Rattle.u_compile.specs.declared.graph.Output.{Output}
 use Rattle.u_compile.specs.declared.drawing.Carried.{Carried}
 use Rattle.u_compile.specs.declared.drawing.Scope.{Scope}
-use Rattle.u_compile.specs.declared.drawing.Way.TheVariants.{Side, Turn}
+use Rattle.u_compile.specs.declared.drawing.Way.TheVariants.{Turn}
 use Rattle.u_compile.specs.declared.lowering.Operand.TheVariants.{Atom}
 use Rattle.u_compile.specs.declared.tree.Tree.{Tree}
 use Rattle.u_compile.specs.Scoped.{IsOf}
 use Rattle.u_compile.specs.Trees.{HasForm, IsParent, IsEither}
 use Rattle.u_compile.specs.Drawings.{DrawingParts, IsOfKind, IsFedBy, AreFed, IsEntered, Adds, Chooses, a_carried}
-use Rattle.u_compile.specs.Namings.{KnownParts, IsConstant, HasConstant, a_binding, a_constant}
-use Rattle.u_compile.specs.Operands.{SceneParts, LoweringParts, IsAtom, IsOperand, AreOperands, Pops, TakesOne, TakesTwo, TakesSwapped, Negates, Differs, Operates, Reads, Writes, TakesCall}
-use Rattle.u_compile.specs.Sides.{AddsSide, IsLastFrame, IsFramePopped, IsSelect, OpensIf, Selects, ClosesIf}
+use Rattle.u_compile.specs.Namings.{IsConstant, HasConstant, a_binding, a_constant}
+use Rattle.u_compile.specs.Operands.{SceneParts, LoweringParts, IsOperand, AreOperands, Pops, TakesOne, TakesTwo, TakesSwapped, Negates, Differs, Operates, Reads, Writes, TakesCall}
+use Rattle.u_compile.specs.Sides.{AddsSide, IsLastFrame, IsFramePopped, IsSelect, OpensIf, OpensElse, Selects, ClosesIf}
 use Rattle.u_compile.specs.Turns.{OpensTurn}
 use Rattle.u_compile.specs.Loops.{TakesNext, CarriesEach, OpensLoop, CountsOn, Counts, ClosesLoop}
 use Rattle.u_compile.specs.Bodies.{IsBlockOf, EndsProcedure, Opens, OpensBlock, Closes, ClosesBlock}
 use Rattle.u_compile.specs.Steps.{IsItem, IsWhole}
-use Rattle.u_compile.specs.Walks.{IsDone, item, whole, is_item, GoesThrough, AllMade, IsFresh, IsWithinOne, IsMadeOfNodes, AreLowered}
+use Rattle.u_compile.specs.Walks.{IsDone, item, whole, is_item, GoesThrough, AllMade, IsMadeOfNodes, AreLowered}
 use Rattle.u_compile.specs.Made.{IsTreeOf, AreMadeOf}
-use Rattle.u_compile.specs.Uses.{Begins, Binds, GivesParameter, HasBegun, Passes, Moment, IsBound, IsFrom, AreArcs, Takes, Selected, Called, WaitsLast, IsInside, Tells, Controls, ControlsOf, OpensWith, ports_from, IsOfName, GoesOnWith, IsCountedOn, IsNextValue, GoesRoundWith, AllGoRound, RoundsOf, ClosesWith, Uses, EndsBehind, Arrives, ArcsAreUses}
-use Rattle.u_compile.proofs.DrawingLaws.{get_goes_on, on_then, get_last}
+use Rattle.u_compile.specs.Uses.{Begins, HasBegun, Passes, Moment, IsFrom, AreArcs, Takes, Selected, Chosen, JoinsAt, Called, WaitsLast, IsInside, Controls, ControlsOf, OpensWith, ports_from, IsOfName, GoesOnWith, IsCountedOn, IsNextValue, GoesRoundWith, AllGoRound, RoundsOf, ClosesWith, Uses, EndsBehind, Arrives, ArcsAreUses}
+use Rattle.u_compile.proofs.DrawingLaws.{get_goes_on, get_last}
 use Rattle.u_compile.proofs.CarriedLaws.{same_number, some_carried, none_noted, some_noted, noted_now, noted_other, none_may}
-use Rattle.u_compile.proofs.KnownLaws.{comes_then}
 use Rattle.u_compile.proofs.GateLaws.{of_append}
 use Rattle.u_compile.proofs.TreeLaws.{form_one, parent_one}
-use Rattle.u_compile.proofs.ExtendLaws.{Extends, extends_grown, extends_then, value_extends, scope_extends, stands_extends, fed_extends, entered_extends, inside_extends, comes_extends, named_extends, constant_extends, left_extends, constant_on}
-use Rattle.u_compile.proofs.FollowLaws.{Follows, plain_same, plain_then, plain_grown, plain_noted, plain_goes, popped_follows, ended_follows, AllStarted, AreTurns, Root, Traced, Keeps, Goes, on, begins, ends, done_goes, each_carried, limit_starts, limit_tested, of_drop, side_grows, chooses_grow, counts_follow, turns_close, loop_left}
+use Rattle.u_compile.proofs.ExtendLaws.{Extends, extends_grown, extends_then, value_extends, scope_extends, stands_extends, fed_extends, entered_extends, inside_extends, constant_extends, constant_on}
+use Rattle.u_compile.proofs.FollowLaws.{Follows, plain_same, plain_then, plain_grown, plain_noted, plain_goes, popped_follows, ended_follows, AreTurns, Root, Traced, each_carried, limit_starts, limit_tested, of_drop, side_grows, chooses_grow, counts_follow, turns_close, loop_left}
 use Rattle.u_compile.proofs.RoundLaws.{Round, named_root, turns_round}
-use Rattle.u_compile.proofs.WalkLaws.{Any, AnyStart, any_grows, any_starts, all_made, none_made, stays, within_before, through_within, named_follows, blocks_of_nodes}
-
-constant_later : (d e : DrawingParts) → Extends d e → (k : KnownParts) (scope : ℕ) (c : Constant) (v : ℕ) → HasConstant d k scope c v → HasConstant e k scope c v
-constant_later d e g k scope c v (HasConstant.noted is) = HasConstant.noted is
-constant_later d e g k scope c v (HasConstant.made is) = HasConstant.made (constant_extends d e g k.bindings scope c v is)
-
-atom_later : (s : SceneParts) (d e : DrawingParts) → Extends d e → (node v : ℕ) → IsAtom s d node v → IsAtom s e node v
-atom_later s d e g node v (IsAtom.used none is) = IsAtom.used none (record { name = is.name; means = is.means; named = named_extends d e g s.names.bindings s.scope is.name v is.named })
-atom_later s d e g node v (IsAtom.constant k written has) = IsAtom.constant k written (constant_later d e g s.names s.scope k v has)
-
-operand_later : (s : SceneParts) (d e : DrawingParts) → Extends d e → (o : Operand) (v : ℕ) → IsOperand s d o v → IsOperand s e o v
-operand_later s d e g o v (IsOperand.waiting is) = IsOperand.waiting is
-operand_later s d e g o v (IsOperand.atom node is at) = IsOperand.atom node is (atom_later s d e g node v at)
-
-parameter_later : (c d e : DrawingParts) → Extends d e → (v : ℕ) → GivesParameter c d v → GivesParameter c e v
-parameter_later c d e g v is = record { kind = is.kind; is = is.is; stands = stands_extends d e g (length c.statements + 1) is.kind is.stands; sends = value_extends d e g v _ is.sends }
-
--- a name that was bound so stays bound so
-binds_later : (n : ℕ) (at l m : LoweringParts) (b : Binding) → Follows l m → Binds n at l b → Binds n at m b
-binds_later n at l m b f (Binds.definition o form name scope waits is) = Binds.definition o form name scope waits (operand_later at.scene l.drawing m.drawing f.extends o b.value is)
-binds_later n at l m b f (Binds.parameter form name scope gives) = Binds.parameter form name scope (parameter_later at.drawing l.drawing m.drawing f.extends b.value gives)
-binds_later n at l m b f (Binds.variable s loop form of name inner entered) = Binds.variable s loop form of name (inside_extends l.drawing m.drawing f.extends at.scene.scope _ b.scope inner) (entered_extends l.drawing m.drawing f.extends loop s.value b.value entered)
-binds_later n at l m b f (Binds.limit waiting form name scope frame) = Binds.limit waiting form name scope frame
-binds_later n at l m b f (Binds.last turns control block w end value before form parent frame given scope inner more named left) =
-    let g = f.extends in
-    Binds.last turns control block w end value before form parent frame given scope (inside_extends l.drawing m.drawing g turns.turn _ end inner) (on_then _ l.scene.names.bindings m.scene.names.bindings more f.bindings) (named_extends l.drawing m.drawing g before end b.name value named) (left_extends l.drawing m.drawing g value b.value left)
-
-abbrev moment : ℕ → LoweringParts → ℕ → LoweringParts → LoweringParts → Moment
-moment first begun n k e = record { first = first; begun = begun; node = n; at = k; whole = e }
-
-abbrev BoundBefore : ℕ → LoweringParts → ℕ → LoweringParts → LoweringParts → Binding → Type 0
-BoundBefore first begun n k e b = IsBound (moment first begun n k e) b
-
-bound_later : (first : ℕ) (begun : LoweringParts) (n : ℕ) (k l m : LoweringParts) (b : Binding) → Follows l m → BoundBefore first begun n k l b → BoundBefore first begun n k m b
-bound_later first begun n k l m b f is = record { node = is.node; at = is.at; next = is.next; passes = is.passes; binds = binds_later is.node is.at l m b f is.binds }
-
--- and once more nodes are passed
-bound_more : (first : ℕ) (begun : LoweringParts) (n : ℕ) (k m e : LoweringParts) (b : Binding) → IsDone n k m → BoundBefore first begun n k e b → BoundBefore first begun (n + 1) m e b
-bound_more first begun n k m e b done is = record {
-  node = is.node;
-  at = is.at;
-  next = is.next;
-  passes = record { reached = is.passes.reached; done = is.passes.done; on = GoesThrough.one_more n k m is.passes.on done };
-  binds = is.binds;
-}
-
-traced_more : (first : ℕ) (begun : LoweringParts) (n : ℕ) (k m : LoweringParts) → IsDone n k m → Traced (BoundBefore first begun n k) k → Traced (BoundBefore first begun (n + 1) m) k
-traced_more first begun n k m done all b h =
-    let r = all b h in
-    record { root = r.root; is = bound_more first begun n k m k r.root done r.is; named = r.named; comes = r.comes }
-
-traced_on : (t : Tree) (f : Form) (n : ℕ) (P : LoweringParts → Binding → Type 0) (Q : LoweringParts → Start → Type 0) (l m : LoweringParts) → Goes P Q f n l m → HasForm t n f → (HasForm t n forms.NoParameters → ⊥) × (HasForm t n forms.AddProcedure → ⊥) → Keeps P Q l m
-traced_on t f n P Q l m (on keeps a b) is never = keeps
-traced_on t f n P Q l m (begins at same) is never = absurd (never.0 (subst (λ (g : Form). HasForm t n g) at is))
-traced_on t f n P Q l m (ends at e) is never = absurd (never.1 (subst (λ (g : Form). HasForm t n g) at is))
-
-begins_later : (n : ℕ) (at l m : LoweringParts) (s : Start) → Follows l m → Begins n at l s → Begins n at m s
-begins_later n at l m s f (Begins.variable o form name waits is) = Begins.variable o form name waits (operand_later at.scene l.drawing m.drawing f.extends o s.value is)
-begins_later n at l m s f (Begins.counter before o limit form name were is) = Begins.counter before o limit form name were (operand_later at.scene l.drawing m.drawing f.extends o s.value is)
-
--- at a node before that one the variable began
-record BegunBefore (first : ℕ) (begun : LoweringParts) (n : ℕ) (k e : LoweringParts) (s : Start) : Type 0 where
-  node : ℕ
-  at : LoweringParts
-  next : LoweringParts
-  passes : Passes first begun node at next n k
-  begins : Begins node at e s
-
-begun_later : (first : ℕ) (begun : LoweringParts) (n : ℕ) (k l m : LoweringParts) (s : Start) → Follows l m → BegunBefore first begun n k l s → BegunBefore first begun n k m s
-begun_later first begun n k l m s f is = record { node = is.node; at = is.at; next = is.next; passes = is.passes; begins = begins_later is.node is.at l m s f is.begins }
-
-begun_more : (first : ℕ) (begun : LoweringParts) (n : ℕ) (k m e : LoweringParts) (s : Start) → IsDone n k m → BegunBefore first begun n k e s → BegunBefore first begun (n + 1) m e s
-begun_more first begun n k m e s done is = record {
-  node = is.node;
-  at = is.at;
-  next = is.next;
-  passes = record { reached = is.passes.reached; done = is.passes.done; on = GoesThrough.one_more n k m is.passes.on done };
-  begins = is.begins;
-}
-
--- or before the procedure began
-abbrev BegunOr : ℕ → LoweringParts → ℕ → LoweringParts → LoweringParts → Start → Type 0
-BegunOr first begun n k e s = IsOf begun.starts s ⊎ BegunBefore first begun n k e s
-
--- In a procedure that is gone through, what is known at a node: each value of a name comes from one that was bound to it at a node
--- before, and each variable of a loop that begins has begun at one, or had begun before the procedure.
-record AreKnown (first : ℕ) (begun : LoweringParts) (n : ℕ) (m : LoweringParts) : Type 0 where
-  traced : Traced (BoundBefore first begun n m) m
-  started : AllStarted (BegunOr first begun n m) m
-
-all_known : (t : Tree) (first : ℕ) (begun : LoweringParts) → IsFresh t begun → (n : ℕ) (m : LoweringParts) → IsWithinOne t first n → GoesThrough first begun n m → AreKnown first begun n m
-all_known t first begun fresh n m within GoesThrough.none = record { traced = λ b h. absurd (subst (λ (k : KnownParts). IsOf k.bindings b) fresh.names h); started = λ s h. inl h }
-all_known t first begun fresh n m within (GoesThrough.one_more node k x through done) =
-    let within_k = within_before t first node within in
-    let before = all_known t first begun fresh node k within_k through in
-    let tree = (stays t first begun node k fresh.tree within_k through).tree ∙ fresh.tree in
-    let P : LoweringParts → Binding → Type 0 = BoundBefore first begun (node + 1) m in
-    let Q : LoweringParts → Start → Type 0 = BegunOr first begun (node + 1) m in
-    let grow : (l e : LoweringParts) (b : Binding) → Follows l e → P l b → P e b = λ l e b f h. bound_later first begun (node + 1) m l e b f h in
-    let grow_start : (l e : LoweringParts) (s : Start) → Follows l e → Q l s → Q e s = λ l e s f h. elim h [ inl i ↦ inl i | inr i ↦ inr (begun_later first begun (node + 1) m l e s f i) ] in
-    let here : Passes first begun node k m (node + 1) m = record { reached = through; done = done; on = GoesThrough.none } in
-    let bind : (e : LoweringParts) (b : Binding) → Binds node k e b → P e b = λ e b h. record { node = node; at = k; next = m; passes = here; binds = h } in
-    let begin : (e : LoweringParts) (s : Start) → Begins node k e s → Q e s = λ e s h. inr (record { node = node; at = k; next = m; passes = here; begins = h }) in
-    let goes = done_goes P Q grow grow_start node k m bind begin done in
-    let is : HasForm t node goes.0 = subst (λ (y : Tree). HasForm y node goes.0) tree goes.1 in
-    let keeps = traced_on t goes.0 node P Q k m goes.2 is (within node (omega arith) (through_within first begun node k through)) in
-    record {
-      traced = keeps.traced (traced_more first begun node k m done before.traced);
-      started = keeps.started (λ s h. elim (before.started s h) [ inl i ↦ inl i | inr i ↦ inr (begun_more first begun node k m k s done i) ]);
-    }
-
--- each value of a name comes from one that was bound to it at a node before
-pub all_traced : (t : Tree) (first : ℕ) (begun : LoweringParts) → IsFresh t begun → (n : ℕ) (m : LoweringParts) → IsWithinOne t first n → GoesThrough first begun n m → Traced (BoundBefore first begun n m) m
-all_traced t first begun fresh n m within through = (all_known t first begun fresh n m within through).traced
-
--- what is known at a node of a procedure, and that this goes on to the end
-record Known (x : Moment) : Type 0 where
-  traced : Traced (BoundBefore x.first x.begun x.node x.at) x.at
-  made : AllMade x.at
-  follows : Follows x.at x.whole
+use Rattle.u_compile.proofs.BoundLaws.{moment, BoundBefore, bound_later, begins_later, BegunBefore, all_known, Known, from_operand, within_to, ending, ends_follow, passes_follow, tree_at, known_at}
+use Rattle.u_compile.proofs.FrameLaws.{one_end, one_taken, tells_later, side_later, AllFramed, all_framed, begun_choice, else_joins, if_joins}
+use Rattle.u_compile.proofs.WalkLaws.{Any, AnyStart, any_grows, any_starts, through_within, named_follows, blocks_of_nodes}
 
 -- those values lead to those ports, one to each
 abbrev AllFed : DrawingParts → ℕ → List ℕ → List ℕ → Type 0
@@ -183,33 +64,9 @@ added_fed : (c d e : DrawingParts) (kind : Kind) (vs : List ℕ) → Adds c d ki
 added_fed c d e kind vs a g = all_fed d e g (length c.statements + 1) 1 vs (omega (arith, a.one)) a.fed
 
 module _ (x : Moment) (known : Known x) where
-  -- the value of an operand, in the end
-  from_constant : (d : DrawingParts) → Extends d x.whole.drawing → (k : Constant) (v : ℕ) → HasConstant d x.at.scene.names x.at.scene.scope k v → IsConstant x.whole.drawing x.whole.scene.names.bindings x.at.scene.scope k v
-  from_constant d g k v (HasConstant.noted is) = constant_on x.whole.drawing x.at.scene.names.bindings x.whole.scene.names.bindings known.follows.bindings x.at.scene.scope k v (constant_extends x.at.drawing x.whole.drawing known.follows.extends x.at.scene.names.bindings x.at.scene.scope k v (known.made (a_constant x.at.scene.scope k v) is))
-  from_constant d g k v (HasConstant.made is) = constant_on x.whole.drawing x.at.scene.names.bindings x.whole.scene.names.bindings known.follows.bindings x.at.scene.scope k v (constant_extends d x.whole.drawing g x.at.scene.names.bindings x.at.scene.scope k v is)
-
-  from_atom : (d : DrawingParts) → Extends d x.whole.drawing → (o : Operand) (node v : ℕ) → o ≡ Atom node → IsAtom x.at.scene d node v → IsFrom x o v
-  from_atom d g o node v same (IsAtom.constant k written has) = IsFrom.constant node k same written (from_constant d g k v has)
-  from_atom d g o node v same (IsAtom.used none u) =
-      let b = u.named.binding in
-      let r = known.traced b u.named.is in
-      let whole = x.whole.drawing in
-      IsFrom.named node same none (record {
-        name = u.name;
-        means = u.means;
-        binding = r.root;
-        named = r.named ∙ u.named.named;
-        bound = bound_later x.first x.begun x.node x.at x.at x.whole r.root known.follows r.is;
-        comes = comes_then whole r.root.scope r.root.value b.scope b.value x.at.scene.scope v (comes_extends x.at.drawing whole known.follows.extends r.root.scope r.root.value b.scope b.value r.comes) (comes_extends d whole g b.scope b.value x.at.scene.scope v u.named.comes);
-      })
-
-  from_operand : (d : DrawingParts) → Extends d x.whole.drawing → (o : Operand) (v : ℕ) → IsOperand x.at.scene d o v → IsFrom x o v
-  from_operand d g o v (IsOperand.waiting is) = IsFrom.waiting is
-  from_operand d g o v (IsOperand.atom node is at) = from_atom d g o node v is at
-
   arcs_all : (d : DrawingParts) → Extends d x.whole.drawing → (n : ℕ) (ps : List ℕ) (os : List Operand) (vs : List ℕ) → AreOperands x.at.scene d os vs → AllFed x.whole.drawing n ps vs → AreArcs x n ps os
   arcs_all d g n [] [] [] are fed = tt
-  arcs_all d g n (p ∷ ps) (o ∷ os) (v ∷ vs) are fed = (record { value = v; fed = fed.0; from = from_operand d g o v are.0 }, arcs_all d g n ps os vs are.1 fed.1)
+  arcs_all d g n (p ∷ ps) (o ∷ os) (v ∷ vs) are fed = (record { value = v; fed = fed.0; from = from_operand x known d g o v are.0 }, arcs_all d g n ps os vs are.1 fed.1)
   arcs_all d g n [] [] (v ∷ vs) are fed = absurd are
   arcs_all d g n [] (o ∷ os) [] are fed = absurd are
   arcs_all d g n [] (o ∷ os) (v ∷ vs) are fed = absurd fed
@@ -219,7 +76,7 @@ module _ (x : Moment) (known : Known x) where
 
   arcs_from : (d : DrawingParts) → Extends d x.whole.drawing → (n port : ℕ) (os : List Operand) (vs : List ℕ) → AreOperands x.at.scene d os vs → AllFed x.whole.drawing n (ports_from port vs) vs → AreArcs x n (ports_from port os) os
   arcs_from d g n port [] [] are fed = tt
-  arcs_from d g n port (o ∷ os) (v ∷ vs) are fed = (record { value = v; fed = fed.0; from = from_operand d g o v are.0 }, arcs_from d g n (port + 1) os vs are.1 fed.1)
+  arcs_from d g n port (o ∷ os) (v ∷ vs) are fed = (record { value = v; fed = fed.0; from = from_operand x known d g o v are.0 }, arcs_from d g n (port + 1) os vs are.1 fed.1)
   arcs_from d g n port [] (v ∷ vs) are fed = absurd are
   arcs_from d g n port (o ∷ os) [] are fed = absurd are
 
@@ -276,13 +133,13 @@ module _ (x : Moment) (known : Known x) where
         back = length c.statements + 2;
         count = t.calls.count;
         stands = stands_extends d x.whole.drawing on_to n (Apply (length c.statements + 2) t.calls.count) t.calls.apply.stands;
-        arc = record { value = t.procedure; fed = fed.0; from = from_operand c grown t.callee t.procedure t.is };
+        arc = record { value = t.procedure; fed = fed.0; from = from_operand x known c grown t.callee t.procedure t.is };
         arcs = arcs_from c grown n 2 t.given t.arguments t.are fed.1;
       }
 
   -- an `if` that chooses one of two values
-  selects_uses : (control : ℕ) (ended m : LoweringParts) → IsFramePopped x.at ended (frames.Choice control) → Selects control ended m → Extends m.drawing x.whole.drawing → Selected control x
-  selects_uses control ended m popped s g =
+  selects_uses : (control w : ℕ) (ended m : LoweringParts) → IsFramePopped x.at ended (frames.Choice control w) → Selects control ended m → Extends m.drawing x.whole.drawing → Selected control x
+  selects_uses control w ended m popped s g =
       let p = s.pops in
       let n = length s.taken.drawing.statements + 1 in
       let scene : ended.scene ≡ x.at.scene = ap (λ (y : LoweringParts). y.scene) popped.1 in
@@ -298,32 +155,8 @@ module _ (x : Moment) (known : Known x) where
       } in
       record { takes = takes; fed = fed.0 }
 
-choice_one : (a b : ℕ) → frames.Choice a ≡ frames.Choice b → a ≡ b
-choice_one a b e = cc
-
-no_end : {A : Type 0} (ys : List A) (y : A) → [] ≡ ys ++ (y ∷ []) → ⊥
-no_end [] y e = cc
-no_end (z ∷ ys) y e = cc
-
-one_end : {A : Type 0} (xs ys : List A) (x y : A) → xs ++ (x ∷ []) ≡ ys ++ (y ∷ []) → x ≡ y
-one_end [] [] x y e = cc
-one_end [] (z ∷ ys) x y e = absurd (no_end ys y (let f : [] ≡ ys ++ (y ∷ []) = cc in f))
-one_end (z ∷ xs) [] x y e = absurd (no_end xs x (let f : [] ≡ xs ++ (x ∷ []) = cc in f))
-one_end (z ∷ xs) (w ∷ ys) x y e = one_end xs ys x y (let f : xs ++ (x ∷ []) ≡ ys ++ (y ∷ []) = cc in f)
-
--- what chooses a side still does
-tells_later : (c d e : DrawingParts) → Extends d e → (v : ℕ) (o : Output) → Chooses c d v o → Tells e v o
-tells_later c d e g v o (Chooses.own same is) = Tells.own (value_extends d e g v (o ∷ []) (subst (λ (y : DrawingParts). slice_get y.values v ≡ Some (o ∷ [])) (sym same) is.0))
-tells_later c d e g v o (Chooses.pass none adds is) =
-    let n = length c.statements + 1 in
-    Tells.pass n (stands_extends d e g n Pass adds.stands) (fed_extends d e g n 1 v (omega (arith, adds.one)) adds.fed.0) is
-
--- and the side is there
-side_later : (d c e : DrawingParts) (around : ℕ) (o : Output) (b : Bool) (s : ℕ) → AddsSide d c around o b s → Extends c e → IsInside e.scopes around (Side o b) s
-side_later d c e around o b s a g =
-    let new : Scope = record { region = a.outer.region; around = around; way = Side o b; clock = a.outer.clock } in
-    let at : slice_get c.scopes s ≡ Some new = ap (λ (y : DrawingParts). slice_get y.scopes s) a.adds ∙ (ap (λ (k : ℕ). slice_get (d.scopes ++ (new ∷ [])) k) a.number ∙ get_last d.scopes new) in
-    inside_extends c e g around (Side o b) s (new, at, refl, refl)
+choice_one : (a b c d : ℕ) → frames.Choice a c ≡ frames.Choice b d → a ≡ b
+choice_one a b c d e = cc
 
 -- a variable goes on with a value, and that is noted there
 abbrev NextStands : Moment → LoweringParts → Type 0
@@ -339,9 +172,9 @@ loop_rounds f w x (inr q) h = subst (λ (y : Form). RoundsOf y w x) q h
 module _ (x : Moment) (known : Known x) where
   -- the operand that was taken, as it is in the end
   last_from : (b : LoweringParts) (v : ℕ) (os : List Operand) → x.at.operands ≡ b.operands ++ os → AreOperands x.at.scene b.drawing os (v ∷ []) → Extends b.drawing x.whole.drawing → (o : Operand) × WaitsLast x.at o × IsFrom x o v
-  last_from b v [] were are g = absurd are
-  last_from b v (o ∷ []) were are g = (o, (b.operands, were), from_operand x known b.drawing g o v are.0)
-  last_from b v (o ∷ (p ∷ os)) were are g = absurd are.1
+  last_from b v os were are g =
+      let o = one_taken x.at b b.drawing v os were are in
+      (o.0, o.1, from_operand x known b.drawing g o.0 v o.2.0)
 
   -- a side is chosen: `c` is the procedure then, and `d` the one with the side
   controls : (around : ℕ) (b : LoweringParts) (v : ℕ) (c d : DrawingParts) (o : Output) (s : ℕ) (os : List Operand) → x.at.operands ≡ b.operands ++ os → AreOperands x.at.scene b.drawing os (v ∷ []) → Chooses b.drawing c v o → AddsSide c d around o true s → Extends d x.whole.drawing → Controls around x
@@ -379,11 +212,17 @@ module _ (x : Moment) (known : Known x) where
       test_one : (a b : Turns) → frames.Test a ≡ frames.Test b → a ≡ b
       test_one a b q = cc
 
-  if_uses : (m : LoweringParts) → ClosesIf x.at m → Extends m.drawing x.whole.drawing → Uses forms.If x
-  if_uses m (ClosesIf.choice control ended popped selects) g c last = subst (λ (k : ℕ). Selected k x) (choice_one control c (one_end ended.frames last.0 (frames.Choice control) (frames.Choice c) (sym popped.0 ∙ last.1))) (selects_uses x known control ended m popped selects g)
-  if_uses m (ClosesIf.sides s ended popped closes) g c last = absurd (other (one_end ended.frames last.0 (frames.Sides s) (frames.Choice c) (sym popped.0 ∙ last.1)))
+  if_uses : (m : LoweringParts) → AllFramed x → ClosesIf x.node x.at m → Extends m.drawing x.whole.drawing → Uses forms.If x
+  if_uses m framed (ClosesIf.choice control ended popped selects) g c w last =
+      let same : control ≡ c = choice_one control c x.node w (one_end ended.frames last.0 (frames.Choice control x.node) (frames.Choice c w) (sym popped.0 ∙ last.1)) in
+      let chosen : Chosen control x = record {
+        selected = selects_uses x known control x.node ended m popped selects g;
+        begun = begun_choice x framed control x.node (ended.frames, popped.0);
+      } in
+      subst (λ (k : ℕ). Chosen k x) same chosen
+  if_uses m framed (ClosesIf.sides s ended popped of closes) g c w last = absurd (other (one_end ended.frames last.0 (frames.Sides s) (frames.Choice c w) (sym popped.0 ∙ last.1)))
     where
-      other : frames.Sides s ≡ frames.Choice c → ⊥
+      other : frames.Sides s ≡ frames.Choice c w → ⊥
       other e = cc
 
   -- the value with which a variable of a loop goes on
@@ -569,7 +408,7 @@ carried_in turn around l ss m within (CarriesEach.one_more rest t k x before car
         (c.loop, inside_extends m.drawing e g around (Turn c.loop) turn (inside_extends k.drawing m.drawing grown around (Turn c.loop) turn is), carries.inner, subst (λ (y : Start). IsEntered e c.loop y.value carries.inner) q (entered_extends m.drawing e g c.loop t.value carries.inner entered))
     here (inr q) = absurd q
 
-module _ (x : Moment) (known : Known x) (began : (s : Start) → IsOf x.at.starts s → (IsOf x.begun.starts s → ⊥) → HasBegun x s) where
+module _ (x : Moment) (known : Known x) (began : (s : Start) → IsOf x.at.starts s → HasBegun x s) (framed : AllFramed x) where
   variables_uses : (m : LoweringParts) → OpensLoop x.node x.at m → Extends m.drawing x.whole.drawing → Uses forms.Variables x
   variables_uses m o g waiting limit last s h =
       let same : o.waiting ≡ waiting = begun_one o.waiting waiting o.limit limit (one_end o.ended.frames last.0 (frames.Begun o.waiting o.limit) (frames.Begun waiting limit) (sym o.frame.0 ∙ last.1)) in
@@ -630,7 +469,7 @@ module _ (x : Moment) (known : Known x) (began : (s : Start) → IsOf x.at.start
   whole_uses forms.Array k m o h e b is w g = one_uses x known Alloc k o (alike k m h g)
   whole_uses forms.Length k m o h e b is w g = one_uses x known (Unary unary.Length) k o (alike k m h g)
   whole_uses forms.NoItems k m o h e b is w g = block_uses m (subst (λ (y : LoweringParts). OpensBlock x.node y m) o h) g
-  whole_uses forms.If k m o h e b is w g = if_uses x known m (subst (λ (y : LoweringParts). ClosesIf y m) o h) g
+  whole_uses forms.If k m o h e b is w g = if_uses x known m framed (subst (λ (y : LoweringParts). ClosesIf x.node y m) o h) g
   whole_uses forms.Index k m o h e b is w g = absurd (false≢true (sym e))
   whole_uses forms.Write k m o h e b is w g = absurd (false≢true (sym e))
   whole_uses forms.Call k m o h e b is w g = absurd (false≢true (sym e))
@@ -644,6 +483,21 @@ module _ (x : Moment) (known : Known x) (began : (s : Start) → IsOf x.at.start
       let same : g ≡ f = form_one x.at.scene.tree x.node g f is has in
       subst (λ (y : Form). Uses y x) same (whole_uses g k m o h other (λ q. never (sym same ∙ q)) is follows follows.extends)
 
+  -- what comes from two sides
+  whole_joins : (f : Form) (k m : LoweringParts) → Operates f x.at k → IsWhole f x.node k m → Follows m x.whole → JoinsAt f x m
+  whole_joins forms.Otherwise k m o h w = else_joins x m w framed (subst (λ (y : LoweringParts). OpensElse y m) o h)
+  whole_joins forms.If k m o h w = if_joins x m w framed (subst (λ (y : LoweringParts). ClosesIf x.node y m) o h)
+  whole_joins f k m o h w = tt
+
+  item_joins : (f : Form) (m : LoweringParts) → is_item f ≡ true → JoinsAt f x m
+  item_joins forms.Otherwise m e = absurd (false≢true e)
+  item_joins forms.If m e = absurd (false≢true e)
+  item_joins f m e = tt
+
+  done_joins : (f : Form) (m : LoweringParts) → HasForm x.at.scene.tree x.node f → IsDone x.node x.at m → Follows m x.whole → JoinsAt f x m
+  done_joins f m has (item g is items h) w = subst (λ (y : Form). JoinsAt y x m) (form_one x.at.scene.tree x.node g f is has) (item_joins g m items)
+  done_joins f m has (whole g k is other o h) w = subst (λ (y : Form). JoinsAt y x m) (form_one x.at.scene.tree x.node g f is has) (whole_joins g k m o h w)
+
   -- where a procedure ends
   end_uses : (m : LoweringParts) (e : EndsProcedure x.at m) → Extends e.finishes.ends.ended x.whole.drawing → Takes End (1 ∷ []) x
   end_uses m e g =
@@ -651,123 +505,95 @@ module _ (x : Moment) (known : Known x) (began : (s : Start) → IsOf x.at.start
       let to = (named_follows x.at m e).extends in
       takes_added x known End (1 ∷ []) _ _ e.taken e.named.drawing e.finishes.ends.ended e.pops (subst (λ (d : DrawingParts). Extends e.taken.drawing d) (sym (ap (λ (y : LoweringParts). y.drawing) e.name_taken.1)) (plain_same e.taken e.taken refl).extends) gives g (λ fed. fed)
 
--- nodes from a later one on
-within_from : (t : Tree) (first later last : ℕ) → first ≤ later → IsWithinOne t first last → IsWithinOne t later last
-within_from t first later last h within node k from = within node k (omega (arith, h, from))
-
-within_to : (t : Tree) (first last n : ℕ) → n ≤ last → IsWithinOne t first last → IsWithinOne t first n
-within_to t first last n h within node k from = within node (omega (arith, h, k)) from
-
 module _ (t : Tree) (b : BlockParts) (m : IsMadeOfNodes t b) where
-  -- what is there in the end
-  ending : LoweringParts
-  ending = record m.closes.named { drawing = m.closes.finishes.ends.ended }
-
-  ends_follow : Follows m.ended ending
-  unfolding ending
-  ends_follow =
-      let named = m.closes.named in
-      let d = m.closes.finishes.ends.ended in
-      plain_then m.ended named ending (named_follows m.ended m.closed m.closes) (plain_grown named ending d named.scene.scope named.operands named.frames named.starts m.closes.finishes.ends.gives.grows refl)
-
-  passes_follow : (node : ℕ) (at next : LoweringParts) (n : ℕ) (k : LoweringParts) → Passes m.first m.begun node at next n k → n ≤ m.last → Follows at k × Follows next k
-  passes_follow node at next n k p h =
-      let before = through_within m.first m.begun node at p.reached in
-      let behind = through_within (node + 1) next n k p.on in
-      let within = within_to t m.first m.last n h m.within in
-      let first = stays t m.first m.begun node at m.fresh.tree (within_to t m.first n node (omega (arith, behind)) within) p.reached in
-      let both = stays t m.first m.begun (node + 1) next m.fresh.tree (within_to t m.first n (node + 1) behind within) (GoesThrough.one_more node at next p.reached p.done) in
-      let one = stays t node at (node + 1) next (first.tree ∙ m.fresh.tree) (within_from t m.first node (node + 1) before (within_to t m.first n (node + 1) behind within)) (GoesThrough.one_more node at next GoesThrough.none p.done) in
-      let on_to = stays t (node + 1) next n k (both.tree ∙ m.fresh.tree) (within_from t m.first (node + 1) n (omega (arith, before)) within) p.on in
-      (plain_then at next k one on_to, on_to)
-
-  known_at : (node : ℕ) (at : LoweringParts) → GoesThrough m.first m.begun node at → node ≤ m.last → Follows at ending → Known (moment m.first m.begun node at ending)
-  known_at node at reached h follows = record {
-    traced = all_traced t m.first m.begun m.fresh node at (within_to t m.first m.last node h m.within) reached;
-    made = all_made m.first m.begun node at reached (none_made m.begun m.fresh.names);
-    follows = follows;
-  }
-
-  began_at : (node : ℕ) (at : LoweringParts) → GoesThrough m.first m.begun node at → node ≤ m.last → Follows at ending → (s : Start) → IsOf at.starts s → (IsOf m.begun.starts s → ⊥) → HasBegun (moment m.first m.begun node at ending) s
-  began_at node at reached h follows s i never =
-      by ((all_known t m.first m.begun m.fresh node at (within_to t m.first m.last node h m.within) reached).started s i)
+  began_at : (node : ℕ) (at : LoweringParts) → GoesThrough m.first m.begun node at → node ≤ m.last → Follows at (ending t b m) → (s : Start) → IsOf at.starts s → HasBegun (moment m.first m.begun node at (ending t b m)) s
+  began_at node at reached h follows s i =
+      let begun = (all_known t m.first m.begun m.fresh node at (within_to t m.first m.last node h m.within) reached).started s i in
+      begun_by begun begun.begins
     where
-      has : (b : BegunBefore m.first m.begun node at at s) (o : Operand) → IsOperand b.at.scene at.drawing o s.value → HasBegun (moment m.first m.begun node at ending) s
-      has b o is =
-          let behind = through_within (b.node + 1) b.next node at b.passes.on in
-          let on_to = (passes_follow b.node b.at b.next node at b.passes h).0 in
-          let known = known_at b.node b.at b.passes.reached (omega (arith, behind, h)) (plain_then b.at at ending on_to follows) in
+      has : (c : BegunBefore m.first m.begun node at at s) (o : Operand) → IsOperand c.at.scene at.drawing o s.value → HasBegun (moment m.first m.begun node at (ending t b m)) s
+      has c o is =
+          let behind = through_within (c.node + 1) c.next node at c.passes.on in
+          let on_to = (passes_follow t b m c.node c.at c.next node at c.passes h).0 in
+          let known = known_at t b m c.node c.at c.passes.reached (omega (arith, behind, h)) (plain_then c.at at (ending t b m) on_to follows) in
           record {
-            node = b.node;
-            at = b.at;
-            next = b.next;
-            passes = b.passes;
-            begins = begins_later b.node b.at at ending s follows b.begins;
+            node = c.node;
+            at = c.at;
+            next = c.next;
+            passes = c.passes;
+            begins = begins_later c.node c.at at (ending t b m) s follows c.begins;
             operand = o;
-            from = from_operand (moment m.first m.begun b.node b.at ending) known at.drawing follows.extends o s.value is;
+            from = from_operand (moment m.first m.begun c.node c.at (ending t b m)) known at.drawing follows.extends o s.value is;
           }
 
-      begun_by : (b : BegunBefore m.first m.begun node at at s) → Begins b.node b.at at s → HasBegun (moment m.first m.begun node at ending) s
-      begun_by b (Begins.variable o form name waits is) = has b o is
-      begun_by b (Begins.counter before o limit form name were is) = has b o is
+      begun_by : (c : BegunBefore m.first m.begun node at at s) → Begins c.node c.at at s → HasBegun (moment m.first m.begun node at (ending t b m)) s
+      begun_by c (Begins.variable o form name waits is) = has c o is
+      begun_by c (Begins.counter before o limit form name were is) = has c o is
 
-      by : BegunOr m.first m.begun node at at s → HasBegun (moment m.first m.begun node at ending) s
-      by (inl j) = absurd (never j)
-      by (inr b) = begun_by b b.begins
-
-  uses_at : (node : ℕ) (at next : LoweringParts) (form : Form) → Passes m.first m.begun node at next m.last m.ended → HasForm t node form → Uses form (moment m.first m.begun node at ending)
-  uses_at node at next form p has =
-      let before = through_within m.first m.begun node at p.reached in
+  -- what is known where a node is passed
+  passed : (node : ℕ) (at next : LoweringParts) → Passes m.first m.begun node at next m.last m.ended → (node ≤ m.last) × Follows at (ending t b m) × Follows next (ending t b m)
+  passed node at next p =
       let behind = through_within (node + 1) next m.last m.ended p.on in
-      let first = stays t m.first m.begun node at m.fresh.tree (within_to t m.first m.last node (omega (arith, behind)) m.within) p.reached in
-      let both = stays t m.first m.begun (node + 1) next m.fresh.tree (within_to t m.first m.last (node + 1) behind m.within) (GoesThrough.one_more node at next p.reached p.done) in
-      let one = stays t node at (node + 1) next (first.tree ∙ m.fresh.tree) (within_from t m.first node (node + 1) before (within_to t m.first m.last (node + 1) behind m.within)) (GoesThrough.one_more node at next GoesThrough.none p.done) in
-      let on_to = stays t (node + 1) next m.last m.ended (both.tree ∙ m.fresh.tree) (within_from t m.first (node + 1) m.last (omega (arith, before)) m.within) p.on in
-      let later = plain_then next m.ended ending on_to ends_follow in
-      let known = known_at node at p.reached (omega (arith, behind)) (plain_then at next ending one later) in
-      let never : form ≡ forms.AddProcedure → ⊥ = λ q. (m.within node (omega (arith, behind)) before).1 (subst (λ (f : Form). HasForm t node f) q has) in
-      done_uses (moment m.first m.begun node at ending) known (began_at node at p.reached (omega (arith, behind)) (plain_then at next ending one later)) form next (subst (λ (y : Tree). HasForm y node form) (sym (first.tree ∙ m.fresh.tree)) has) never p.done later
+      let both = passes_follow t b m node at next m.last m.ended p (omega arith) in
+      (omega (arith, behind), plain_then at m.ended (ending t b m) both.0 (ends_follow t b m), plain_then next m.ended (ending t b m) both.1 (ends_follow t b m))
+
+  uses_at : (node : ℕ) (at next : LoweringParts) (form : Form) → Passes m.first m.begun node at next m.last m.ended → HasForm t node form → Uses form (moment m.first m.begun node at (ending t b m))
+  uses_at node at next form p has =
+      let w = passed node at next p in
+      let known = known_at t b m node at p.reached w.0 w.1 in
+      let tree = tree_at t b m node at p.reached w.0 in
+      let behind = through_within (node + 1) next m.last m.ended p.on in
+      let never : form ≡ forms.AddProcedure → ⊥ = λ q. (m.within node (omega (arith, behind)) (through_within m.first m.begun node at p.reached)).1 (subst (λ (f : Form). HasForm t node f) q has) in
+      done_uses (moment m.first m.begun node at (ending t b m)) known (began_at node at p.reached w.0 w.1) (all_framed t b m node at p.reached w.0 w.1) form next (subst (λ (y : Tree). HasForm y node form) (sym tree) has) never p.done w.2
+
+  joins_at : (node : ℕ) (at next : LoweringParts) (form : Form) → Passes m.first m.begun node at next m.last m.ended → HasForm t node form → JoinsAt form (moment m.first m.begun node at (ending t b m)) next
+  joins_at node at next form p has =
+      let w = passed node at next p in
+      let known = known_at t b m node at p.reached w.0 w.1 in
+      let tree = tree_at t b m node at p.reached w.0 in
+      done_joins (moment m.first m.begun node at (ending t b m)) known (began_at node at p.reached w.0 w.1) (all_framed t b m node at p.reached w.0 w.1) form next (subst (λ (y : Tree). HasForm y node form) (sym tree) has) p.done w.2
 
   -- the value with which a variable goes on goes round
-  arrives_at : (node : ℕ) (at : LoweringParts) → EndsBehind t b m node at → Arrives (moment m.first m.begun node at ending)
+  arrives_by : (node : ℕ) (at : LoweringParts) (e : EndsBehind t b m node at) → NextStands (moment m.first m.begun node at (ending t b m)) e.next → Follows e.next e.there → e.there.scene.tree ≡ t → ClosesWith (moment m.first m.begun e.end e.there (ending t b m)) → Arrives (moment m.first m.begun node at (ending t b m))
+  arrives_by node at e n f tree c =
+      let g = n.0 in
+      let same = block_one g.turns e.turns g.control e.control g.block e.block (one_end g.frame.0 e.frame.0 (frames.Block g.turns g.control g.block) (frames.Block e.turns e.control e.block) (sym g.frame.1 ∙ e.frame.1)) in
+      let one : c.whole ≡ e.outer = parent_one t c.whole e.outer e.end (subst (λ (y : Tree). IsParent y c.whole e.end) tree c.parent) e.parent in
+      let form : c.form ≡ e.form = form_one t e.outer c.form e.form (subst (λ (w : ℕ). HasForm t w c.form) one (subst (λ (y : Tree). HasForm y c.whole c.form) tree c.of)) e.of in
+      let rounds = loop_rounds c.form c.whole (moment m.first m.begun e.end e.there (ending t b m)) (subst (λ (f : Form). IsEither f forms.Loop forms.For) (sym form) e.loop) c.rounds in
+      let carried : Carried = a_carried g.turns.turn g.variable g.enter (Some g.value) in
+      let there = f.notes g.number g.value carried n.1 refl in
+      let r = rounds e.turns e.control e.block e.same g.number carried there (ap (λ (y : Turns). y.turn) same.0) in
+      let value : r.value ≡ g.value = some_noted r.value g.value (ap (λ (y : Carried). y.next) (some_carried (record carried { next = Some r.value }) carried (sym r.next ∙ g.next))) in
+      record { goes = g; statement = r.statement; stands = r.stands; fed = subst (λ (v : ℕ). IsFedBy (ending t b m).drawing.links (ending t b m).drawing.values r.statement 1 v) value r.fed }
+
+  arrives_at : (node : ℕ) (at : LoweringParts) → EndsBehind t b m node at → Arrives (moment m.first m.begun node at (ending t b m))
   arrives_at node at e =
       let h = through_within (e.end + 1) e.behind m.last m.ended e.ends.on in
       let below : e.end ≤ m.last = omega (arith, h) in
       let before = through_within (node + 1) e.next e.end e.there e.passes.on in
       let first : node ≤ m.last = omega (arith, before, below) in
-      let p = passes_follow node at e.next e.end e.there e.passes below in
-      let q = passes_follow e.end e.there e.behind m.last m.ended e.ends (omega arith) in
-      let from_there = plain_then e.there m.ended ending q.0 ends_follow in
-      let from_next = plain_then e.next e.there ending p.1 from_there in
-      let known = known_at node at e.passes.reached first (plain_then at e.there ending p.0 from_there) in
-      let tree = (stays t m.first m.begun node at m.fresh.tree (within_to t m.first m.last node first m.within) e.passes.reached).tree ∙ m.fresh.tree in
-      let n = next_done (moment m.first m.begun node at ending) known e.next (subst (λ (y : Tree). HasForm y node forms.Next) (sym tree) e.is) e.passes.done from_next in
-      let g = n.0 in
-      let same = block_one g.turns e.turns g.control e.control g.block e.block (one_end g.frame.0 e.frame.0 (frames.Block g.turns g.control g.block) (frames.Block e.turns e.control e.block) (sym g.frame.1 ∙ e.frame.1)) in
-      let c : ClosesWith (moment m.first m.begun e.end e.there ending) = uses_at e.end e.there e.behind forms.Block e.ends e.closes in
-      let there_tree = p.0.tree ∙ tree in
-      let one : c.whole ≡ e.outer = parent_one t c.whole e.outer e.end (subst (λ (y : Tree). IsParent y c.whole e.end) there_tree c.parent) e.parent in
-      let form : c.form ≡ e.form = form_one t e.outer c.form e.form (subst (λ (w : ℕ). HasForm t w c.form) one (subst (λ (y : Tree). HasForm y c.whole c.form) there_tree c.of)) e.of in
-      let rounds = loop_rounds c.form c.whole (moment m.first m.begun e.end e.there ending) (subst (λ (f : Form). IsEither f forms.Loop forms.For) (sym form) e.loop) c.rounds in
-      let carried : Carried = a_carried g.turns.turn g.variable g.enter (Some g.value) in
-      let there = p.1.notes g.number g.value carried n.1 refl in
-      let r = rounds e.turns e.control e.block e.same g.number carried there (ap (λ (y : Turns). y.turn) same.0) in
-      let value : r.value ≡ g.value = some_noted r.value g.value (ap (λ (y : Carried). y.next) (some_carried (record carried { next = Some r.value }) carried (sym r.next ∙ g.next))) in
-      record { goes = g; statement = r.statement; stands = r.stands; fed = subst (λ (v : ℕ). IsFedBy ending.drawing.links ending.drawing.values r.statement 1 v) value r.fed }
+      let p = passes_follow t b m node at e.next e.end e.there e.passes below in
+      let from_there = (passed e.end e.there e.behind e.ends).1 in
+      let known = known_at t b m node at e.passes.reached first (plain_then at e.there (ending t b m) p.0 from_there) in
+      let tree = tree_at t b m node at e.passes.reached first in
+      let n = next_done (moment m.first m.begun node at (ending t b m)) known e.next (subst (λ (y : Tree). HasForm y node forms.Next) (sym tree) e.is) e.passes.done (plain_then e.next e.there (ending t b m) p.1 from_there) in
+      arrives_by node at e n p.1 (p.0.tree ∙ tree) (uses_at e.end e.there e.behind forms.Block e.ends e.closes)
 
-  end_at : Uses forms.AddProcedure (moment m.first m.begun m.last m.ended ending)
+  end_at : Uses forms.AddProcedure (moment m.first m.begun m.last m.ended (ending t b m))
   unfolding ending
-  end_at = end_uses (moment m.first m.begun m.last m.ended ending) (known_at m.last m.ended m.through (omega arith) ends_follow) (began_at m.last m.ended m.through (omega arith) ends_follow) m.closed m.closes (plain_same ending ending refl).extends
+  end_at = end_uses (moment m.first m.begun m.last m.ended (ending t b m)) (known_at t b m m.last m.ended m.through (omega arith) (ends_follow t b m)) (began_at m.last m.ended m.through (omega arith) (ends_follow t b m)) (all_framed t b m m.last m.ended m.through (omega arith) (ends_follow t b m)) m.closed m.closes (plain_same (ending t b m) (ending t b m) refl).extends
 
   -- Arcs are uses.
   pub arcs_are_uses : ArcsAreUses t b
   unfolding ending
   arcs_are_uses = record {
     made = m;
-    whole = ending;
+    whole = ending t b m;
     name = m.closes.name;
     of = subst (λ (y : BlockParts). IsBlockOf m.closes.name m.closes.finishes.ends.ended y) m.is m.closes.finishes.ends.of;
     uses = uses_at;
+    joins = joins_at;
     round = arrives_at;
     end = end_at;
   }

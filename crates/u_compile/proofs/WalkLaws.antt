@@ -122,12 +122,16 @@ stands_more t f n k m reached s done is (on follows a b) = record {
 stands_more t f n k m reached s done is (begins at same) = stands_anew t (n + 1) m reached (record {
   tree = ap (λ (x : LoweringParts). x.scene.tree) same ∙ s.tree;
   names = begun_names n k m same;
+  frames = ap (λ (x : LoweringParts). x.frames) same;
+  starts = ap (λ (x : LoweringParts). x.starts) same;
   clock = n + 2;
   drawing = ap (λ (x : LoweringParts). x.drawing) same;
 }) (λ x h. s.each x (subst (λ (bs : List BlockParts). IsOf bs x) (ap (λ (y : LoweringParts). y.blocks) same) h))
 stands_more t f n k m reached s done is (ends at e) = stands_anew t (n + 1) m reached (record {
   tree = closed_tree k m e ∙ s.tree;
   names = closed_names k m e;
+  frames = ap (λ (x : LoweringParts). x.frames) e.finishes.rest;
+  starts = ap (λ (x : LoweringParts). x.starts) e.finishes.rest;
   clock = 0;
   drawing = ap (λ (x : LoweringParts). x.drawing) e.finishes.rest;
 }) (λ x h. elim (of_append k.blocks (e.finishes.block ∷ []) x (subst (λ (bs : List BlockParts). IsOf bs x) (closed_blocks k m e) h)) [ inl i ↦ s.each x i | inr i ↦ last x i ])
@@ -137,7 +141,7 @@ stands_more t f n k m reached s done is (ends at e) = stands_anew t (n + 1) m re
     last x (inr q) = absurd q
 
 stands : (t : Tree) (n : ℕ) (m : LoweringParts) → GoesThrough 0 (beginning t) n m → Stands t n m
-stands t n m GoesThrough.none = stands_anew t 0 (beginning t) GoesThrough.none (record { tree = refl; names = refl; clock = 0; drawing = refl }) (λ b h. absurd h)
+stands t n m GoesThrough.none = stands_anew t 0 (beginning t) GoesThrough.none (record { tree = refl; names = refl; frames = refl; starts = refl; clock = 0; drawing = refl }) (λ b h. absurd h)
 stands t n m (GoesThrough.one_more node k x through done) =
     let form = any_goes node k m done in
     stands_more t form.0 node k m (GoesThrough.one_more node k m through done) (stands t node k through) done form.1 form.2

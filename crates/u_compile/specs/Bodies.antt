@@ -1,5 +1,5 @@
 -- Blocks and procedures: how they begin and how they end.
-use Rattle.std.specs.Prelude.{◌≡◌, ℕ, ◌+◌, List, [], ◌∷◌, ◌++◌}
+use Rattle.std.specs.Prelude.{◌≡◌, ℕ, ◌+◌, true, List, [], ◌∷◌, ◌++◌}
 use Rattle.u_program.specs.Parts.{BlockParts}
 use Rattle.u_program.specs.declared.program.Kind.TheVariants.{End}
 use Rattle.u_source.specs.declared.form.Form.{Form}
@@ -13,7 +13,7 @@ use Rattle.u_compile.specs.Namings.{nothing_known}
 use Rattle.u_compile.specs.Trees.{HasForm, IsAtWord, IsParent, IsAround}
 use Rattle.u_compile.specs.Operands.{LoweringParts, IsPopped, Pops}
 use Rattle.u_compile.specs.Definitions.{with_names}
-use Rattle.u_compile.specs.Sides.{OpensIf, ClosesFirst, in_scope}
+use Rattle.u_compile.specs.Sides.{OpensIf, ClosesSide, in_scope}
 use Rattle.u_compile.specs.Turns.{OpensTurn}
 use Rattle.u_compile.specs.Loops.{ClosesLoop}
 
@@ -36,7 +36,7 @@ pub record OpensBlock (node : ℕ) (l m : LoweringParts) : Type 0 where
 
 -- what ends with a block of a node of that form
 abbrev pub Closes : Form → ℕ → ℕ → LoweringParts → LoweringParts → Type 0
-Closes forms.If node whole l m = ClosesFirst l m
+Closes forms.If node whole l m = ClosesSide whole true l m
 Closes forms.Loop node whole l m = ClosesLoop node whole l m
 Closes forms.For node whole l m = ClosesLoop node whole l m
 Closes _ node whole l m = m ≡ l
@@ -49,10 +49,14 @@ pub record ClosesBlock (node : ℕ) (l m : LoweringParts) : Type 0 where
   pub of : HasForm l.scene.tree whole form
   pub closes : Closes form node whole l m
 
--- A procedure begins without statements, in its own scope, with nothing known of names. Its clock is the name of its first
+-- no `if` and no loop has begun, and no variable of one
+abbrev pub with_nothing_begun : LoweringParts → LoweringParts
+with_nothing_begun l = record l { frames = []; starts = [] }
+
+-- A procedure begins without statements, in its own scope, with nothing known of names, and nothing has begun in it. Its clock is the name of its first
 -- parameter, which is known from the second node behind this one.
 abbrev pub with_procedure : ℕ → LoweringParts → LoweringParts
-with_procedure node l = in_scope (record (with_names l nothing_known) { drawing = no_statements (node + 2) }) 0
+with_procedure node l = in_scope (record (with_names (with_nothing_begun l) nothing_known) { drawing = no_statements (node + 2) }) 0
 
 -- The block has the statements and links of the procedure, each of the lists fanned out. To each port nothing leads, or
 -- exactly what one value gives.
@@ -67,11 +71,12 @@ pub record Ends (d : DrawingParts) (value : ℕ) (name : List ℕ) (b : BlockPar
   pub gives : Adds d ended End (value ∷ [])
   pub of : IsBlockOf name ended b
 
--- The procedure gives that value. Its block comes behind those before, and what was known of its names is known no more.
+-- The procedure gives that value. Its block comes behind those before, what was known of its names is known no more, and what has
+-- begun in it is gone.
 pub record Finishes (value : ℕ) (name : List ℕ) (l m : LoweringParts) : Type 0 where
   pub block : BlockParts
   pub ends : Ends l.drawing value name block
-  pub rest : m ≡ record (with_names l nothing_known) { drawing = no_statements 0; blocks = l.blocks ++ (block ∷ []) }
+  pub rest : m ≡ record (with_names (with_nothing_begun l) nothing_known) { drawing = no_statements 0; blocks = l.blocks ++ (block ∷ []) }
 
 -- A procedure ends: it gives the value of the operand that waits last, and takes its name before that.
 pub record EndsProcedure (l m : LoweringParts) : Type 0 where

@@ -26,8 +26,8 @@ abbrev pub IsWhole : Form → ℕ → LoweringParts → LoweringParts → Type 0
 IsWhole forms.NoItems n l m = OpensBlock n l m
 IsWhole forms.Block n l m = ClosesBlock n l m
 IsWhole forms.Otherwise n l m = OpensElse l m
-IsWhole forms.Else n l m = ClosesElse l m
-IsWhole forms.If n l m = ClosesIf l m
+IsWhole forms.Else n l m = ClosesElse n l m
+IsWhole forms.If n l m = ClosesIf n l m
 IsWhole forms.NoVariables n l m = OpensVariables n l m
 IsWhole forms.AddVariable n l m = StartsVariable n l m
 IsWhole forms.Variables n l m = OpensLoop n l m

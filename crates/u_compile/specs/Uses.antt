@@ -1,5 +1,5 @@
 -- Uses of names: which value leads to the port where an operand is used, and where that value comes from.
-use Rattle.std.specs.Prelude.{◌≡◌, ℕ, ◌+◌, true, false, List, [], ◌∷◌, ◌++◌, length, drop, pos, Option, Some, None, slice_get}
+use Rattle.std.specs.Prelude.{◌≡◌, ℕ, ◌+◌, Bool, true, false, List, [], ◌∷◌, ◌++◌, length, drop, pos, Option, Some, None, slice_get}
 use Rattle.u_program.specs.Parts.{BlockParts}
 use Rattle.u_program.specs.declared.program.Constant.{Constant}
 use Rattle.u_program.specs.declared.program.Constant.TheVariants.{Int}
@@ -20,6 +20,7 @@ use Rattle.u_compile.specs.declared.naming.Binding.{Binding}
 use Rattle.u_compile.specs.declared.lowering.Frame.TheVariants as frames
 use Rattle.u_compile.specs.declared.lowering.Operand.{Operand}
 use Rattle.u_compile.specs.declared.lowering.Operand.TheVariants.{Atom, Value, Arguments}
+use Rattle.u_compile.specs.declared.lowering.Sides.{Sides}
 use Rattle.u_compile.specs.declared.lowering.Start.{Start}
 use Rattle.u_compile.specs.declared.lowering.Turns.{Turns}
 use Rattle.u_compile.specs.declared.tree.Tree.{Tree}
@@ -27,7 +28,7 @@ use Rattle.u_compile.specs.Graphs.{output}
 use Rattle.u_compile.specs.Scoped.{IsOf}
 use Rattle.u_compile.specs.Drawings.{DrawingParts, GoesOn as Continues, IsOfKind, IsFedBy, IsNextOf, a_carried, IsParameter, IsEntered, Comes}
 use Rattle.u_compile.specs.Namings.{IsNamed, IsConstant}
-use Rattle.u_compile.specs.Trees.{HasForm, IsParent, IsEither, IsAround, IsCellWritten, IsGiven}
+use Rattle.u_compile.specs.Trees.{HasForm, IsParent, IsEither, IsAround, IsCellWritten, IsGiven, IsWanted}
 use Rattle.u_compile.specs.Operands.{LoweringParts, IsWritten, IsNoConstant, IsOperand}
 use Rattle.u_compile.specs.Sides.{IsLastFrame, IsSelect}
 use Rattle.u_compile.specs.Bodies.{IsBlockOf}
@@ -198,6 +199,81 @@ pub record OpensWith (x : Moment) : Type 0 where
   pub of : HasForm x.at.scene.tree whole form
   pub controls : ControlsOf form whole x
 
+-- The `if` that ends with that node began at a node of the procedure, before this one: there the items of its first block begin, and
+-- the operand that waits last is the value.
+pub record HasBegunIf (x : Moment) (whole value : ℕ) : Type 0 where
+  pub node : ℕ
+  pub at : LoweringParts
+  pub next : LoweringParts
+  pub passes : Passes x.first x.begun node at next x.node x.at
+  pub items : HasForm at.scene.tree node forms.NoItems
+  pub block : ℕ
+  pub around : IsAround at.scene.tree forms.Block forms.Block block node
+  pub parent : IsParent at.scene.tree whole block
+  pub of : HasForm at.scene.tree whole forms.If
+  pub operand : Operand
+  pub waits : WaitsLast at operand
+  pub from : IsFrom (record x { node = node; at = at }) operand value
+
+-- the first side ends with its block, and the other one with its `else`
+abbrev pub side_end : Bool → Form
+side_end true = forms.Block
+side_end false = forms.Else
+
+-- A side of the `if` that ends with node `whole` has ended with value v, at a node of the procedure, before this one: the scope that is
+-- gone through there is that side of the control, right inside that one, and the operand that waits last is the value.
+pub record HasEndedSide (x : Moment) (whole around : ℕ) (control : Output) (on : Bool) (v : ℕ) : Type 0 where
+  pub node : ℕ
+  pub at : LoweringParts
+  pub next : LoweringParts
+  pub passes : Passes x.first x.begun node at next x.node x.at
+  pub is : HasForm at.scene.tree node (side_end on)
+  pub parent : IsParent at.scene.tree whole node
+  pub inside : IsInside x.whole.drawing.scopes around (Side control on) at.scene.scope
+  pub operand : Operand
+  pub waits : WaitsLast at operand
+  pub from : IsFrom (record x { node = node; at = at }) operand v
+
+-- What is known of an `if` with sides that has begun and not ended. It began in the scope around its sides, and its control tells the
+-- value that the operand was there. The side that was entered last is that of its control; and a value that is noted of a side is the one
+-- with which that ended.
+pub record HasSides (x : Moment) (s : Sides) : Type 0 where
+  pub value : ℕ
+  pub begun : HasBegunIf x s.whole value
+  pub scope : begun.at.scene.scope ≡ s.around
+  pub tells : Tells x.whole.drawing value s.control
+  pub inside : IsInside x.whole.drawing.scopes s.around (Side s.control s.on) s.side
+  pub first : (v : ℕ) → s.first ≡ Some v → HasEndedSide x s.whole s.around s.control true v
+  pub other : (v : ℕ) → s.other ≡ Some v → HasEndedSide x s.whole s.around s.control false v
+
+-- An `if` that chooses one of two values ends: the two operands that wait last lead to its `select`, and to port 1 of that exactly
+-- the value leads that the operand was where this `if` began.
+pub record Chosen (control : ℕ) (x : Moment) : Type 0 where
+  pub selected : Selected control x
+  pub begun : HasBegunIf x x.node control
+
+-- The other side of an `if` is entered: it is gone through behind the node.
+pub record EntersOther (x : Moment) (s : Sides) (next : LoweringParts) : Type 0 where
+  pub sides : HasSides x s
+  pub inside : IsInside x.whole.drawing.scopes s.around (Side s.control false) next.scene.scope
+
+-- An `if` with sides ends whose value is wanted: a value waits behind it, the outputs of which are exactly those of the two values with
+-- which its first side and its other side ended.
+pub record IsJoined (x : Moment) (s : Sides) (next : LoweringParts) : Type 0 where
+  pub sides : HasSides x s
+  pub of : s.whole ≡ x.node
+  pub left : ℕ
+  pub right : ℕ
+  pub first : HasEndedSide x s.whole s.around s.control true left
+  pub other : HasEndedSide x s.whole s.around s.control false right
+  pub ones : List Output
+  pub others : List Output
+  pub has_left : slice_get x.whole.drawing.values left ≡ Some ones
+  pub has_right : slice_get x.whole.drawing.values right ≡ Some others
+  pub value : ℕ
+  pub both : slice_get x.whole.drawing.values value ≡ Some (ones ++ others)
+  pub waits : next.operands ≡ x.at.operands ++ (Value value ∷ [])
+
 -- at a node of the procedure, before this one, the variable began so
 pub record HasBegun (x : Moment) (s : Start) : Type 0 where
   pub node : ℕ
@@ -209,9 +285,9 @@ pub record HasBegun (x : Moment) (s : Start) : Type 0 where
   pub from : IsFrom (record x { node = node; at = at }) operand s.value
 
 -- The variable of a loop goes into the turns, which are in the scope that is gone through: exactly the value leads to its `enter` with
--- which it began, and that is what its operand was, unless it began before the procedure.
+-- which it began, and that is what its operand was.
 pub record GoesIn (x : Moment) (s : Start) : Type 0 where
-  pub begun : (IsOf x.begun.starts s → ⊥) → HasBegun x s
+  pub begun : HasBegun x s
   pub turn : ℕ
   pub loop : ℕ
   pub inside : IsInside x.whole.drawing.scopes x.at.scene.scope (Turn loop) turn
@@ -313,7 +389,7 @@ Uses forms.Length x = Takes (Unary unary.Length) (1 ∷ []) x
 Uses forms.Index x = (IsCellWritten x.at.scene.tree x.node → ⊥) → Takes Fetch (1 ∷ 2 ∷ []) x
 Uses forms.Write x = Takes Store (1 ∷ 2 ∷ 3 ∷ []) x
 Uses forms.Call x = Called x
-Uses forms.If x = (control : ℕ) → IsLastFrame x.at (frames.Choice control) → Selected control x
+Uses forms.If x = (control whole : ℕ) → IsLastFrame x.at (frames.Choice control whole) → Chosen control x
 Uses forms.NoItems x = OpensWith x
 Uses forms.Variables x = (waiting : ℕ) (limit : Option ℕ) → IsLastFrame x.at (frames.Begun waiting limit) → (s : Start) → IsOf (drop waiting x.at.starts) s → GoesIn x s
 Uses forms.Next x = GoesOnWith x
@@ -349,15 +425,24 @@ pub record Arrives (x : Moment) : Type 0 where
   pub stands : IsNextOf x.whole.drawing.statements statement goes.enter
   pub fed : IsFedBy x.whole.drawing.links x.whole.drawing.values statement 1 goes.value
 
+-- What is so at a node of an `if` with sides, by its form, where `next` is what is there behind it: where its `else` begins, and where it
+-- ends and its value is wanted.
+abbrev pub JoinsAt : Form → Moment → LoweringParts → Type 0
+JoinsAt forms.Otherwise x next = (s : Sides) → IsLastFrame x.at (frames.Sides s) → EntersOther x s next
+JoinsAt forms.If x next = (s : Sides) → IsLastFrame x.at (frames.Sides s) → IsWanted x.at.scene.tree x.node true → IsJoined x s next
+JoinsAt _ x next = Unit {0}
+
 -- Arcs are uses. Of the block, the procedure with its statements, links, scopes and values as they are in the end; and where a node
 -- of it takes operands to ports, each is led to by exactly what one value gives: the one that was bound to what a name means that
--- is used there, brought over exactly the scopes between. The value with which a variable of a loop goes on leads into
--- the next turn, where the block of the loop ends.
+-- is used there, brought over exactly the scopes between. What comes from two sides of an `if` has the outputs of the values
+-- with which these ended, and of no others. The value with which a variable of a loop goes on leads into the next turn, where the block of
+-- the loop ends.
 pub record ArcsAreUses (t : Tree) (b : BlockParts) : Type 0 where
   pub made : IsMadeOfNodes t b
   pub whole : LoweringParts
   pub name : List ℕ
   pub of : IsBlockOf name whole.drawing b
   pub uses : (node : ℕ) (at next : LoweringParts) (form : Form) → Passes made.first made.begun node at next made.last made.ended → HasForm t node form → Uses form (record { first = made.first; begun = made.begun; node = node; at = at; whole = whole })
+  pub joins : (node : ℕ) (at next : LoweringParts) (form : Form) → Passes made.first made.begun node at next made.last made.ended → HasForm t node form → JoinsAt form (record { first = made.first; begun = made.begun; node = node; at = at; whole = whole }) next
   pub round : (node : ℕ) (at : LoweringParts) → EndsBehind t b made node at → Arrives (record { first = made.first; begun = made.begun; node = node; at = at; whole = whole })
   pub end : Uses forms.AddProcedure (record { first = made.first; begun = made.begun; node = made.last; at = made.ended; whole = whole })

@@ -47,10 +47,12 @@ beginning t = record { scene = record { tree = t; scope = 0; names = nothing_kno
 abbrev pub AllMade : LoweringParts → Type 0
 AllMade l = (c : ConstantBinding) → IsOf l.scene.names.constants c → IsConstant l.drawing l.scene.names.bindings c.scope c.constant c.value
 
--- a procedure begins: it has no statements, and nothing is known of names
+-- a procedure begins: it has no statements, nothing is known of names, and nothing has begun in it
 pub record IsFresh (t : Tree) (l : LoweringParts) : Type 0 where
   pub tree : l.scene.tree ≡ t
   pub names : l.scene.names ≡ nothing_known
+  pub frames : l.frames ≡ []
+  pub starts : l.starts ≡ []
   pub clock : ℕ
   pub drawing : l.drawing ≡ no_statements clock
 

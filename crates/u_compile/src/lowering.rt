@@ -9,7 +9,7 @@ ghost use Rattle.u_compile.specs.Operands.{GoesOn, lowering};
 ghost use Rattle.u_compile.specs.Definitions.{TakesParameter};
 ghost use Rattle.u_compile.specs.Steps.{IsWhole};
 ghost use Rattle.u_compile.specs.Walks.{IsDone, beginning, is_item};
-ghost use Rattle.u_compile.specs.Bodies.{Closes, ClosesBlock, Ends, EndsProcedure, Finishes, Opens, OpensBlock, with_procedure};
+ghost use Rattle.u_compile.specs.Bodies.{Closes, ClosesBlock, Ends, EndsProcedure, Finishes, Opens, OpensBlock, with_nothing_begun, with_procedure};
 ghost use Rattle.u_compile.specs.Sides.{IsFramePopped, IsLastFrame, OpensSide};
 
 use crate::blocks::Blocks;
@@ -37,12 +37,20 @@ pub(crate) enum Operand {
 /// An `if` whose sides have scopes of their own.
 #[derive(Clone, Copy)]
 pub(crate) struct Sides {
+    /// The node with which it ends.
+    pub whole: usize,
     /// The control.
     pub control: Output,
     /// The number of the scope around it.
     pub around: usize,
+    /// Which side was entered last: that where the control is true, or the other.
+    pub on: bool,
+    /// The number of the scope of that side.
+    pub side: usize,
     /// The value of the first side, if it is wanted and known.
     pub first: Option<usize>,
+    /// The value of the other side, if it is wanted and known.
+    pub other: Option<usize>,
 }
 
 /// A loop.
@@ -57,8 +65,8 @@ pub(crate) struct Turns {
 /// What has begun and not ended.
 #[derive(Clone, Copy)]
 pub(crate) enum Frame {
-    /// An `if` that chooses one of two values, with its control.
-    Choice(usize),
+    /// An `if` that chooses one of two values, with its control, and the node with which it ends.
+    Choice(usize, usize),
     /// Another `if`.
     Sides(Sides),
     /// A loop whose variables begin: how many others waited before, and the limit of a `for`.
@@ -233,7 +241,16 @@ impl Lowering<'_> {
         self.names.note(&self.drawing)
     }
 
-    /// A procedure begins, the parameters of which come next.
+    /// Nothing has begun any more.
+    fn forget_begun(&mut self)
+        ensures { lowering self.new ≡ with_nothing_begun (lowering self.old) }
+    {
+        self.frames.clear();
+        self.starts.clear();
+    }
+
+    /// A procedure begins, the parameters of which come next. An error says a want of memory, or that the node has too
+    /// large a number.
     fn begin_procedure(&mut self, number: usize) -> Result<(), Full>
         ensures { OnOk result (lowering self.new ≡ with_procedure number (lowering self.old)) }
     {
@@ -242,6 +259,7 @@ impl Lowering<'_> {
         };
         self.drawing = Drawing::new(self.alloc, clock)?;
         self.names = Names::new(self.alloc);
+        self.forget_begun();
         self.scope = 0;
         Ok(())
     }
@@ -276,6 +294,7 @@ impl Lowering<'_> {
         let (block, notes) = finished(drawing, names, value, name)?;
         self.blocks.push(block)?;
         self.notes.push(notes)?;
+        self.forget_begun();
         Ok(())
     }
 
@@ -333,7 +352,7 @@ impl Lowering<'_> {
             Form::Block => self.close_block(number),
             Form::Otherwise => self.open_else(),
             Form::Else => self.close_else(number),
-            Form::If => self.close_if(),
+            Form::If => self.close_if(number),
             Form::NoVariables => self.open_variables(number),
             Form::AddVariable => self.start_variable(number),
             Form::Variables => self.open_loop(number),

@@ -2,5 +2,5 @@ use Rattle.u_compile.specs.Operands.{lowering}
 use Rattle.u_compile.specs.Sides.{ClosesSide}
 use Rattle.u_compile.proofs.lowering.Lowering.close_side.Goals as goal
 
-pub returns-then-branch : goal.returns-then-branch
-returns-then-branch c = ClosesSide.wanted (lowering c.pop_value.new.self) c.in_ok-value.value c.in_ok-value.ensures c.in_ok-leave_side.ensures
+pub returns : goal.returns
+returns c = ClosesSide.sides c.in_ok-sides.sides (lowering c.pop_side.new.self) c.in_ok-sides.ensures c.in_ok-leave_side.ensures

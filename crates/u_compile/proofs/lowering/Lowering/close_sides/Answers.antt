@@ -1,6 +1,8 @@
+use Rattle.std.proofs.Common.{Bool, subst}
 use Rattle.u_compile.specs.Operands.{lowering}
+use Rattle.u_compile.specs.Trees.{IsWanted}
 use Rattle.u_compile.specs.Sides.{ClosesSides}
 use Rattle.u_compile.proofs.lowering.Lowering.close_sides.Goals as goal
 
-pub returns-in_ok-keep_gate-in-Some : goal.returns-in_ok-keep_gate-in-Some
-returns-in_ok-keep_gate-in-Some c = ClosesSides.wanted c.in-Some.left (lowering c.join.new.self) c.in-Some.is c.in_ok-join-in-Some.ensures c.in_ok-keep_gate-in-Some.ensures
+pub returns-then-branch : goal.returns-then-branch
+returns-then-branch c = ClosesSides.wanted (subst (λ (b : Bool). IsWanted c.args.self.now.tree.now c.args.sides.whole b) c.if-branch.true c.in_ok-is_wanted.ensures) (lowering c.join_sides.new.self) c.in_ok-join_sides.ensures c.in_ok-keep_gate.ensures

@@ -1,0 +1,519 @@
+-- What has begun and not ended at a node of a procedure: of each `if`, where it began, and with which values its sides ended.
+use Rattle.std.proofs.Common.{◌≡◌, ℕ, ◌+◌, ◌≤◌, arith, inl, inr, refl, sym, ap, ◌∙◌, subst, Bool, true, false, List, [], ◌∷◌, ◌++◌, length, Option, Some, None}
+use Rattle.std.proofs.lemmas.Bool.{false≢true}
+use Rattle.std.specs.Prelude.{slice_get}
+use Rattle.u_program.specs.Parts.{BlockParts}
+use Rattle.u_program.specs.declared.program.Kind.{Kind}
+use Rattle.u_program.specs.declared.program.Kind.TheVariants.{Pass}
+use Rattle.u_source.specs.declared.form.Form.{Form}
+use Rattle.u_source.specs.declared.form.Form.TheVariants as forms
+use Rattle.u_compile.specs.declared.drawing.Scope.{Scope}
+use Rattle.u_compile.specs.declared.drawing.Way.TheVariants.{Side}
+use Rattle.u_compile.specs.declared.graph.Output.{Output}
+use Rattle.u_compile.specs.declared.lowering.Frame.{Frame}
+use Rattle.u_compile.specs.declared.lowering.Frame.TheVariants as frames
+use Rattle.u_compile.specs.declared.lowering.Operand.{Operand}
+use Rattle.u_compile.specs.declared.lowering.Operand.TheVariants.{Value}
+use Rattle.u_compile.specs.declared.lowering.Sides.{Sides}
+use Rattle.u_compile.specs.declared.lowering.Start.{Start}
+use Rattle.u_compile.specs.declared.lowering.Turns.{Turns}
+use Rattle.u_compile.specs.declared.tree.Tree.{Tree}
+use Rattle.u_compile.specs.Scoped.{IsOf}
+use Rattle.u_compile.specs.Trees.{HasForm, IsParent, IsWanted}
+use Rattle.u_compile.specs.Drawings.{DrawingParts, Chooses}
+use Rattle.u_compile.specs.Operands.{SceneParts, LoweringParts, AreOperands, GoesOn, IsPopped, Pops, Pushes, TakesOne, TakesTwo, TakesSwapped, Operates, Reads}
+use Rattle.u_compile.specs.Definitions.{Defines, TakesParameter}
+use Rattle.u_compile.specs.Sides.{AddsSide, IsLastFrame, IsFramePopped, OpensIf, OpensElse, IsSidePopped, LeavesSide, ClosesSide, ClosesElse, KeepsGate, ClosesSides, ClosesIf, some_sides, on_other, noted}
+use Rattle.u_compile.specs.Turns.{OpensTurn, ClosesTurn, ClosesTurns}
+use Rattle.u_compile.specs.Loops.{StartsVariable, OpensVariables, BindsLimit, CarriesEach, TestsLimit, OpensLoop, Counts, ClosesVariable, ClosesEach, ClosesLoop, EndsLoop, some_turns}
+use Rattle.u_compile.specs.Bodies.{Opens, OpensBlock, Closes, ClosesBlock}
+use Rattle.u_compile.specs.Steps.{IsItem, IsWhole}
+use Rattle.u_compile.specs.Walks.{IsDone, item, whole, is_item, GoesThrough, IsMadeOfNodes}
+use Rattle.u_compile.specs.Uses.{Passes, Moment, WaitsLast, IsInside, Tells, HasBegunIf, HasEndedSide, HasSides, EntersOther, IsJoined, side_end}
+use Rattle.u_compile.proofs.DrawingLaws.{get_last}
+use Rattle.u_compile.proofs.CarriedLaws.{none_noted, some_noted}
+use Rattle.u_compile.proofs.GateLaws.{of_append, of_last}
+use Rattle.u_compile.proofs.TreeLaws.{wanted_one}
+use Rattle.u_compile.proofs.ExtendLaws.{Extends, extends_grown, extends_then, value_extends, stands_extends, fed_extends, inside_extends, of_more}
+use Rattle.u_compile.proofs.FollowLaws.{Follows, plain_then, side_grows, chooses_grow}
+use Rattle.u_compile.proofs.WalkLaws.{through_within}
+use Rattle.u_compile.proofs.BoundLaws.{moment, passes_more, Known, from_operand, known_at, ending, tree_at, passes_follow}
+
+-- Steps at which nothing begins and nothing ends.
+goes_still : (l m : LoweringParts) → GoesOn l m → m.frames ≡ l.frames
+goes_still l m g = ap (λ (y : LoweringParts). y.frames) g.rest
+
+popped_still : (l m : LoweringParts) (o : Operand) → IsPopped l m o → m.frames ≡ l.frames
+popped_still l m o h = ap (λ (y : LoweringParts). y.frames) h.1
+
+pub pops_still : (l m : LoweringParts) (vs : List ℕ) → Pops l m vs → m.frames ≡ l.frames
+pops_still l m vs p = ap (λ (y : LoweringParts). y.frames) p.goes_on.rest
+
+pushes_still : (l m : LoweringParts) (kind : Kind) (ins : List ℕ) → Pushes l m kind ins → m.frames ≡ l.frames
+pushes_still l m kind ins p = ap (λ (y : LoweringParts). y.frames) p.rest
+
+one_still : (kind : Kind) (l m : LoweringParts) → TakesOne kind l m → m.frames ≡ l.frames
+one_still kind l m t = pushes_still t.between m _ _ t.pushes ∙ pops_still l t.between _ t.pops
+
+two_still : (kind : Kind) (l m : LoweringParts) → TakesTwo kind l m → m.frames ≡ l.frames
+two_still kind l m t = pushes_still t.between m _ _ t.pushes ∙ pops_still l t.between _ t.pops
+
+swapped_still : (kind : Kind) (l m : LoweringParts) → TakesSwapped kind l m → m.frames ≡ l.frames
+swapped_still kind l m t = pushes_still t.between m _ _ t.pushes ∙ pops_still l t.between _ t.pops
+
+operates_still : (f : Form) (l m : LoweringParts) → Operates f l m → m.frames ≡ l.frames
+operates_still forms.Or l m o = two_still _ l m o
+operates_still forms.And l m o = two_still _ l m o
+operates_still forms.Less l m o = two_still _ l m o
+operates_still forms.AtMost l m o = two_still _ l m o
+operates_still forms.Greater l m o = swapped_still _ l m o
+operates_still forms.AtLeast l m o = swapped_still _ l m o
+operates_still forms.Equal l m o = two_still _ l m o
+operates_still forms.Unequal l m o = one_still _ o.between m o.no ∙ two_still _ l o.between o.equal
+operates_still forms.Add l m o = two_still _ l m o
+operates_still forms.Subtract l m o = two_still _ l m o
+operates_still forms.Multiply l m o = two_still _ l m o
+operates_still forms.Divide l m o = two_still _ l m o
+operates_still forms.Remainder l m o = two_still _ l m o
+operates_still forms.Not l m o = one_still _ l m o
+operates_still forms.Length l m o = one_still _ l m o
+operates_still forms.Array l m o = one_still _ l m o
+operates_still forms.Negate l m o = pushes_still o.after m _ _ o.pushes ∙ (goes_still o.between o.after o.goes_on ∙ pops_still l o.between _ o.pops)
+operates_still f l m o = ap (λ (y : LoweringParts). y.frames) o
+
+defines_still : (l m : LoweringParts) (n : ℕ) → Defines l m n → m.frames ≡ l.frames
+defines_still l m n (Defines.constant taken named atom k popped name written aliased) = ap (λ (y : LoweringParts). y.frames) aliased ∙ (popped_still taken named _ name.1 ∙ popped_still l taken _ popped)
+defines_still l m n (Defines.value taken named resolved o v popped name none goes is same) = ap (λ (y : LoweringParts). y.frames) same ∙ (goes_still named resolved goes ∙ (popped_still taken named _ name.1 ∙ popped_still l taken _ popped))
+
+reads_still : (n : ℕ) (l m : LoweringParts) → Reads n l m → m.frames ≡ l.frames
+reads_still n l m (Reads.waits is same) = ap (λ (y : LoweringParts). y.frames) same
+reads_still n l m (Reads.read is takes) = two_still _ l m takes
+
+pub item_still : (f : Form) (n : ℕ) (l m : LoweringParts) → IsItem f n l m → is_item f ≡ true → m.frames ≡ l.frames
+item_still forms.Index n l m h e = reads_still n l m h
+item_still forms.Call n l m h e = ap (λ (y : LoweringParts). y.frames) h.rest ∙ goes_still _ h.between h.goes_on
+item_still forms.NoArguments n l m h e = ap (λ (y : LoweringParts). y.frames) h
+item_still forms.Define n l m h e = defines_still l m n h
+item_still forms.Write n l m h e = ap (λ (y : LoweringParts). y.frames) h.rest ∙ pops_still l h.between _ h.pops
+item_still forms.Statement n l m h e = popped_still l m h.0 h.1
+item_still forms.Next n l m h e = ap (λ (y : LoweringParts). y.frames) h.rest ∙ (popped_still h.taken h.named _ h.name.taken ∙ pops_still l h.taken _ h.pops)
+item_still forms.Name n l m h e = ap (λ (y : LoweringParts). y.frames) h
+item_still forms.Number n l m h e = ap (λ (y : LoweringParts). y.frames) h
+item_still forms.Negative n l m h e = ap (λ (y : LoweringParts). y.frames) h
+item_still forms.True n l m h e = ap (λ (y : LoweringParts). y.frames) h
+item_still forms.False n l m h e = ap (λ (y : LoweringParts). y.frames) h
+item_still f n l m h e = absurd (false≢true e)
+
+parameter_still : (l m : LoweringParts) (n : ℕ) → TakesParameter l m n → m.frames ≡ l.frames
+parameter_still l m n t = ap (λ (y : LoweringParts). y.frames) t.rest ∙ popped_still l t.named _ t.name.1
+
+variable_still : (n : ℕ) (l m : LoweringParts) → StartsVariable n l m → m.frames ≡ l.frames
+variable_still n l m s = ap (λ (y : LoweringParts). y.frames) s.starts.rest ∙ (popped_still s.taken s.named _ s.name.1 ∙ pops_still l s.taken _ s.pops)
+
+loop_still : (n : ℕ) (l m : LoweringParts) → EndsLoop n l m → m.frames ≡ l.frames
+loop_still n l m (EndsLoop.let_go o vain popped) = popped_still l m o popped
+loop_still n l m (EndsLoop.stays never same) = ap (λ (y : LoweringParts). y.frames) same
+
+-- what is done where a loop begins, besides
+limit_still : (n : ℕ) (limit : Option ℕ) (l m : LoweringParts) → BindsLimit n limit l m → m.frames ≡ l.frames
+limit_still n (Some x) l m same = ap (λ (y : LoweringParts). y.frames) same
+limit_still n None l m same = ap (λ (y : LoweringParts). y.frames) same
+
+each_still : (turn : ℕ) (l : LoweringParts) (ss : List Start) (m : LoweringParts) → CarriesEach turn l ss m → m.frames ≡ l.frames
+each_still turn l ss m CarriesEach.none = refl
+each_still turn l ss m (CarriesEach.one_more rest s k x before carries) = ap (λ (y : LoweringParts). y.frames) carries.rest ∙ each_still turn l rest k before
+
+test_still : (turn clock n : ℕ) (limit : Option ℕ) (l m : LoweringParts) → TestsLimit turn clock n limit l m → m.frames ≡ l.frames
+test_still turn clock n (Some x) l m t = pushes_still t.both m _ _ t.pushes ∙ (goes_still t.one t.both t.goes_further ∙ goes_still l t.one t.goes_on)
+test_still turn clock n None l m same = ap (λ (y : LoweringParts). y.frames) same
+
+opening_still : (n : ℕ) (l m : LoweringParts) (o : OpensLoop n l m) → m.frames ≡ o.ended.frames ++ (frames.Test (some_turns l.scene.scope o.turn) ∷ [])
+opening_still n l m o =
+    let carried = ap (λ (y : LoweringParts). y.frames) o.carries.rest ∙ each_still o.turn _ _ o.carries.carried o.carries.each in
+    let tested = test_still o.turn o.clock n o.limit _ o.tested o.tests ∙ (carried ∙ limit_still n o.limit o.ended o.bound o.binds) in
+    ap (λ (y : LoweringParts). y.frames) o.rest ∙ ap (λ (fs : List Frame). fs ++ (frames.Test (some_turns l.scene.scope o.turn) ∷ [])) tested
+
+-- and where its block ends
+counts_still : (turn w : ℕ) (l m : LoweringParts) → Counts turn w l m → m.frames ≡ l.frames
+counts_still turn w l m (Counts.not never same) = ap (λ (y : LoweringParts). y.frames) same
+counts_still turn w l m (Counts.on is c) = ap (λ (y : LoweringParts). y.frames) c.rest ∙ (goes_still c.one c.both c.goes_further ∙ goes_still l c.one c.goes_on)
+
+turn_still : (turn block number : ℕ) (l m : LoweringParts) → ClosesTurn turn block number l m → m.frames ≡ l.frames
+turn_still turn block number l m (ClosesTurn.other c is never same) = ap (λ (y : LoweringParts). y.frames) same
+turn_still turn block number l m (ClosesTurn.given c v is of next goes) = ap (λ (y : LoweringParts). y.frames) goes.rest
+turn_still turn block number l m (ClosesTurn.kept c v between is of next on named goes) = ap (λ (y : LoweringParts). y.frames) goes.rest ∙ goes_still l between on
+
+turns_still : (turn block : ℕ) (l : LoweringParts) (n : ℕ) (m : LoweringParts) → ClosesTurns turn block l n m → m.frames ≡ l.frames
+turns_still turn block l n m ClosesTurns.none = refl
+turns_still turn block l n m (ClosesTurns.one_more number k x before closes) = turn_still turn block number k m closes ∙ turns_still turn block l number k before
+
+closing_still : (turns : Turns) (end block w number : ℕ) (l m : LoweringParts) → ClosesVariable turns end block w number l m → m.frames ≡ l.frames
+closing_still turns end block w number l m (ClosesVariable.other c is never same) = ap (λ (y : LoweringParts). y.frames) same
+closing_still turns end block w number l m (ClosesVariable.kept c is of never same) = ap (λ (y : LoweringParts). y.frames) same
+closing_still turns end block w number l m (ClosesVariable.given c between value last is of given goes named leaves same) = ap (λ (y : LoweringParts). y.frames) same ∙ goes_still l between goes
+
+closings_still : (turns : Turns) (end block w : ℕ) (l : LoweringParts) (n : ℕ) (m : LoweringParts) → ClosesEach turns end block w l n m → m.frames ≡ l.frames
+closings_still turns end block w l n m ClosesEach.none = refl
+closings_still turns end block w l n m (ClosesEach.one_more number k x before closes) = closing_still turns end block w number k m closes ∙ closings_still turns end block w l number k before
+
+ending_still : (n w : ℕ) (l m : LoweringParts) (c : ClosesLoop n w l m) → m.frames ≡ c.ended.frames
+ending_still n w l m c = ap (λ (y : LoweringParts). y.frames) c.rest ∙ (closings_still c.turns _ _ _ _ _ c.left c.variables.each ∙ (turns_still _ _ c.counted _ c.closed c.turn ∙ counts_still _ _ c.ended c.counted c.counts))
+
+-- the sides and the choices
+gate_still : (l m : LoweringParts) → KeepsGate l m → m.frames ≡ l.frames
+gate_still l m k = ap (λ (y : LoweringParts). y.frames) k.rest
+
+sides_still : (s : Sides) (l m : LoweringParts) → ClosesSides s l m → m.frames ≡ l.frames
+sides_still s l m (ClosesSides.unwanted is keeps) = gate_still l m keeps
+sides_still s l m (ClosesSides.wanted is joined joins keeps) = gate_still joined m keeps ∙ ap (λ (y : LoweringParts). y.frames) joins.joins.rest
+
+if_still : (n : ℕ) (l m : LoweringParts) → ClosesIf n l m → (fs : List Frame) × (f : Frame) × (l.frames ≡ fs ++ (f ∷ [])) × (m.frames ≡ fs)
+if_still n l m (ClosesIf.choice control ended popped s) = (ended.frames, frames.Choice control n, popped.0, pushes_still s.taken m _ _ s.pushes ∙ pops_still ended s.taken _ s.pops)
+if_still n l m (ClosesIf.sides s ended popped of closes) = (ended.frames, frames.Sides s, popped.0, sides_still s ended m closes)
+
+no_end : {A : Type 0} (ys : List A) (y : A) → [] ≡ ys ++ (y ∷ []) → ⊥
+no_end [] y e = cc
+no_end (z ∷ ys) y e = cc
+
+-- what is last in a list
+pub one_end : {A : Type 0} (xs ys : List A) (x y : A) → xs ++ (x ∷ []) ≡ ys ++ (y ∷ []) → x ≡ y
+one_end [] [] x y e = cc
+one_end [] (z ∷ ys) x y e = absurd (no_end ys y (let f : [] ≡ ys ++ (y ∷ []) = cc in f))
+one_end (z ∷ xs) [] x y e = absurd (no_end xs x (let f : [] ≡ xs ++ (x ∷ []) = cc in f))
+one_end (z ∷ xs) (w ∷ ys) x y e = one_end xs ys x y (let f : xs ++ (x ∷ []) ≡ ys ++ (y ∷ []) = cc in f)
+
+-- the one operand that is taken
+pub one_taken : (l b : LoweringParts) (d : DrawingParts) (v : ℕ) (os : List Operand) → l.operands ≡ b.operands ++ os → AreOperands l.scene d os (v ∷ []) → (o : Operand) × WaitsLast l o × AreOperands l.scene d (o ∷ []) (v ∷ [])
+one_taken l b d v [] were are = absurd are
+one_taken l b d v (o ∷ []) were are = (o, (b.operands, were), are)
+one_taken l b d v (o ∷ (p ∷ os)) were are = absurd are.1
+
+-- what chooses a side still does
+pub tells_later : (c d e : DrawingParts) → Extends d e → (v : ℕ) (o : Output) → Chooses c d v o → Tells e v o
+tells_later c d e g v o (Chooses.own same is) = Tells.own (value_extends d e g v (o ∷ []) (subst (λ (y : DrawingParts). slice_get y.values v ≡ Some (o ∷ [])) (sym same) is.0))
+tells_later c d e g v o (Chooses.pass none adds is) =
+    let n = length c.statements + 1 in
+    Tells.pass n (stands_extends d e g n Pass adds.stands) (fed_extends d e g n 1 v (omega (arith, adds.one)) adds.fed.0) is
+
+-- and the side is there
+pub side_later : (d c e : DrawingParts) (around : ℕ) (o : Output) (b : Bool) (s : ℕ) → AddsSide d c around o b s → Extends c e → IsInside e.scopes around (Side o b) s
+side_later d c e around o b s a g =
+    let new : Scope = record { region = a.outer.region; around = around; way = Side o b; clock = a.outer.clock } in
+    let at : slice_get c.scopes s ≡ Some new = ap (λ (y : DrawingParts). slice_get y.scopes s) a.adds ∙ (ap (λ (k : ℕ). slice_get (d.scopes ++ (new ∷ [])) k) a.number ∙ get_last d.scopes new) in
+    inside_extends c e g around (Side o b) s (new, at, refl, refl)
+
+-- what is known of what has begun
+abbrev pub Framed : Moment → Frame → Type 0
+Framed x (frames.Choice control w) = HasBegunIf x w control
+Framed x (frames.Sides s) = HasSides x s
+Framed x f = Unit {0}
+
+abbrev pub AllFramed : Moment → Type 0
+AllFramed x = (f : Frame) → IsOf x.at.frames f → Framed x f
+
+-- behind the node
+abbrev behind : Moment → LoweringParts → Moment
+behind x m = record x { node = x.node + 1; at = m }
+
+-- One node more is passed.
+module _ (x : Moment) (known : Known x) (reached : GoesThrough x.first x.begun x.node x.at) (m : LoweringParts) (done : IsDone x.node x.at m) (f : Follows m x.whole) where
+  here : Passes x.first x.begun x.node x.at m (x.node + 1) m
+  here = record { reached = reached; done = done; on = GoesThrough.none }
+
+  abbrev begun_later : (w v : ℕ) → HasBegunIf x w v → HasBegunIf (behind x m) w v
+  begun_later w v h = record {
+    node = h.node;
+    at = h.at;
+    next = h.next;
+    passes = passes_more x.first x.begun h.node h.at h.next x.node x.at m done h.passes;
+    items = h.items;
+    block = h.block;
+    around = h.around;
+    parent = h.parent;
+    of = h.of;
+    operand = h.operand;
+    waits = h.waits;
+    from = h.from;
+  }
+
+  ended_later : (w around : ℕ) (control : Output) (on : Bool) (v : ℕ) → HasEndedSide x w around control on v → HasEndedSide (behind x m) w around control on v
+  ended_later w around control on v h = record {
+    node = h.node;
+    at = h.at;
+    next = h.next;
+    passes = passes_more x.first x.begun h.node h.at h.next x.node x.at m done h.passes;
+    is = h.is;
+    parent = h.parent;
+    inside = h.inside;
+    operand = h.operand;
+    waits = h.waits;
+    from = h.from;
+  }
+
+  sides_later : (s : Sides) → HasSides x s → HasSides (behind x m) s
+  sides_later s h = record {
+    value = h.value;
+    begun = begun_later s.whole h.value h.begun;
+    scope = h.scope;
+    tells = h.tells;
+    inside = h.inside;
+    first = λ v e. ended_later s.whole s.around s.control true v (h.first v e);
+    other = λ v e. ended_later s.whole s.around s.control false v (h.other v e);
+  }
+
+  framed_later : (g : Frame) → Framed x g → Framed (behind x m) g
+  framed_later (frames.Choice control w) h = begun_later w control h
+  framed_later (frames.Sides s) h = sides_later s h
+  framed_later g h = tt
+
+  -- what was there is there, or a part of it
+  part_framed : m.frames ≡ x.at.frames → AllFramed x → AllFramed (behind x m)
+  part_framed same all g h = framed_later g (all g (subst (λ (fs : List Frame). IsOf fs g) same h))
+
+  less_framed : (fs : List Frame) (g : Frame) → x.at.frames ≡ fs ++ (g ∷ []) → m.frames ≡ fs → AllFramed x → AllFramed (behind x m)
+  less_framed fs g was same all e h = framed_later e (all e (subst (λ (es : List Frame). IsOf es e) (sym was) (of_more fs (g ∷ []) e (subst (λ (es : List Frame). IsOf es e) same h))))
+
+  -- and one comes behind that
+  more_framed : (fs : List Frame) (g : Frame) → ((e : Frame) → IsOf fs e → IsOf x.at.frames e) → m.frames ≡ fs ++ (g ∷ []) → Framed (behind x m) g → AllFramed x → AllFramed (behind x m)
+  more_framed fs g was same is all e h = elim (of_append fs (g ∷ []) e (subst (λ (es : List Frame). IsOf es e) same h)) [ inl i ↦ framed_later e (all e (was e i)) | inr i ↦ last i ]
+    where
+      last : IsOf (g ∷ []) e → Framed (behind x m) e
+      last (inl q) = subst (λ (y : Frame). Framed (behind x m) y) q is
+      last (inr q) = absurd q
+
+  same_was : (fs : List Frame) → fs ≡ x.at.frames → (e : Frame) → IsOf fs e → IsOf x.at.frames e
+  same_was fs same e h = subst (λ (es : List Frame). IsOf es e) same h
+
+  less_was : (fs : List Frame) (g : Frame) → x.at.frames ≡ fs ++ (g ∷ []) → (e : Frame) → IsOf fs e → IsOf x.at.frames e
+  less_was fs g was e h = subst (λ (es : List Frame). IsOf es e) (sym was) (of_more fs (g ∷ []) e h)
+
+  changed_framed : (fs : List Frame) (g e : Frame) → x.at.frames ≡ fs ++ (g ∷ []) → m.frames ≡ fs ++ (e ∷ []) → (Framed x g → Framed (behind x m) e) → AllFramed x → AllFramed (behind x m)
+  changed_framed fs g e was same is all = more_framed fs e (less_was fs g was) same (is (all g (subst (λ (es : List Frame). IsOf es g) (sym was) (of_last fs g)))) all
+
+  -- an `if` begins
+  abbrev begun_here : (h : OpensBlock x.node x.at m) → HasForm x.at.scene.tree x.node forms.NoItems → h.form ≡ forms.If → (b : LoweringParts) (v : ℕ) → Pops x.at b (v ∷ []) → Extends b.drawing x.whole.drawing → HasBegunIf (behind x m) h.whole v
+  begun_here h items form b v pops g =
+      let o = one_taken x.at b b.drawing v pops.operands pops.were pops.are in
+      record {
+        node = x.node;
+        at = x.at;
+        next = m;
+        passes = here;
+        items = items;
+        block = h.block;
+        around = h.around;
+        parent = h.parent;
+        of = subst (λ (g : Form). HasForm x.at.scene.tree h.whole g) form h.of;
+        operand = o.0;
+        waits = o.1;
+        from = from_operand x known b.drawing g o.0 v o.2.0;
+      }
+
+  if_framed : (h : OpensBlock x.node x.at m) → HasForm x.at.scene.tree x.node forms.NoItems → h.form ≡ forms.If → OpensIf x.node h.whole x.at m → AllFramed x → AllFramed (behind x m)
+  if_framed h items form (OpensIf.choice may taken v pops same) =
+      let g : Extends taken.drawing x.whole.drawing = subst (λ (d : DrawingParts). Extends d x.whole.drawing) (ap (λ (y : LoweringParts). y.drawing) same) f.extends in
+      more_framed taken.frames (frames.Choice v h.whole) (same_was taken.frames (pops_still x.at taken _ pops)) (ap (λ (y : LoweringParts). y.frames) same) (begun_here h items form taken v pops g)
+  if_framed h items form (OpensIf.sides never taken v pops o) =
+      let d = taken.drawing in
+      let c = o.chosen in
+      let on_to = extends_then c m.drawing x.whole.drawing (extends_grown c m.drawing (side_grows c m.drawing taken.scene.scope o.control true o.side o.adds)) f.extends in
+      let g = extends_then d c x.whole.drawing (extends_grown d c (chooses_grow d c v o.control o.chooses)) on_to in
+      let s = some_sides h.whole o.control taken.scene.scope o.side in
+      let sides : HasSides (behind x m) s = record {
+        value = v;
+        begun = begun_here h items form taken v pops g;
+        scope = sym (ap (λ (y : LoweringParts). y.scene.scope) pops.goes_on.rest);
+        tells = tells_later d c x.whole.drawing on_to v o.control o.chooses;
+        inside = side_later c m.drawing x.whole.drawing taken.scene.scope o.control true o.side o.adds f.extends;
+        first = λ u q. absurd (none_noted u q);
+        other = λ u q. absurd (none_noted u q);
+      } in
+      more_framed taken.frames (frames.Sides s) (same_was taken.frames (pops_still x.at taken _ pops)) (ap (λ (y : LoweringParts). y.frames) o.rest) sides
+
+  turn_framed : OpensTurn x.at m → AllFramed x → AllFramed (behind x m)
+  turn_framed o = changed_framed o.ended.frames (frames.Test o.turns) (frames.Block o.turns o.enters.control o.enters.side) o.frame.0 (ap (λ (y : LoweringParts). y.frames) o.enters.rest ∙ ap (λ (fs : List Frame). fs ++ (frames.Block o.turns o.enters.control o.enters.side ∷ [])) (pops_still o.ended o.taken _ o.pops)) (λ h. tt)
+
+  opens_framed : (h : OpensBlock x.node x.at m) (g : Form) → h.form ≡ g → Opens g x.node h.whole x.at m → HasForm x.at.scene.tree x.node forms.NoItems → AllFramed x → AllFramed (behind x m)
+  opens_framed h forms.If form opens items = if_framed h items form opens
+  opens_framed h forms.Loop form opens items = turn_framed opens
+  opens_framed h forms.For form opens items = turn_framed opens
+  opens_framed h g form opens items = part_framed (ap (λ (y : LoweringParts). y.frames) opens)
+
+  -- its other side is entered
+  else_framed : OpensElse x.at m → AllFramed x → AllFramed (behind x m)
+  else_framed (OpensElse.choice control w last same) = part_framed (ap (λ (y : LoweringParts). y.frames) same)
+  else_framed (OpensElse.sides o) = changed_framed o.ended.frames (frames.Sides o.sides) (frames.Sides (on_other o.sides o.side)) o.popped.0 (ap (λ (y : LoweringParts). y.frames) o.rest) entered
+    where
+      entered : HasSides x o.sides → HasSides (behind x m) (on_other o.sides o.side)
+      entered h = record {
+        value = h.value;
+        begun = begun_later o.sides.whole h.value h.begun;
+        scope = h.scope;
+        tells = h.tells;
+        inside = side_later o.ended.drawing m.drawing x.whole.drawing o.sides.around o.sides.control false o.side o.adds f.extends;
+        first = λ v e. ended_later o.sides.whole o.sides.around o.sides.control true v (h.first v e);
+        other = λ v e. ended_later o.sides.whole o.sides.around o.sides.control false v (h.other v e);
+      }
+
+  -- a side ends
+  ended_here : (w : ℕ) (on : Bool) (s : Sides) (ended taken : LoweringParts) (v : ℕ) → HasForm x.at.scene.tree x.node (side_end on) → IsParent x.at.scene.tree w x.node → IsSidePopped w on x.at ended s → Pops ended taken (v ∷ []) → Extends taken.drawing x.whole.drawing → HasSides x s → HasEndedSide (behind x m) s.whole s.around s.control on v
+  ended_here w on s ended taken v form parent popped pops g h =
+      let scene : ended.scene ≡ x.at.scene = ap (λ (y : LoweringParts). y.scene) popped.popped.1 in
+      let were : x.at.operands ≡ taken.operands ++ pops.operands = sym (ap (λ (y : LoweringParts). y.operands) popped.popped.1) ∙ pops.were in
+      let are : AreOperands x.at.scene taken.drawing pops.operands (v ∷ []) = subst (λ (y : SceneParts). AreOperands y taken.drawing pops.operands (v ∷ [])) scene pops.are in
+      let o = one_taken x.at taken taken.drawing v pops.operands were are in
+      record {
+        node = x.node;
+        at = x.at;
+        next = m;
+        passes = here;
+        is = form;
+        parent = subst (λ (k : ℕ). IsParent x.at.scene.tree k x.node) (sym popped.of) parent;
+        inside = subst (λ (k : ℕ). IsInside x.whole.drawing.scopes s.around (Side s.control on) k) popped.within (subst (λ (b : Bool). IsInside x.whole.drawing.scopes s.around (Side s.control b) s.side) popped.last h.inside);
+        operand = o.0;
+        waits = o.1;
+        from = from_operand x known taken.drawing g o.0 v o.2.0;
+      }
+
+  noted_here : (on : Bool) (s : Sides) (v : ℕ) → HasEndedSide (behind x m) s.whole s.around s.control on v → HasSides x s → HasSides (behind x m) (noted on v s)
+  noted_here true s v e h = record {
+    value = h.value;
+    begun = begun_later s.whole h.value h.begun;
+    scope = h.scope;
+    tells = h.tells;
+    inside = h.inside;
+    first = λ u q. subst (λ (k : ℕ). HasEndedSide (behind x m) s.whole s.around s.control true k) (some_noted v u q) e;
+    other = λ u q. ended_later s.whole s.around s.control false u (h.other u q);
+  }
+  noted_here false s v e h = record {
+    value = h.value;
+    begun = begun_later s.whole h.value h.begun;
+    scope = h.scope;
+    tells = h.tells;
+    inside = h.inside;
+    first = λ u q. ended_later s.whole s.around s.control true u (h.first u q);
+    other = λ u q. subst (λ (k : ℕ). HasEndedSide (behind x m) s.whole s.around s.control false k) (some_noted v u q) e;
+  }
+
+  side_framed : (w : ℕ) (on : Bool) → HasForm x.at.scene.tree x.node (side_end on) → IsParent x.at.scene.tree w x.node → ClosesSide w on x.at m → AllFramed x → AllFramed (behind x m)
+  side_framed w on form parent (ClosesSide.choice last same) = part_framed (ap (λ (y : LoweringParts). y.frames) same)
+  side_framed w on form parent (ClosesSide.sides s ended popped leaves) = left leaves
+    where
+      left : LeavesSide s on ended m → AllFramed x → AllFramed (behind x m)
+      left (LeavesSide.unwanted is same) = changed_framed ended.frames (frames.Sides s) (frames.Sides s) popped.popped.0 (ap (λ (y : LoweringParts). y.frames) same) (sides_later s)
+      left (LeavesSide.wanted is taken v pops same) =
+          let n = frames.Sides (noted on v s) in
+          let g : Extends taken.drawing x.whole.drawing = subst (λ (d : DrawingParts). Extends d x.whole.drawing) (ap (λ (y : LoweringParts). y.drawing) same) f.extends in
+          let stack : m.frames ≡ ended.frames ++ (n ∷ []) = ap (λ (y : LoweringParts). y.frames) same ∙ ap (λ (fs : List Frame). fs ++ (n ∷ [])) (pops_still ended taken _ pops) in
+          changed_framed ended.frames (frames.Sides s) n popped.popped.0 stack (λ h. noted_here on s v (ended_here w on s ended taken v form parent popped pops g h) h)
+
+  closes_framed : (g : Form) (w : ℕ) → HasForm x.at.scene.tree x.node forms.Block → IsParent x.at.scene.tree w x.node → Closes g x.node w x.at m → AllFramed x → AllFramed (behind x m)
+  closes_framed forms.If w form parent c = side_framed w true form parent c
+  closes_framed forms.Loop w form parent c = less_framed c.ended.frames (frames.Block c.turns c.control c.block) c.frame.0 (ending_still x.node w x.at m c)
+  closes_framed forms.For w form parent c = less_framed c.ended.frames (frames.Block c.turns c.control c.block) c.frame.0 (ending_still x.node w x.at m c)
+  closes_framed g w form parent c = part_framed (ap (λ (y : LoweringParts). y.frames) c)
+
+  -- the variables of a loop begin, and it does
+  variables_framed : OpensVariables x.node x.at m → AllFramed x → AllFramed (behind x m)
+  variables_framed (OpensVariables.counting w around is b) =
+      let n = frames.Begun (length x.at.starts) (Some b.limit) in
+      let still = ap (λ (y : LoweringParts). y.frames) b.starts.rest ∙ (popped_still b.taken b.named _ b.name.1 ∙ pops_still x.at b.taken _ b.pops) in
+      more_framed b.started.frames n (same_was b.started.frames still) (ap (λ (y : LoweringParts). y.frames) b.rest) tt
+  variables_framed (OpensVariables.other w around never same) = more_framed x.at.frames (frames.Begun (length x.at.starts) None) (λ e h. h) (ap (λ (y : LoweringParts). y.frames) same) tt
+
+  whole_framed : (g : Form) (k : LoweringParts) → HasForm x.at.scene.tree x.node g → Operates g x.at k → IsWhole g x.node k m → (g ≡ forms.NoParameters → ⊥) → (g ≡ forms.AddProcedure → ⊥) → AllFramed x → AllFramed (behind x m)
+  whole_framed forms.NoItems k is o h a b = let c = subst (λ (y : LoweringParts). OpensBlock x.node y m) o h in opens_framed c c.form refl c.opens is
+  whole_framed forms.Block k is o h a b = let c = subst (λ (y : LoweringParts). ClosesBlock x.node y m) o h in closes_framed c.form c.whole is c.parent c.closes
+  whole_framed forms.Otherwise k is o h a b = else_framed (subst (λ (y : LoweringParts). OpensElse y m) o h)
+  whole_framed forms.Else k is o h a b = let c = subst (λ (y : LoweringParts). ClosesElse x.node y m) o h in side_framed c.whole false is c.parent c.closes
+  whole_framed forms.If k is o h a b = let c = if_still x.node x.at m (subst (λ (y : LoweringParts). ClosesIf x.node y m) o h) in less_framed c.0 c.1 c.2 c.3
+  whole_framed forms.NoVariables k is o h a b = variables_framed (subst (λ (y : LoweringParts). OpensVariables x.node y m) o h)
+  whole_framed forms.AddVariable k is o h a b = part_framed (variable_still x.node x.at m (subst (λ (y : LoweringParts). StartsVariable x.node y m) o h))
+  whole_framed forms.Variables k is o h a b = let c = subst (λ (y : LoweringParts). OpensLoop x.node y m) o h in changed_framed c.ended.frames (frames.Begun c.waiting c.limit) (frames.Test (some_turns x.at.scene.scope c.turn)) c.frame.0 (opening_still x.node x.at m c) (λ e. tt)
+  whole_framed forms.Loop k is o h a b = part_framed (loop_still x.node x.at m (subst (λ (y : LoweringParts). EndsLoop x.node y m) o h))
+  whole_framed forms.For k is o h a b = part_framed (loop_still x.node x.at m (subst (λ (y : LoweringParts). EndsLoop x.node y m) o h))
+  whole_framed forms.AddParameter k is o h a b = part_framed (parameter_still x.at m x.node (subst (λ (y : LoweringParts). TakesParameter y m x.node) o h))
+  whole_framed forms.NoParameters k is o h a b = absurd (a refl)
+  whole_framed forms.AddProcedure k is o h a b = absurd (b refl)
+  whole_framed g k is o h a b = part_framed (ap (λ (y : LoweringParts). y.frames) h ∙ operates_still g x.at k o)
+
+  done_framed : (HasForm x.at.scene.tree x.node forms.NoParameters → ⊥) × (HasForm x.at.scene.tree x.node forms.AddProcedure → ⊥) → AllFramed x → AllFramed (behind x m)
+  done_framed never = by done
+    where
+      by : IsDone x.node x.at m → AllFramed x → AllFramed (behind x m)
+      by (item g is items h) = part_framed (item_still g x.node x.at m h items)
+      by (whole g k is other o h) = whole_framed g k is o h (λ q. never.0 (subst (λ (e : Form). HasForm x.at.scene.tree x.node e) q is)) (λ q. never.1 (subst (λ (e : Form). HasForm x.at.scene.tree x.node e) q is))
+
+-- what is known of all that has begun and not ended, at each node of a procedure
+module _ (t : Tree) (b : BlockParts) (p : IsMadeOfNodes t b) where
+  pub all_framed : (n : ℕ) (k : LoweringParts) → GoesThrough p.first p.begun n k → n ≤ p.last → Follows k (ending t b p) → AllFramed (moment p.first p.begun n k (ending t b p))
+  all_framed n k GoesThrough.none h f = λ g i. absurd (subst (λ (fs : List Frame). IsOf fs g) p.fresh.frames i)
+  all_framed n k (GoesThrough.one_more node l m through done) h f =
+      let step = (passes_follow t b p node l k (node + 1) k (record { reached = through; done = done; on = GoesThrough.none }) h).0 in
+      let on_to = plain_then l k (ending t b p) step f in
+      let known = known_at t b p node l through (omega (arith, h)) on_to in
+      let tree = tree_at t b p node l through (omega (arith, h)) in
+      let never = p.within node (omega (arith, h)) (through_within p.first p.begun node l through) in
+      let x = moment p.first p.begun node l (ending t b p) in
+      done_framed x known through k done f (λ q. never.0 (subst (λ (y : Tree). HasForm y node forms.NoParameters) tree q), λ q. never.1 (subst (λ (y : Tree). HasForm y node forms.AddProcedure) tree q)) (all_framed node l through (omega (arith, h)) on_to)
+
+-- what is so where the other side of an `if` is entered, and where its sides end
+last_framed : (x : Moment) → AllFramed x → (g : Frame) → IsLastFrame x.at g → Framed x g
+last_framed x all g last = all g (subst (λ (fs : List Frame). IsOf fs g) (sym last.1) (of_last last.0 g))
+
+pub begun_choice : (x : Moment) → AllFramed x → (control w : ℕ) → IsLastFrame x.at (frames.Choice control w) → HasBegunIf x w control
+begun_choice x all control w last = last_framed x all (frames.Choice control w) last
+
+module _ (x : Moment) (m : LoweringParts) (f : Follows m x.whole) (all : AllFramed x) where
+  sides_one : (s u : Sides) → IsLastFrame x.at (frames.Sides s) → IsLastFrame x.at (frames.Sides u) → s ≡ u
+  sides_one s u a b = same s u (one_end a.0 b.0 (frames.Sides s) (frames.Sides u) (sym a.1 ∙ b.1))
+    where
+      same : (s u : Sides) → frames.Sides s ≡ frames.Sides u → s ≡ u
+      same s u e = cc
+
+  not_both : (s : Sides) (control w : ℕ) → IsLastFrame x.at (frames.Sides s) → IsLastFrame x.at (frames.Choice control w) → ⊥
+  not_both s control w a b = other (one_end a.0 b.0 (frames.Sides s) (frames.Choice control w) (sym a.1 ∙ b.1))
+    where
+      other : frames.Sides s ≡ frames.Choice control w → ⊥
+      other e = cc
+
+  pub else_joins : OpensElse x.at m → (s : Sides) → IsLastFrame x.at (frames.Sides s) → EntersOther x s m
+  else_joins (OpensElse.choice control w last same) s sides = absurd (not_both s control w sides last)
+  else_joins (OpensElse.sides o) s last =
+      let same : o.sides ≡ s = sides_one o.sides s (o.ended.frames, o.popped.0) last in
+      let scope : m.scene.scope ≡ o.side = ap (λ (y : LoweringParts). y.scene.scope) o.rest in
+      let inside = side_later o.ended.drawing m.drawing x.whole.drawing o.sides.around o.sides.control false o.side o.adds f.extends in
+      record {
+        sides = last_framed x all (frames.Sides s) last;
+        inside = subst (λ (k : ℕ). IsInside x.whole.drawing.scopes s.around (Side s.control false) k) (sym scope) (subst (λ (u : Sides). IsInside x.whole.drawing.scopes u.around (Side u.control false) o.side) same inside);
+      }
+
+  joined : (s : Sides) (ended : LoweringParts) → IsFramePopped x.at ended (frames.Sides s) → s.whole ≡ x.node → HasSides x s → IsWanted x.at.scene.tree x.node true → ClosesSides s ended m → IsJoined x s m
+  joined s ended popped of h wanted (ClosesSides.unwanted is keeps) =
+      let tree : ended.scene.tree ≡ x.at.scene.tree = ap (λ (y : LoweringParts). y.scene.tree) popped.1 in
+      absurd (false≢true (wanted_one x.at.scene.tree x.node false true (subst (λ (k : ℕ). IsWanted x.at.scene.tree k false) of (subst (λ (y : Tree). IsWanted y s.whole false) tree is)) wanted))
+  joined s ended popped of h wanted (ClosesSides.wanted is k j keeps) =
+      let c = j.joins.merges in
+      let kept = extends_then k.drawing m.drawing x.whole.drawing (extends_grown k.drawing m.drawing keeps.grows) f.extends in
+      let all_kept = extends_then ended.drawing k.drawing x.whole.drawing (extends_grown ended.drawing k.drawing c.grows) kept in
+      record {
+        sides = h;
+        of = of;
+        left = j.left;
+        right = j.right;
+        first = h.first j.left j.first;
+        other = h.other j.right j.other;
+        ones = c.ones;
+        others = c.others;
+        has_left = value_extends ended.drawing x.whole.drawing all_kept j.left c.ones c.has_left;
+        has_right = value_extends ended.drawing x.whole.drawing all_kept j.right c.others c.has_right;
+        value = j.joins.value;
+        both = value_extends k.drawing x.whole.drawing kept j.joins.value (c.ones ++ c.others) c.both;
+        waits = ap (λ (y : LoweringParts). y.operands) keeps.rest ∙ (ap (λ (y : LoweringParts). y.operands) j.joins.rest ∙ ap (λ (y : LoweringParts). y.operands ++ (Value j.joins.value ∷ [])) popped.1);
+      }
+
+  pub if_joins : ClosesIf x.node x.at m → (s : Sides) → IsLastFrame x.at (frames.Sides s) → IsWanted x.at.scene.tree x.node true → IsJoined x s m
+  if_joins (ClosesIf.choice control ended popped selects) s last wanted = absurd (not_both s control x.node last (ended.frames, popped.0))
+  if_joins (ClosesIf.sides u ended popped of closes) s last wanted =
+      let same : u ≡ s = sides_one u s (ended.frames, popped.0) last in
+      subst (λ (y : Sides). IsJoined x y m) same (joined u ended popped of (last_framed x all (frames.Sides u) (ended.frames, popped.0)) wanted closes)
