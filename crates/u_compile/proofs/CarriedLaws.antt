@@ -33,7 +33,7 @@ get_set [] n x y e = absurd (cc)
 get_set (z ∷ xs) zero x y e = refl
 get_set (z ∷ xs) (suc n) x y e = get_set xs n x y e
 
-get_other : {A : Type 0} (xs : List A) (n k : ℕ) (y : A) → (n ≡ k → ⊥) → slice_get (slice_set xs n y) k ≡ slice_get xs k
+pub get_other : {A : Type 0} (xs : List A) (n k : ℕ) (y : A) → (n ≡ k → ⊥) → slice_get (slice_set xs n y) k ≡ slice_get xs k
 get_other [] n k y never = refl
 get_other (z ∷ xs) zero zero y never = absurd (never refl)
 get_other (z ∷ xs) zero (suc k) y never = refl

@@ -1,5 +1,5 @@
 -- What leads to ports when procedures grow.
-use Rattle.std.proofs.Common.{◌≡◌, ℕ, zero, suc, ◌+◌, ◌<◌, ◌≤◌, ◌⊎◌, inl, inr, refl, sym, ap, ◌∙◌, subst, arith, Bool, true, false, cond, ◌==◌, List, [], ◌∷◌, ◌++◌, length, Some, append_assoc, length-append}
+use Rattle.std.proofs.Common.{◌≡◌, ℕ, zero, suc, ◌+◌, ◌<◌, ◌≤◌, ◌⊎◌, inl, inr, refl, sym, ap, ◌∙◌, subst, arith, Bool, true, false, cond, ◌==◌, List, [], ◌∷◌, ◌++◌, length, Some, None, append_assoc, length-append}
 use Rattle.std.specs.Prelude.{slice_get, get_or, not}
 use Rattle.std.proofs.lemmas.Bool.{and_parts, and_from, cond-true, cond-false, cases_Bool, cases_eq, cases_lt, eqb-true, eq-eqb}
 use Rattle.std.proofs.lemmas.List.{append-nil}
@@ -14,7 +14,7 @@ use Rattle.u_compile.specs.declared.drawing.Carried.{Carried}
 use Rattle.u_compile.specs.Drafts.{DraftParts}
 use Rattle.u_compile.specs.Scoped.{PlaceParts}
 use Rattle.u_compile.specs.Graphs.{link, output, draft_at}
-use Rattle.u_compile.specs.Drawings.{leads_to, feeders, DrawingParts, drawing, IsOfKind, IsFedBy, AreFed, IsFed, from_nothing, from_value, from_control, IsGate, IsDrawn, GoesOn, Grows, Adds, Gives, Merges, IsGated, a_gate, with_value, links_to, input_links, AreValues, OnlyTo}
+use Rattle.u_compile.specs.Drawings.{leads_to, feeders, DrawingParts, drawing, IsOfKind, IsFedBy, AreFed, IsFed, from_nothing, from_value, from_control, IsGate, IsDrawn, GoesOn, AddsOpen, Grows, Adds, Gives, Merges, IsGated, a_gate, with_value, links_to, input_links, AreValues, OnlyTo}
 use Rattle.u_compile.proofs.Numbers.{at_within, at_last}
 
 pub feeders-append : (n port : ℕ) (ls ms : List Link) → feeders n port (ls ++ ms) ≡ feeders n port ls ++ feeders n port ms
@@ -178,6 +178,22 @@ drawn_values ds ls vs ws gs b is on = record {
   gates = λ g h. gate_kept ds ds ls ls vs ws g (on_self ds) on (λ port. refl) (is.gates g h);
 }
 
+-- what is carried in addition
+pub opens_none : (cs : List Carried) → AddsOpen cs cs
+opens_none cs number c is = inl is
+
+pub opens_then : (cs ds es : List Carried) → AddsOpen cs ds → AddsOpen ds es → AddsOpen cs es
+opens_then cs ds es f g number c is = elim (g number c is) [ inl i ↦ f number c i | inr q ↦ inr q ]
+
+pub opens_one : (cs : List Carried) (x : Carried) → x.next ≡ None → AddsOpen cs (cs ++ (x ∷ []))
+opens_one [] x q zero c is = inr (ap (λ (y : Carried). y.next) (some_one c x (sym is)) ∙ q)
+  where
+    some_one : (a b : Carried) → Some a ≡ Some b → a ≡ b
+    some_one a b e = cc
+opens_one [] x q (suc n) c is = absurd (cc)
+opens_one (y ∷ ys) x q zero c is = inl is
+opens_one (y ∷ ys) x q (suc n) c is = opens_one ys x q n c is
+
 pub grows_self : (d : DrawingParts) → Grows d d
 grows_self d = record {
   statements = on_self d.statements;
@@ -185,6 +201,7 @@ grows_self d = record {
   scopes = on_self d.scopes;
   values = on_self d.values;
   carried = on_self d.carried;
+  opened = opens_none d.carried;
   places = on_self d.places;
   fed = λ n port h. refl;
 }
@@ -196,6 +213,7 @@ grows_then a b c f g = record {
   scopes = on_then a.scopes b.scopes c.scopes f.scopes g.scopes;
   values = on_then a.values b.values c.values f.values g.values;
   carried = on_then a.carried b.carried c.carried f.carried g.carried;
+  opened = opens_then a.carried b.carried c.carried f.opened g.opened;
   places = on_then a.places b.places c.places f.places g.places;
   fed = λ n port h. g.fed n port (omega (arith, h, on_length a.statements b.statements f.statements)) ∙ f.fed n port h;
 }
@@ -209,6 +227,7 @@ adds_inputs d gs b is x at ins all = record {
     scopes = on_self d.scopes;
     values = on_self d.values;
     carried = on_self d.carried;
+    opened = opens_none d.carried;
     places = on_one d.places at;
     fed = λ n port h. feeders_none n port d.links (input_links d.values (length d.statements + 1) 1 ins) (only_inputs d.values (length d.statements + 1) 1 ins n port (λ e. omega (arith, h, e)));
   };
@@ -224,6 +243,7 @@ grows_value d os = record {
   scopes = on_self d.scopes;
   values = on_one d.values os;
   carried = on_self d.carried;
+  opened = opens_none d.carried;
   places = on_self d.places;
   fed = λ n port h. refl;
 }
@@ -257,9 +277,9 @@ merged d e left right v ones others both l r b at is =
     subst (λ (w : ℕ). Merges d e left right w) (sym at) (subst (λ (f : DrawingParts). Merges d f left right (length d.values)) (sym is) good)
 
 -- gates, and what is carried in addition, change nothing of it
-pub adds_again : (d : DrawingParts) (ds : List DraftParts) (ls : List Link) (ss : List Scope) (vs : List (List Output)) (gs hs : List Gate) (cs es : List Carried) (ps : List PlaceParts) (kind : Kind) (ins : List ℕ) → Adds d (drawing ds ls ss vs gs cs ps) kind ins → GoesOn cs es → Adds d (drawing ds ls ss vs hs es ps) kind ins
-adds_again d ds ls ss vs gs hs cs es ps kind ins a more = record {
-  grows = record { statements = a.grows.statements; links = a.grows.links; scopes = a.grows.scopes; values = a.grows.values; carried = on_then d.carried cs es a.grows.carried more; places = a.grows.places; fed = a.grows.fed };
+pub adds_again : (d : DrawingParts) (ds : List DraftParts) (ls : List Link) (ss : List Scope) (vs : List (List Output)) (gs hs : List Gate) (cs es : List Carried) (ps : List PlaceParts) (kind : Kind) (ins : List ℕ) → Adds d (drawing ds ls ss vs gs cs ps) kind ins → (x : Carried) → x.next ≡ None → es ≡ cs ++ (x ∷ []) → Adds d (drawing ds ls ss vs hs es ps) kind ins
+adds_again d ds ls ss vs gs hs cs es ps kind ins a x none more = record {
+  grows = record { statements = a.grows.statements; links = a.grows.links; scopes = a.grows.scopes; values = a.grows.values; carried = on_then d.carried cs es a.grows.carried (x ∷ [], more); opened = opens_then d.carried cs es a.grows.opened (subst (λ (ys : List Carried). AddsOpen cs ys) (sym more) (opens_one cs x none)); places = a.grows.places; fed = a.grows.fed };
   one = a.one;
   stands = a.stands;
   fed = a.fed;

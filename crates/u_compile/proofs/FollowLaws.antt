@@ -36,7 +36,7 @@ use Rattle.u_compile.specs.Bodies.{Opens, Closes, EndsProcedure, with_procedure}
 use Rattle.u_compile.specs.Steps.{IsItem, IsWhole}
 use Rattle.u_compile.specs.Walks.{IsDone, item, whole, is_item, AllMade}
 use Rattle.u_compile.specs.Uses.{IsLeft, IsInside, GivesParameter, Binds, Begins}
-use Rattle.u_compile.proofs.DrawingLaws.{get_goes_on, get_last, on_self, on_then, on_one, grows_self, grows_then}
+use Rattle.u_compile.proofs.DrawingLaws.{get_goes_on, get_last, opens_none, on_self, on_then, on_one, grows_self, grows_then}
 use Rattle.u_compile.proofs.CarriedLaws.{MayHave, NotesStay, none_may, given_may, more_may, notes_stay}
 use Rattle.u_compile.proofs.GateLaws.{of_append, of_last}
 use Rattle.u_compile.proofs.KnownLaws.{comes_then}
@@ -132,6 +132,7 @@ scope_grows d s = record {
   scopes = on_one d.scopes s;
   values = on_self d.values;
   carried = on_self d.carried;
+  opened = opens_none d.carried;
   places = on_self d.places;
   fed = λ n port h. refl;
 }

@@ -1,9 +1,8 @@
 -- What has begun and not ended at a node of a procedure: of each `if`, where it began, and with which values its sides ended.
-use Rattle.std.proofs.Common.{◌≡◌, ℕ, ◌+◌, ◌≤◌, arith, inl, inr, refl, sym, ap, ◌∙◌, subst, Bool, true, false, List, [], ◌∷◌, ◌++◌, length, Option, Some, None}
+use Rattle.std.proofs.Common.{◌≡◌, ℕ, ◌+◌, ◌≤◌, arith, inl, inr, refl, sym, ap, ◌∙◌, subst, Bool, true, false, List, [], ◌∷◌, ◌++◌, length, Some, None}
 use Rattle.std.proofs.lemmas.Bool.{false≢true}
 use Rattle.std.specs.Prelude.{slice_get}
 use Rattle.u_program.specs.Parts.{BlockParts}
-use Rattle.u_program.specs.declared.program.Kind.{Kind}
 use Rattle.u_program.specs.declared.program.Kind.TheVariants.{Pass}
 use Rattle.u_source.specs.declared.form.Form.{Form}
 use Rattle.u_source.specs.declared.form.Form.TheVariants as forms
@@ -15,17 +14,16 @@ use Rattle.u_compile.specs.declared.lowering.Frame.TheVariants as frames
 use Rattle.u_compile.specs.declared.lowering.Operand.{Operand}
 use Rattle.u_compile.specs.declared.lowering.Operand.TheVariants.{Value}
 use Rattle.u_compile.specs.declared.lowering.Sides.{Sides}
-use Rattle.u_compile.specs.declared.lowering.Start.{Start}
 use Rattle.u_compile.specs.declared.lowering.Turns.{Turns}
 use Rattle.u_compile.specs.declared.tree.Tree.{Tree}
 use Rattle.u_compile.specs.Scoped.{IsOf}
 use Rattle.u_compile.specs.Trees.{HasForm, IsParent, IsWanted}
 use Rattle.u_compile.specs.Drawings.{DrawingParts, Chooses}
-use Rattle.u_compile.specs.Operands.{SceneParts, LoweringParts, AreOperands, GoesOn, IsPopped, Pops, Pushes, TakesOne, TakesTwo, TakesSwapped, Operates, Reads}
-use Rattle.u_compile.specs.Definitions.{Defines, TakesParameter}
-use Rattle.u_compile.specs.Sides.{AddsSide, IsLastFrame, IsFramePopped, OpensIf, OpensElse, IsSidePopped, LeavesSide, ClosesSide, ClosesElse, KeepsGate, ClosesSides, ClosesIf, some_sides, on_other, noted}
+use Rattle.u_compile.specs.Operands.{SceneParts, LoweringParts, AreOperands, Pops, Operates}
+use Rattle.u_compile.specs.Definitions.{TakesParameter}
+use Rattle.u_compile.specs.Sides.{AddsSide, IsLastFrame, IsFramePopped, OpensIf, OpensElse, IsSidePopped, LeavesSide, ClosesSide, ClosesElse, ClosesSides, ClosesIf, some_sides, on_other, noted}
 use Rattle.u_compile.specs.Turns.{OpensTurn, ClosesTurn, ClosesTurns}
-use Rattle.u_compile.specs.Loops.{StartsVariable, OpensVariables, BindsLimit, CarriesEach, TestsLimit, OpensLoop, Counts, ClosesVariable, ClosesEach, ClosesLoop, EndsLoop, some_turns}
+use Rattle.u_compile.specs.Loops.{TakesNext, StartsVariable, OpensVariables, OpensLoop, Counts, ClosesVariable, ClosesEach, ClosesLoop, EndsLoop, some_turns}
 use Rattle.u_compile.specs.Bodies.{Opens, OpensBlock, Closes, ClosesBlock}
 use Rattle.u_compile.specs.Steps.{IsItem, IsWhole}
 use Rattle.u_compile.specs.Walks.{IsDone, item, whole, is_item, GoesThrough, IsMadeOfNodes}
@@ -36,140 +34,55 @@ use Rattle.u_compile.proofs.GateLaws.{of_append, of_last}
 use Rattle.u_compile.proofs.TreeLaws.{wanted_one}
 use Rattle.u_compile.proofs.ExtendLaws.{Extends, extends_grown, extends_then, value_extends, stands_extends, fed_extends, inside_extends, of_more}
 use Rattle.u_compile.proofs.FollowLaws.{Follows, plain_then, side_grows, chooses_grow}
+use Rattle.u_compile.proofs.StillLaws.{goes_still, popped_still, pops_still, pushes_still, operates_still, item_still, parameter_still, variable_still, loop_still, limit_still, each_still, test_still, sides_still}
 use Rattle.u_compile.proofs.WalkLaws.{through_within}
 use Rattle.u_compile.proofs.BoundLaws.{moment, passes_more, Known, from_operand, known_at, ending, tree_at, passes_follow}
 
--- Steps at which nothing begins and nothing ends.
-goes_still : (l m : LoweringParts) → GoesOn l m → m.frames ≡ l.frames
-goes_still l m g = ap (λ (y : LoweringParts). y.frames) g.rest
+-- What has begun, where something begins or ends.
+-- at an item nothing begins and nothing ends
+next_stays : (l m : LoweringParts) → TakesNext l m → m.frames ≡ l.frames
+next_stays l m t = ap (λ (y : LoweringParts). y.frames) t.rest ∙ ((popped_still t.taken t.named _ t.name.taken).frames ∙ (pops_still l t.taken _ t.pops).frames)
 
-popped_still : (l m : LoweringParts) (o : Operand) → IsPopped l m o → m.frames ≡ l.frames
-popped_still l m o h = ap (λ (y : LoweringParts). y.frames) h.1
+item_stays : (f : Form) (n : ℕ) (l m : LoweringParts) → IsItem f n l m → is_item f ≡ true → m.frames ≡ l.frames
+item_stays forms.Next n l m h e = next_stays l m h
+item_stays f n l m h e = (item_still f n l m h e (λ q. cc)).frames
 
-pub pops_still : (l m : LoweringParts) (vs : List ℕ) → Pops l m vs → m.frames ≡ l.frames
-pops_still l m vs p = ap (λ (y : LoweringParts). y.frames) p.goes_on.rest
-
-pushes_still : (l m : LoweringParts) (kind : Kind) (ins : List ℕ) → Pushes l m kind ins → m.frames ≡ l.frames
-pushes_still l m kind ins p = ap (λ (y : LoweringParts). y.frames) p.rest
-
-one_still : (kind : Kind) (l m : LoweringParts) → TakesOne kind l m → m.frames ≡ l.frames
-one_still kind l m t = pushes_still t.between m _ _ t.pushes ∙ pops_still l t.between _ t.pops
-
-two_still : (kind : Kind) (l m : LoweringParts) → TakesTwo kind l m → m.frames ≡ l.frames
-two_still kind l m t = pushes_still t.between m _ _ t.pushes ∙ pops_still l t.between _ t.pops
-
-swapped_still : (kind : Kind) (l m : LoweringParts) → TakesSwapped kind l m → m.frames ≡ l.frames
-swapped_still kind l m t = pushes_still t.between m _ _ t.pushes ∙ pops_still l t.between _ t.pops
-
-operates_still : (f : Form) (l m : LoweringParts) → Operates f l m → m.frames ≡ l.frames
-operates_still forms.Or l m o = two_still _ l m o
-operates_still forms.And l m o = two_still _ l m o
-operates_still forms.Less l m o = two_still _ l m o
-operates_still forms.AtMost l m o = two_still _ l m o
-operates_still forms.Greater l m o = swapped_still _ l m o
-operates_still forms.AtLeast l m o = swapped_still _ l m o
-operates_still forms.Equal l m o = two_still _ l m o
-operates_still forms.Unequal l m o = one_still _ o.between m o.no ∙ two_still _ l o.between o.equal
-operates_still forms.Add l m o = two_still _ l m o
-operates_still forms.Subtract l m o = two_still _ l m o
-operates_still forms.Multiply l m o = two_still _ l m o
-operates_still forms.Divide l m o = two_still _ l m o
-operates_still forms.Remainder l m o = two_still _ l m o
-operates_still forms.Not l m o = one_still _ l m o
-operates_still forms.Length l m o = one_still _ l m o
-operates_still forms.Array l m o = one_still _ l m o
-operates_still forms.Negate l m o = pushes_still o.after m _ _ o.pushes ∙ (goes_still o.between o.after o.goes_on ∙ pops_still l o.between _ o.pops)
-operates_still f l m o = ap (λ (y : LoweringParts). y.frames) o
-
-defines_still : (l m : LoweringParts) (n : ℕ) → Defines l m n → m.frames ≡ l.frames
-defines_still l m n (Defines.constant taken named atom k popped name written aliased) = ap (λ (y : LoweringParts). y.frames) aliased ∙ (popped_still taken named _ name.1 ∙ popped_still l taken _ popped)
-defines_still l m n (Defines.value taken named resolved o v popped name none goes is same) = ap (λ (y : LoweringParts). y.frames) same ∙ (goes_still named resolved goes ∙ (popped_still taken named _ name.1 ∙ popped_still l taken _ popped))
-
-reads_still : (n : ℕ) (l m : LoweringParts) → Reads n l m → m.frames ≡ l.frames
-reads_still n l m (Reads.waits is same) = ap (λ (y : LoweringParts). y.frames) same
-reads_still n l m (Reads.read is takes) = two_still _ l m takes
-
-pub item_still : (f : Form) (n : ℕ) (l m : LoweringParts) → IsItem f n l m → is_item f ≡ true → m.frames ≡ l.frames
-item_still forms.Index n l m h e = reads_still n l m h
-item_still forms.Call n l m h e = ap (λ (y : LoweringParts). y.frames) h.rest ∙ goes_still _ h.between h.goes_on
-item_still forms.NoArguments n l m h e = ap (λ (y : LoweringParts). y.frames) h
-item_still forms.Define n l m h e = defines_still l m n h
-item_still forms.Write n l m h e = ap (λ (y : LoweringParts). y.frames) h.rest ∙ pops_still l h.between _ h.pops
-item_still forms.Statement n l m h e = popped_still l m h.0 h.1
-item_still forms.Next n l m h e = ap (λ (y : LoweringParts). y.frames) h.rest ∙ (popped_still h.taken h.named _ h.name.taken ∙ pops_still l h.taken _ h.pops)
-item_still forms.Name n l m h e = ap (λ (y : LoweringParts). y.frames) h
-item_still forms.Number n l m h e = ap (λ (y : LoweringParts). y.frames) h
-item_still forms.Negative n l m h e = ap (λ (y : LoweringParts). y.frames) h
-item_still forms.True n l m h e = ap (λ (y : LoweringParts). y.frames) h
-item_still forms.False n l m h e = ap (λ (y : LoweringParts). y.frames) h
-item_still f n l m h e = absurd (false≢true e)
-
-parameter_still : (l m : LoweringParts) (n : ℕ) → TakesParameter l m n → m.frames ≡ l.frames
-parameter_still l m n t = ap (λ (y : LoweringParts). y.frames) t.rest ∙ popped_still l t.named _ t.name.1
-
-variable_still : (n : ℕ) (l m : LoweringParts) → StartsVariable n l m → m.frames ≡ l.frames
-variable_still n l m s = ap (λ (y : LoweringParts). y.frames) s.starts.rest ∙ (popped_still s.taken s.named _ s.name.1 ∙ pops_still l s.taken _ s.pops)
-
-loop_still : (n : ℕ) (l m : LoweringParts) → EndsLoop n l m → m.frames ≡ l.frames
-loop_still n l m (EndsLoop.let_go o vain popped) = popped_still l m o popped
-loop_still n l m (EndsLoop.stays never same) = ap (λ (y : LoweringParts). y.frames) same
-
--- what is done where a loop begins, besides
-limit_still : (n : ℕ) (limit : Option ℕ) (l m : LoweringParts) → BindsLimit n limit l m → m.frames ≡ l.frames
-limit_still n (Some x) l m same = ap (λ (y : LoweringParts). y.frames) same
-limit_still n None l m same = ap (λ (y : LoweringParts). y.frames) same
-
-each_still : (turn : ℕ) (l : LoweringParts) (ss : List Start) (m : LoweringParts) → CarriesEach turn l ss m → m.frames ≡ l.frames
-each_still turn l ss m CarriesEach.none = refl
-each_still turn l ss m (CarriesEach.one_more rest s k x before carries) = ap (λ (y : LoweringParts). y.frames) carries.rest ∙ each_still turn l rest k before
-
-test_still : (turn clock n : ℕ) (limit : Option ℕ) (l m : LoweringParts) → TestsLimit turn clock n limit l m → m.frames ≡ l.frames
-test_still turn clock n (Some x) l m t = pushes_still t.both m _ _ t.pushes ∙ (goes_still t.one t.both t.goes_further ∙ goes_still l t.one t.goes_on)
-test_still turn clock n None l m same = ap (λ (y : LoweringParts). y.frames) same
-
-opening_still : (n : ℕ) (l m : LoweringParts) (o : OpensLoop n l m) → m.frames ≡ o.ended.frames ++ (frames.Test (some_turns l.scene.scope o.turn) ∷ [])
-opening_still n l m o =
-    let carried = ap (λ (y : LoweringParts). y.frames) o.carries.rest ∙ each_still o.turn _ _ o.carries.carried o.carries.each in
-    let tested = test_still o.turn o.clock n o.limit _ o.tested o.tests ∙ (carried ∙ limit_still n o.limit o.ended o.bound o.binds) in
+pub opening_stays : (n : ℕ) (l m : LoweringParts) (o : OpensLoop n l m) → m.frames ≡ o.ended.frames ++ (frames.Test (some_turns l.scene.scope o.turn) ∷ [])
+opening_stays n l m o =
+    let carried = ap (λ (y : LoweringParts). y.frames) o.carries.rest ∙ (each_still o.turn _ _ o.carries.carried o.carries.each).frames in
+    let tested = (test_still o.turn o.clock n o.limit _ o.tested o.tests).frames ∙ (carried ∙ (limit_still n o.limit o.ended o.bound o.binds).frames) in
     ap (λ (y : LoweringParts). y.frames) o.rest ∙ ap (λ (fs : List Frame). fs ++ (frames.Test (some_turns l.scene.scope o.turn) ∷ [])) tested
 
 -- and where its block ends
-counts_still : (turn w : ℕ) (l m : LoweringParts) → Counts turn w l m → m.frames ≡ l.frames
-counts_still turn w l m (Counts.not never same) = ap (λ (y : LoweringParts). y.frames) same
-counts_still turn w l m (Counts.on is c) = ap (λ (y : LoweringParts). y.frames) c.rest ∙ (goes_still c.one c.both c.goes_further ∙ goes_still l c.one c.goes_on)
+counts_stay : (turn w : ℕ) (l m : LoweringParts) → Counts turn w l m → m.frames ≡ l.frames
+counts_stay turn w l m (Counts.not never same) = ap (λ (y : LoweringParts). y.frames) same
+counts_stay turn w l m (Counts.on is c) = ap (λ (y : LoweringParts). y.frames) c.rest ∙ ((goes_still c.one c.both c.goes_further).frames ∙ (goes_still l c.one c.goes_on).frames)
 
-turn_still : (turn block number : ℕ) (l m : LoweringParts) → ClosesTurn turn block number l m → m.frames ≡ l.frames
-turn_still turn block number l m (ClosesTurn.other c is never same) = ap (λ (y : LoweringParts). y.frames) same
-turn_still turn block number l m (ClosesTurn.given c v is of next goes) = ap (λ (y : LoweringParts). y.frames) goes.rest
-turn_still turn block number l m (ClosesTurn.kept c v between is of next on named goes) = ap (λ (y : LoweringParts). y.frames) goes.rest ∙ goes_still l between on
+turn_stays : (turn block number : ℕ) (l m : LoweringParts) → ClosesTurn turn block number l m → m.frames ≡ l.frames
+turn_stays turn block number l m (ClosesTurn.other c is never same) = ap (λ (y : LoweringParts). y.frames) same
+turn_stays turn block number l m (ClosesTurn.given c v is of next goes) = ap (λ (y : LoweringParts). y.frames) goes.rest
+turn_stays turn block number l m (ClosesTurn.kept c v between is of next on named goes) = ap (λ (y : LoweringParts). y.frames) goes.rest ∙ (goes_still l between on).frames
 
-turns_still : (turn block : ℕ) (l : LoweringParts) (n : ℕ) (m : LoweringParts) → ClosesTurns turn block l n m → m.frames ≡ l.frames
-turns_still turn block l n m ClosesTurns.none = refl
-turns_still turn block l n m (ClosesTurns.one_more number k x before closes) = turn_still turn block number k m closes ∙ turns_still turn block l number k before
+turns_stay : (turn block : ℕ) (l : LoweringParts) (n : ℕ) (m : LoweringParts) → ClosesTurns turn block l n m → m.frames ≡ l.frames
+turns_stay turn block l n m ClosesTurns.none = refl
+turns_stay turn block l n m (ClosesTurns.one_more number k x before closes) = turn_stays turn block number k m closes ∙ turns_stay turn block l number k before
 
-closing_still : (turns : Turns) (end block w number : ℕ) (l m : LoweringParts) → ClosesVariable turns end block w number l m → m.frames ≡ l.frames
-closing_still turns end block w number l m (ClosesVariable.other c is never same) = ap (λ (y : LoweringParts). y.frames) same
-closing_still turns end block w number l m (ClosesVariable.kept c is of never same) = ap (λ (y : LoweringParts). y.frames) same
-closing_still turns end block w number l m (ClosesVariable.given c between value last is of given goes named leaves same) = ap (λ (y : LoweringParts). y.frames) same ∙ goes_still l between goes
+closing_stays : (turns : Turns) (end block w number : ℕ) (l m : LoweringParts) → ClosesVariable turns end block w number l m → m.frames ≡ l.frames
+closing_stays turns end block w number l m (ClosesVariable.other c is never same) = ap (λ (y : LoweringParts). y.frames) same
+closing_stays turns end block w number l m (ClosesVariable.kept c is of never same) = ap (λ (y : LoweringParts). y.frames) same
+closing_stays turns end block w number l m (ClosesVariable.given c between value last is of given goes named leaves same) = ap (λ (y : LoweringParts). y.frames) same ∙ (goes_still l between goes).frames
 
-closings_still : (turns : Turns) (end block w : ℕ) (l : LoweringParts) (n : ℕ) (m : LoweringParts) → ClosesEach turns end block w l n m → m.frames ≡ l.frames
-closings_still turns end block w l n m ClosesEach.none = refl
-closings_still turns end block w l n m (ClosesEach.one_more number k x before closes) = closing_still turns end block w number k m closes ∙ closings_still turns end block w l number k before
+closings_stay : (turns : Turns) (end block w : ℕ) (l : LoweringParts) (n : ℕ) (m : LoweringParts) → ClosesEach turns end block w l n m → m.frames ≡ l.frames
+closings_stay turns end block w l n m ClosesEach.none = refl
+closings_stay turns end block w l n m (ClosesEach.one_more number k x before closes) = closing_stays turns end block w number k m closes ∙ closings_stay turns end block w l number k before
 
-ending_still : (n w : ℕ) (l m : LoweringParts) (c : ClosesLoop n w l m) → m.frames ≡ c.ended.frames
-ending_still n w l m c = ap (λ (y : LoweringParts). y.frames) c.rest ∙ (closings_still c.turns _ _ _ _ _ c.left c.variables.each ∙ (turns_still _ _ c.counted _ c.closed c.turn ∙ counts_still _ _ c.ended c.counted c.counts))
+pub ending_stays : (n w : ℕ) (l m : LoweringParts) (c : ClosesLoop n w l m) → m.frames ≡ c.ended.frames
+ending_stays n w l m c = ap (λ (y : LoweringParts). y.frames) c.rest ∙ (closings_stay c.turns _ _ _ _ _ c.left c.variables.each ∙ (turns_stay _ _ c.counted _ c.closed c.turn ∙ counts_stay _ _ c.ended c.counted c.counts))
 
--- the sides and the choices
-gate_still : (l m : LoweringParts) → KeepsGate l m → m.frames ≡ l.frames
-gate_still l m k = ap (λ (y : LoweringParts). y.frames) k.rest
-
-sides_still : (s : Sides) (l m : LoweringParts) → ClosesSides s l m → m.frames ≡ l.frames
-sides_still s l m (ClosesSides.unwanted is keeps) = gate_still l m keeps
-sides_still s l m (ClosesSides.wanted is joined joins keeps) = gate_still joined m keeps ∙ ap (λ (y : LoweringParts). y.frames) joins.joins.rest
-
-if_still : (n : ℕ) (l m : LoweringParts) → ClosesIf n l m → (fs : List Frame) × (f : Frame) × (l.frames ≡ fs ++ (f ∷ [])) × (m.frames ≡ fs)
-if_still n l m (ClosesIf.choice control ended popped s) = (ended.frames, frames.Choice control n, popped.0, pushes_still s.taken m _ _ s.pushes ∙ pops_still ended s.taken _ s.pops)
-if_still n l m (ClosesIf.sides s ended popped of closes) = (ended.frames, frames.Sides s, popped.0, sides_still s ended m closes)
+-- where an `if` ends
+if_stays : (n : ℕ) (l m : LoweringParts) → ClosesIf n l m → (fs : List Frame) × (f : Frame) × (l.frames ≡ fs ++ (f ∷ [])) × (m.frames ≡ fs)
+if_stays n l m (ClosesIf.choice control ended popped s) = (ended.frames, frames.Choice control n, popped.0, (pushes_still s.taken m _ _ s.pushes).frames ∙ (pops_still ended s.taken _ s.pops).frames)
+if_stays n l m (ClosesIf.sides s ended popped of closes) = (ended.frames, frames.Sides s, popped.0, (sides_still s ended m closes).frames)
 
 no_end : {A : Type 0} (ys : List A) (y : A) → [] ≡ ys ++ (y ∷ []) → ⊥
 no_end [] y e = cc
@@ -212,7 +125,7 @@ abbrev pub AllFramed : Moment → Type 0
 AllFramed x = (f : Frame) → IsOf x.at.frames f → Framed x f
 
 -- behind the node
-abbrev behind : Moment → LoweringParts → Moment
+abbrev pub behind : Moment → LoweringParts → Moment
 behind x m = record x { node = x.node + 1; at = m }
 
 -- One node more is passed.
@@ -312,7 +225,7 @@ module _ (x : Moment) (known : Known x) (reached : GoesThrough x.first x.begun x
   if_framed : (h : OpensBlock x.node x.at m) → HasForm x.at.scene.tree x.node forms.NoItems → h.form ≡ forms.If → OpensIf x.node h.whole x.at m → AllFramed x → AllFramed (behind x m)
   if_framed h items form (OpensIf.choice may taken v pops same) =
       let g : Extends taken.drawing x.whole.drawing = subst (λ (d : DrawingParts). Extends d x.whole.drawing) (ap (λ (y : LoweringParts). y.drawing) same) f.extends in
-      more_framed taken.frames (frames.Choice v h.whole) (same_was taken.frames (pops_still x.at taken _ pops)) (ap (λ (y : LoweringParts). y.frames) same) (begun_here h items form taken v pops g)
+      more_framed taken.frames (frames.Choice v h.whole) (same_was taken.frames ((pops_still x.at taken _ pops).frames)) (ap (λ (y : LoweringParts). y.frames) same) (begun_here h items form taken v pops g)
   if_framed h items form (OpensIf.sides never taken v pops o) =
       let d = taken.drawing in
       let c = o.chosen in
@@ -328,10 +241,10 @@ module _ (x : Moment) (known : Known x) (reached : GoesThrough x.first x.begun x
         first = λ u q. absurd (none_noted u q);
         other = λ u q. absurd (none_noted u q);
       } in
-      more_framed taken.frames (frames.Sides s) (same_was taken.frames (pops_still x.at taken _ pops)) (ap (λ (y : LoweringParts). y.frames) o.rest) sides
+      more_framed taken.frames (frames.Sides s) (same_was taken.frames ((pops_still x.at taken _ pops).frames)) (ap (λ (y : LoweringParts). y.frames) o.rest) sides
 
   turn_framed : OpensTurn x.at m → AllFramed x → AllFramed (behind x m)
-  turn_framed o = changed_framed o.ended.frames (frames.Test o.turns) (frames.Block o.turns o.enters.control o.enters.side) o.frame.0 (ap (λ (y : LoweringParts). y.frames) o.enters.rest ∙ ap (λ (fs : List Frame). fs ++ (frames.Block o.turns o.enters.control o.enters.side ∷ [])) (pops_still o.ended o.taken _ o.pops)) (λ h. tt)
+  turn_framed o = changed_framed o.ended.frames (frames.Test o.turns) (frames.Block o.turns o.enters.control o.enters.side) o.frame.0 (ap (λ (y : LoweringParts). y.frames) o.enters.rest ∙ ap (λ (fs : List Frame). fs ++ (frames.Block o.turns o.enters.control o.enters.side ∷ [])) ((pops_still o.ended o.taken _ o.pops).frames)) (λ h. tt)
 
   opens_framed : (h : OpensBlock x.node x.at m) (g : Form) → h.form ≡ g → Opens g x.node h.whole x.at m → HasForm x.at.scene.tree x.node forms.NoItems → AllFramed x → AllFramed (behind x m)
   opens_framed h forms.If form opens items = if_framed h items form opens
@@ -404,20 +317,20 @@ module _ (x : Moment) (known : Known x) (reached : GoesThrough x.first x.begun x
       left (LeavesSide.wanted is taken v pops same) =
           let n = frames.Sides (noted on v s) in
           let g : Extends taken.drawing x.whole.drawing = subst (λ (d : DrawingParts). Extends d x.whole.drawing) (ap (λ (y : LoweringParts). y.drawing) same) f.extends in
-          let stack : m.frames ≡ ended.frames ++ (n ∷ []) = ap (λ (y : LoweringParts). y.frames) same ∙ ap (λ (fs : List Frame). fs ++ (n ∷ [])) (pops_still ended taken _ pops) in
+          let stack : m.frames ≡ ended.frames ++ (n ∷ []) = ap (λ (y : LoweringParts). y.frames) same ∙ ap (λ (fs : List Frame). fs ++ (n ∷ [])) ((pops_still ended taken _ pops).frames) in
           changed_framed ended.frames (frames.Sides s) n popped.popped.0 stack (λ h. noted_here on s v (ended_here w on s ended taken v form parent popped pops g h) h)
 
   closes_framed : (g : Form) (w : ℕ) → HasForm x.at.scene.tree x.node forms.Block → IsParent x.at.scene.tree w x.node → Closes g x.node w x.at m → AllFramed x → AllFramed (behind x m)
   closes_framed forms.If w form parent c = side_framed w true form parent c
-  closes_framed forms.Loop w form parent c = less_framed c.ended.frames (frames.Block c.turns c.control c.block) c.frame.0 (ending_still x.node w x.at m c)
-  closes_framed forms.For w form parent c = less_framed c.ended.frames (frames.Block c.turns c.control c.block) c.frame.0 (ending_still x.node w x.at m c)
+  closes_framed forms.Loop w form parent c = less_framed c.ended.frames (frames.Block c.turns c.control c.block) c.frame.0 (ending_stays x.node w x.at m c)
+  closes_framed forms.For w form parent c = less_framed c.ended.frames (frames.Block c.turns c.control c.block) c.frame.0 (ending_stays x.node w x.at m c)
   closes_framed g w form parent c = part_framed (ap (λ (y : LoweringParts). y.frames) c)
 
   -- the variables of a loop begin, and it does
   variables_framed : OpensVariables x.node x.at m → AllFramed x → AllFramed (behind x m)
   variables_framed (OpensVariables.counting w around is b) =
       let n = frames.Begun (length x.at.starts) (Some b.limit) in
-      let still = ap (λ (y : LoweringParts). y.frames) b.starts.rest ∙ (popped_still b.taken b.named _ b.name.1 ∙ pops_still x.at b.taken _ b.pops) in
+      let still = ap (λ (y : LoweringParts). y.frames) b.starts.rest ∙ ((popped_still b.taken b.named _ b.name.1).frames ∙ (pops_still x.at b.taken _ b.pops).frames) in
       more_framed b.started.frames n (same_was b.started.frames still) (ap (λ (y : LoweringParts). y.frames) b.rest) tt
   variables_framed (OpensVariables.other w around never same) = more_framed x.at.frames (frames.Begun (length x.at.starts) None) (λ e h. h) (ap (λ (y : LoweringParts). y.frames) same) tt
 
@@ -426,22 +339,22 @@ module _ (x : Moment) (known : Known x) (reached : GoesThrough x.first x.begun x
   whole_framed forms.Block k is o h a b = let c = subst (λ (y : LoweringParts). ClosesBlock x.node y m) o h in closes_framed c.form c.whole is c.parent c.closes
   whole_framed forms.Otherwise k is o h a b = else_framed (subst (λ (y : LoweringParts). OpensElse y m) o h)
   whole_framed forms.Else k is o h a b = let c = subst (λ (y : LoweringParts). ClosesElse x.node y m) o h in side_framed c.whole false is c.parent c.closes
-  whole_framed forms.If k is o h a b = let c = if_still x.node x.at m (subst (λ (y : LoweringParts). ClosesIf x.node y m) o h) in less_framed c.0 c.1 c.2 c.3
+  whole_framed forms.If k is o h a b = let c = if_stays x.node x.at m (subst (λ (y : LoweringParts). ClosesIf x.node y m) o h) in less_framed c.0 c.1 c.2 c.3
   whole_framed forms.NoVariables k is o h a b = variables_framed (subst (λ (y : LoweringParts). OpensVariables x.node y m) o h)
-  whole_framed forms.AddVariable k is o h a b = part_framed (variable_still x.node x.at m (subst (λ (y : LoweringParts). StartsVariable x.node y m) o h))
-  whole_framed forms.Variables k is o h a b = let c = subst (λ (y : LoweringParts). OpensLoop x.node y m) o h in changed_framed c.ended.frames (frames.Begun c.waiting c.limit) (frames.Test (some_turns x.at.scene.scope c.turn)) c.frame.0 (opening_still x.node x.at m c) (λ e. tt)
-  whole_framed forms.Loop k is o h a b = part_framed (loop_still x.node x.at m (subst (λ (y : LoweringParts). EndsLoop x.node y m) o h))
-  whole_framed forms.For k is o h a b = part_framed (loop_still x.node x.at m (subst (λ (y : LoweringParts). EndsLoop x.node y m) o h))
-  whole_framed forms.AddParameter k is o h a b = part_framed (parameter_still x.at m x.node (subst (λ (y : LoweringParts). TakesParameter y m x.node) o h))
+  whole_framed forms.AddVariable k is o h a b = part_framed (variable_still x.node x.at m (subst (λ (y : LoweringParts). StartsVariable x.node y m) o h)).frames
+  whole_framed forms.Variables k is o h a b = let c = subst (λ (y : LoweringParts). OpensLoop x.node y m) o h in changed_framed c.ended.frames (frames.Begun c.waiting c.limit) (frames.Test (some_turns x.at.scene.scope c.turn)) c.frame.0 (opening_stays x.node x.at m c) (λ e. tt)
+  whole_framed forms.Loop k is o h a b = part_framed (loop_still x.node x.at m (subst (λ (y : LoweringParts). EndsLoop x.node y m) o h)).frames
+  whole_framed forms.For k is o h a b = part_framed (loop_still x.node x.at m (subst (λ (y : LoweringParts). EndsLoop x.node y m) o h)).frames
+  whole_framed forms.AddParameter k is o h a b = part_framed (parameter_still x.at m x.node (subst (λ (y : LoweringParts). TakesParameter y m x.node) o h)).frames
   whole_framed forms.NoParameters k is o h a b = absurd (a refl)
   whole_framed forms.AddProcedure k is o h a b = absurd (b refl)
-  whole_framed g k is o h a b = part_framed (ap (λ (y : LoweringParts). y.frames) h ∙ operates_still g x.at k o)
+  whole_framed g k is o h a b = part_framed (ap (λ (y : LoweringParts). y.frames) h ∙ (operates_still g x.at k o).frames)
 
   done_framed : (HasForm x.at.scene.tree x.node forms.NoParameters → ⊥) × (HasForm x.at.scene.tree x.node forms.AddProcedure → ⊥) → AllFramed x → AllFramed (behind x m)
   done_framed never = by done
     where
       by : IsDone x.node x.at m → AllFramed x → AllFramed (behind x m)
-      by (item g is items h) = part_framed (item_still g x.node x.at m h items)
+      by (item g is items h) = part_framed (item_stays g x.node x.at m h items)
       by (whole g k is other o h) = whole_framed g k is o h (λ q. never.0 (subst (λ (e : Form). HasForm x.at.scene.tree x.node e) q is)) (λ q. never.1 (subst (λ (e : Form). HasForm x.at.scene.tree x.node e) q is))
 
 -- what is known of all that has begun and not ended, at each node of a procedure

@@ -96,6 +96,7 @@ switch_grows d e p q scopes vs gs hs carried o v adds same more =
       scopes = a.grows.scopes;
       values = a.grows.values;
       carried = a.grows.carried;
+      opened = a.grows.opened;
       places = a.grows.places;
       fed = λ n port h. feeders_none n port p.graph.links ms (links_away n port k 2 (o ∷ []) (λ f. omega (arith, h, f.0, a.one))) ∙ a.grows.fed n port h;
     } in

@@ -28,8 +28,10 @@ pub mod ForestLaws
 pub mod ExtendLaws
 pub mod FollowLaws
 pub mod WalkLaws
+pub mod StillLaws
 pub mod BoundLaws
 pub mod FrameLaws
+pub mod NotedLaws
 pub mod UseLaws
 pub mod FinishedLaws
 pub mod OrderlyTests

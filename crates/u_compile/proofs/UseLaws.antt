@@ -1,5 +1,5 @@
 -- Arcs are uses: what leads to a port of a whole procedure is the operand that was taken there.
-use Rattle.std.proofs.Common.{◌≡◌, ℕ, ◌+◌, ◌≤◌, arith, ◌⊎◌, inl, inr, refl, sym, ap, ◌∙◌, subst, true, false, List, [], ◌∷◌, ◌++◌, length, drop, Option, Some, None, append_assoc}
+use Rattle.std.proofs.Common.{◌≡◌, ℕ, ◌+◌, ◌≤◌, arith, ◌⊎◌, inl, inr, refl, sym, ap, ◌∙◌, subst, true, false, List, [], ◌∷◌, ◌++◌, length, drop, Option, Some, None}
 use Rattle.std.proofs.lemmas.Bool.{false≢true}
 use Rattle.std.proofs.lemmas.Option.{slice_get_within}
 use Rattle.std.specs.Prelude.{pos, slice_get}
@@ -14,7 +14,6 @@ use Rattle.u_source.specs.Sources.{SourceParts}
 use Rattle.u_source.specs.declared.form.Form.{Form}
 use Rattle.u_source.specs.declared.form.Form.TheVariants as forms
 use Rattle.u_scope.specs.declared.checked.Meaning.{Meaning}
-use Rattle.u_scope.specs.declared.checked.Meaning.TheVariants.{Name}
 use Rattle.u_compile.specs.declared.lowering.Frame.TheVariants as frames
 use Rattle.u_compile.specs.declared.lowering.Operand.{Operand}
 use Rattle.u_compile.specs.declared.lowering.Start.{Start}
@@ -23,7 +22,6 @@ use Rattle.u_compile.specs.declared.graph.Output.{Output}
 use Rattle.u_compile.specs.declared.drawing.Carried.{Carried}
 use Rattle.u_compile.specs.declared.drawing.Scope.{Scope}
 use Rattle.u_compile.specs.declared.drawing.Way.TheVariants.{Turn}
-use Rattle.u_compile.specs.declared.lowering.Operand.TheVariants.{Atom}
 use Rattle.u_compile.specs.declared.tree.Tree.{Tree}
 use Rattle.u_compile.specs.Scoped.{IsOf}
 use Rattle.u_compile.specs.Trees.{HasForm, IsParent, IsEither}
@@ -32,21 +30,22 @@ use Rattle.u_compile.specs.Namings.{IsConstant, HasConstant, a_binding, a_consta
 use Rattle.u_compile.specs.Operands.{SceneParts, LoweringParts, IsOperand, AreOperands, Pops, TakesOne, TakesTwo, TakesSwapped, Negates, Differs, Operates, Reads, Writes, TakesCall}
 use Rattle.u_compile.specs.Sides.{AddsSide, IsLastFrame, IsFramePopped, IsSelect, OpensIf, OpensElse, Selects, ClosesIf}
 use Rattle.u_compile.specs.Turns.{OpensTurn}
-use Rattle.u_compile.specs.Loops.{TakesNext, CarriesEach, OpensLoop, CountsOn, Counts, ClosesLoop}
+use Rattle.u_compile.specs.Loops.{CarriesEach, OpensLoop, CountsOn, Counts, ClosesLoop}
 use Rattle.u_compile.specs.Bodies.{IsBlockOf, EndsProcedure, Opens, OpensBlock, Closes, ClosesBlock}
 use Rattle.u_compile.specs.Steps.{IsItem, IsWhole}
 use Rattle.u_compile.specs.Walks.{IsDone, item, whole, is_item, GoesThrough, AllMade, IsMadeOfNodes, AreLowered}
 use Rattle.u_compile.specs.Made.{IsTreeOf, AreMadeOf}
-use Rattle.u_compile.specs.Uses.{Begins, HasBegun, Passes, Moment, IsFrom, AreArcs, Takes, Selected, Chosen, JoinsAt, Called, WaitsLast, IsInside, Controls, ControlsOf, OpensWith, ports_from, IsOfName, GoesOnWith, IsCountedOn, IsNextValue, GoesRoundWith, AllGoRound, RoundsOf, ClosesWith, Uses, EndsBehind, Arrives, ArcsAreUses}
+use Rattle.u_compile.specs.Uses.{Begins, HasBegun, Passes, Moment, IsFrom, AreArcs, Takes, Selected, Chosen, JoinsAt, Called, WaitsLast, IsInside, Controls, ControlsOf, OpensWith, ports_from, IsOfName, HasNoted, IsCountedOn, IsNextValue, GoesRoundWith, AllGoRound, RoundsOf, ClosesWith, Uses, EndsBehind, Arrives, ArcsAreUses}
 use Rattle.u_compile.proofs.DrawingLaws.{get_goes_on, get_last}
 use Rattle.u_compile.proofs.CarriedLaws.{same_number, some_carried, none_noted, some_noted, noted_now, noted_other, none_may}
 use Rattle.u_compile.proofs.GateLaws.{of_append}
 use Rattle.u_compile.proofs.TreeLaws.{form_one, parent_one}
 use Rattle.u_compile.proofs.ExtendLaws.{Extends, extends_grown, extends_then, value_extends, scope_extends, stands_extends, fed_extends, entered_extends, inside_extends, constant_extends, constant_on}
-use Rattle.u_compile.proofs.FollowLaws.{Follows, plain_same, plain_then, plain_grown, plain_noted, plain_goes, popped_follows, ended_follows, AreTurns, Root, Traced, each_carried, limit_starts, limit_tested, of_drop, side_grows, chooses_grow, counts_follow, turns_close, loop_left}
+use Rattle.u_compile.proofs.FollowLaws.{Follows, plain_same, plain_then, plain_grown, plain_noted, plain_goes, ended_follows, AreTurns, Root, Traced, each_carried, limit_starts, limit_tested, of_drop, side_grows, chooses_grow, counts_follow, turns_close, loop_left}
 use Rattle.u_compile.proofs.RoundLaws.{Round, named_root, turns_round}
 use Rattle.u_compile.proofs.BoundLaws.{moment, BoundBefore, bound_later, begins_later, BegunBefore, all_known, Known, from_operand, within_to, ending, ends_follow, passes_follow, tree_at, known_at}
 use Rattle.u_compile.proofs.FrameLaws.{one_end, one_taken, tells_later, side_later, AllFramed, all_framed, begun_choice, else_joins, if_joins}
+use Rattle.u_compile.proofs.NotedLaws.{NextStands, next_uses, next_done, TurnsKnown, all_turns, noted_in}
 use Rattle.u_compile.proofs.WalkLaws.{Any, AnyStart, any_grows, any_starts, through_within, named_follows, blocks_of_nodes}
 
 -- those values lead to those ports, one to each
@@ -158,10 +157,6 @@ module _ (x : Moment) (known : Known x) where
 choice_one : (a b c d : ℕ) → frames.Choice a c ≡ frames.Choice b d → a ≡ b
 choice_one a b c d e = cc
 
--- a variable goes on with a value, and that is noted there
-abbrev NextStands : Moment → LoweringParts → Type 0
-NextStands x m = (g : GoesOnWith x) × (slice_get m.drawing.carried g.number ≡ Some (a_carried g.turns.turn g.variable g.enter (Some g.value)))
-
 block_one : (a b : Turns) (p q : Output) (n k : ℕ) → frames.Block a p n ≡ frames.Block b q k → (a ≡ b) × (n ≡ k)
 block_one a b p q n k e = (cc, cc)
 
@@ -225,45 +220,6 @@ module _ (x : Moment) (known : Known x) where
       other : frames.Sides s ≡ frames.Choice c w → ⊥
       other e = cc
 
-  -- the value with which a variable of a loop goes on
-  next_uses : (m : LoweringParts) → TakesNext x.at m → Follows m x.whole → NextStands x m
-  next_uses m t f = one t.pops.operands t.pops.were t.pops.are
-    where
-      one : (os : List Operand) → x.at.operands ≡ t.taken.operands ++ os → AreOperands x.at.scene t.taken.drawing os (t.value ∷ []) → NextStands x m
-      one [] were are = absurd are
-      one (o ∷ []) were are =
-          let name = t.name.taken in
-          let sets = t.sets in
-          let named = (popped_follows Any AnyStart any_grows any_starts t.taken t.named _ name).follows in
-          let noted = plain_noted t.named m sets.number t.value sets.notes (none_may t.named.drawing.carried sets.number t.value _ sets.open_before.1 refl) t.rest in
-          let on_to = plain_then t.taken t.named x.whole named (plain_then t.named m x.whole noted f) in
-          let tree : t.taken.scene.tree ≡ x.at.scene.tree = ap (λ (y : LoweringParts). y.scene.tree) t.pops.goes_on.rest in
-          let stack : t.named.frames ≡ x.at.frames = ap (λ (y : LoweringParts). y.frames) name.1 ∙ ap (λ (y : LoweringParts). y.frames) t.pops.goes_on.rest in
-          let noted_there = noted_now t.named.drawing m.drawing sets.number t.value (a_carried t.turns.turn t.variable sets.open_before.0 None) sets.notes sets.open_before.1 in
-          let goes : GoesOnWith x = record {
-            before = t.named.operands;
-            name = t.name.node;
-            operand = o;
-            waited = were ∙ (ap (λ (ys : List Operand). ys ++ (o ∷ [])) name.0 ∙ append_assoc t.named.operands (Atom t.name.node ∷ []) (o ∷ []));
-            value = t.value;
-            from = from_operand x known t.taken.drawing on_to.extends o t.value are.0;
-            variable = t.variable;
-            means = subst (λ (y : Tree). slice_get y.meanings.now t.name.node ≡ Some (Name t.variable)) tree t.name.means;
-            turns = t.turns;
-            control = t.control;
-            block = t.block;
-            frame = (t.frame.0, sym stack ∙ t.frame.1);
-            number = sets.number;
-            enter = sets.open_before.0;
-            next = f.notes sets.number t.value (a_carried t.turns.turn t.variable sets.open_before.0 (Some t.value)) noted_there refl;
-          } in
-          (goes, noted_there)
-      one (o ∷ (p ∷ os)) were are = absurd are.1
-
-  next_done : (m : LoweringParts) → HasForm x.at.scene.tree x.node forms.Next → IsDone x.node x.at m → Follows m x.whole → NextStands x m
-  next_done m has (item g is items h) f = next_uses m (subst (λ (y : Form). IsItem y x.node x.at m) (form_one x.at.scene.tree x.node g forms.Next is has) h) f
-  next_done m has (whole g k is other o h) f = absurd (false≢true (sym other ∙ ap is_item (form_one x.at.scene.tree x.node g forms.Next is has)))
-
   item_uses : (f : Form) (m : LoweringParts) → IsItem f x.node x.at m → is_item f ≡ true → Follows m x.whole → Uses f x
   item_uses forms.Index m h e g = reads_uses x known m h g.extends
   item_uses forms.Write m h e g = writes_uses x known m h g.extends
@@ -276,7 +232,7 @@ module _ (x : Moment) (known : Known x) where
   item_uses forms.NoArguments m h e g = tt
   item_uses forms.Statement m h e g = tt
   item_uses forms.Define m h e g = tt
-  item_uses forms.Next m h e g = (next_uses m h g).0
+  item_uses forms.Next m h e g = (next_uses x known m h g).0
   item_uses f m h e g = absurd (false≢true e)
 
 module _ (x : Moment) (known : Known x) where
@@ -314,10 +270,10 @@ module _ (x : Moment) (known : Known x) where
       }
 
   -- what goes round, if nothing was counted
-  round_uses : (block w number : ℕ) (c : Carried) → Round (BoundBefore x.first x.begun x.node x.at) block number c x.whole → GoesRoundWith x block w number c
-  round_uses block w number c r = record {
+  round_uses : (block w number : ℕ) (c : Carried) → ((v : ℕ) → c.next ≡ Some v → HasNoted x number c v) → Round (BoundBefore x.first x.begun x.node x.at) block number c x.whole → GoesRoundWith x block w number c
+  round_uses block w number c noted r = record {
     value = r.value;
-    is = elim r.is [ inl q ↦ IsNextValue.noted q | inr q ↦ IsNextValue.kept q.0 (name_of c.name block r.value q.1) ];
+    is = elim r.is [ inl q ↦ IsNextValue.noted q (noted r.value q) | inr q ↦ IsNextValue.kept q.0 (name_of c.name block r.value q.1) ];
     next = r.next;
     statement = r.statement;
     stands = r.stands;
@@ -339,12 +295,12 @@ module _ (x : Moment) (known : Known x) where
       same (inl q) = some_noted sum r.value q
       same (inr q) = absurd (none_noted sum (sym q.0))
 
-  rounds_counted : (turn block w : ℕ) (l counted : LoweringParts) → l.scene ≡ x.at.scene → Traced (BoundBefore x.first x.begun x.node x.at) l → AllMade l → Counts turn w l counted → Follows counted x.whole → ((number : ℕ) (c : Carried) → slice_get counted.drawing.carried number ≡ Some c → c.turn ≡ turn → Round (BoundBefore x.first x.begun x.node x.at) block number c x.whole) → (number : ℕ) (c : Carried) → slice_get l.drawing.carried number ≡ Some c → c.turn ≡ turn → GoesRoundWith x block w number c
-  rounds_counted turn block w l counted scene traced made (Counts.not never same) f rounds number c at of = round_uses block w number c (rounds number c (subst (λ (y : LoweringParts). slice_get y.drawing.carried number ≡ Some c) (sym same) at) of)
-  rounds_counted turn block w l counted scene traced made (Counts.on form k) f rounds number c at of =
+  rounds_counted : (turn block w : ℕ) (l counted : LoweringParts) → l.scene ≡ x.at.scene → Traced (BoundBefore x.first x.begun x.node x.at) l → AllMade l → ((number : ℕ) (c : Carried) → slice_get l.drawing.carried number ≡ Some c → c.turn ≡ turn → (v : ℕ) → c.next ≡ Some v → HasNoted x number c v) → Counts turn w l counted → Follows counted x.whole → ((number : ℕ) (c : Carried) → slice_get counted.drawing.carried number ≡ Some c → c.turn ≡ turn → Round (BoundBefore x.first x.begun x.node x.at) block number c x.whole) → (number : ℕ) (c : Carried) → slice_get l.drawing.carried number ≡ Some c → c.turn ≡ turn → GoesRoundWith x block w number c
+  rounds_counted turn block w l counted scene traced made noted (Counts.not never same) f rounds number c at of = round_uses block w number c (noted number c at of) (rounds number c (subst (λ (y : LoweringParts). slice_get y.drawing.carried number ≡ Some c) (sym same) at) of)
+  rounds_counted turn block w l counted scene traced made noted (Counts.on form k) f rounds number c at of =
       elim (same_number k.sets.number number) [
         | inl q ↦ here q
-        | inr never ↦ round_uses block w number c (rounds number c (noted_other k.added counted.drawing k.sets.number k.sum number c never k.sets.notes there) of)
+        | inr never ↦ round_uses block w number c (noted number c at of) (rounds number c (noted_other k.added counted.drawing k.sets.number k.sum number c never k.sets.notes there) of)
       ]
     where
       there : slice_get k.added.carried number ≡ Some c
@@ -359,8 +315,8 @@ module _ (x : Moment) (known : Known x) where
           let is = subst (λ (y : Carried). IsCountedOn x y.name k.sum) same (counted_on turn l counted scene traced made k f) in
           count_uses block w number k.sum c (ap (λ (y : Carried). y.next) (sym same)) (subst (λ (s : SceneParts). HasForm s.tree w forms.For) scene form) is (rounds number (record c { next = Some k.sum }) now of)
 
-  all_rounds : (w : ℕ) (m : LoweringParts) → HasForm x.at.scene.tree x.node forms.Block → IsParent x.at.scene.tree w x.node → ClosesLoop x.node w x.at m → Follows m x.whole → AllGoRound w x
-  all_rounds w m form parent c f turns control block last number entry at of =
+  all_rounds : TurnsKnown x → (w : ℕ) (m : LoweringParts) → HasForm x.at.scene.tree x.node forms.Block → IsParent x.at.scene.tree w x.node → ClosesLoop x.node w x.at m → Follows m x.whole → AllGoRound w x
+  all_rounds loops w m form parent c f turns control block last number entry at of =
       let first = ended_follows (BoundBefore x.first x.begun x.node x.at) AnyStart (bound_later x.first x.begun x.node x.at) any_starts x.at c.ended _ c.frame in
       let counts = counts_follow (BoundBefore x.first x.begun x.node x.at) AnyStart (bound_later x.first x.begun x.node x.at) any_starts c.turns.turn w c.ended c.counted c.counts in
       let closing = turns_close (BoundBefore x.first x.begun x.node x.at) AnyStart (bound_later x.first x.begun x.node x.at) any_starts c.turns.turn c.block c.counted _ c.closed c.turn in
@@ -372,15 +328,16 @@ module _ (x : Moment) (known : Known x) where
       let rounds : (j : ℕ) (y : Carried) → slice_get c.counted.drawing.carried j ≡ Some y → y.turn ≡ c.turns.turn → Round (BoundBefore x.first x.begun x.node x.at) c.block j y x.whole = λ j y is turn. turns_round (BoundBefore x.first x.begun x.node x.at) AnyStart (bound_later x.first x.begun x.node x.at) any_starts c.turns.turn c.block c.counted _ c.closed x.whole (counts.traced traced) c.turn closed j (omega (arith, slice_get_within c.counted.drawing.carried j y is)) y is turn in
       let there : slice_get c.ended.drawing.carried number ≡ Some entry = subst (λ (y : LoweringParts). slice_get y.drawing.carried number ≡ Some entry) (sym c.frame.1) at in
       let turn : entry.turn ≡ c.turns.turn = of ∙ sym (ap (λ (y : Turns). y.turn) same.0) in
-      subst (λ (k : ℕ). GoesRoundWith x k w number entry) same.1 (rounds_counted c.turns.turn c.block w c.ended c.counted (ap (λ (y : LoweringParts). y.scene) c.frame.1) traced (first.follows.made known.made) c.counts counted rounds number entry there turn)
+      let noted : (j : ℕ) (y : Carried) → slice_get c.ended.drawing.carried j ≡ Some y → y.turn ≡ c.turns.turn → (v : ℕ) → y.next ≡ Some v → HasNoted x j y v = λ j y is. noted_in x loops c.turns c.control c.block (c.ended.frames, c.frame.0) j y (subst (λ (z : LoweringParts). slice_get z.drawing.carried j ≡ Some y) c.frame.1 is) in
+      subst (λ (k : ℕ). GoesRoundWith x k w number entry) same.1 (rounds_counted c.turns.turn c.block w c.ended c.counted (ap (λ (y : LoweringParts). y.scene) c.frame.1) traced (first.follows.made known.made) noted c.counts counted rounds number entry there turn)
 
-  rounds_of : (g : Form) (w : ℕ) (m : LoweringParts) → HasForm x.at.scene.tree x.node forms.Block → IsParent x.at.scene.tree w x.node → Closes g x.node w x.at m → Follows m x.whole → RoundsOf g w x
-  rounds_of forms.Loop w m form parent h f = all_rounds w m form parent h f
-  rounds_of forms.For w m form parent h f = all_rounds w m form parent h f
-  rounds_of g w m form parent h f = tt
+  rounds_of : TurnsKnown x → (g : Form) (w : ℕ) (m : LoweringParts) → HasForm x.at.scene.tree x.node forms.Block → IsParent x.at.scene.tree w x.node → Closes g x.node w x.at m → Follows m x.whole → RoundsOf g w x
+  rounds_of loops forms.Loop w m form parent h f = all_rounds loops w m form parent h f
+  rounds_of loops forms.For w m form parent h f = all_rounds loops w m form parent h f
+  rounds_of loops g w m form parent h f = tt
 
-  closes_uses : (m : LoweringParts) → HasForm x.at.scene.tree x.node forms.Block → ClosesBlock x.node x.at m → Follows m x.whole → ClosesWith x
-  closes_uses m form h f = record { whole = h.whole; parent = h.parent; form = h.form; of = h.of; rounds = rounds_of h.form h.whole m form h.parent h.closes f }
+  closes_uses : TurnsKnown x → (m : LoweringParts) → HasForm x.at.scene.tree x.node forms.Block → ClosesBlock x.node x.at m → Follows m x.whole → ClosesWith x
+  closes_uses loops m form h f = record { whole = h.whole; parent = h.parent; form = h.form; of = h.of; rounds = rounds_of loops h.form h.whole m form h.parent h.closes f }
 
 -- the variables of a loop go into the turns
 carried_in : (turn around : ℕ) (l : LoweringParts) (ss : List Start) (m : LoweringParts) → AreTurns l.drawing.scopes around turn → CarriesEach turn l ss m → (e : DrawingParts) → Extends m.drawing e → (s : Start) → IsOf ss s → (loop : ℕ) × IsInside e.scopes around (Turn loop) turn × (w : ℕ) × IsEntered e loop s.value w
@@ -408,7 +365,7 @@ carried_in turn around l ss m within (CarriesEach.one_more rest t k x before car
         (c.loop, inside_extends m.drawing e g around (Turn c.loop) turn (inside_extends k.drawing m.drawing grown around (Turn c.loop) turn is), carries.inner, subst (λ (y : Start). IsEntered e c.loop y.value carries.inner) q (entered_extends m.drawing e g c.loop t.value carries.inner entered))
     here (inr q) = absurd q
 
-module _ (x : Moment) (known : Known x) (began : (s : Start) → IsOf x.at.starts s → HasBegun x s) (framed : AllFramed x) where
+module _ (x : Moment) (known : Known x) (began : (s : Start) → IsOf x.at.starts s → HasBegun x s) (framed : AllFramed x) (loops : TurnsKnown x) where
   variables_uses : (m : LoweringParts) → OpensLoop x.node x.at m → Extends m.drawing x.whole.drawing → Uses forms.Variables x
   variables_uses m o g waiting limit last s h =
       let same : o.waiting ≡ waiting = begun_one o.waiting waiting o.limit limit (one_end o.ended.frames last.0 (frames.Begun o.waiting o.limit) (frames.Begun waiting limit) (sym o.frame.0 ∙ last.1)) in
@@ -450,7 +407,7 @@ module _ (x : Moment) (known : Known x) (began : (s : Start) → IsOf x.at.start
 
   whole_uses : (f : Form) (k m : LoweringParts) → Operates f x.at k → IsWhole f x.node k m → is_item f ≡ false → (f ≡ forms.AddProcedure → ⊥) → HasForm x.at.scene.tree x.node f → Follows m x.whole → Extends m.drawing x.whole.drawing → Uses f x
   whole_uses forms.Variables k m o h e b is w g = variables_uses m (subst (λ (y : LoweringParts). OpensLoop x.node y m) o h) g
-  whole_uses forms.Block k m o h e b is w g = closes_uses x known m is (subst (λ (y : LoweringParts). ClosesBlock x.node y m) o h) w
+  whole_uses forms.Block k m o h e b is w g = closes_uses x known loops m is (subst (λ (y : LoweringParts). ClosesBlock x.node y m) o h) w
   whole_uses forms.Or k m o h e b is w g = two_uses x known (Binary binary.Or) k o (alike k m h g)
   whole_uses forms.And k m o h e b is w g = two_uses x known (Binary binary.And) k o (alike k m h g)
   whole_uses forms.Not k m o h e b is w g = one_uses x known (Unary unary.Not) k o (alike k m h g)
@@ -544,14 +501,14 @@ module _ (t : Tree) (b : BlockParts) (m : IsMadeOfNodes t b) where
       let tree = tree_at t b m node at p.reached w.0 in
       let behind = through_within (node + 1) next m.last m.ended p.on in
       let never : form ≡ forms.AddProcedure → ⊥ = λ q. (m.within node (omega (arith, behind)) (through_within m.first m.begun node at p.reached)).1 (subst (λ (f : Form). HasForm t node f) q has) in
-      done_uses (moment m.first m.begun node at (ending t b m)) known (began_at node at p.reached w.0 w.1) (all_framed t b m node at p.reached w.0 w.1) form next (subst (λ (y : Tree). HasForm y node form) (sym tree) has) never p.done w.2
+      done_uses (moment m.first m.begun node at (ending t b m)) known (began_at node at p.reached w.0 w.1) (all_framed t b m node at p.reached w.0 w.1) (all_turns t b m node at p.reached w.0 w.1) form next (subst (λ (y : Tree). HasForm y node form) (sym tree) has) never p.done w.2
 
   joins_at : (node : ℕ) (at next : LoweringParts) (form : Form) → Passes m.first m.begun node at next m.last m.ended → HasForm t node form → JoinsAt form (moment m.first m.begun node at (ending t b m)) next
   joins_at node at next form p has =
       let w = passed node at next p in
       let known = known_at t b m node at p.reached w.0 w.1 in
       let tree = tree_at t b m node at p.reached w.0 in
-      done_joins (moment m.first m.begun node at (ending t b m)) known (began_at node at p.reached w.0 w.1) (all_framed t b m node at p.reached w.0 w.1) form next (subst (λ (y : Tree). HasForm y node form) (sym tree) has) p.done w.2
+      done_joins (moment m.first m.begun node at (ending t b m)) known (began_at node at p.reached w.0 w.1) (all_framed t b m node at p.reached w.0 w.1) (all_turns t b m node at p.reached w.0 w.1) form next (subst (λ (y : Tree). HasForm y node form) (sym tree) has) p.done w.2
 
   -- the value with which a variable goes on goes round
   arrives_by : (node : ℕ) (at : LoweringParts) (e : EndsBehind t b m node at) → NextStands (moment m.first m.begun node at (ending t b m)) e.next → Follows e.next e.there → e.there.scene.tree ≡ t → ClosesWith (moment m.first m.begun e.end e.there (ending t b m)) → Arrives (moment m.first m.begun node at (ending t b m))
@@ -582,7 +539,7 @@ module _ (t : Tree) (b : BlockParts) (m : IsMadeOfNodes t b) where
 
   end_at : Uses forms.AddProcedure (moment m.first m.begun m.last m.ended (ending t b m))
   unfolding ending
-  end_at = end_uses (moment m.first m.begun m.last m.ended (ending t b m)) (known_at t b m m.last m.ended m.through (omega arith) (ends_follow t b m)) (began_at m.last m.ended m.through (omega arith) (ends_follow t b m)) (all_framed t b m m.last m.ended m.through (omega arith) (ends_follow t b m)) m.closed m.closes (plain_same (ending t b m) (ending t b m) refl).extends
+  end_at = end_uses (moment m.first m.begun m.last m.ended (ending t b m)) (known_at t b m m.last m.ended m.through (omega arith) (ends_follow t b m)) (began_at m.last m.ended m.through (omega arith) (ends_follow t b m)) (all_framed t b m m.last m.ended m.through (omega arith) (ends_follow t b m)) (all_turns t b m m.last m.ended m.through (omega arith) (ends_follow t b m)) m.closed m.closes (plain_same (ending t b m) (ending t b m) refl).extends
 
   -- Arcs are uses.
   pub arcs_are_uses : ArcsAreUses t b

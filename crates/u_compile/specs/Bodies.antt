@@ -53,8 +53,8 @@ pub record ClosesBlock (node : ℕ) (l m : LoweringParts) : Type 0 where
 abbrev pub with_nothing_begun : LoweringParts → LoweringParts
 with_nothing_begun l = record l { frames = []; starts = [] }
 
--- A procedure begins without statements, in its own scope, with nothing known of names, and nothing has begun in it. Its clock is the name of its first
--- parameter, which is known from the second node behind this one.
+-- A procedure begins without statements, in its own scope, with nothing known of names, and nothing has begun in it. Its clock is
+-- the name of its first parameter, which is known from the second node behind this one.
 abbrev pub with_procedure : ℕ → LoweringParts → LoweringParts
 with_procedure node l = in_scope (record (with_names (with_nothing_begun l) nothing_known) { drawing = no_statements (node + 2) }) 0
 

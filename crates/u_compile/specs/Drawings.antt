@@ -1,5 +1,5 @@
 -- Procedures under construction: which values lead to which ports, and what comes from what.
-use Rattle.std.specs.Prelude.{◌≡◌, ℕ, ◌+◌, ◌<◌, ◌≤◌, Bool, false, not, ◌&&◌, ◌==◌, cond, List, [], ◌∷◌, ◌++◌, length, Option, Some, None, slice_get, slice_set, get_or}
+use Rattle.std.specs.Prelude.{◌≡◌, ℕ, ◌+◌, ◌<◌, ◌≤◌, ◌⊎◌, Bool, false, not, ◌&&◌, ◌==◌, cond, List, [], ◌∷◌, ◌++◌, length, Option, Some, None, slice_get, slice_set, get_or}
 use Rattle.u_program.specs.declared.program.Arguments.{Arguments}
 use Rattle.u_program.specs.declared.program.Kind.{Kind}
 use Rattle.u_program.specs.declared.program.Kind.TheVariants.{Begin, Param, Pass, Switch, Enter, Next, Last, Leave, Apply, Back}
@@ -81,14 +81,19 @@ pub record IsDrawn (ds : List DraftParts) (ls : List Link) (vs : List (List Outp
 abbrev pub GoesOn : {A : Type 0} → List A → List A → Type 0
 GoesOn {A} xs ys = (more : List A) × (ys ≡ xs ++ more)
 
--- Statements in their places, links, scopes, values and what loops carry are only added, and what led to the ports of the statements that
--- were there leads to them as before.
+-- What is carried in addition has no value in the next turn.
+abbrev pub AddsOpen : List Carried → List Carried → Type 0
+AddsOpen cs es = (number : ℕ) (c : Carried) → slice_get es number ≡ Some c → (slice_get cs number ≡ Some c) ⊎ (c.next ≡ None)
+
+-- Statements in their places, links, scopes, values and what loops carry, which has no value in the next turn, are only added, and what led
+-- to the ports of the statements that were there leads to them as before.
 pub record Grows (d e : DrawingParts) : Type 0 where
   pub statements : GoesOn d.statements e.statements
   pub links : GoesOn d.links e.links
   pub scopes : GoesOn d.scopes e.scopes
   pub values : GoesOn d.values e.values
   pub carried : GoesOn d.carried e.carried
+  pub opened : AddsOpen d.carried e.carried
   pub places : GoesOn d.places e.places
   pub fed : (n port : ℕ) → n ≤ length d.statements → feeders n port e.links ≡ feeders n port d.links
 

@@ -333,17 +333,31 @@ pub record IsCountedOn (x : Moment) (name v : ℕ) : Type 0 where
   pub stepped : IsFedBy x.whole.drawing.links x.whole.drawing.values statement 2 step
   pub one : IsConstant x.whole.drawing x.whole.scene.names.bindings x.at.scene.scope (Int (pos 1)) step
 
--- A variable goes on with value v: with the one that is noted for it, with what the counter of a `for` counts on to, or with what its
+-- Value v was noted for what is carried under that number, at a node of the procedure, before this one: there the variable goes on with
+-- the value, in a turn of the same loop.
+pub record HasNoted (x : Moment) (number : ℕ) (c : Carried) (v : ℕ) : Type 0 where
+  pub node : ℕ
+  pub at : LoweringParts
+  pub next : LoweringParts
+  pub passes : Passes x.first x.begun node at next x.node x.at
+  pub is : HasForm at.scene.tree node forms.Next
+  pub goes : GoesOnWith (record x { node = node; at = at })
+  pub under : goes.number ≡ number
+  pub turns : goes.turns.turn ≡ c.turn
+  pub name : goes.variable ≡ c.name
+  pub value : goes.value ≡ v
+
+-- A variable goes on with value v: with the one that was noted for it, with what the counter of a `for` counts on to, or with what its
 -- name is in the block.
-pub data IsNextValue (x : Moment) (block whole : ℕ) (c : Carried) (v : ℕ) : Type 0 where
-  noted : c.next ≡ Some v → IsNextValue x block whole c v
-  counted : c.next ≡ None → HasForm x.at.scene.tree whole forms.For → IsCountedOn x c.name v → IsNextValue x block whole c v
-  kept : c.next ≡ None → IsOfName x c.name block v → IsNextValue x block whole c v
+pub data IsNextValue (x : Moment) (block whole number : ℕ) (c : Carried) (v : ℕ) : Type 0 where
+  noted : c.next ≡ Some v → HasNoted x number c v → IsNextValue x block whole number c v
+  counted : c.next ≡ None → HasForm x.at.scene.tree whole forms.For → IsCountedOn x c.name v → IsNextValue x block whole number c v
+  kept : c.next ≡ None → IsOfName x c.name block v → IsNextValue x block whole number c v
 
 -- What is carried under that number goes on: exactly the value leads to a `next` of its `enter` with which it goes on.
 pub record GoesRoundWith (x : Moment) (block whole number : ℕ) (c : Carried) : Type 0 where
   pub value : ℕ
-  pub is : IsNextValue x block whole c value
+  pub is : IsNextValue x block whole number c value
   pub next : slice_get x.whole.drawing.carried number ≡ Some (record c { next = Some value })
   pub statement : ℕ
   pub stands : IsNextOf x.whole.drawing.statements statement c.enter

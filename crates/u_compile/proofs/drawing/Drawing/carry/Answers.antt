@@ -1,4 +1,4 @@
-use Rattle.std.proofs.Common.{◌≡◌, ℕ, ◌+◌, List, [], ◌∷◌, ◌++◌, length, None, sym, ap, ◌∙◌, subst}
+use Rattle.std.proofs.Common.{◌≡◌, ℕ, ◌+◌, List, [], ◌∷◌, ◌++◌, length, None, refl, sym, ap, ◌∙◌, subst}
 use Rattle.std.proofs.lemmas.Result.{IfOk-weaker}
 use Rattle.u_program.specs.declared.program.Kind.TheVariants.{Enter}
 use Rattle.u_compile.specs.declared.graph.Output.{Output}
@@ -25,5 +25,5 @@ returns-clause-gives c =
     let ps = places_of s.graph in
     let e = drawing ds ls s.scopes.items s.values.items s.gates.items c.push.new.self.items ps in
     let ins = c.args.value ∷ [] in
-    let a = adds_again d ds ls s.scopes.items s.values.items s.gates.items s.gates.items s.carried.items c.push.new.self.items ps (Enter c.args.number) ins (subst (λ (f : DrawingParts). Adds d f (Enter c.args.number) ins) (sym c.self.view_is) c.in_ok-enter.ensures.adds) (a_carried c.args.turn c.args.name c.in_ok-enter.enter None ∷ [], c.in_ok-push.ensures.items) in
+    let a = adds_again d ds ls s.scopes.items s.values.items s.gates.items s.gates.items s.carried.items c.push.new.self.items ps (Enter c.args.number) ins (subst (λ (f : DrawingParts). Adds d f (Enter c.args.number) ins) (sym c.self.view_is) c.in_ok-enter.ensures.adds) (a_carried c.args.turn c.args.name c.in_ok-enter.enter None) refl c.in_ok-push.ensures.items in
     IfOk-weaker c.add_value.result _ _ (λ v h. gives_value d e (Enter c.args.number) ins c.in_ok-enter.enter v c.add_value.new.self a c.in_ok-enter.ensures.number h.0 (h.1 ∙ ap (λ (o : Output). with_value e (o ∷ [])) c.output_of.ensures)) c.add_value.ensures
