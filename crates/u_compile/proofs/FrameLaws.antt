@@ -27,7 +27,7 @@ use Rattle.u_compile.specs.Loops.{TakesNext, StartsVariable, OpensVariables, Ope
 use Rattle.u_compile.specs.Bodies.{Opens, OpensBlock, Closes, ClosesBlock}
 use Rattle.u_compile.specs.Steps.{IsItem, IsWhole}
 use Rattle.u_compile.specs.Walks.{IsDone, item, whole, is_item, GoesThrough, IsMadeOfNodes}
-use Rattle.u_compile.specs.Uses.{Passes, Moment, WaitsLast, IsInside, Tells, HasBegunIf, HasEndedSide, HasSides, EntersOther, IsJoined, side_end}
+use Rattle.u_compile.specs.Uses.{Passes, Moment, WaitsLast, IsInside, Tells, HasBegunIf, HasEndedSide, HasChoice, HasSides, Chosen, BeginsElse, IsJoined, EndsIf, side_end}
 use Rattle.u_compile.proofs.DrawingLaws.{get_last}
 use Rattle.u_compile.proofs.CarriedLaws.{none_noted, some_noted}
 use Rattle.u_compile.proofs.GateLaws.{of_append, of_last}
@@ -117,7 +117,7 @@ side_later d c e around o b s a g =
 
 -- what is known of what has begun
 abbrev pub Framed : Moment → Frame → Type 0
-Framed x (frames.Choice control w) = HasBegunIf x w control
+Framed x (frames.Choice control w) = HasChoice x w control
 Framed x (frames.Sides s) = HasSides x s
 Framed x f = Unit {0}
 
@@ -167,6 +167,7 @@ module _ (x : Moment) (known : Known x) (reached : GoesThrough x.first x.begun x
   sides_later s h = record {
     value = h.value;
     begun = begun_later s.whole h.value h.begun;
+    needs = h.needs;
     scope = h.scope;
     tells = h.tells;
     inside = h.inside;
@@ -175,7 +176,7 @@ module _ (x : Moment) (known : Known x) (reached : GoesThrough x.first x.begun x
   }
 
   framed_later : (g : Frame) → Framed x g → Framed (behind x m) g
-  framed_later (frames.Choice control w) h = begun_later w control h
+  framed_later (frames.Choice control w) h = record { begun = begun_later w control h.begun; select = h.select }
   framed_later (frames.Sides s) h = sides_later s h
   framed_later g h = tt
 
@@ -225,7 +226,7 @@ module _ (x : Moment) (known : Known x) (reached : GoesThrough x.first x.begun x
   if_framed : (h : OpensBlock x.node x.at m) → HasForm x.at.scene.tree x.node forms.NoItems → h.form ≡ forms.If → OpensIf x.node h.whole x.at m → AllFramed x → AllFramed (behind x m)
   if_framed h items form (OpensIf.choice may taken v pops same) =
       let g : Extends taken.drawing x.whole.drawing = subst (λ (d : DrawingParts). Extends d x.whole.drawing) (ap (λ (y : LoweringParts). y.drawing) same) f.extends in
-      more_framed taken.frames (frames.Choice v h.whole) (same_was taken.frames ((pops_still x.at taken _ pops).frames)) (ap (λ (y : LoweringParts). y.frames) same) (begun_here h items form taken v pops g)
+      more_framed taken.frames (frames.Choice v h.whole) (same_was taken.frames ((pops_still x.at taken _ pops).frames)) (ap (λ (y : LoweringParts). y.frames) same) (record { begun = begun_here h items form taken v pops g; select = may })
   if_framed h items form (OpensIf.sides never taken v pops o) =
       let d = taken.drawing in
       let c = o.chosen in
@@ -235,6 +236,7 @@ module _ (x : Moment) (known : Known x) (reached : GoesThrough x.first x.begun x
       let sides : HasSides (behind x m) s = record {
         value = v;
         begun = begun_here h items form taken v pops g;
+        needs = never;
         scope = sym (ap (λ (y : LoweringParts). y.scene.scope) pops.goes_on.rest);
         tells = tells_later d c x.whole.drawing on_to v o.control o.chooses;
         inside = side_later c m.drawing x.whole.drawing taken.scene.scope o.control true o.side o.adds f.extends;
@@ -261,6 +263,7 @@ module _ (x : Moment) (known : Known x) (reached : GoesThrough x.first x.begun x
       entered h = record {
         value = h.value;
         begun = begun_later o.sides.whole h.value h.begun;
+        needs = h.needs;
         scope = h.scope;
         tells = h.tells;
         inside = side_later o.ended.drawing m.drawing x.whole.drawing o.sides.around o.sides.control false o.side o.adds f.extends;
@@ -292,6 +295,7 @@ module _ (x : Moment) (known : Known x) (reached : GoesThrough x.first x.begun x
   noted_here true s v e h = record {
     value = h.value;
     begun = begun_later s.whole h.value h.begun;
+    needs = h.needs;
     scope = h.scope;
     tells = h.tells;
     inside = h.inside;
@@ -301,6 +305,7 @@ module _ (x : Moment) (known : Known x) (reached : GoesThrough x.first x.begun x
   noted_here false s v e h = record {
     value = h.value;
     begun = begun_later s.whole h.value h.begun;
+    needs = h.needs;
     scope = h.scope;
     tells = h.tells;
     inside = h.inside;
@@ -374,32 +379,20 @@ module _ (t : Tree) (b : BlockParts) (p : IsMadeOfNodes t b) where
 last_framed : (x : Moment) → AllFramed x → (g : Frame) → IsLastFrame x.at g → Framed x g
 last_framed x all g last = all g (subst (λ (fs : List Frame). IsOf fs g) (sym last.1) (of_last last.0 g))
 
-pub begun_choice : (x : Moment) → AllFramed x → (control w : ℕ) → IsLastFrame x.at (frames.Choice control w) → HasBegunIf x w control
-begun_choice x all control w last = last_framed x all (frames.Choice control w) last
+pub has_choice : (x : Moment) → AllFramed x → (control w : ℕ) → IsLastFrame x.at (frames.Choice control w) → HasChoice x w control
+has_choice x all control w last = last_framed x all (frames.Choice control w) last
 
 module _ (x : Moment) (m : LoweringParts) (f : Follows m x.whole) (all : AllFramed x) where
-  sides_one : (s u : Sides) → IsLastFrame x.at (frames.Sides s) → IsLastFrame x.at (frames.Sides u) → s ≡ u
-  sides_one s u a b = same s u (one_end a.0 b.0 (frames.Sides s) (frames.Sides u) (sym a.1 ∙ b.1))
-    where
-      same : (s u : Sides) → frames.Sides s ≡ frames.Sides u → s ≡ u
-      same s u e = cc
-
-  not_both : (s : Sides) (control w : ℕ) → IsLastFrame x.at (frames.Sides s) → IsLastFrame x.at (frames.Choice control w) → ⊥
-  not_both s control w a b = other (one_end a.0 b.0 (frames.Sides s) (frames.Choice control w) (sym a.1 ∙ b.1))
-    where
-      other : frames.Sides s ≡ frames.Choice control w → ⊥
-      other e = cc
-
-  pub else_joins : OpensElse x.at m → (s : Sides) → IsLastFrame x.at (frames.Sides s) → EntersOther x s m
-  else_joins (OpensElse.choice control w last same) s sides = absurd (not_both s control w sides last)
-  else_joins (OpensElse.sides o) s last =
-      let same : o.sides ≡ s = sides_one o.sides s (o.ended.frames, o.popped.0) last in
+  pub else_joins : OpensElse x.at m → BeginsElse x m
+  else_joins (OpensElse.choice control w last same) = BeginsElse.choice control w last (has_choice x all control w last) same
+  else_joins (OpensElse.sides o) =
+      let s = o.sides in
+      let last : IsLastFrame x.at (frames.Sides s) = (o.ended.frames, o.popped.0) in
       let scope : m.scene.scope ≡ o.side = ap (λ (y : LoweringParts). y.scene.scope) o.rest in
-      let inside = side_later o.ended.drawing m.drawing x.whole.drawing o.sides.around o.sides.control false o.side o.adds f.extends in
-      record {
+      BeginsElse.sides s last (record {
         sides = last_framed x all (frames.Sides s) last;
-        inside = subst (λ (k : ℕ). IsInside x.whole.drawing.scopes s.around (Side s.control false) k) (sym scope) (subst (λ (u : Sides). IsInside x.whole.drawing.scopes u.around (Side u.control false) o.side) same inside);
-      }
+        inside = subst (λ (k : ℕ). IsInside x.whole.drawing.scopes s.around (Side s.control false) k) (sym scope) (side_later o.ended.drawing m.drawing x.whole.drawing s.around s.control false o.side o.adds f.extends);
+      })
 
   joined : (s : Sides) (ended : LoweringParts) → IsFramePopped x.at ended (frames.Sides s) → s.whole ≡ x.node → HasSides x s → IsWanted x.at.scene.tree x.node true → ClosesSides s ended m → IsJoined x s m
   joined s ended popped of h wanted (ClosesSides.unwanted is keeps) =
@@ -425,8 +418,8 @@ module _ (x : Moment) (m : LoweringParts) (f : Follows m x.whole) (all : AllFram
         waits = ap (λ (y : LoweringParts). y.operands) keeps.rest ∙ (ap (λ (y : LoweringParts). y.operands) j.joins.rest ∙ ap (λ (y : LoweringParts). y.operands ++ (Value j.joins.value ∷ [])) popped.1);
       }
 
-  pub if_joins : ClosesIf x.node x.at m → (s : Sides) → IsLastFrame x.at (frames.Sides s) → IsWanted x.at.scene.tree x.node true → IsJoined x s m
-  if_joins (ClosesIf.choice control ended popped selects) s last wanted = absurd (not_both s control x.node last (ended.frames, popped.0))
-  if_joins (ClosesIf.sides u ended popped of closes) s last wanted =
-      let same : u ≡ s = sides_one u s (ended.frames, popped.0) last in
-      subst (λ (y : Sides). IsJoined x y m) same (joined u ended popped of (last_framed x all (frames.Sides u) (ended.frames, popped.0)) wanted closes)
+  pub if_joins : ((control : ℕ) → IsLastFrame x.at (frames.Choice control x.node) → Chosen control x) → ClosesIf x.node x.at m → EndsIf x m
+  if_joins chosen (ClosesIf.choice control ended popped selects) = EndsIf.choice control (ended.frames, popped.0) (chosen control (ended.frames, popped.0))
+  if_joins chosen (ClosesIf.sides s ended popped of closes) =
+      let has = last_framed x all (frames.Sides s) (ended.frames, popped.0) in
+      EndsIf.sides s (ended.frames, popped.0) of has (λ wanted. joined s ended popped of has wanted closes)

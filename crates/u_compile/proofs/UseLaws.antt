@@ -44,7 +44,7 @@ use Rattle.u_compile.proofs.ExtendLaws.{Extends, extends_grown, extends_then, va
 use Rattle.u_compile.proofs.FollowLaws.{Follows, plain_same, plain_then, plain_grown, plain_noted, plain_goes, ended_follows, AreTurns, Root, Traced, each_carried, limit_starts, limit_tested, of_drop, side_grows, chooses_grow, counts_follow, turns_close, loop_left}
 use Rattle.u_compile.proofs.RoundLaws.{Round, named_root, turns_round}
 use Rattle.u_compile.proofs.BoundLaws.{moment, BoundBefore, bound_later, begins_later, BegunBefore, all_known, Known, from_operand, within_to, ending, ends_follow, passes_follow, tree_at, known_at}
-use Rattle.u_compile.proofs.FrameLaws.{one_end, one_taken, tells_later, side_later, AllFramed, all_framed, begun_choice, else_joins, if_joins}
+use Rattle.u_compile.proofs.FrameLaws.{one_end, one_taken, tells_later, side_later, AllFramed, all_framed, has_choice, else_joins, if_joins}
 use Rattle.u_compile.proofs.NotedLaws.{NextStands, next_uses, next_done, TurnsKnown, all_turns, noted_in}
 use Rattle.u_compile.proofs.WalkLaws.{Any, AnyStart, any_grows, any_starts, through_within, named_follows, blocks_of_nodes}
 
@@ -212,7 +212,7 @@ module _ (x : Moment) (known : Known x) where
       let same : control ≡ c = choice_one control c x.node w (one_end ended.frames last.0 (frames.Choice control x.node) (frames.Choice c w) (sym popped.0 ∙ last.1)) in
       let chosen : Chosen control x = record {
         selected = selects_uses x known control x.node ended m popped selects g;
-        begun = begun_choice x framed control x.node (ended.frames, popped.0);
+        has = has_choice x framed control x.node (ended.frames, popped.0);
       } in
       subst (λ (k : ℕ). Chosen k x) same chosen
   if_uses m framed (ClosesIf.sides s ended popped of closes) g c w last = absurd (other (one_end ended.frames last.0 (frames.Sides s) (frames.Choice c w) (sym popped.0 ∙ last.1)))
@@ -443,7 +443,7 @@ module _ (x : Moment) (known : Known x) (began : (s : Start) → IsOf x.at.start
   -- what comes from two sides
   whole_joins : (f : Form) (k m : LoweringParts) → Operates f x.at k → IsWhole f x.node k m → Follows m x.whole → JoinsAt f x m
   whole_joins forms.Otherwise k m o h w = else_joins x m w framed (subst (λ (y : LoweringParts). OpensElse y m) o h)
-  whole_joins forms.If k m o h w = if_joins x m w framed (subst (λ (y : LoweringParts). ClosesIf x.node y m) o h)
+  whole_joins forms.If k m o h w = let c = subst (λ (y : LoweringParts). ClosesIf x.node y m) o h in if_joins x m w framed (λ control last. if_uses x known m framed c w.extends control x.node last) c
   whole_joins f k m o h w = tt
 
   item_joins : (f : Form) (m : LoweringParts) → is_item f ≡ true → JoinsAt f x m

@@ -234,12 +234,19 @@ pub record HasEndedSide (x : Moment) (whole around : ℕ) (control : Output) (on
   pub waits : WaitsLast at operand
   pub from : IsFrom (record x { node = node; at = at }) operand v
 
--- What is known of an `if` with sides that has begun and not ended. It began in the scope around its sides, and its control tells the
--- value that the operand was there. The side that was entered last is that of its control; and a value that is noted of a side is the one
--- with which that ended.
+-- What is known of an `if` that chooses one of two values, and has begun and not ended: where it began, with the value that is its
+-- control. It is one that needs no scopes.
+pub record HasChoice (x : Moment) (whole control : ℕ) : Type 0 where
+  pub begun : HasBegunIf x whole control
+  pub select : IsSelect begun.at.scene.tree begun.node whole
+
+-- What is known of an `if` with sides that has begun and not ended. It needs scopes; it began in the scope around its sides, and its
+-- control tells the value that the operand was there. The side that was entered last is that of its control; and a value that is noted
+-- of a side is the one with which that ended.
 pub record HasSides (x : Moment) (s : Sides) : Type 0 where
   pub value : ℕ
   pub begun : HasBegunIf x s.whole value
+  pub needs : IsSelect begun.at.scene.tree begun.node s.whole → ⊥
   pub scope : begun.at.scene.scope ≡ s.around
   pub tells : Tells x.whole.drawing value s.control
   pub inside : IsInside x.whole.drawing.scopes s.around (Side s.control s.on) s.side
@@ -250,12 +257,17 @@ pub record HasSides (x : Moment) (s : Sides) : Type 0 where
 -- the value leads that the operand was where this `if` began.
 pub record Chosen (control : ℕ) (x : Moment) : Type 0 where
   pub selected : Selected control x
-  pub begun : HasBegunIf x x.node control
+  pub has : HasChoice x x.node control
 
 -- The other side of an `if` is entered: it is gone through behind the node.
 pub record EntersOther (x : Moment) (s : Sides) (next : LoweringParts) : Type 0 where
   pub sides : HasSides x s
   pub inside : IsInside x.whole.drawing.scopes s.around (Side s.control false) next.scene.scope
+
+-- An `else` begins: its side is entered, unless its `if` chooses one of two values.
+pub data BeginsElse (x : Moment) (next : LoweringParts) : Type 0 where
+  choice : (control whole : ℕ) → IsLastFrame x.at (frames.Choice control whole) → HasChoice x whole control → next ≡ x.at → BeginsElse x next
+  sides : (s : Sides) → IsLastFrame x.at (frames.Sides s) → EntersOther x s next → BeginsElse x next
 
 -- An `if` with sides ends whose value is wanted: a value waits behind it, the outputs of which are exactly those of the two values with
 -- which its first side and its other side ended.
@@ -273,6 +285,11 @@ pub record IsJoined (x : Moment) (s : Sides) (next : LoweringParts) : Type 0 whe
   pub value : ℕ
   pub both : slice_get x.whole.drawing.values value ≡ Some (ones ++ others)
   pub waits : next.operands ≡ x.at.operands ++ (Value value ∷ [])
+
+-- The `if` that ends with the node chooses one of two values, or has sides, and what comes from these waits behind it if it is wanted.
+pub data EndsIf (x : Moment) (next : LoweringParts) : Type 0 where
+  choice : (control : ℕ) → IsLastFrame x.at (frames.Choice control x.node) → Chosen control x → EndsIf x next
+  sides : (s : Sides) → IsLastFrame x.at (frames.Sides s) → s.whole ≡ x.node → HasSides x s → (IsWanted x.at.scene.tree x.node true → IsJoined x s next) → EndsIf x next
 
 -- at a node of the procedure, before this one, the variable began so
 pub record HasBegun (x : Moment) (s : Start) : Type 0 where
@@ -439,11 +456,10 @@ pub record Arrives (x : Moment) : Type 0 where
   pub stands : IsNextOf x.whole.drawing.statements statement goes.enter
   pub fed : IsFedBy x.whole.drawing.links x.whole.drawing.values statement 1 goes.value
 
--- What is so at a node of an `if` with sides, by its form, where `next` is what is there behind it: where its `else` begins, and where it
--- ends and its value is wanted.
+-- What is so at a node of an `if`, by its form, where `next` is what is there behind it: where its `else` begins, and where it ends.
 abbrev pub JoinsAt : Form → Moment → LoweringParts → Type 0
-JoinsAt forms.Otherwise x next = (s : Sides) → IsLastFrame x.at (frames.Sides s) → EntersOther x s next
-JoinsAt forms.If x next = (s : Sides) → IsLastFrame x.at (frames.Sides s) → IsWanted x.at.scene.tree x.node true → IsJoined x s next
+JoinsAt forms.Otherwise x next = BeginsElse x next
+JoinsAt forms.If x next = EndsIf x next
 JoinsAt _ x next = Unit {0}
 
 -- Arcs are uses. Of the block, the procedure with its statements, links, scopes and values as they are in the end; and where a node

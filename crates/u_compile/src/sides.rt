@@ -76,7 +76,7 @@ impl Lowering<'_> {
     /// Whether what began last is an `if` that chooses one of two values. An error says that it is one that ends with
     /// another node than `whole`, or that nothing has begun.
     fn is_in_choice(&self, whole: usize) -> Result<bool, Full>
-        ensures { IfOk result (λ b. IsTrue b → IsInChoice whole (lowering self.now)) }
+        ensures { IfOk result (λ b. IsTrue b ↔ IsInChoice whole (lowering self.now)) }
     {
         match self.last_frame()? {
             Frame::Choice(_, own) => {
