@@ -7,6 +7,7 @@ ghost use Rattle.u_world.specs.Refusals.{of_fire, of_take, of_merge};
 ghost use Rattle.u_world.specs.Acts.{Answers, Receives, TakesList};
 
 use crate::refused::Refused;
+use std::mem;
 use u_delta::Delta;
 use u_machine::ListRefusal;
 use u_replica::Replica;
@@ -59,7 +60,8 @@ pub(crate) fn start_again<'a>(replica: &mut Replica<'a>, next: Replica<'a>)
     ensures life { replica.new ≡ next.entry }
     ensures holds { HoldsAlways replica.new }
 {
-    *replica = next;
+    // The life before is dropped where this function ends.
+    let _before = mem::replace(replica, next);
     replica.holds();
 }
 
