@@ -21,7 +21,7 @@ use Rattle.u_compile.specs.Trees.{HasForm, IsParent, IsWanted}
 use Rattle.u_compile.specs.Drawings.{DrawingParts, Chooses}
 use Rattle.u_compile.specs.Operands.{SceneParts, LoweringParts, AreOperands, Pops, Operates}
 use Rattle.u_compile.specs.Definitions.{TakesParameter}
-use Rattle.u_compile.specs.Sides.{AddsSide, IsLastFrame, IsFramePopped, OpensIf, OpensElse, IsSidePopped, LeavesSide, ClosesSide, ClosesElse, ClosesSides, ClosesIf, some_sides, on_other, noted}
+use Rattle.u_compile.specs.Sides.{Selects, AddsSide, IsLastFrame, IsFramePopped, OpensIf, OpensElse, IsSidePopped, LeavesSide, ClosesSide, ClosesElse, ClosesSides, ClosesIf, some_sides, on_other, noted}
 use Rattle.u_compile.specs.Turns.{OpensTurn, ClosesTurn, ClosesTurns}
 use Rattle.u_compile.specs.Loops.{TakesNext, StartsVariable, OpensVariables, OpensLoop, Counts, ClosesVariable, ClosesEach, ClosesLoop, EndsLoop, some_turns}
 use Rattle.u_compile.specs.Bodies.{Opens, OpensBlock, Closes, ClosesBlock}
@@ -418,8 +418,8 @@ module _ (x : Moment) (m : LoweringParts) (f : Follows m x.whole) (all : AllFram
         waits = ap (λ (y : LoweringParts). y.operands) keeps.rest ∙ (ap (λ (y : LoweringParts). y.operands) j.joins.rest ∙ ap (λ (y : LoweringParts). y.operands ++ (Value j.joins.value ∷ [])) popped.1);
       }
 
-  pub if_joins : ((control : ℕ) → IsLastFrame x.at (frames.Choice control x.node) → Chosen control x) → ClosesIf x.node x.at m → EndsIf x m
-  if_joins chosen (ClosesIf.choice control ended popped selects) = EndsIf.choice control (ended.frames, popped.0) (chosen control (ended.frames, popped.0))
+  pub if_joins : ((control : ℕ) (ended : LoweringParts) → IsFramePopped x.at ended (frames.Choice control x.node) → Selects control ended m → (c : Chosen control x) × (m.operands ≡ c.selected.takes.before ++ (Value c.selected.value ∷ []))) → ClosesIf x.node x.at m → EndsIf x m
+  if_joins chosen (ClosesIf.choice control ended popped selects) = let c = chosen control ended popped selects in EndsIf.choice control (ended.frames, popped.0) c.0 c.1
   if_joins chosen (ClosesIf.sides s ended popped of closes) =
       let has = last_framed x all (frames.Sides s) (ended.frames, popped.0) in
       EndsIf.sides s (ended.frames, popped.0) of has (λ wanted. joined s ended popped of has wanted closes)

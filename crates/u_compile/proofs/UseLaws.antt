@@ -16,6 +16,7 @@ use Rattle.u_source.specs.declared.form.Form.TheVariants as forms
 use Rattle.u_scope.specs.declared.checked.Meaning.{Meaning}
 use Rattle.u_compile.specs.declared.lowering.Frame.TheVariants as frames
 use Rattle.u_compile.specs.declared.lowering.Operand.{Operand}
+use Rattle.u_compile.specs.declared.lowering.Operand.TheVariants.{Value}
 use Rattle.u_compile.specs.declared.lowering.Start.{Start}
 use Rattle.u_compile.specs.declared.lowering.Turns.{Turns}
 use Rattle.u_compile.specs.declared.graph.Output.{Output}
@@ -137,7 +138,7 @@ module _ (x : Moment) (known : Known x) where
       }
 
   -- an `if` that chooses one of two values
-  selects_uses : (control w : ℕ) (ended m : LoweringParts) → IsFramePopped x.at ended (frames.Choice control w) → Selects control ended m → Extends m.drawing x.whole.drawing → Selected control x
+  selects_uses : (control w : ℕ) (ended m : LoweringParts) → IsFramePopped x.at ended (frames.Choice control w) → Selects control ended m → Extends m.drawing x.whole.drawing → (c : Selected control x) × (m.operands ≡ c.takes.before ++ (Value c.value ∷ []))
   selects_uses control w ended m popped s g =
       let p = s.pops in
       let n = length s.taken.drawing.statements + 1 in
@@ -152,7 +153,8 @@ module _ (x : Moment) (known : Known x) where
         stands = stands_extends m.drawing x.whole.drawing g n Select s.pushes.gives.adds.stands;
         arcs = arcs_all s.taken.drawing grown n (2 ∷ 3 ∷ []) p.operands (s.left ∷ s.right ∷ []) (subst (λ (y : SceneParts). AreOperands y s.taken.drawing p.operands (s.left ∷ s.right ∷ [])) scene p.are) fed.1;
       } in
-      record { takes = takes; fed = fed.0 }
+      let selected : Selected control x = record { takes = takes; fed = fed.0; value = s.pushes.value; sends = value_extends m.drawing x.whole.drawing g s.pushes.value _ s.pushes.gives.value } in
+      (selected, ap (λ (y : LoweringParts). y.operands) s.pushes.rest)
 
 choice_one : (a b c d : ℕ) → frames.Choice a c ≡ frames.Choice b d → a ≡ b
 choice_one a b c d e = cc
@@ -207,14 +209,16 @@ module _ (x : Moment) (known : Known x) where
       test_one : (a b : Turns) → frames.Test a ≡ frames.Test b → a ≡ b
       test_one a b q = cc
 
+  chosen_uses : AllFramed x → (m : LoweringParts) → Extends m.drawing x.whole.drawing → (control : ℕ) (ended : LoweringParts) → IsFramePopped x.at ended (frames.Choice control x.node) → Selects control ended m → (c : Chosen control x) × (m.operands ≡ c.selected.takes.before ++ (Value c.selected.value ∷ []))
+  chosen_uses framed m g control ended popped selects =
+      let s = selects_uses x known control x.node ended m popped selects g in
+      let chosen : Chosen control x = record { selected = s.0; has = has_choice x framed control x.node (ended.frames, popped.0) } in
+      (chosen, s.1)
+
   if_uses : (m : LoweringParts) → AllFramed x → ClosesIf x.node x.at m → Extends m.drawing x.whole.drawing → Uses forms.If x
   if_uses m framed (ClosesIf.choice control ended popped selects) g c w last =
       let same : control ≡ c = choice_one control c x.node w (one_end ended.frames last.0 (frames.Choice control x.node) (frames.Choice c w) (sym popped.0 ∙ last.1)) in
-      let chosen : Chosen control x = record {
-        selected = selects_uses x known control x.node ended m popped selects g;
-        has = has_choice x framed control x.node (ended.frames, popped.0);
-      } in
-      subst (λ (k : ℕ). Chosen k x) same chosen
+      subst (λ (k : ℕ). Chosen k x) same (chosen_uses framed m g control ended popped selects).0
   if_uses m framed (ClosesIf.sides s ended popped of closes) g c w last = absurd (other (one_end ended.frames last.0 (frames.Sides s) (frames.Choice c w) (sym popped.0 ∙ last.1)))
     where
       other : frames.Sides s ≡ frames.Choice c w → ⊥
@@ -443,7 +447,7 @@ module _ (x : Moment) (known : Known x) (began : (s : Start) → IsOf x.at.start
   -- what comes from two sides
   whole_joins : (f : Form) (k m : LoweringParts) → Operates f x.at k → IsWhole f x.node k m → Follows m x.whole → JoinsAt f x m
   whole_joins forms.Otherwise k m o h w = else_joins x m w framed (subst (λ (y : LoweringParts). OpensElse y m) o h)
-  whole_joins forms.If k m o h w = let c = subst (λ (y : LoweringParts). ClosesIf x.node y m) o h in if_joins x m w framed (λ control last. if_uses x known m framed c w.extends control x.node last) c
+  whole_joins forms.If k m o h w = if_joins x m w framed (chosen_uses x known framed m w.extends) (subst (λ (y : LoweringParts). ClosesIf x.node y m) o h)
   whole_joins f k m o h w = tt
 
   item_joins : (f : Form) (m : LoweringParts) → is_item f ≡ true → JoinsAt f x m

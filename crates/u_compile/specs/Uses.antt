@@ -141,10 +141,12 @@ pub record Takes (kind : Kind) (ports : List ℕ) (x : Moment) : Type 0 where
   pub stands : IsOfKind x.whole.drawing.statements statement kind
   pub arcs : AreArcs x statement ports operands
 
--- The two operands that wait last lead to a `select`, to port 1 of which exactly the control leads.
+-- The two operands that wait last lead to a `select`, to port 1 of which exactly the control leads. That gives the value.
 pub record Selected (control : ℕ) (x : Moment) : Type 0 where
   pub takes : Takes Select (2 ∷ 3 ∷ []) x
   pub fed : IsFedBy x.whole.drawing.links x.whole.drawing.values takes.statement 1 control
+  pub value : ℕ
+  pub sends : slice_get x.whole.drawing.values value ≡ Some (output takes.statement false ∷ [])
 
 -- the ports from that one on, one for each
 abbrev pub ports_from : {A : Type 0} → ℕ → List A → List ℕ
@@ -286,9 +288,10 @@ pub record IsJoined (x : Moment) (s : Sides) (next : LoweringParts) : Type 0 whe
   pub both : slice_get x.whole.drawing.values value ≡ Some (ones ++ others)
   pub waits : next.operands ≡ x.at.operands ++ (Value value ∷ [])
 
--- The `if` that ends with the node chooses one of two values, or has sides, and what comes from these waits behind it if it is wanted.
+-- The `if` that ends with the node chooses one of two values, and that waits behind it in the place of the two; or it has sides, and
+-- what comes from these waits behind it if it is wanted.
 pub data EndsIf (x : Moment) (next : LoweringParts) : Type 0 where
-  choice : (control : ℕ) → IsLastFrame x.at (frames.Choice control x.node) → Chosen control x → EndsIf x next
+  choice : (control : ℕ) → IsLastFrame x.at (frames.Choice control x.node) → (c : Chosen control x) → next.operands ≡ c.selected.takes.before ++ (Value c.selected.value ∷ []) → EndsIf x next
   sides : (s : Sides) → IsLastFrame x.at (frames.Sides s) → s.whole ≡ x.node → HasSides x s → (IsWanted x.at.scene.tree x.node true → IsJoined x s next) → EndsIf x next
 
 -- at a node of the procedure, before this one, the variable began so
