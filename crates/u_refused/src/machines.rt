@@ -19,15 +19,15 @@ pub fn run_out(machine: &mut Machine<'_>) -> Result<(), Trouble> {
 
 /// Where a row stands: its job, a machine at the end of the run, and the calls.
 #[derive(Clone, Copy)]
-struct Row<'a> {
+struct Row<'a, 'b> {
     alloc: Global,
-    end: &'a Machine<'a>,
+    end: &'a Machine<'b>,
     way: Way,
     /// Whether it is settled before a refused call is made again.
     settles: bool,
 }
 
-impl Row<'_> {
+impl Row<'_, '_> {
     /// The call at that place, of a machine that stands there.
     fn call_at(&self, place: usize, machine: &Machine<'_>) -> Call<'_> {
         call_of(self.end.applied(), self.way, place, held_by(machine).taken)

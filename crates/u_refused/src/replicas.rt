@@ -24,12 +24,12 @@ pub fn mark_of(replica: &Replica<'_>, peer: u8) -> Option<Mark> {
 
 /// Where a row stands: a machine at the end of its run.
 #[derive(Clone, Copy)]
-struct Row<'a> {
+struct Row<'a, 'b> {
     alloc: Global,
-    end: &'a Machine<'a>,
+    end: &'a Machine<'b>,
 }
 
-impl Row<'_> {
+impl Row<'_, '_> {
     /// Sees that the replica holds no less than before, and nothing that no run has.
     fn look(&self, replica: &Replica<'_>, before: Held) -> Result<(), Trouble> {
         let machine = replica.machine();

@@ -3,6 +3,7 @@ use crate::looks::is_like;
 use crate::replicas::readers::with_byte;
 use crate::replicas::stage::Stage;
 use std::alloc::Global;
+use std::mem;
 use u_machine::Ran;
 use u_replica::{Ending, Replica, RestoreError};
 
@@ -19,7 +20,7 @@ fn restore<'a>(
     let number = replica.number();
     match Replica::restore(alloc, job, limit, number, life.max(1), bytes) {
         Ok((restored, ending)) => {
-            *replica = restored;
+            let _before = mem::replace(replica, restored);
             Ok(ending)
         }
         Err(error) => Err(error),
