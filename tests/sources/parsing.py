@@ -127,11 +127,13 @@ class Parser:
     def beginning(self, items, level):
         """Reads an item that begins with a primary, or a value that does."""
         name = self.next()
-        front = self.postfix(self.primary(level), level)
+        is_enclosed = self.sees("(")
+        primary = self.primary(level)
+        front = self.postfix(primary, level)
+        if is_enclosed and front is primary:
+            # In parentheses alone nothing is a name to define, a cell to write or a call whose value goes nowhere.
+            return self.last(self.operators(front, level))
         if self.sees("=") and front.form in ("name", "index"):
-            if front.form == "name" and name.kind != "name":
-                # A name in parentheses is no name to define.
-                return self.last(front)
             equals = self.take()
             value = self.expression(level)
             self.expect(";")
