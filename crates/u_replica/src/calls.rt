@@ -13,13 +13,13 @@ use u_machine::{Command, ListRefusal, Reply};
 
 /// One call of a replica that changes it.
 #[derive(Drop)]
-pub enum Call<'a> {
+pub enum Call<'a, 'b> {
     /// A call of its machine.
     Machine(Command),
     /// `receive`.
     Receive(Delta),
     /// `merge`.
-    Merge(&'a Replica<'a>),
+    Merge(&'a Replica<'b>),
 }
 
 /// What one call of a replica answered.
@@ -35,7 +35,7 @@ pub enum Answer {
 
 impl<'a> Replica<'a> {
     /// Makes the call, and returns its answer.
-    pub fn obey(&mut self, call: &Call<'_>) -> Answer
+    pub fn obey(&mut self, call: &Call<'_, '_>) -> Answer
         ensures { Does self.old call.now result self.new }
     {
         match call {
@@ -49,7 +49,11 @@ impl<'a> Replica<'a> {
     ///
     /// # Errors
     /// `AllocError` where there is no memory for the answers; then no call is made.
-    pub fn obey_all(&mut self, alloc: Global, calls: &[Call<'_>]) -> Result<Vec<Answer>, AllocError>
+    pub fn obey_all(
+        &mut self,
+        alloc: Global,
+        calls: &[Call<'_, '_>],
+    ) -> Result<Vec<Answer>, AllocError>
         ensures obeys { IfOk result (λ answers. Obeys self.old calls.now answers.items self.new) }
         ensures extends { Extends self.old self.new }
         ensures settled { IfOk result (λ answers. IsSettled self.old.machine
