@@ -1,9 +1,9 @@
 -- The order of contexts is that of their paths.
-use Rattle.std.specs.Prelude.{◌≡◌, ℕ, ◌+◌, ◌*◌, max, List, [], ◌∷◌, ◌++◌, length, refl}
+use Rattle.std.specs.Prelude.{◌≡◌, ℕ, ◌<◌, ◌/◌, ◌%◌, ◌^◌, min, max, List, [], ◌∷◌, ◌++◌, refl}
 use Rattle.std.proofs.lemmas.Map.Text.{is_eq-slice_cmp}
 use Rattle.std.specs.Ordering.{is_eq, eq_by_cmp}
 use Rattle.std.specs.Str.{bytes_eq}
-use Rattle.std.proofs.Common.{sym, ◌∙◌, ap, arith, length-append, append_assoc}
+use Rattle.std.proofs.Common.{sym, ◌∙◌, ap, arith, append_assoc}
 use Rattle.std.specs.Ordering.{ordering_then, nat_cmp}
 use Rattle.std.specs.declared.cmp.Ordering.{Ordering}
 use Rattle.std.specs.declared.cmp.Ordering.TheVariants.{Less, Equal, Greater}
@@ -12,13 +12,17 @@ use Rattle.std.specs.FinMap.{nat_cmp-IsAntisymmetric, slice_cmp-IsAntisymmetric}
 use Rattle.u_name.specs.Block.{IsBlock}
 use Rattle.u_name.specs.Context.{Tree, Top, InLoop, InCall, depth, InRange, IsContext}
 use Rattle.u_name.specs.ContextOrder.{context_cmp, parts_cmp}
-use Rattle.u_name.specs.Path.{kinds, frames, path, kind_by, number_by}
-use Rattle.u_name.specs.Words.{words, high_word, low_word}
+use Rattle.u_name.specs.Path.{kinds, kinds_number, frames, path, with_kind, kind_by, number_by}
+use Rattle.u_name.specs.Words.{words, block_words, turn_words, own_part, own_word, high_word, low_word}
 use Rattle.u_name.specs.declared.context.Linkage.{Linkage}
 use Rattle.u_name.specs.declared.context.Linkage.TheVariants.{Loop, Call}
 use Rattle.u_name.specs.Greatest.{greatest_turn}
 use Rattle.u_name.specs.LinkTree.{tree_by}
-use Rattle.u_name.proofs.BlockNumbers.{halves_in_order}
+use Rattle.u_name.proofs.BlockNumbers.{halves_in_order, last_word}
+use Rattle.u_name.proofs.Digits.{digits}
+use Rattle.u_name.proofs.KindBits.{kinds_in_order, kind_more}
+use Rattle.u_name.proofs.WordParts.{low_behind, own_behind}
+use Rattle.std.proofs.lemmas.List.{append-nil}
 
 then_same : (r s t : Ordering) → ordering_then (ordering_then r s) t ≡ ordering_then r (ordering_then s t)
 then_same Less s t = refl
@@ -31,93 +35,106 @@ then_equal Less = refl
 then_equal Equal = refl
 then_equal Greater = refl
 
-words_in_order : (b : List ℕ) (n i : ℕ) (c : List ℕ) (m j : ℕ) → IsBlock b → IsBlock c
-    → slice_cmp nat_cmp (words b n i) (words c m j) ≡ parts_cmp b n i c m j
-words_in_order b n i c m j v w =
-    let high : Ordering = nat_cmp (high_word b) (high_word c) in
-    let low : Ordering = nat_cmp (low_word b) (low_word c) in
-    let last : Ordering = ordering_then (nat_cmp n m) (nat_cmp i j) in
-    ap (λ r. ordering_then high (ordering_then low (ordering_then (nat_cmp n m) r))) (then_equal (nat_cmp i j))
-    ∙ sym (then_same high low last)
-    ∙ ap (λ r. ordering_then r last) (halves_in_order b c v w)
+-- words of blocks, with more behind each
+blocks_behind : (b c us vs : List ℕ) → IsBlock b → IsBlock c
+    → slice_cmp nat_cmp (block_words b ++ us) (block_words c ++ vs) ≡ ordering_then (slice_cmp nat_cmp b c) (slice_cmp nat_cmp us vs)
+blocks_behind b c us vs v w =
+    low_behind (high_word b) (high_word c) (low_word b) (low_word c) us vs (nat_cmp (high_word b) (high_word c)) refl (last_word b v) (last_word c w)
+    ∙ sym (then_same (nat_cmp (high_word b) (high_word c)) (nat_cmp (low_word b) (low_word c)) (slice_cmp nat_cmp us vs))
+    ∙ ap (λ r. ordering_then r (slice_cmp nat_cmp us vs)) (halves_in_order b c v w)
 
--- lists as long, with more behind each
-behind : (xs ys us vs : List ℕ) → length xs ≡ length ys → slice_cmp nat_cmp (xs ++ us) (ys ++ vs) ≡ ordering_then (slice_cmp nat_cmp xs ys) (slice_cmp nat_cmp us vs)
-behind [] [] us vs h = refl
-behind [] (y ∷ ys) us vs h = absurd (omega arith)
-behind (x ∷ xs) [] us vs h = absurd (omega arith)
-behind (x ∷ xs) (y ∷ ys) us vs h =
-    ap (λ r. ordering_then (nat_cmp x y) r) (behind xs ys us vs (omega arith)) ∙ sym (then_same (nat_cmp x y) (slice_cmp nat_cmp xs ys) (slice_cmp nat_cmp us vs))
+-- words of numbers and initiations, with more behind each
+turns_behind : (n i m j : ℕ) (us vs : List ℕ)
+    → slice_cmp nat_cmp (turn_words n i ++ us) (turn_words m j ++ vs) ≡ ordering_then (ordering_then (nat_cmp n m) (nat_cmp i j)) (slice_cmp nat_cmp us vs)
+turns_behind n i m j us vs =
+    ap (λ r. ordering_then r (slice_cmp nat_cmp (own_part i ++ us) (own_part j ++ vs))) (digits (2 ^ 48) n m (min i own_word) (min j own_word) (omega arith) (omega arith))
+    ∙ then_same (nat_cmp n m) (nat_cmp (min i own_word) (min j own_word)) (slice_cmp nat_cmp (own_part i ++ us) (own_part j ++ vs))
+    ∙ ap (λ r. ordering_then (nat_cmp n m) r) (own_behind i j us vs)
+    ∙ sym (then_same (nat_cmp n m) (nat_cmp i j) (slice_cmp nat_cmp us vs))
 
-frames_long : (t : Tree) → length (frames t) ≡ 4 * length (kinds t)
-frames_long Top = refl
-frames_long (InLoop o b n i) = let h = frames_long o in let k = length-append (frames o) (words b n i) in omega arith
-frames_long (InCall o b n i) = let h = frames_long o in let k = length-append (frames o) (words b n i) in omega arith
+-- words of loops or calls, with more behind each
+words_behind : (b : List ℕ) (n i : ℕ) (c : List ℕ) (m j : ℕ) (us vs : List ℕ) → IsBlock b → IsBlock c
+    → slice_cmp nat_cmp (words b n i ++ us) (words c m j ++ vs) ≡ ordering_then (parts_cmp b n i c m j) (slice_cmp nat_cmp us vs)
+words_behind b n i c m j us vs v w =
+    ap (λ l. slice_cmp nat_cmp l (words c m j ++ vs)) (append_assoc (block_words b) (turn_words n i) us)
+    ∙ ap (λ l. slice_cmp nat_cmp (block_words b ++ (turn_words n i ++ us)) l) (append_assoc (block_words c) (turn_words m j) vs)
+    ∙ blocks_behind b c (turn_words n i ++ us) (turn_words m j ++ vs) v w
+    ∙ ap (λ r. ordering_then (slice_cmp nat_cmp b c) r) (turns_behind n i m j us vs)
+    ∙ sym (then_same (slice_cmp nat_cmp b c) (ordering_then (nat_cmp n m) (nat_cmp i j)) (slice_cmp nat_cmp us vs))
 
--- where the kinds are those, so the frames are as long
-as_long : (x y : Tree) → slice_cmp nat_cmp (kinds x) (kinds y) ≡ Equal → length (frames x) ≡ length (frames y)
-as_long x y h =
-    frames_long x ∙ ap (λ (k : List ℕ). 4 * length k) (slice_cmp-IsAntisymmetric nat_cmp-IsAntisymmetric (kinds x) (kinds y) h) ∙ sym (frames_long y)
+-- one more loop or call, given what is so of the outer contexts
+deeper : (x y : Tree) (b : List ℕ) (n i : ℕ) (c : List ℕ) (m j : ℕ) (us vs : List ℕ) → IsBlock b → IsBlock c
+    → slice_cmp nat_cmp (frames x ++ (words b n i ++ us)) (frames y ++ (words c m j ++ vs))
+    ≡ ordering_then (context_cmp x y) (slice_cmp nat_cmp (words b n i ++ us) (words c m j ++ vs))
+    → slice_cmp nat_cmp ((frames x ++ words b n i) ++ us) ((frames y ++ words c m j) ++ vs)
+    ≡ ordering_then (ordering_then (context_cmp x y) (parts_cmp b n i c m j)) (slice_cmp nat_cmp us vs)
+deeper x y b n i c m j us vs v w e =
+    ap (λ l. slice_cmp nat_cmp l ((frames y ++ words c m j) ++ vs)) (append_assoc (frames x) (words b n i) us)
+    ∙ ap (λ l. slice_cmp nat_cmp (frames x ++ (words b n i ++ us)) l) (append_assoc (frames y) (words c m j) vs)
+    ∙ e
+    ∙ ap (λ r. ordering_then (context_cmp x y) r) (words_behind b n i c m j us vs v w)
+    ∙ sym (then_same (context_cmp x y) (parts_cmp b n i c m j) (slice_cmp nat_cmp us vs))
 
-one_more : (r : Ordering) (x y : Tree) (us vs : List ℕ) → slice_cmp nat_cmp (kinds x) (kinds y) ≡ r
-    → ordering_then r (slice_cmp nat_cmp (frames x ++ us) (frames y ++ vs)) ≡ ordering_then (ordering_then r (slice_cmp nat_cmp (frames x) (frames y))) (slice_cmp nat_cmp us vs)
-one_more Less x y us vs h = refl
-one_more Equal x y us vs h = behind (frames x) (frames y) us vs (as_long x y h)
-one_more Greater x y us vs h = refl
+-- words of contexts of the same kinds, with more behind each
+behind : (x y : Tree) (us vs : List ℕ) → InRange x → InRange y → kinds x ≡ kinds y
+    → slice_cmp nat_cmp (frames x ++ us) (frames y ++ vs) ≡ ordering_then (context_cmp x y) (slice_cmp nat_cmp us vs)
+behind Top Top us vs f g h = refl
+behind Top (InLoop p c m j) us vs f g h = cc
+behind Top (InCall p c m j) us vs f g h = cc
+behind (InLoop o b n i) Top us vs f g h = cc
+behind (InLoop o b n i) (InLoop p c m j) us vs f g h =
+    deeper o p b n i c m j us vs f.1 g.1 (behind o p (words b n i ++ us) (words c m j ++ vs) f.0 g.0 cc)
+behind (InLoop o b n i) (InCall p c m j) us vs f g h = cc
+behind (InCall o b n i) Top us vs f g h = cc
+behind (InCall o b n i) (InLoop p c m j) us vs f g h = cc
+behind (InCall o b n i) (InCall p c m j) us vs f g h =
+    deeper o p b n i c m j us vs f.1 g.1 (behind o p (words b n i ++ us) (words c m j ++ vs) f.0 g.0 cc)
 
--- the order of two contexts, given that of their outer ones
-deeper : (x y : Tree) (b : List ℕ) (n i : ℕ) (c : List ℕ) (m j : ℕ) → IsBlock b → IsBlock c
-    → ordering_then (slice_cmp nat_cmp (kinds x) (kinds y)) (slice_cmp nat_cmp (frames x) (frames y)) ≡ context_cmp x y
-    → ordering_then (slice_cmp nat_cmp (kinds x) (kinds y)) (slice_cmp nat_cmp (frames x ++ words b n i) (frames y ++ words c m j))
-    ≡ ordering_then (context_cmp x y) (parts_cmp b n i c m j)
-deeper x y b n i c m j v w e =
-    one_more (slice_cmp nat_cmp (kinds x) (kinds y)) x y (words b n i) (words c m j) refl
-    ∙ ap (λ r. ordering_then r (slice_cmp nat_cmp (words b n i) (words c m j))) e
-    ∙ ap (λ r. ordering_then (context_cmp x y) r) (words_in_order b n i c m j v w)
+-- the kinds alone decide, where they differ
+by_kinds : (x y : Tree) → ordering_then (slice_cmp nat_cmp (kinds x) (kinds y)) (context_cmp x y) ≡ context_cmp x y
+by_kinds Top Top = refl
+by_kinds Top (InLoop p c m j) = refl
+by_kinds Top (InCall p c m j) = refl
+by_kinds (InLoop o b n i) Top = refl
+by_kinds (InLoop o b n i) (InLoop p c m j) =
+    sym (then_same (slice_cmp nat_cmp (kinds o) (kinds p)) (context_cmp o p) (parts_cmp b n i c m j)) ∙ ap (λ r. ordering_then r (parts_cmp b n i c m j)) (by_kinds o p)
+by_kinds (InLoop o b n i) (InCall p c m j) = refl
+by_kinds (InCall o b n i) Top = refl
+by_kinds (InCall o b n i) (InLoop p c m j) = refl
+by_kinds (InCall o b n i) (InCall p c m j) =
+    sym (then_same (slice_cmp nat_cmp (kinds o) (kinds p)) (context_cmp o p) (parts_cmp b n i c m j)) ∙ ap (λ r. ordering_then r (parts_cmp b n i c m j)) (by_kinds o p)
 
-compared : (x y : Tree) → InRange x → InRange y → ordering_then (slice_cmp nat_cmp (kinds x) (kinds y)) (slice_cmp nat_cmp (frames x) (frames y)) ≡ context_cmp x y
-compared Top Top f g = refl
-compared Top (InLoop p c m j) f g = refl
-compared Top (InCall p c m j) f g = refl
-compared (InLoop o b n i) Top f g = refl
-compared (InLoop o b n i) (InLoop p c m j) f g = deeper o p b n i c m j f.1 g.1 (compared o p f.0 g.0)
-compared (InLoop o b n i) (InCall p c m j) f g = refl
-compared (InCall o b n i) Top f g = refl
-compared (InCall o b n i) (InLoop p c m j) f g = refl
-compared (InCall o b n i) (InCall p c m j) f g = deeper o p b n i c m j f.1 g.1 (compared o p f.0 g.0)
+same_kinds : (x y : Tree) → InRange x → InRange y → kinds x ≡ kinds y → slice_cmp nat_cmp (frames x) (frames y) ≡ context_cmp x y
+same_kinds x y f g h =
+    sym (ap (λ l. slice_cmp nat_cmp l (frames y)) (append-nil (frames x)))
+    ∙ sym (ap (λ l. slice_cmp nat_cmp (frames x ++ []) l) (append-nil (frames y)))
+    ∙ behind x y [] [] f g h
+    ∙ then_equal (context_cmp x y)
 
--- where one has fewer kinds, its 0 is less than the kind of the other
-marked : (x y : Tree) (us vs : List ℕ) → slice_cmp nat_cmp (kinds x ++ 0 ∷ us) (kinds y ++ 0 ∷ vs) ≡ ordering_then (slice_cmp nat_cmp (kinds x) (kinds y)) (slice_cmp nat_cmp us vs)
-marked Top Top us vs = refl
-marked Top (InLoop p c m j) us vs = refl
-marked Top (InCall p c m j) us vs = refl
-marked (InLoop o b n i) Top us vs = refl
-marked (InLoop o b n i) (InLoop p c m j) us vs = marked o p us vs
-marked (InLoop o b n i) (InCall p c m j) us vs = refl
-marked (InCall o b n i) Top us vs = refl
-marked (InCall o b n i) (InLoop p c m j) us vs = refl
-marked (InCall o b n i) (InCall p c m j) us vs = marked o p us vs
+compared : (x y : Tree) → InRange x → InRange y → (r : Ordering) → slice_cmp nat_cmp (kinds x) (kinds y) ≡ r
+    → ordering_then r (slice_cmp nat_cmp (frames x) (frames y)) ≡ ordering_then r (context_cmp x y)
+compared x y f g Less h = refl
+compared x y f g Equal h = same_kinds x y f g (slice_cmp-IsAntisymmetric nat_cmp-IsAntisymmetric (kinds x) (kinds y) h)
+compared x y f g Greater h = refl
 
 pub by_paths : (x y : Tree) → IsContext x → IsContext y → slice_cmp nat_cmp (path x) (path y) ≡ context_cmp x y
-by_paths x y f g = marked x y (frames x) (frames y) ∙ compared x y f.in_range g.in_range
+by_paths x y f g =
+    let k : Ordering = slice_cmp nat_cmp (kinds x) (kinds y) in
+    let s : Ordering = slice_cmp nat_cmp (frames x) (frames y) in
+    sym (then_same (nat_cmp (kinds_number x / 2 ^ 64) (kinds_number y / 2 ^ 64)) (nat_cmp (kinds_number x % 2 ^ 64) (kinds_number y % 2 ^ 64)) s)
+    ∙ ap (λ r. ordering_then r s) (kinds_in_order x y f.shallow g.shallow)
+    ∙ compared x y f.in_range g.in_range k refl
+    ∙ by_kinds x y
 
 -- the path of a loop or a call goes around that of the outer context
-pub path_by : (s : Linkage) (o : Tree) (b : List ℕ) (i : ℕ) → kind_by s ∷ (path o ++ words b (number_by s) i) ≡ path (tree_by s o b i)
-path_by (Loop n) o b i = ap (λ (l : List ℕ). 1 ∷ l) (append_assoc (kinds o) (0 ∷ frames o) (words b n i))
-path_by (Call n) o b i = ap (λ (l : List ℕ). 2 ∷ l) (append_assoc (kinds o) (0 ∷ frames o) (words b n i))
+pub path_by : (s : Linkage) (o : Tree) (b : List ℕ) (i : ℕ) → depth o < 64 → with_kind (kind_by s) (path o) ++ words b (number_by s) i ≡ path (tree_by s o b i)
+path_by (Loop n) o b i h = let k = kind_more 1 o (InLoop o b n i) refl h in cc
+path_by (Call n) o b i h = let k = kind_more 2 o (InCall o b n i) refl h in cc
 
-kinds_deep : (t : Tree) → length (kinds t) ≡ depth t
-kinds_deep Top = refl
-kinds_deep (InLoop o b n i) = let h = kinds_deep o in omega arith
-kinds_deep (InCall o b n i) = let h = kinds_deep o in omega arith
-
--- a path has five numbers for each loop and call, and one besides
-pub path_deep : (t : Tree) → length (path t) ≡ 5 * depth t + 1
-path_deep t =
-    let a = length-append (kinds t) (0 ∷ frames t) in
-    let b = frames_long t in
-    let c = kinds_deep t in
-    omega arith
+-- the root's path has two words, which are 0
+pub path_of_root : (0 ∷ 0 ∷ []) ≡ path Top
+unfolding kinds_number
+path_of_root = refl
 
 -- the greatest initiation of a loop or a call is its own, or that of the outer context
 pub greatest_by : (s : Linkage) (o : Tree) (b : List ℕ) (i : ℕ) → max (greatest_turn o) i ≡ greatest_turn (tree_by s o b i)

@@ -7,7 +7,7 @@ use Rattle.u_name.specs.declared.context.Linkage.{Linkage}
 use Rattle.u_name.specs.declared.context.Linkage.TheVariants.{Loop, Call}
 use Rattle.u_name.specs.declared.context.Node.{Node}
 use Rattle.u_name.specs.declared.context.Node.TheVariants as nodes
-use Rattle.u_name.specs.Context.{Tree, Top, InLoop, InCall}
+use Rattle.u_name.specs.Context.{Tree, Top, InLoop, InCall, depth}
 use Rattle.u_name.specs.Path.{path}
 use Rattle.u_name.specs.Digest.{digest}
 use Rattle.u_name.specs.Greatest.{greatest_turn}
@@ -29,8 +29,9 @@ node_tree nodes.Root = Top
 node_tree (nodes.Loop outer block number initiation) = InLoop outer.now block.now number initiation
 node_tree (nodes.Call outer block statement initiation) = InCall outer.now block.now statement initiation
 
--- beside the parts of a context stand its own path, digest and greatest initiation
+-- beside the parts of a context stand its own depth, path, digest and greatest initiation
 pub record IsBeside (inner : Inner) : Type 0 where
+  pub depth : inner.depth ≡ depth (inner_tree inner)
   pub path : inner.path.items ≡ path (inner_tree inner)
   pub digest : inner.digest ≡ digest (inner_tree inner)
   pub greatest : inner.greatest ≡ greatest_turn (inner_tree inner)

@@ -15,7 +15,7 @@ ghost use Rattle.u_name.specs.ContextLaws.{context_cmp_total};
 ghost use Rattle.u_name.specs.ContextHash.{context_hash, hashes_alike};
 
 use crate::block_name::BlockName;
-use crate::path::{CALL, LOOP, path_around};
+use crate::path::{CALL, LOOP, OF_ROOT, path_around};
 use std::alloc::{AllocError, Global};
 use std::cmp::Ordering;
 use std::hash::{Hash, Hasher};
@@ -39,9 +39,9 @@ enum Link {
     Inner(Arc<Inner, Global>),
 }
 
-/// A loop's or a call's context: what it is made of, and beside that what it is compared by (the kinds
-/// of its loops and calls, the innermost first, a 0, and the words of these, the outermost first), what
-/// it is hashed by, and the greatest initiation of its loops and calls.
+/// A loop's or a call's context: what it is made of, and beside that how deep it is, what it is
+/// compared by (the kinds of its loops and calls, the innermost first, and the words of these, the
+/// outermost first), what it is hashed by, and the greatest initiation of its loops and calls.
 #[cycle(context)]
 #[derive(Drop)]
 struct Inner {
@@ -49,6 +49,7 @@ struct Inner {
     linkage: Linkage,
     block: BlockName,
     initiation: u64,
+    depth: u8,
     digest: u64,
     greatest: u64,
     path: Vec<u64>,
@@ -116,7 +117,8 @@ impl Model for Context {
 impl Linkage {
     /// The kind of the context: 1 for a loop's, 2 for a call's.
     fn kind(self) -> u8
-        ensures { result ≡ kind_by self }
+        ensures value { result ≡ kind_by self }
+        ensures bound { result ≤ 2 }
     {
         match self {
             Linkage::Loop(_) => LOOP,
@@ -155,7 +157,7 @@ fn next_digest(outer: u64, mark: u64) -> u64
 }
 
 impl Inner {
-    /// What the context has that a loop or a call makes in the outer one.
+    /// What the context has that a loop or a call makes in the outer one, which is less than 64 deep.
     #[tactic(auto, unfolding(crate::specs::Digest::digest), using(crate::proofs::PathOrder::path_by, crate::proofs::PathOrder::greatest_by))]
     fn new(
         alloc: Global,
@@ -164,6 +166,7 @@ impl Inner {
         block: BlockName,
         initiation: u64,
     ) -> Result<Inner, AllocError>
+        requires { depth outer < 64 }
         ensures { IfOk result
             (λ i. (inner_tree i ≡ tree_by linkage outer block initiation) × IsBeside i) }
     {
@@ -176,6 +179,7 @@ impl Inner {
             linkage.number(),
             initiation,
         )?;
+        let depth = outer.depth() as u8 + 1;
         let digest = next_digest(outer.digest(), linkage.mark(initiation));
         let greatest = outer.greatest_initiation().max(initiation);
         Ok(Inner {
@@ -183,6 +187,7 @@ impl Inner {
             linkage,
             block,
             initiation,
+            depth,
             digest,
             greatest,
             path,
@@ -304,11 +309,12 @@ impl Context {
     }
 
     /// What it is compared by.
+    #[tactic(auto, using(crate::proofs::PathOrder::path_of_root))]
     fn path(&self) -> &[u64]
         ensures { result.now ≡ path self.now }
     {
         match &self.link {
-            Link::Root => &[0],
+            Link::Root => &OF_ROOT,
             Link::Inner(inner) => &inner.path,
         }
     }
@@ -335,14 +341,14 @@ impl Context {
     }
 
     /// How many loops and calls it is in, 0 to 64.
-    #[tactic(auto, using(crate::proofs::PathOrder::path_deep))]
     pub fn depth(&self) -> u32
         ensures value { result ≡ depth self.now }
         ensures bound { IsContext self.now }
     {
-        // Brings in that the context is at most 64 deep.
-        let _ = self.node();
-        (self.path().len() / 5) as u32
+        match &self.link {
+            Link::Root => 0,
+            Link::Inner(inner) => u32::from(inner.depth),
+        }
     }
 
     /// An equal context, which shares all with this one.

@@ -1,11 +1,16 @@
-//! What contexts are compared by: the kinds of their loops and calls from the innermost outwards, a 0,
-//! and then the words of these from the outermost inwards. All lie in one place, so that a comparison
-//! need not go from context to context.
+//! What contexts are compared by: two words with the kinds of their loops and calls from the innermost
+//! outwards, and then the words of these from the outermost inwards. All lie in one place, so that a
+//! comparison need not go from context to context.
 //!
-//! A loop or a call has four words, which go by block, number and initiation as plain numbers do: the
-//! first eight bytes of the block's name, its last eight, the number and the initiation.
-ghost use Rattle.std.specs.Prelude.{◌≡◌, ◌++◌, ◌∷◌, IfOk};
-ghost use Rattle.u_name.specs.Words.{words};
+//! A kind has two bits, the innermost the highest two. The bits of no loop or call are 0.
+//!
+//! A loop or a call has two to four words, which go by block, number and initiation as plain numbers do.
+//! The first is the first eight bytes of the block's name, and its last eight are a word only where the
+//! eighth is not 0, for otherwise they are all 0. The number shares a word with an initiation below
+//! 2^48 - 1. Beside a greater one it stands with 2^48 - 1, and the initiation has a word of its own.
+ghost use Rattle.std.specs.Prelude.{◌≡◌, ◌+◌, ◌≤◌, ◌++◌, ◌∷◌, IfOk, length};
+ghost use Rattle.u_name.specs.Words.{words, low_part, own_part, turn_words};
+ghost use Rattle.u_name.specs.Path.{kind_words, with_kind};
 
 use crate::block_name::BlockName;
 use std::alloc::{AllocError, Global};
@@ -16,6 +21,27 @@ pub(crate) const LOOP: u8 = 1;
 /// The kind of a call's context.
 pub(crate) const CALL: u8 = 2;
 
+/// What the root is compared by, which is in no loop or call.
+pub(crate) const OF_ROOT: [u64; KIND_WORDS] = [0; KIND_WORDS];
+
+/// How many words the kinds take.
+const KIND_WORDS: usize = 2;
+
+/// How many bits of a word stand behind its first kind.
+const BEHIND_KIND: u32 = 62;
+
+/// How many values the two bits of a kind have.
+const KIND_VALUES: u64 = 4;
+
+/// How many values a byte has.
+const BYTE_VALUES: u64 = 256;
+
+/// How many bits of a word stand behind the number of a loop or a statement.
+const BEHIND_NUMBER: u32 = 48;
+
+/// The least initiation that has a word of its own.
+const OWN_WORD: u64 = 0xFFFF_FFFF_FFFF;
+
 /// What a context is compared by, which is in a context that is compared by the numbers `outer`.
 pub(crate) fn path_around(
     alloc: Global,
@@ -25,16 +51,64 @@ pub(crate) fn path_around(
     number: u16,
     initiation: u64,
 ) -> Result<Vec<u64>, AllocError>
-    ensures { IfOk result (λ v. v.items ≡ kind ∷ (outer.now ++ words block.now number initiation)) }
+    requires kind_in { kind ≤ 2 }
+    requires has_kinds { 2 ≤ length outer.now }
+    ensures { IfOk result
+        (λ v. v.items ≡ with_kind kind outer.now ++ words block.now number initiation) }
 {
     let (high, low) = block.words();
     let mut all = Vec::new(alloc);
-    all.reserve_exact(outer.len() + 5)?;
-    all.push(u64::from(kind))?;
-    all.extend_from_slice(outer)?;
-    all.push(high)?;
-    all.push(low)?;
-    all.push(u64::from(number))?;
-    all.push(initiation)?;
+    all.reserve_exact(outer.len() + words_many(high, initiation))?;
+    push_kinds(&mut all, kind, outer)?;
+    all.extend_from_slice(&outer[KIND_WORDS..])?;
+    push_block(&mut all, high, low)?;
+    push_turn(&mut all, number, initiation)?;
     Ok(all)
+}
+
+/// How many words a loop or a call has.
+fn words_many(high: u64, initiation: u64) -> usize
+    ensures { result ≡ 2 + length (low_part high 0) + length (own_part initiation) }
+{
+    let block = if high % BYTE_VALUES == 0 { 1 } else { 2 };
+    let turn = if initiation < OWN_WORD { 1 } else { 2 };
+    block + turn
+}
+
+/// Appends the words of the kinds of `outer` with one more in front, which is the innermost.
+fn push_kinds(all: &mut Vec<u64>, kind: u8, outer: &[u64]) -> Result<(), AllocError>
+    requires kind_in { kind ≤ 2 }
+    requires has_kinds { 2 ≤ length outer.now }
+    ensures { IfOk result
+        (λ _. all.new.items ≡ all.old.items ++ kind_words kind outer.now) }
+{
+    let (high, low) = (outer[0], outer[1]);
+    all.push((u64::from(kind) << BEHIND_KIND) + high / KIND_VALUES)?;
+    all.push(((high % KIND_VALUES) << BEHIND_KIND) + low / KIND_VALUES)?;
+    Ok(())
+}
+
+/// Appends the words of a block's name.
+fn push_block(all: &mut Vec<u64>, high: u64, low: u64) -> Result<(), AllocError>
+    ensures { IfOk result
+        (λ _. all.new.items ≡ all.old.items ++ (high ∷ low_part high low)) }
+{
+    all.push(high)?;
+    if high % BYTE_VALUES != 0 {
+        all.push(low)?;
+    }
+    Ok(())
+}
+
+/// Appends the words of a number and an initiation.
+fn push_turn(all: &mut Vec<u64>, number: u16, initiation: u64) -> Result<(), AllocError>
+    ensures { IfOk result
+        (λ _. all.new.items ≡ all.old.items ++ turn_words number initiation) }
+{
+    let front = u64::from(number) << BEHIND_NUMBER;
+    all.push(front + initiation.min(OWN_WORD))?;
+    if initiation >= OWN_WORD {
+        all.push(initiation)?;
+    }
+    Ok(())
 }
