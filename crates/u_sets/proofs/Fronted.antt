@@ -12,7 +12,8 @@ use Rattle.std.proofs.lemmas.List.Edits.{length-remove}
 use Rattle.std.proofs.lemmas.List.Elements.{Contains-append_left, Contains-append_right, Contains-append_cases}
 use Rattle.u_system.proofs.Member.{Contains-nil, Contains-head, Contains-tail, Contains-cons_cases}
 use Rattle.u_sets.specs.Rising.{Rises}
-use Rattle.u_sets.specs.Members.{IsWith, IsWithout}
+use Rattle.u_sets.specs.Members.{IsWith, IsWithout, IsFirstMoved}
+use Rattle.u_sets.specs.Fronted.{IsFronted}
 use Rattle.u_sets.proofs.Places.{one_list, irreflexive}
 
 module _ {X : Type 0} where
@@ -70,6 +71,26 @@ module _ {X : Type 0} where
       | inl k ↦ inr (Contains-append_left a new z k)
       | inr k ↦ elim (w.rest z k) [ inl e ↦ inl e | inr j ↦ inr (Contains-append_right a new z j) ]
     ];
+  }
+
+  -- the only key, put into the front of none
+  pub only_one : (a b : List X) (k : X) → a ++ b ≡ [] → (a ++ k ∷ []) ++ b ≡ k ∷ []
+  only_one [] b k e = ap (λ (l : List X). k ∷ l) e
+  only_one (x ∷ a) b k e = absurd (cc)
+
+  pub only_fronted : (R : X → X → Ordering) (a b : List X) (k : X) → a ++ b ≡ [] → IsFronted R (a ++ k ∷ []) b
+  only_fronted R [] [] k e = record {
+    rises = ((λ y m. absurd (Contains-nil y m)), tt);
+    few = omega arith;
+  }
+  only_fronted R [] (y ∷ b) k e = absurd (cc)
+  only_fronted R (x ∷ a) b k e = absurd (cc)
+
+  pub first_moved : (a b old rest : List X) (k : X) → a ++ b ≡ [] → old ≡ k ∷ rest → IsFirstMoved old ((a ++ k ∷ []) ++ b) rest
+  first_moved a b old rest k e f = record {
+    first = k;
+    was = f;
+    is = only_one a b k e;
   }
 
 module _ {X : Type 0} (R : X → X → Ordering) (o : IsTotalOrder R) where

@@ -34,3 +34,9 @@ SomeOf {Y} ys P f = (y : Y) × Contains ys y × P y f
 -- y stands last in new, behind old, or was there
 abbrev pub GoesLast : {X : Type 0} → List X → X → List X → Type 0
 GoesLast old y new = (Contains old y × (new ≡ old)) ⊎ ((Contains old y → ⊥) × (new ≡ old ++ y ∷ []))
+
+-- the first of old is the only one of the other list now, and the rest is left
+pub record IsFirstMoved {X : Type 0} (old only rest : List X) : Type 0 where
+  pub first : X
+  pub was : old ≡ first ∷ rest
+  pub is : only ≡ first ∷ []

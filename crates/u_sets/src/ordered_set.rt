@@ -5,7 +5,7 @@ ghost use Rattle.std.specs.Iterator.{at_most};
 ghost use Rattle.std.specs.declared.cmp.Ordering.TheVariants.{Less};
 ghost use Rattle.std.specs.Map.Iter.{ShowsInOrder, TakesFirst, deref};
 ghost use Rattle.u_sets.specs.Rising.{Rises};
-ghost use Rattle.u_sets.specs.Members.{IsWith, IsWithout};
+ghost use Rattle.u_sets.specs.Members.{IsWith, IsWithout, IsFirstMoved};
 ghost use Rattle.u_sets.specs.Fronted.{IsFronted};
 
 use crate::rising::{has, place_in};
@@ -207,6 +207,28 @@ impl<K: ExactOrd + Drop> OrderedSet<K> {
             return self.others.pop_first();
         }
         Some(self.front.remove(0))
+    }
+
+    /// Takes the least key out of the other set, and puts it into this one, which has none.
+    ///
+    /// # Errors
+    /// `AllocError` where there is no memory; both sets stay as they were.
+    #[tactic(auto, using(crate::proofs::Fronted::first_moved))]
+    pub fn take_first_from(&mut self, other: &mut OrderedSet<K>) -> Result<(), AllocError>
+        requires none { self.old ≡ [] }
+        requires some { 0 < length other.old }
+        ensures ok { OnOk result (IsFirstMoved other.old self.new other.new) }
+        ensures err { OnErr result ((self.new ≡ []) × (other.new ≡ other.old)) }
+        ensures rises { OnOk result (Rises K.cmp other.new) }
+    {
+        self.front.reserve(1)?;
+        let Some(first) = other.pop_first() else {
+            unreachable!();
+        };
+        let Ok(()) = self.front.push(first) else {
+            unreachable!();
+        };
+        Ok(())
     }
 
     /// Takes out a key that is there. The only key is found without comparing.
