@@ -3,8 +3,6 @@ use Rattle.std.proofs.Common.{◌≡◌, ◌⊎◌, inl, inr, ◌↔◌, ℕ, ze
 use Rattle.std.specs.Prelude.{Contains, remove, slice_get}
 use Rattle.std.specs.Cmp.{IsTotalOrder}
 use Rattle.std.specs.Ordering.{is_le}
-use Rattle.std.specs.List.{HoldsAt}
-use Rattle.u_order.specs.Exact.{IsExact}
 use Rattle.u_sets.proofs.Sorted.{turn_greater}
 use Rattle.std.specs.declared.cmp.Ordering.TheVariants.{Less, Equal, Greater}
 use Rattle.std.proofs.lemmas.List.{length-append}
@@ -73,25 +71,21 @@ module _ {X : Type 0} where
     ];
   }
 
-  -- the only key, put into the front of none
-  pub only_one : (a b : List X) (k : X) → a ++ b ≡ [] → (a ++ k ∷ []) ++ b ≡ k ∷ []
-  only_one [] b k e = ap (λ (l : List X). k ∷ l) e
-  only_one (x ∷ a) b k e = absurd (cc)
+  -- the only key, put before none
+  pub first_moved : (a b only old rest : List X) (k : X) → a ++ b ≡ [] → only ≡ k ∷ a → old ≡ k ∷ rest → IsFirstMoved old (only ++ b) rest
+  first_moved a b only old rest k e f g = record {
+    first = k;
+    was = g;
+    is = ap (λ (l : List X). l ++ b) f ∙ ap (λ (l : List X). k ∷ l) e;
+  }
 
-  pub only_fronted : (R : X → X → Ordering) (a b : List X) (k : X) → a ++ b ≡ [] → IsFronted R (a ++ k ∷ []) b
-  only_fronted R [] [] k e = record {
+  pub only_fronted : (R : X → X → Ordering) (a b only : List X) (k : X) → a ++ b ≡ [] → only ≡ k ∷ a → IsFronted R only b
+  only_fronted R [] [] only k e f = subst (λ (l : List X). IsFronted R l []) (sym f) (record {
     rises = ((λ y m. absurd (Contains-nil y m)), tt);
     few = omega arith;
-  }
-  only_fronted R [] (y ∷ b) k e = absurd (cc)
-  only_fronted R (x ∷ a) b k e = absurd (cc)
-
-  pub first_moved : (a b old rest : List X) (k : X) → a ++ b ≡ [] → old ≡ k ∷ rest → IsFirstMoved old ((a ++ k ∷ []) ++ b) rest
-  first_moved a b old rest k e f = record {
-    first = k;
-    was = f;
-    is = only_one a b k e;
-  }
+  })
+  only_fronted R [] (y ∷ b) only k e f = absurd (cc)
+  only_fronted R (x ∷ a) b only k e f = absurd (cc)
 
 module _ {X : Type 0} (R : X → X → Ordering) (o : IsTotalOrder R) where
   pub front_rises : (a b : List X) → Rises R (a ++ b) → Rises R a
@@ -116,7 +110,7 @@ module _ {X : Type 0} (R : X → X → Ordering) (o : IsTotalOrder R) where
     joined a b p.1 q (λ z y m n. l z y (Contains-tail x z a m) n),
   )
 
-  apart : (a b : List X) → Rises R (a ++ b) → (x : X) → Contains a x → Contains b x → ⊥
+  pub apart : (a b : List X) → Rises R (a ++ b) → (x : X) → Contains a x → Contains b x → ⊥
   apart a b r x m n = irreflexive R o x (across a b r x x m n)
 
   -- a key that goes among the others
@@ -208,29 +202,11 @@ module _ {X : Type 0} (R : X → X → Ordering) (o : IsTotalOrder R) where
   pub rises_shorter : (a b new : List X) (k : X) → Rises R (a ++ b) → Rises R new → IsWithout a k new → Rises R (new ++ b)
   rises_shorter a b new k r s w = joined new b s (others_rise a b r) (λ x y m n. across a b r x y (w.less x m) n)
 
-  pub held_at : IsExact R → (xs : List X) (i : ℕ) (k : X) → i < length xs → HoldsAt (λ y. R y k ≡ Equal) xs i → slice_get xs i ≡ Some k
-  held_at exact [] i k l h = absurd (omega arith)
-  held_at exact (x ∷ xs) zero k l h = ap (λ (z : X). Some z) (exact x k (h k))
-  held_at exact (x ∷ xs) (suc i) k l h = held_at exact xs i k (omega arith) (λ d. h d)
-
-  -- the key at a place of the front is taken out
-  pub out_of_front : (a b : List X) (i : ℕ) (k : X) → Rises R (a ++ b) → slice_get a i ≡ Some k → IsWithout (a ++ b) k (remove a i ++ b)
-  out_of_front a b i k r e = without_front a b (remove a i) k (λ m. apart a b r k (there a i k e) m) (taken_out a i k (front_rises a b r) e)
-
-  pub front_shorter : (a b : List X) (i : ℕ) (k : X) → Rises R (a ++ b) → slice_get a i ≡ Some k → Rises R (remove a i ++ b)
-  front_shorter a b i k r e =
-      let f = front_rises a b r in
-      rises_shorter a b (remove a i) k r (rises_out a i k f e) (taken_out a i k f e)
-
 module _ {X : Type 0} where
   pub at_place : (xs : List X) (i : ℕ) (k : X) → i < length xs → k ≡ get_or xs i k → slice_get xs i ≡ Some k
   at_place [] i k l e = absurd (omega arith)
   at_place (x ∷ xs) zero k l e = ap (λ (z : X). Some z) (sym e)
   at_place (x ∷ xs) (suc i) k l e = at_place xs i k (omega arith) e
-
-  -- whether a key is there
-  pub in_both : (a b : List X) (k : X) (s t : Bool) → s ≡ false → IsTrue s ↔ Contains a k → IsTrue t ↔ Contains b k → IsTrue t ↔ Contains (a ++ b) k
-  in_both a b k s t n v w = ((λ h. Contains-append_right a b k (w.0 h)), λ m. elim (Contains-append_cases a b k m) [ inl i ↦ (let h = v.1 i in absurd (cc)) | inr i ↦ w.1 i ])
 
   -- whether a key was there
   pub new_behind : (a b : List X) (k : X) (t : Bool) → (Contains a k → ⊥) → IsTrue t ↔ (Contains b k → ⊥) → IsTrue t ↔ (Contains (a ++ b) k → ⊥)

@@ -14,3 +14,4 @@ pub mod Columned
 pub mod Named
 pub mod Putting
 pub mod Fronted
+pub mod Turned

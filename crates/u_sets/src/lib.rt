@@ -7,6 +7,7 @@
 #![tactic(auto)]
 
 mod column;
+mod falling;
 mod few;
 mod keyed_set;
 mod listed_set;

@@ -1,5 +1,5 @@
 //! Sets that are kept in order.
-ghost use Rattle.std.specs.Prelude.{◌≡◌, ◌↔◌, ◌+◌, ◌<◌, ◌++◌, [], ◌∷◌, OnOk, OnErr, IfOk, IfErr, IfSome, IfNone, Contains, IsTrue, IsFalse, length, slice_get};
+ghost use Rattle.std.specs.Prelude.{◌≡◌, ◌↔◌, ◌+◌, ◌<◌, ◌++◌, [], ◌∷◌, reverse, OnOk, OnErr, IfOk, IfErr, IfSome, IfNone, Contains, IsTrue, IsFalse, length, slice_get};
 ghost use Rattle.std.specs.Option.{option_copied};
 ghost use Rattle.std.specs.Iterator.{at_most};
 ghost use Rattle.std.specs.declared.cmp.Ordering.TheVariants.{Less};
@@ -8,7 +8,7 @@ ghost use Rattle.u_sets.specs.Rising.{Rises};
 ghost use Rattle.u_sets.specs.Members.{IsWith, IsWithout, IsFirstMoved};
 ghost use Rattle.u_sets.specs.Fronted.{IsFronted};
 
-use crate::rising::{has, place_in};
+use crate::falling::{place_of, put_in_place};
 use crate::tree_set::TreeSet;
 use std::alloc::{AllocError, AllocFailed, Global};
 use std::collections::btree_set::Iter;
@@ -19,8 +19,9 @@ use u_order::ExactOrd;
 /// The most keys that stand in the list of the least ones.
 const MOST_IN_FRONT: usize = 8;
 
-/// A set of keys in ascending order. A few of the least ones stand in a list, and the others, which are
-/// all greater, in a tree. Contracts see the ascending list of its keys.
+/// A set of keys in ascending order. A few of the least ones stand in a list, the least one last, so
+/// that it comes off the end. The others, which are all greater, stand in a tree. Contracts see the
+/// ascending list of its keys.
 #[derive(Drop)]
 pub struct OrderedSet<K: ExactOrd + Drop> {
     front: Vec<K>,
@@ -28,17 +29,17 @@ pub struct OrderedSet<K: ExactOrd + Drop> {
 }
 
 impl<K: ExactOrd + Drop> Model for OrderedSet<K> {
-    ghost use Rattle.std.specs.Prelude.{List, ◌++◌};
+    ghost use Rattle.std.specs.Prelude.{List, ◌++◌, reverse};
     ghost use Rattle.u_sets.specs.Fronted.{IsFronted};
 
     ghost Value = { List K };
 
-    ghost view = { λ s. s.front.items ++ s.others };
+    ghost view = { λ s. reverse s.front.items ++ s.others };
 
-    ghost invariant = { λ s. IsFronted K.cmp s.front.items s.others };
+    ghost invariant = { λ s. IsFronted K.cmp (reverse s.front.items) s.others };
 }
 
-/// The keys of a set, in order.
+/// The keys of a set, in order. Those in front are taken from the end.
 #[derive(Drop)]
 pub struct OrderedKeys<'a, K> {
     front: &'a [K],
@@ -46,11 +47,11 @@ pub struct OrderedKeys<'a, K> {
 }
 
 impl<'a, K> Model for OrderedKeys<'a, K> {
-    ghost use Rattle.std.specs.Prelude.{List, ◌++◌};
+    ghost use Rattle.std.specs.Prelude.{List, ◌++◌, reverse};
 
     ghost Value = { List K };
 
-    ghost view = { λ k. k.front.now ++ k.others };
+    ghost view = { λ k. reverse k.front.now ++ k.others };
 }
 
 impl<'a, K> Iterator for OrderedKeys<'a, K> {
@@ -61,7 +62,7 @@ impl<'a, K> Iterator for OrderedKeys<'a, K> {
     ghost remaining = { λ s. at_most (length s) };
 
     fn next(&mut self) -> Option<&'a K> {
-        match self.front.split_first() {
+        match self.front.split_last() {
             Some((first, front)) => {
                 self.front = front;
                 Some(first)
@@ -84,26 +85,25 @@ fn goes_behind<K: ExactOrd + Drop>(keys: &TreeSet<K>, key: &K) -> bool
     }
 }
 
-/// Puts the last key of a full list before the others, which are all greater.
+/// Puts the greatest key of a full front, which stands first, before the others, which are all
+/// greater.
 fn make_room<K: ExactOrd + Drop>(
     front: &mut Vec<K>,
     others: &mut TreeSet<K>,
 ) -> Result<(), AllocError>
-    requires { IsFronted K.cmp front.old.items others.old }
-    ensures same { front.new.items ++ others.new ≡ front.old.items ++ others.old }
-    ensures fronted { IsFronted K.cmp front.new.items others.new }
+    requires { IsFronted K.cmp (reverse front.old.items) others.old }
+    ensures same { reverse front.new.items ++ others.new ≡ reverse front.old.items ++ others.old }
+    ensures fronted { IsFronted K.cmp (reverse front.new.items) others.new }
     ensures room { OnOk result (length front.new.items < 8) }
 {
     if front.len() < MOST_IN_FRONT {
         return Ok(());
     }
-    let Some(last) = front.pop() else {
-        unreachable!();
-    };
-    match others.insert(last) {
+    let greatest = front.remove(0);
+    match others.insert(greatest) {
         Ok(_) => Ok(()),
         Err(refused) => {
-            front.push(refused.value).unwrap();
+            front.insert(0, refused.value).unwrap();
             Err(AllocError)
         }
     }
@@ -141,10 +141,10 @@ impl<K: ExactOrd + Drop> OrderedSet<K> {
     pub fn contains(&self, key: &K) -> bool
         ensures { IsTrue result ↔ Contains self.now key.now }
     {
-        if has(&self.front, key) {
-            return true;
+        match place_of(&self.front, key) {
+            Ok(_) => true,
+            Err(_) => self.others.contains(key),
         }
-        self.others.contains(key)
     }
 
     /// Puts the key in. Returns whether it was new.
@@ -160,6 +160,10 @@ impl<K: ExactOrd + Drop> OrderedSet<K> {
         ensures rises { Rises K.cmp self.new }
         ensures count { IfOk result (λ b. IsTrue b → length self.new ≡ length self.old + 1) }
     {
+        if self.is_empty() {
+            self.front.push(key)?;
+            return Ok(true);
+        }
         let Ok(()) = make_room(&mut self.front, &mut self.others) else {
             return Err(AllocFailed { value: key });
         };
@@ -167,7 +171,7 @@ impl<K: ExactOrd + Drop> OrderedSet<K> {
             let added_behind = self.others.insert(key)?;
             return Ok(added_behind);
         }
-        let added_in_front = place_in(&mut self.front, key)?;
+        let added_in_front = put_in_place(&mut self.front, key)?;
         Ok(added_in_front)
     }
 
@@ -179,7 +183,7 @@ impl<K: ExactOrd + Drop> OrderedSet<K> {
         ensures rises { Rises K.cmp self.new }
         ensures count { IsTrue result → length self.old ≡ length self.new + 1 }
     {
-        let Ok(place) = self.front.binary_search(key) else {
+        let Ok(place) = place_of(&self.front, key) else {
             return self.others.remove(key);
         };
         self.front.remove(place);
@@ -190,7 +194,7 @@ impl<K: ExactOrd + Drop> OrderedSet<K> {
     pub fn first(&self) -> Option<&K>
         ensures { option_copied result ≡ slice_get self.now 0 }
     {
-        match self.front.first() {
+        match self.front.last() {
             Some(first) => Some(first),
             None => self.others.first(),
         }
@@ -206,7 +210,7 @@ impl<K: ExactOrd + Drop> OrderedSet<K> {
         if self.front.len() == 0 {
             return self.others.pop_first();
         }
-        Some(self.front.remove(0))
+        self.front.pop()
     }
 
     /// Takes the least key out of the other set, and puts it into this one, which has none.
@@ -269,7 +273,7 @@ impl<K: ExactOrd + Drop> OrderedSet<K> {
         ensures { option_copied result ≡ slice_get self.now place }
     {
         if place < self.front.len() {
-            return self.front.get(place);
+            return self.front.get(self.front.len() - 1 - place);
         }
         self.others.nth(place - self.front.len())
     }
