@@ -1,7 +1,5 @@
 -- Where a token lies, by the statement that its activity names.
-use Rattle.std.proofs.Common.{◌≡◌, ◌≤◌, ◌∙◌, Bool, true, Option, Some, None, List, ap, sym, subst, IsTrue}
-use Rattle.std.specs.Prelude.{◌↔◌}
-use Rattle.u_name.specs.Context.{IsBetween}
+use Rattle.std.proofs.Common.{◌≡◌, ◌≤◌, ◌∙◌, true, Some, None, List, sym, subst}
 use Rattle.u_program.specs.Parts.{StatementParts, BlockParts}
 use Rattle.u_check.specs.Kinds.{ports_of}
 use Rattle.u_rule.specs.Parts.{TokenParts}

@@ -122,56 +122,42 @@ fn list_of<'a>(statement: &'a Statement, values: &[Value]) -> &'a [Destination]
     }
 }
 
-/// One entry.
-fn alone(alloc: Global, entry: Entry) -> Result<Vec<Entry>, AllocError>
-    ensures { IfOk result (λ v. v.items ≡ entry ∷ []) }
+/// Adds one entry.
+fn alone(entry: Entry, entries: &mut Vec<Entry>) -> Result<(), AllocError>
+    ensures { OnOk result (entries.new.items ≡ entries.old.items ++ (entry ∷ [])) }
 {
-    let mut entries = Vec::new(alloc);
     entries.push(entry)?;
-    Ok(entries)
+    Ok(())
 }
 
-/// The fault of the activity.
-fn fault(alloc: Global, activity: &Name, kind: FaultKind) -> Result<Vec<Entry>, AllocError>
-    ensures { IfOk result (λ v. v.items ≡ fault_of activity.now kind ∷ []) }
+/// Adds the fault of the activity.
+fn fault(activity: &Name, kind: FaultKind, entries: &mut Vec<Entry>) -> Result<(), AllocError>
+    ensures { OnOk result
+        (entries.new.items ≡ entries.old.items ++ (fault_of activity.now kind ∷ [])) }
 {
     let activity = activity.copy()?;
-    alone(alloc, Entry::Fault(Fault { activity, kind }))
+    alone(Entry::Fault(Fault { activity, kind }), entries)
 }
 
 /// Adds the tokens of the value at the destinations, beside the activity.
 fn send(
-    given: &mut Vec<Entry>,
     activity: &Name,
     value: &Value,
     to: &[Destination],
+    entries: &mut Vec<Entry>,
 ) -> Result<(), AllocError>
     requires { AllByRecursion IsDestination to.now }
     ensures { OnOk result
-        (given.new.items ≡ given.old.items ++ map (sent (beside activity.now) value.now) to.now) }
+        (entries.new.items
+        ≡ entries.old.items ++ map (sent (beside activity.now) value.now) to.now) }
 {
     for destination in to {
         let name = activity
             .plain(destination.statement)
             .map_err(|_| AllocError)?;
-        given.push(Entry::Token(Token::new(name, destination.port, value.copy()?)))?;
+        entries.push(Entry::Token(Token::new(name, destination.port, value.copy()?)))?;
     }
     Ok(())
-}
-
-/// The tokens of the value at the destinations, beside the activity.
-fn tokens_beside(
-    alloc: Global,
-    activity: &Name,
-    value: &Value,
-    to: &[Destination],
-) -> Result<Vec<Entry>, AllocError>
-    requires { AllByRecursion IsDestination to.now }
-    ensures { IfOk result (λ v. v.items ≡ map (sent (beside activity.now) value.now) to.now) }
-{
-    let mut entries = Vec::new(alloc);
-    send(&mut entries, activity, value, to)?;
-    Ok(entries)
 }
 
 /// The activity beside which the destinations lie of a statement of that kind.
@@ -194,106 +180,118 @@ fn reached(alloc: Global, version: Version, kind: &Kind, activity: &Name) -> Res
     }
 }
 
-/// The value at each of the destinations, or the fault why the statement reaches none.
+/// Adds the value at each of the destinations, or the fault why the statement reaches none.
 #[tactic(auto, using(crate::proofs::Linkage::refused_on, crate::proofs::Destinations::list_in_range))]
 fn delivered(
-    alloc: Global,
     version: Version,
     statement: &Statement,
     firing: &Firing,
     value: &Value,
-) -> Result<Vec<Entry>, AllocError>
+    entries: &mut Vec<Entry>,
+) -> Result<(), AllocError>
     requires reaches { IsReachable statement.now.kind firing.now.activity }
     requires limits { IsStatement the_limits statement.now }
-    ensures { IfOk result
-        (λ v. v.items
-        ≡ handed_on version statement.now.kind firing.now.activity
+    ensures { OnOk result
+        (entries.new.items ≡ entries.old.items
+        ++ handed_on version statement.now.kind firing.now.activity
         (list_of statement.now.kind statement.now firing.now.values)
         (Ok value.now)) }
 {
     let activity = &firing.activity;
     let to = list_of(statement, firing.values.as_slice());
+    let alloc = *entries.allocator();
     match reached(alloc, version, statement.kind(), activity) {
-        Ok(near) => tokens_beside(alloc, &near, value, to),
-        Err(NameError::Deep) => fault(alloc, activity, FaultKind::Deep),
-        Err(NameError::Initiation) => fault(alloc, activity, FaultKind::Initiation),
+        Ok(near) => send(&near, value, to, entries),
+        Err(NameError::Deep) => fault(activity, FaultKind::Deep, entries),
+        Err(NameError::Initiation) => fault(activity, FaultKind::Initiation, entries),
         Err(NameError::NoMemory) => Err(AllocError),
     }
 }
 
-/// What a statement that makes a value hands on.
+/// Adds what a statement that makes a value hands on.
 fn handed_on(
     alloc: Global,
     version: Version,
     statement: &Statement,
     firing: &Firing,
-) -> Result<Vec<Entry>, AllocError>
+    entries: &mut Vec<Entry>,
+) -> Result<(), AllocError>
     requires reaches { IsReachable statement.now.kind firing.now.activity }
     requires limits { IsStatement the_limits statement.now }
-    ensures { IfOk result
-        (λ v. v.items
-        ≡ handed_on version statement.now.kind firing.now.activity
+    ensures { OnOk result
+        (entries.new.items ≡ entries.old.items
+        ++ handed_on version statement.now.kind firing.now.activity
         (list_of statement.now.kind statement.now firing.now.values)
         (result_of statement.now.kind firing.now.activity firing.now.values firing.now.write)) }
 {
     match made_by(alloc, statement.kind(), firing)? {
-        Made::Fault(kind) => fault(alloc, &firing.activity, kind),
-        Made::Value(value) => delivered(alloc, version, statement, firing, &value),
+        Made::Fault(kind) => fault(&firing.activity, kind, entries),
+        Made::Value(value) => delivered(version, statement, firing, &value, entries),
     }
 }
 
-/// The tokens of the arguments: each at the statement with its number, beside the first.
-fn arguments_at(alloc: Global, first: &Name, arguments: &[Value]) -> Result<Vec<Entry>, AllocError>
+/// Adds the tokens of the arguments: each at the statement with its number, beside the first.
+fn arguments_at(
+    first: &Name,
+    arguments: &[Value],
+    entries: &mut Vec<Entry>,
+) -> Result<(), AllocError>
     requires { length arguments.now ≤ 4 }
-    ensures { IfOk result (λ v. v.items ≡ arguments_from first.now 1 arguments.now) }
+    ensures { OnOk result
+        (entries.new.items ≡ entries.old.items ++ arguments_from first.now 1 arguments.now) }
 {
-    let mut entries = Vec::new(alloc);
     let mut place = 1;
     for argument in arguments {
         let name = first.plain(place).map_err(|_| AllocError)?;
         entries.push(Entry::Token(Token::new(name, 1, argument.copy()?)))?;
         place += 1;
     }
-    Ok(entries)
+    Ok(())
 }
 
-/// The arguments at the first statements of the called block, or the fault where the context is the deepest.
+/// Adds the arguments at the first statements of the called block, or the fault where the context is the
+/// deepest.
 fn begun(
     alloc: Global,
     activity: &Name,
     block: &BlockName,
     arguments: &[Value],
-) -> Result<Vec<Entry>, AllocError>
+    entries: &mut Vec<Entry>,
+) -> Result<(), AllocError>
     requires { length arguments.now ≤ 4 }
-    ensures { IfOk result (λ v. v.items ≡ begun activity.now block.now arguments.now) }
+    ensures { OnOk result
+        (entries.new.items ≡ entries.old.items ++ begun activity.now block.now arguments.now) }
 {
     match activity.call(alloc, *block, 1) {
-        Ok(first) => arguments_at(alloc, &first, arguments),
+        Ok(first) => arguments_at(&first, arguments, entries),
         Err(NameError::NoMemory) => Err(AllocError),
-        Err(_) => fault(alloc, activity, FaultKind::Deep),
+        Err(_) => fault(activity, FaultKind::Deep, entries),
     }
 }
 
-/// What `apply` gives. A first value that is no procedure of the program is looked for before another
-/// number of arguments, and this before the depth of the context.
+/// Adds what `apply` gives. A first value that is no procedure of the program is looked for before
+/// another number of arguments, and this before the depth of the context.
 fn called(
     alloc: Global,
     program: &Program,
     activity: &Name,
     values: &[Value],
-) -> Result<Vec<Entry>, AllocError>
-    ensures { IfOk result (λ v. v.items ≡ called program.now.blocks activity.now values.now) }
+    entries: &mut Vec<Entry>,
+) -> Result<(), AllocError>
+    ensures { OnOk result
+        (entries.new.items
+        ≡ entries.old.items ++ called program.now.blocks activity.now values.now) }
 {
     let Some((Value::Proc(procedure), arguments)) = values.split_first() else {
-        return fault(alloc, activity, FaultKind::Kind);
+        return fault(activity, FaultKind::Kind, entries);
     };
     let name = procedure.block();
     match block_of(program, name) {
-        None => fault(alloc, activity, FaultKind::Kind),
+        None => fault(activity, FaultKind::Kind, entries),
         Some(block) if arguments.len() == parameters_of(block) => {
-            begun(alloc, activity, name, arguments)
+            begun(alloc, activity, name, arguments, entries)
         }
-        Some(_) => fault(alloc, activity, FaultKind::Arity),
+        Some(_) => fault(activity, FaultKind::Arity, entries),
     }
 }
 
@@ -308,19 +306,20 @@ fn back_of(program: &Program, block: &BlockName, number: u16) -> Option<u16>
     }
 }
 
-/// What `end` gives of its value: in the root the answer, in a call its result.
+/// Adds what `end` gives of its value: in the root the answer, in a call its result.
 fn finished(
-    alloc: Global,
     program: &Program,
     activity: &Name,
     value: Value,
-) -> Result<Vec<Entry>, AllocError>
+    entries: &mut Vec<Entry>,
+) -> Result<(), AllocError>
     requires { IsEndable program.now.blocks activity.now.context }
-    ensures { IfOk result
-        (λ v. v.items ≡ finished program.now.blocks activity.now activity.now.context value) }
+    ensures { OnOk result
+        (entries.new.items ≡ entries.old.items
+        ++ finished program.now.blocks activity.now activity.now.context value) }
 {
     match activity.context().node() {
-        Node::Root => alone(alloc, Entry::Answer(value)),
+        Node::Root => alone(Entry::Answer(value), entries),
         Node::Loop { .. } => unreachable!(),
         Node::Call {
             block,
@@ -330,64 +329,67 @@ fn finished(
             None => unreachable!(),
             Some(back) => {
                 let name = activity.back(back).map_err(|_| AllocError)?;
-                alone(alloc, Entry::Token(Token::new(name, 1, value)))
+                alone(Entry::Token(Token::new(name, 1, value)), entries)
             }
         },
     }
 }
 
-/// What `end` gives.
+/// Adds what `end` gives.
 fn ended(
-    alloc: Global,
     program: &Program,
     activity: &Name,
     values: &[Value],
-) -> Result<Vec<Entry>, AllocError>
+    entries: &mut Vec<Entry>,
+) -> Result<(), AllocError>
     requires { IsEndable program.now.blocks activity.now.context }
-    ensures { IfOk result
-        (λ v. v.items ≡ ended program.now.blocks activity.now (first_of values.now)) }
+    ensures { OnOk result
+        (entries.new.items ≡ entries.old.items
+        ++ ended program.now.blocks activity.now (first_of values.now)) }
 {
     match values {
-        [first, ..] => finished(alloc, program, activity, first.copy()?),
-        _ => fault(alloc, activity, FaultKind::Kind),
+        [first, ..] => finished(program, activity, first.copy()?, entries),
+        _ => fault(activity, FaultKind::Kind, entries),
     }
 }
 
-/// What `store` gives: the write of its third value into the cell that the others name.
-fn stored(alloc: Global, activity: &Name, values: &[Value]) -> Result<Vec<Entry>, AllocError>
-    ensures { IfOk result (λ v. v.items ≡ stored activity.now values.now) }
+/// Adds what `store` gives: the write of its third value into the cell that the others name.
+fn stored(activity: &Name, values: &[Value], entries: &mut Vec<Entry>) -> Result<(), AllocError>
+    ensures { OnOk result
+        (entries.new.items ≡ entries.old.items ++ stored activity.now values.now) }
 {
     match (cell_named(values), values) {
         (Ok((structure, index)), [_, _, value, ..]) => {
-            alone(alloc, wrote(structure, index, activity, value)?)
+            alone(wrote(structure, index, activity, value)?, entries)
         }
-        (Ok(_), _) => fault(alloc, activity, FaultKind::Kind),
-        (Err(kind), _) => fault(alloc, activity, kind),
+        (Ok(_), _) => fault(activity, FaultKind::Kind, entries),
+        (Err(kind), _) => fault(activity, kind, entries),
     }
 }
 
-/// What a statement gives on the values at its ports, and on the write that it reads.
-pub(crate) fn given(
+/// Adds what a statement gives on the values at its ports, and on the write that it reads.
+pub(crate) fn add_given(
     alloc: Global,
     program: &Program,
     statement: &Statement,
     firing: &Firing,
-) -> Result<Vec<Entry>, AllocError>
+    entries: &mut Vec<Entry>,
+) -> Result<(), AllocError>
     requires limits { IsStatement the_limits statement.now }
     requires reaches { IsReachable statement.now.kind firing.now.activity }
     requires ends { is_end statement.now.kind ≡ true
         → IsEndable program.now.blocks firing.now.activity.context }
-    ensures { IfOk result
-        (λ v. v.items
-        ≡ given program.now.version program.now.blocks statement.now firing.now.activity
+    ensures { OnOk result
+        (entries.new.items ≡ entries.old.items
+        ++ given program.now.version program.now.blocks statement.now firing.now.activity
         firing.now.values firing.now.write) }
 {
     let activity = &firing.activity;
     let values = firing.values.as_slice();
     match statement.kind() {
-        Kind::Apply(..) => called(alloc, program, activity, values),
-        Kind::End => ended(alloc, program, activity, values),
-        Kind::Store => stored(alloc, activity, values),
-        _ => handed_on(alloc, program.version(), statement, firing),
+        Kind::Apply(..) => called(alloc, program, activity, values, entries),
+        Kind::End => ended(program, activity, values, entries),
+        Kind::Store => stored(activity, values, entries),
+        _ => handed_on(alloc, program.version(), statement, firing, entries),
     }
 }

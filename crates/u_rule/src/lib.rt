@@ -32,7 +32,7 @@ pub use parts::{Fault, MOST_PORTS, Token, Write, Written};
 pub use ports::ports_at;
 pub use reading::TextError;
 pub use rule::{
-    RuleError, given_by, gives, is_firing, is_firing_in_place, is_fitting, needs, start,
+    RuleError, give, given_by, gives, is_firing, is_firing_in_place, is_fitting, needs, start,
 };
 pub use shared_written::SharedWritten;
 pub use structures::{cell_at, names_cell};

@@ -18,7 +18,7 @@ ghost use Rattle.u_rule.specs.Rule.{tokens_from, start_of, needs_of, gives_of, i
 use crate::entry::Entry;
 use crate::firing::Firing;
 use crate::fits::{fits, statement_of};
-use crate::giving::given;
+use crate::giving::add_given;
 use crate::initiations::fires_in_turns;
 use crate::parts::Token;
 use crate::structures::{add_write, has_its_write};
@@ -206,20 +206,28 @@ pub fn gives(alloc: Global, job: &Job, firing: &Firing) -> Result<Vec<Entry>, Ru
     }
     // Brings in that the program lies within its limits.
     let _ = program.blocks();
-    let entries = given(alloc, program, statement, firing)?;
+    let mut entries = Vec::new(alloc);
+    add_given(alloc, program, statement, firing, &mut entries)?;
     Ok(entries)
 }
 
-/// The entries that a firing of the job gives, as `gives` returns them. It doesn't look whether it is
-/// a firing of the job.
+/// Adds the entries that a firing of the job gives, as `gives` returns them, behind those that stand in
+/// the list. A list that has room for them does not grow. It doesn't look whether it is a firing of the
+/// job. On an error a part of them may stand there.
 ///
 /// # Errors
 /// `AllocError` where there is no memory.
 #[tactic(auto, unfolding(crate::specs::Rule::gives_of, crate::specs::Rule::is_firing_of), using(crate::proofs::Follow::leaves_loop, crate::proofs::Follow::ends_call))]
-pub fn given_by(alloc: Global, job: &Job, firing: &Firing) -> Result<Vec<Entry>, AllocError>
+pub fn give(
+    alloc: Global,
+    job: &Job,
+    firing: &Firing,
+    given: &mut Vec<Entry>,
+) -> Result<(), AllocError>
     requires { IsTrue (is_firing_of job.now firing.now) }
-    ensures all { IfOk result (λ v. v.items ≡ gives_of job.now firing.now) }
-    ensures fitting { IfOk result (λ v. AllFit job.now.program.blocks v.items) }
+    ensures all { OnOk result
+        (given.new.items ≡ given.old.items ++ gives_of job.now firing.now) }
+    ensures fitting { AllFit job.now.program.blocks (gives_of job.now firing.now) }
 {
     let program = job.program();
     let Some(statement) = executed(program, &firing.activity) else {
@@ -227,7 +235,21 @@ pub fn given_by(alloc: Global, job: &Job, firing: &Firing) -> Result<Vec<Entry>,
     };
     // Brings in that the program lies within its limits.
     let _ = program.blocks();
-    let all = given(alloc, program, statement, firing)?;
+    add_given(alloc, program, statement, firing, given)
+}
+
+/// The entries that a firing of the job gives, as `gives` returns them. It doesn't look whether it is
+/// a firing of the job.
+///
+/// # Errors
+/// `AllocError` where there is no memory.
+pub fn given_by(alloc: Global, job: &Job, firing: &Firing) -> Result<Vec<Entry>, AllocError>
+    requires { IsTrue (is_firing_of job.now firing.now) }
+    ensures all { IfOk result (λ v. v.items ≡ gives_of job.now firing.now) }
+    ensures fitting { IfOk result (λ v. AllFit job.now.program.blocks v.items) }
+{
+    let mut all = Vec::new(alloc);
+    give(alloc, job, firing, &mut all)?;
     Ok(all)
 }
 

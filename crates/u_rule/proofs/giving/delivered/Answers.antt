@@ -1,6 +1,6 @@
-use Rattle.std.proofs.Common.{◌≡◌, refl, subst, rules, List, map, IfOk, None}
+use Rattle.std.proofs.Common.{◌≡◌, ◌++◌, subst, rules, List, OnOk, None}
 use Rattle.u_program.specs.declared.program.Kind.{Kind}
-use Rattle.u_rule.specs.Rule.{sent, beside, reached, refusal_of, list_of}
+use Rattle.u_rule.specs.Rule.{reached, refusal_of, list_of}
 use Rattle.u_rule.specs.declared.entry.Entry.{Entry}
 use Rattle.u_rule.proofs.Linkage.{sent_on}
 use Rattle.u_rule.proofs.giving.delivered.Goals as goal
@@ -11,9 +11,8 @@ returns-in-Ok c =
     let s = c.args.statement.now in
     let f = c.args.firing.now in
     let to = list_of s.kind s f.values in
-    let tokens = map (sent (beside near) c.args.value.now) to in
     let there = subst (λ (k : Kind). near ≡ reached k f.activity f.activity.statement) c.kind.ensures c.in-Ok.ensures.0 in
     let free = subst (λ (k : Kind). refusal_of c.args.version k f.activity ≡ None) c.kind.ensures c.in-Ok.ensures.1 in
-    subst (λ (es : List Entry). IfOk c.tokens_beside.result (λ v. v.items ≡ es))
-    (sent_on tokens c.args.version s.kind f.activity near c.args.value.now to refl c.requires.reaches there free)
+    subst (λ (es : List Entry). OnOk c.send.result (c.send.new.entries.items ≡ c.args.entries.now.items ++ es))
+    (sent_on c.args.version s.kind f.activity near c.args.value.now to c.requires.reaches there free)
     (search rules)

@@ -3,4 +3,4 @@ use Rattle.u_rule.specs.Rule.{beside, sent}
 use Rattle.u_rule.proofs.giving.send.Given as goal
 
 abbrev pub invariant-loop-destination : goal.invariant-loop-destination
-invariant-loop-destination l = l.given.items ≡ l.fn.given.items ++ map (sent (beside l.activity) l.value) (take l.destination-index l.to)
+invariant-loop-destination l = l.entries.items ≡ l.fn.entries.items ++ map (sent (beside l.activity) l.value) (take l.destination-index l.to)
