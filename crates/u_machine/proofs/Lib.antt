@@ -5,6 +5,7 @@ pub mod Steps
 pub mod Sorting
 pub mod Beginning
 pub mod States
+pub mod Flight
 pub mod Going
 pub mod Settled
 pub mod Needed

@@ -15,14 +15,14 @@ use Rattle.u_machine.proofs.Lists.{Contains-taken, Contains-dropped}
 use Rattle.u_machine.specs.declared.parts.Parts.{Parts}
 use Rattle.u_machine.specs.Calls.{Applies}
 use Rattle.u_machine.specs.State.{State}
-use Rattle.u_machine.specs.Invariant.{state_of, taken_of, Invariant, GoesOn, MakesMore}
+use Rattle.u_machine.specs.Invariant.{state_of, taken_of, Invariant, GoesOn, MakesMore, log_of}
 use Rattle.u_machine.proofs.States.{Applies-refl}
 
 pub makes_none : (p : Parts) → MakesMore p p
-makes_none p = record { state = refl; log = refl; applied_count = refl; woken = refl }
+makes_none p = record { state = refl; log = refl; applied_count = refl; woken = refl; in_flight = refl }
 
 pub makes_on : (a b c : Parts) → MakesMore a b → MakesMore b c → MakesMore a c
-makes_on a b c p q = record { state = q.state ∙ p.state; log = q.log ∙ p.log; applied_count = q.applied_count ∙ p.applied_count; woken = q.woken ∙ p.woken }
+makes_on a b c p q = record { state = q.state ∙ p.state; log = q.log ∙ p.log; applied_count = q.applied_count ∙ p.applied_count; woken = q.woken ∙ p.woken; in_flight = q.in_flight ∙ p.in_flight }
 
 -- the job stays
 pub same_job : (a b : Parts) → MakesMore a b → b.job.now ≡ a.job.now
@@ -33,27 +33,27 @@ pub makes_applies : (a b : Parts) → MakesMore a b → Applies (state_of a) (st
 makes_applies a b p = rw p.state (Applies-refl (state_of a))
 
 pub makes_goes_on : (a b : Parts) → MakesMore a b → GoesOn a b
-makes_goes_on a b p = record { job = same_job a b p; applied_count = p.applied_count; log = ([], p.log ∙ sym (append-nil a.log.items)) }
+makes_goes_on a b p = record { job = same_job a b p; applied_count = p.applied_count; log = ([], p.log ∙ sym (append-nil (log_of a))); in_flight = p.in_flight }
 
 -- what an entry wakes over a history and itself, it wakes over the history with it
 pub woken_with : (job : JobParts) (e : Entry) (history more : EntryList) (fs : FiringList) → IsWith history e more → AreThose (IsWokenBy job e (HasOr history e)) fs → AreThose (IsWokenBy job e (Contains more)) fs
 woken_with job e history more fs w exact f = ((λ m. let k = (exact f).0 m in (k.0, (k.1.0, λ x n. (w x).1 (k.1.1 x n)))), λ k. (exact f).1 (k.0, (k.1.0, λ x n. (w x).0 (k.1.1 x n))))
 
 -- where no firing is parked that waits for its needs, none was taken that needs an entry which is new
-pub untaken_new : (p : Parts) (k : Invariant p) → length p.parked ≤ length p.log.items - p.applied_count → (e : Entry) → (Contains p.matcher e → ⊥) → (f : Firing) → Contains ((system_of p.job.now).needs f) e → Contains (taken_of p) f → ⊥
+pub untaken_new : (p : Parts) (k : Invariant p) → length p.parked ≤ length (log_of p) - p.applied_count → (e : Entry) → (Contains p.matcher e → ⊥) → (f : Firing) → Contains ((system_of p.job.now).needs f) e → Contains (taken_of p) f → ⊥
 untaken_new p k few e fresh f n t =
-    elim (Contains-append_cases (take p.applied_count p.log.items) p.parked f t)
-    [ inl a ↦ logged (Contains-taken p.applied_count p.log.items f a) | inr b ↦ logged (Contains-dropped p.applied_count p.log.items f (begun b)) ]
+    elim (Contains-append_cases (take p.applied_count (log_of p)) p.parked f t)
+    [ inl a ↦ logged (Contains-taken p.applied_count (log_of p) f a) | inr b ↦ logged (Contains-dropped p.applied_count (log_of p) f (begun b)) ]
   where
     behind : FiringList
-    behind = drop p.applied_count p.log.items
+    behind = drop p.applied_count (log_of p)
 
     begun : Contains p.parked f → Contains behind f
-    begun = all_there behind p.parked (Distinct-right (take p.applied_count p.log.items) behind (rw take-append-drop k.logged.apart)) k.logged.begun (let l = length-drop p.applied_count p.log.items in omega (arith, few, l)) f
+    begun = all_there behind p.parked (Distinct-right (take p.applied_count (log_of p)) behind (rw take-append-drop k.logged.apart)) k.logged.begun (let l = length-drop p.applied_count (log_of p) in omega (arith, few, l)) f
 
-    logged : Contains p.log.items f → ⊥
+    logged : Contains (log_of p) f → ⊥
     logged m = fresh ((k.partitioned.logged f m).1 e n)
 
 -- nothing that was begun is left where nothing was
-pub makes_settled : (a b : Parts) → MakesMore a b → a.applied_count ≡ length a.log.items → b.applied_count ≡ length b.log.items
+pub makes_settled : (a b : Parts) → MakesMore a b → a.applied_count ≡ length (log_of a) → b.applied_count ≡ length (log_of b)
 makes_settled a b p st = p.applied_count ∙ st ∙ ap length (sym p.log)

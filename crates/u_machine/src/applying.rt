@@ -2,19 +2,20 @@
 //! which has a file of its own.
 //!
 //! A firing that begins to be applied goes to the end of the log, and its entries enter one after
-//! another. Each entry that is new enters the matcher. Of the firings that it wakes, those that were
-//! taken go to the end of the log, and the others are ready from then on; a token that wakes many is
-//! put off, and its firings are made later (`late_tokens`). So entries enter
-//! in the order in which they were given: this project's profile. The firings whose entries have all
-//! entered leave the parked ones together, once the log has no more or memory runs out. Then what is
-//! left to do is remembered, and the next call goes on from there.
-ghost use Rattle.std.specs.Prelude.{◌≡◌, ◌↔◌, ◌<◌, ◌≤◌, ◌+◌, [], ◌∷◌, OnOk, IfOk, IsOk, IsTrue, IsFalse, Contains, ◌-◌, length};
+//! another. Where nothing else is parked it is in flight meanwhile, and goes there once they have.
+//! Each entry that is new enters the matcher. Of the firings that it wakes, those that were taken go to
+//! the end of the log, and the others are ready from then on; a token that wakes many is put off, and
+//! its firings are made later (`late_tokens`). So entries enter in the order in which they were given:
+//! this project's profile. The firings of the log whose entries have all entered leave the parked ones
+//! together, once the log has no more or memory runs out. Then what is left to do is remembered, and
+//! the next call goes on from there.
+ghost use Rattle.std.specs.Prelude.{◌≡◌, ◌↔◌, ◌<◌, ◌≤◌, ◌+◌, [], ◌∷◌, OnOk, IfOk, IsOk, IsTrue, IsFalse, Contains, ◌-◌, length, true, false};
 ghost use Rattle.u_rule.specs.Rule.{system_of};
 ghost use Rattle.u_rule.specs.Fits.{IsFitting, AllFit};
 ghost use Rattle.u_rule.specs.declared.entry.Entry.{Entry};
 ghost use Rattle.u_rule.specs.declared.firing.Firing.{Firing};
 ghost use Rattle.u_machine.specs.Calls.{Applies};
-ghost use Rattle.u_machine.specs.Invariant.{state_of, woken_of, IsNext, Invariant, Gives, HasEntered, EnteredBefore, GoesOn, SameButApplied, Lengthens};
+ghost use Rattle.u_machine.specs.Invariant.{state_of, woken_of, IsNext, Invariant, Gives, HasEntered, EnteredBefore, GoesOn, SameButApplied, Lengthens, MakesMore, log_of};
 
 use crate::parts::Parts;
 use crate::room::{first_of, push_into_room, put_first, take_first, turned};
@@ -22,16 +23,22 @@ use std::alloc::AllocError;
 use std::mem;
 use u_check::Job;
 use u_match::Entered;
-use u_rule::{Entry, Firing, given_by};
+use u_rule::{Entry, Firing, give};
 
 impl<'a> Parts<'a> {
     /// Whether a firing is parked that is not being applied, since it waits for its needs.
     fn has_waiting(&self) -> bool
         requires { Invariant self.now }
         ensures { IsFalse result → length self.now.parked
-            ≤ length self.now.log.items - self.now.applied_count }
+            ≤ length (log_of self.now) - self.now.applied_count }
     {
-        self.log.len() - self.applied_count < self.parked.len()
+        if self.in_flight {
+            return false;
+        }
+        if self.log.len() - self.applied_count < self.parked.len() {
+            return true;
+        }
+        false
     }
 
     /// Lets an entry enter, unless it did, with all firings made that late tokens wake. What it wakes is
@@ -83,6 +90,7 @@ impl<'a> Parts<'a> {
     /// The next firing that was woken was taken: it begins to be applied.
     fn begin_next(&mut self) -> Result<(), AllocError>
         requires kept { Invariant self.old }
+        requires logged { self.old.in_flight ≡ false }
         requires some { 0 < length (woken_of self.old) }
         requires taken { (f : Firing) → IsNext self.old f → Contains self.old.parked f }
         ensures kept { Invariant self.new }
@@ -125,8 +133,12 @@ impl<'a> Parts<'a> {
     fn is_parked(&self, firing: &Firing) -> bool
         requires kept { Invariant self.now }
         requires woken { Contains (woken_of self.now) firing.now }
-        ensures { IsTrue result ↔ Contains self.now.parked firing.now }
+        ensures parked { IsTrue result ↔ Contains self.now.parked firing.now }
+        ensures logged { IsTrue result → self.now.in_flight ≡ false }
     {
+        if self.in_flight {
+            return false;
+        }
         if self.parked.len() <= self.log.len() - self.applied_count {
             return false;
         }
@@ -203,29 +215,116 @@ impl<'a> Parts<'a> {
         Ok(())
     }
 
+    /// The list for what a firing gives, which is empty. It has the room of the last one.
+    fn take_list(&mut self) -> Vec<Entry>
+        requires { Invariant self.old }
+        ensures none { result.items ≡ [] }
+        ensures kept { Invariant self.new }
+        ensures same { MakesMore self.old self.new }
+    {
+        let mut given = mem::replace(&mut self.given, Vec::new(self.alloc));
+        given.clear();
+        given
+    }
+
+    /// Lets all these entries enter, and keeps the list, whose room is used again.
+    fn enter_and_keep(&mut self, given: Vec<Entry>) -> Result<(), AllocError>
+        requires kept { Invariant self.old }
+        requires idle { woken_of self.old ≡ [] }
+        requires gives { (e : Entry) → Contains given.items e → Gives self.old e }
+        requires fit { AllFit self.old.job.now.program.blocks given.items }
+        ensures kept { Invariant self.new }
+        ensures applies { Applies (state_of self.old) (state_of self.new) }
+        ensures goes { GoesOn self.old self.new }
+        ensures idle { OnOk result (woken_of self.new ≡ []) }
+        ensures has { OnOk result
+            ((e : Entry) → Contains given.items e → Contains self.new.matcher e) }
+    {
+        self.enter_all(&given)?;
+        self.given = given;
+        Ok(())
+    }
+
+    /// Lets all enter that the firing in flight gives.
+    fn enter_flying(&mut self) -> Result<(), AllocError>
+        requires kept { Invariant self.old }
+        requires flight { self.old.in_flight ≡ true }
+        requires idle { woken_of self.old ≡ [] }
+        ensures kept { Invariant self.new }
+        ensures applies { Applies (state_of self.old) (state_of self.new) }
+        ensures goes { GoesOn self.old self.new }
+        ensures idle { OnOk result (woken_of self.new ≡ []) }
+        ensures has { OnOk result (HasEntered self.new self.new.applied_count) }
+    {
+        let mut given = self.take_list();
+        let Some(firing) = self.parked.first() else {
+            unreachable!();
+        };
+        give(self.alloc, self.job, firing, &mut given)?;
+        self.enter_and_keep(given)?;
+        Ok(())
+    }
+
+    /// The firing in flight is applied: all that it gives has entered. It goes to the end of the log.
+    fn land(&mut self)
+        requires kept { Invariant self.old }
+        requires flight { self.old.in_flight ≡ true }
+        requires idle { woken_of self.old ≡ [] }
+        requires all { HasEntered self.old self.old.applied_count }
+        ensures kept { Invariant self.new }
+        ensures applies { Applies (state_of self.old) (state_of self.new) }
+        ensures same { log_of self.new ≡ log_of self.old }
+        ensures all { self.new.applied_count ≡ length (log_of self.new) }
+    {
+        let Some(firing) = self.parked.pop_first() else {
+            unreachable!();
+        };
+        push_into_room(&mut self.log, firing);
+        self.in_flight = false;
+        self.applied_count += 1;
+    }
+
+    /// The firing in flight is applied, and goes to the end of the log.
+    fn settle_flying(&mut self) -> Result<(), AllocError>
+        requires kept { Invariant self.old }
+        requires flight { self.old.in_flight ≡ true }
+        requires idle { woken_of self.old ≡ [] }
+        ensures kept { Invariant self.new }
+        ensures applies { Applies (state_of self.old) (state_of self.new) }
+        ensures log { Lengthens (log_of self.old) (log_of self.new) }
+        ensures ok { OnOk result (self.new.applied_count ≡ length (log_of self.new)) }
+    {
+        self.enter_flying()?;
+        self.land();
+        Ok(())
+    }
+
     /// Lets all enter that the firing at that place of the log gives, one of those that are being
     /// applied.
     fn enter_given(&mut self, place: usize) -> Result<(), AllocError>
         requires kept { Invariant self.old }
+        requires logged { self.old.in_flight ≡ false }
         requires idle { woken_of self.old ≡ [] }
         requires from { self.old.applied_count ≤ place }
-        requires to { place < length self.old.log.items }
+        requires to { place < length (log_of self.old) }
         ensures kept { Invariant self.new }
         ensures applies { Applies (state_of self.old) (state_of self.new) }
         ensures goes { GoesOn self.old self.new }
         ensures idle { OnOk result (woken_of self.new ≡ []) }
         ensures has { OnOk result (HasEntered self.new place) }
     {
-        let given = given_by(self.alloc, self.job, &self.log[place])?;
-        self.enter_all(&given)?;
+        let mut given = self.take_list();
+        give(self.alloc, self.job, &self.log[place], &mut given)?;
+        self.enter_and_keep(given)?;
         Ok(())
     }
 
     /// The next firing of the log is applied: all that it gives has entered.
     fn close(&mut self)
         requires kept { Invariant self.old }
-        requires some { self.old.applied_count < length self.old.log.items }
-        requires idle { self.old.applied_count + 1 ≡ length self.old.log.items
+        requires logged { self.old.in_flight ≡ false }
+        requires some { self.old.applied_count < length (log_of self.old) }
+        requires idle { self.old.applied_count + 1 ≡ length (log_of self.old)
             → woken_of self.old ≡ [] }
         requires all { HasEntered self.old self.old.applied_count }
         ensures kept { Invariant self.new }
@@ -240,14 +339,15 @@ impl<'a> Parts<'a> {
     /// All firings of the log are applied: all that they give has entered. No others are parked.
     fn close_all(&mut self)
         requires kept { Invariant self.old }
+        requires logged { self.old.in_flight ≡ false }
         requires idle { woken_of self.old ≡ [] }
         requires none { self.old.applied_count + length self.old.parked
-            ≡ length self.old.log.items }
-        requires all { EnteredBefore self.old (length self.old.log.items) }
+            ≡ length (log_of self.old) }
+        requires all { EnteredBefore self.old (length (log_of self.old)) }
         ensures kept { Invariant self.new }
         ensures applies { Applies (state_of self.old) (state_of self.new) }
         ensures still { SameButApplied self.old self.new }
-        ensures applied_count { self.new.applied_count ≡ length self.old.log.items }
+        ensures applied_count { self.new.applied_count ≡ length (log_of self.old) }
     {
         self.parked.clear();
         self.applied_count = self.log.len();
@@ -257,9 +357,10 @@ impl<'a> Parts<'a> {
     /// entered. Where nothing else is parked, none of them is looked for.
     fn close_before(&mut self, place: usize)
         requires kept { Invariant self.old }
+        requires logged { self.old.in_flight ≡ false }
         requires from { self.old.applied_count ≤ place }
-        requires to { place ≤ length self.old.log.items }
-        requires idle { place ≡ length self.old.log.items → woken_of self.old ≡ [] }
+        requires to { place ≤ length (log_of self.old) }
+        requires idle { place ≡ length (log_of self.old) → woken_of self.old ≡ [] }
         requires all { EnteredBefore self.old place }
         ensures kept { Invariant self.new }
         ensures applies { Applies (state_of self.old) (state_of self.new) }
@@ -275,20 +376,16 @@ impl<'a> Parts<'a> {
         }
     }
 
-    /// Goes on until all that was begun is applied.
-    pub(crate) fn settle(&mut self) -> Result<(), AllocError>
-        requires { Invariant self.old }
+    /// Goes on with the firings of the log until all are applied. Those that were woken are sorted out.
+    fn settle_logged(&mut self) -> Result<(), AllocError>
+        requires kept { Invariant self.old }
+        requires logged { self.old.in_flight ≡ false }
+        requires idle { woken_of self.old ≡ [] }
         ensures kept { Invariant self.new }
         ensures applies { Applies (state_of self.old) (state_of self.new) }
-        ensures log { Lengthens self.old.log.items self.new.log.items }
-        ensures ok { OnOk result (self.new.applied_count ≡ length self.new.log.items) }
-        ensures still { self.old.applied_count ≡ length self.old.log.items
-            → IsOk result × (self.new ≡ self.old) }
+        ensures log { Lengthens (log_of self.old) (log_of self.new) }
+        ensures ok { OnOk result (self.new.applied_count ≡ length (log_of self.new)) }
     {
-        if self.is_settled() {
-            return Ok(());
-        }
-        self.sort_all()?;
         let mut place = self.applied_count;
         while place < self.log.len() {
             let Ok(()) = self.enter_given(place) else {
@@ -298,6 +395,28 @@ impl<'a> Parts<'a> {
             place += 1;
         }
         self.close_before(place);
+        Ok(())
+    }
+
+    /// Goes on until all that was begun is applied.
+    pub(crate) fn settle(&mut self) -> Result<(), AllocError>
+        requires { Invariant self.old }
+        ensures kept { Invariant self.new }
+        ensures applies { Applies (state_of self.old) (state_of self.new) }
+        ensures log { Lengthens (log_of self.old) (log_of self.new) }
+        ensures ok { OnOk result (self.new.applied_count ≡ length (log_of self.new)) }
+        ensures still { self.old.applied_count ≡ length (log_of self.old)
+            → IsOk result × (self.new ≡ self.old) }
+    {
+        if self.is_settled() {
+            return Ok(());
+        }
+        self.sort_all()?;
+        if self.in_flight {
+            self.settle_flying()?;
+            return Ok(());
+        }
+        self.settle_logged()?;
         Ok(())
     }
 }

@@ -15,7 +15,7 @@ ghost use Rattle.u_rule.specs.declared.entry.Entry.TheVariants.{Token as token_e
 ghost use Rattle.u_sets.specs.Members.{HasOr, IsUnion};
 ghost use Rattle.u_match.specs.Waking.{WakesSome};
 ghost use Rattle.u_machine.specs.Calls.{Applies};
-ghost use Rattle.u_machine.specs.Invariant.{state_of, woken_of, Invariant, Gives, GoesOn, MakesMore, GainsSome, HasNoneOf, NeedsNoLate, KnowsLeast};
+ghost use Rattle.u_machine.specs.Invariant.{state_of, woken_of, Invariant, Gives, GoesOn, MakesMore, GainsSome, HasNoneOf, NeedsNoLate, KnowsLeast, log_of};
 
 use crate::parts::Parts;
 use std::alloc::{AllocError, Global};
@@ -210,7 +210,7 @@ impl<'a> Parts<'a> {
         requires new { Contains self.old.matcher entry.now → ⊥ }
         requires wakes { WakesSome self.old.job.now entry.now (HasOr self.old.matcher entry.now) }
         requires unparked { length self.old.parked
-            ≤ length self.old.log.items - self.old.applied_count }
+            ≤ length (log_of self.old) - self.old.applied_count }
         ensures kept { Invariant self.new }
         ensures applies { Applies (state_of self.old) (state_of self.new) }
         ensures goes { GoesOn self.old self.new }

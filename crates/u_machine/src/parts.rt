@@ -7,7 +7,7 @@ ghost use Rattle.std.specs.Prelude.{◌≡◌, ◌↔◌, [], ◌∷◌, IfOk, I
 ghost use Rattle.u_rule.specs.Rule.{system_of};
 ghost use Rattle.u_machine.specs.State.{IsSettled, state};
 ghost use Rattle.u_system.specs.Firing.{Same};
-ghost use Rattle.u_machine.specs.Invariant.{state_of, Invariant};
+ghost use Rattle.u_machine.specs.Invariant.{state_of, Invariant, log_of};
 
 use std::alloc::{AllocError, Global};
 use u_check::Job;
@@ -22,16 +22,21 @@ pub(crate) struct Parts<'a> {
     pub(crate) job: &'a Job,
     /// The greatest number of taken firings.
     pub(crate) limit: usize,
-    /// The applied firings, and behind them those that are being applied.
+    /// The applied firings, and behind them those that are being applied, without one in flight.
     pub(crate) log: Vec<Firing>,
     /// How many firings of the log were applied.
     pub(crate) applied_count: usize,
     /// The firings that were taken and not applied.
     pub(crate) parked: OrderedSet<Firing>,
+    /// Whether the only parked firing is in flight: it is being applied, and goes to the end of the log
+    /// once it is, which has room for it. So it is moved there, and never copied.
+    pub(crate) in_flight: bool,
     /// The firings that are enabled and not taken, as far as they were made.
     pub(crate) ready: OrderedSet<Firing>,
     /// The tokens that were put off: the firings that they wake are enabled, and not made.
     pub(crate) late: OrderedSet<Entry>,
+    /// A list for what a firing gives, whose room is used again.
+    pub(crate) given: Vec<Entry>,
     /// The firings that the last entry woke and that are still to be sorted out, the last one first. Once
     /// they are, the list's room is used for what the next entry wakes.
     pub(crate) woken: Vec<Firing>,
@@ -69,9 +74,11 @@ impl<'a> Parts<'a> {
             log: Vec::new(alloc),
             applied_count: 0,
             parked: OrderedSet::new(alloc),
+            in_flight: false,
             ready,
             late: OrderedSet::new(alloc),
             woken: Vec::new(alloc),
+            given: Vec::new(alloc),
             matcher,
         })
     }
@@ -81,8 +88,11 @@ impl<'a> Parts<'a> {
         requires { Invariant self.now }
         ensures settled { IsTrue result ↔ IsSettled (state_of self.now) }
         ensures applied_count { IsTrue result
-            ↔ (self.now.applied_count ≡ length self.now.log.items) }
+            ↔ (self.now.applied_count ≡ length (log_of self.now)) }
     {
+        if self.in_flight {
+            return false;
+        }
         if self.applied_count < self.log.len() {
             return false;
         }

@@ -6,7 +6,7 @@ ghost use Rattle.u_rule.specs.Rule.{system_of};
 ghost use Rattle.u_machine.specs.State.{Taken, count_of};
 ghost use Rattle.u_machine.specs.Calls.{Takes, TakeAnswer};
 ghost use Rattle.u_machine.specs.Taking.{AreFirings, IsFirstOther, AreNew, HasSoManyNew, GainsNew, Fits, IsTooLong, TakeAllAnswer};
-ghost use Rattle.u_machine.specs.Invariant.{state_of, woken_of, Invariant, Begins, NeedsNoLate};
+ghost use Rattle.u_machine.specs.Invariant.{state_of, woken_of, Invariant, Begins, NeedsNoLate, log_of};
 ghost use Rattle.u_rule.specs.declared.firing.Firing.{Firing};
 ghost use Rattle.u_machine.specs.declared.answer.Took.TheVariants as answers;
 
@@ -59,14 +59,25 @@ impl<'a> Parts<'a> {
         is_among(&self.woken, firing)
     }
 
+    /// Whether the firing is in the log, or in flight. It is compared with each of them.
+    fn is_logged(&self, firing: &Firing) -> bool
+        requires { Invariant self.now }
+        ensures { IsTrue result ↔ Contains (log_of self.now) firing.now }
+    {
+        if is_among(&self.log, firing) {
+            return true;
+        }
+        self.in_flight && self.parked.contains(firing)
+    }
+
     /// Whether the firing was applied or is being applied. Each firing that has all that it needs is in
     /// the log, or ready, or still to be sorted out, or needs a late token, and the log has no others.
     fn has_begun(&self, firing: &Firing) -> bool
         requires { Invariant self.now }
-        ensures { IsTrue result ↔ Contains self.now.log.items firing.now }
+        ensures { IsTrue result ↔ Contains (log_of self.now) firing.now }
     {
         let Ok(held) = self.matcher.has_all_of(self.job, firing) else {
-            return is_among(&self.log, firing);
+            return self.is_logged(firing);
         };
         if !held {
             return false;
@@ -79,7 +90,7 @@ impl<'a> Parts<'a> {
             return false;
         }
         let Ok(late) = self.needs_late(firing) else {
-            return is_among(&self.log, firing);
+            return self.is_logged(firing);
         };
         if late {
             return false;
@@ -98,7 +109,7 @@ impl<'a> Parts<'a> {
     /// Whether no further firing may be taken. All that was begun is applied.
     pub(crate) fn is_full(&self) -> bool
         requires kept { Invariant self.now }
-        requires settled { self.now.applied_count ≡ length self.now.log.items }
+        requires settled { self.now.applied_count ≡ length (log_of self.now) }
         ensures full { IsTrue result → count_of (state_of self.now) ≡ self.now.limit }
         ensures room { IsFalse result → count_of (state_of self.now) < self.now.limit }
     {
@@ -108,14 +119,14 @@ impl<'a> Parts<'a> {
     /// A ready firing begins to be applied. All that was begun before is applied.
     pub(crate) fn begin(&mut self, firing: Firing) -> Result<(), AllocError>
         requires kept { Invariant self.old }
-        requires settled { self.old.applied_count ≡ length self.old.log.items }
+        requires settled { self.old.applied_count ≡ length (log_of self.old) }
         requires ready { Contains self.old.ready firing }
         requires made { NeedsNoLate self.old firing }
         requires room { count_of (state_of self.old) < self.old.limit }
         ensures kept { Invariant self.new }
         ensures takes { OnOk result (Takes (state_of self.old) firing (state_of self.new)) }
         ensures err { OnErr result (state_of self.new ≡ state_of self.old) }
-        ensures log { OnOk result (self.new.log.items ≡ self.old.log.items ++ firing ∷ []) }
+        ensures log { OnOk result ((log_of self.new) ≡ (log_of self.old) ++ firing ∷ []) }
     {
         let waiting = firing.copy(self.alloc)?;
         self.log.reserve(1)?;
@@ -125,10 +136,11 @@ impl<'a> Parts<'a> {
         Ok(())
     }
 
-    /// The least ready firing begins to be applied, as in `begin`. It is found without comparing.
-    pub(crate) fn begin_least(&mut self) -> Result<(), AllocError>
+    /// The least ready firing begins to be applied, where nothing is parked: it is in flight.
+    fn launch_least(&mut self) -> Result<(), AllocError>
         requires kept { Invariant self.old }
-        requires settled { self.old.applied_count ≡ length self.old.log.items }
+        requires settled { self.old.applied_count ≡ length (log_of self.old) }
+        requires unparked { self.old.parked ≡ [] }
         requires ready { 0 < length self.old.ready }
         requires made { (f : Firing) → slice_get self.old.ready 0 ≡ Some f
             → NeedsNoLate self.old f }
@@ -137,6 +149,29 @@ impl<'a> Parts<'a> {
         ensures ok { OnOk result (Begins self.old 0 self.new) }
         ensures err { OnErr result (state_of self.new ≡ state_of self.old) }
     {
+        self.log.reserve(1)?;
+        // Brings in that the ready firings rise.
+        let _count = self.ready.len();
+        self.parked.take_first_from(&mut self.ready)?;
+        self.in_flight = true;
+        Ok(())
+    }
+
+    /// The least ready firing begins to be applied, as in `begin`. It is found without comparing.
+    pub(crate) fn begin_least(&mut self) -> Result<(), AllocError>
+        requires kept { Invariant self.old }
+        requires settled { self.old.applied_count ≡ length (log_of self.old) }
+        requires ready { 0 < length self.old.ready }
+        requires made { (f : Firing) → slice_get self.old.ready 0 ≡ Some f
+            → NeedsNoLate self.old f }
+        requires room { count_of (state_of self.old) < self.old.limit }
+        ensures kept { Invariant self.new }
+        ensures ok { OnOk result (Begins self.old 0 self.new) }
+        ensures err { OnErr result (state_of self.new ≡ state_of self.old) }
+    {
+        if self.parked.is_empty() {
+            return self.launch_least();
+        }
         let Some(least) = self.ready.first() else {
             unreachable!();
         };
@@ -163,7 +198,7 @@ impl<'a> Parts<'a> {
     /// A ready firing begins to be applied, as in `begin`. The least one is not looked for.
     fn begin_ready(&mut self, firing: &Firing, is_least: bool) -> Result<(), AllocError>
         requires kept { Invariant self.old }
-        requires settled { self.old.applied_count ≡ length self.old.log.items }
+        requires settled { self.old.applied_count ≡ length (log_of self.old) }
         requires ready { Contains self.old.ready firing.now }
         requires made { NeedsNoLate self.old firing.now }
         requires least { IsTrue is_least → slice_get self.old.ready 0 ≡ Some firing.now }
@@ -171,7 +206,7 @@ impl<'a> Parts<'a> {
         ensures kept { Invariant self.new }
         ensures takes { OnOk result (Takes (state_of self.old) firing.now (state_of self.new)) }
         ensures err { OnErr result (state_of self.new ≡ state_of self.old) }
-        ensures log { OnOk result (self.new.log.items ≡ self.old.log.items ++ firing.now ∷ []) }
+        ensures log { OnOk result ((log_of self.new) ≡ (log_of self.old) ++ firing.now ∷ []) }
     {
         if is_least {
             self.begin_least()?;
@@ -186,7 +221,7 @@ impl<'a> Parts<'a> {
     /// was taken. All that was begun before is applied.
     fn take_made(&mut self, firing: &Firing, is_least: bool) -> Result<Took, TakeRefusal>
         requires kept { Invariant self.old }
-        requires settled { self.old.applied_count ≡ length self.old.log.items }
+        requires settled { self.old.applied_count ≡ length (log_of self.old) }
         requires ready { Contains self.old.ready firing.now }
         requires made { NeedsNoLate self.old firing.now }
         requires least { IsTrue is_least → slice_get self.old.ready 0 ≡ Some firing.now }
@@ -203,7 +238,7 @@ impl<'a> Parts<'a> {
     /// begun before is applied.
     fn take_ready(&mut self, firing: &Firing, is_least: bool) -> Result<Took, TakeRefusal>
         requires kept { Invariant self.old }
-        requires settled { self.old.applied_count ≡ length self.old.log.items }
+        requires settled { self.old.applied_count ≡ length (log_of self.old) }
         requires ready { Contains self.old.ready firing.now }
         requires least { IsTrue is_least → slice_get self.old.ready 0 ≡ Some firing.now }
         ensures kept { Invariant self.new }
@@ -223,8 +258,8 @@ impl<'a> Parts<'a> {
     /// parked already. All that was begun before is applied.
     fn park(&mut self, firing: &Firing) -> Result<Took, AllocError>
         requires kept { Invariant self.old }
-        requires settled { self.old.applied_count ≡ length self.old.log.items }
-        requires unapplied { Contains self.old.log.items firing.now → ⊥ }
+        requires settled { self.old.applied_count ≡ length (log_of self.old) }
+        requires unapplied { Contains (log_of self.old) firing.now → ⊥ }
         requires unready { Contains self.old.ready firing.now → ⊥ }
         requires made { NeedsNoLate self.old firing.now }
         requires firing { IsTrue ((system_of self.old.job.now).is_firing firing.now) }
@@ -260,8 +295,8 @@ impl<'a> Parts<'a> {
     /// can't be put there.
     fn park_or_known(&mut self, firing: &Firing) -> Result<Took, TakeRefusal>
         requires kept { Invariant self.old }
-        requires settled { self.old.applied_count ≡ length self.old.log.items }
-        requires unapplied { Contains self.old.log.items firing.now → ⊥ }
+        requires settled { self.old.applied_count ≡ length (log_of self.old) }
+        requires unapplied { Contains (log_of self.old) firing.now → ⊥ }
         requires unready { Contains self.old.ready firing.now → ⊥ }
         requires made { NeedsNoLate self.old firing.now }
         requires firing { IsTrue ((system_of self.old.job.now).is_firing firing.now) }
@@ -279,8 +314,8 @@ impl<'a> Parts<'a> {
     /// it needs are made, and it is among them or is parked. All that was begun before is applied.
     fn take_late(&mut self, firing: &Firing) -> Result<Took, TakeRefusal>
         requires kept { Invariant self.old }
-        requires settled { self.old.applied_count ≡ length self.old.log.items }
-        requires unapplied { Contains self.old.log.items firing.now → ⊥ }
+        requires settled { self.old.applied_count ≡ length (log_of self.old) }
+        requires unapplied { Contains (log_of self.old) firing.now → ⊥ }
         requires firing { IsTrue ((system_of self.old.job.now).is_firing firing.now) }
         requires room { count_of (state_of self.old) < self.old.limit }
         ensures kept { Invariant self.new }
@@ -300,8 +335,8 @@ impl<'a> Parts<'a> {
     /// is parked already. All that was begun before is applied.
     fn take_early(&mut self, firing: &Firing) -> Result<Took, TakeRefusal>
         requires kept { Invariant self.old }
-        requires settled { self.old.applied_count ≡ length self.old.log.items }
-        requires unapplied { Contains self.old.log.items firing.now → ⊥ }
+        requires settled { self.old.applied_count ≡ length (log_of self.old) }
+        requires unapplied { Contains (log_of self.old) firing.now → ⊥ }
         requires unready { Contains self.old.ready firing.now → ⊥ }
         requires firing { IsTrue ((system_of self.old.job.now).is_firing firing.now) }
         ensures kept { Invariant self.new }
@@ -320,7 +355,7 @@ impl<'a> Parts<'a> {
     /// is looked at first.
     fn take_settled(&mut self, firing: &Firing) -> Result<Took, TakeRefusal>
         requires kept { Invariant self.old }
-        requires settled { self.old.applied_count ≡ length self.old.log.items }
+        requires settled { self.old.applied_count ≡ length (log_of self.old) }
         ensures kept { Invariant self.new }
         ensures answer { TakeAnswer (state_of self.old) firing.now result (state_of self.new) }
     {
@@ -378,7 +413,7 @@ impl<'a> Parts<'a> {
     /// Whether so many more firings may be taken. All that was begun is applied.
     fn has_room(&self, more: usize) -> bool
         requires kept { Invariant self.now }
-        requires settled { self.now.applied_count ≡ length self.now.log.items }
+        requires settled { self.now.applied_count ≡ length (log_of self.now) }
         ensures room { IsTrue result → count_of (state_of self.now) + more ≤ self.now.limit }
         ensures full { IsFalse result → self.now.limit < count_of (state_of self.now) + more }
     {
@@ -433,7 +468,7 @@ impl<'a> Parts<'a> {
     /// would be too long. All that was begun is applied.
     fn may_take(&self, firings: &[Firing]) -> bool
         requires kept { Invariant self.now }
-        requires settled { self.now.applied_count ≡ length self.now.log.items }
+        requires settled { self.now.applied_count ≡ length (log_of self.now) }
         ensures fits { IsTrue result → Fits (state_of self.now) firings.now }
         ensures long { IsFalse result → IsTooLong (state_of self.now) firings.now }
     {

@@ -1,11 +1,13 @@
-use Rattle.std.proofs.Common.{◌≡◌, ◌∙◌, ◌+◌, length, ◌++◌, [], ◌∷◌, subst, sym, ap}
+use Rattle.std.proofs.Common.{◌≡◌, false, ◌∙◌, ◌+◌, length, ◌++◌, [], ◌∷◌, subst, sym, ap}
 use Rattle.std.specs.Prelude.{Contains, slice_get}
 use Rattle.u_rule.specs.EntryOrder.{FiringList}
 use Rattle.u_rule.specs.declared.firing.Firing.{Firing}
 use Rattle.u_sets.specs.Members.{IsWith}
 use Rattle.u_system.proofs.Member.{Contains-head}
+use Rattle.std.proofs.lemmas.Bool.{false≢true}
+use Rattle.u_machine.proofs.Flight.{as_it_stands, not_flying}
 use Rattle.u_machine.proofs.Beginning.{unparked, begun_logged, begun_partitioned, begun_idle, begun_takes, begun_late, others}
-use Rattle.u_machine.specs.Invariant.{NeedsNoLate}
+use Rattle.u_machine.specs.Invariant.{NeedsNoLate, log_of, log_with}
 use Rattle.u_machine.proofs.Lists.{first_is}
 use Rattle.u_machine.proofs.parts.Parts.begin_least.Goals as goal
 use Rattle.u_machine.proofs.parts.Parts.begin_least.Goals.{After-push_into_room}
@@ -24,8 +26,17 @@ one_more c =
     c.in_ok-insert.ensures.count
     (c.in_ok-insert.ensures.new.1 (λ m. unparked c.args.self.now c.requires.kept c.in-Some-pop_first.firing (was c) (subst (λ (f : Firing). Contains c.args.self.now.parked f) (copied c) m)))
 
-logs : (c : After-push_into_room) → c.push_into_room.new.list.items ≡ c.args.self.now.log.items ++ c.in-Some-pop_first.firing ∷ []
-logs c = c.push_into_room.ensures.items ∙ ap (λ (l : FiringList). l ++ c.in-Some-pop_first.firing ∷ []) c.reserve.ensures.items
+landed : (c : After-push_into_room) → c.args.self.now.in_flight ≡ false
+landed c = not_flying c.args.self.now c.requires.kept c.requires.settled
+
+-- the log, with the firing
+abbrev log : After-push_into_room → FiringList
+log c = log_with c.args.self.now.in_flight c.push_into_room.new.list.items c.insert.new.self
+
+logs : (c : After-push_into_room) → log c ≡ (log_of c.args.self.now) ++ c.in-Some-pop_first.firing ∷ []
+logs c =
+    as_it_stands _ _ _ (landed c) ∙ c.push_into_room.ensures.items
+    ∙ ap (λ (l : FiringList). l ++ c.in-Some-pop_first.firing ∷ []) (c.reserve.ensures.items ∙ sym (as_it_stands _ _ _ (landed c)))
 
 -- it needs no late token
 free : (c : After-push_into_room) → NeedsNoLate c.args.self.now c.in-Some-pop_first.firing
@@ -38,17 +49,18 @@ returns-clause-kept c =
     let f = c.in-Some-pop_first.firing in
     record {
       all_ready = others m k f (was c);
-      logged = begun_logged m k f (was c) c.requires.settled c.requires.room c.insert.new.self c.pop_first.new.self c.push_into_room.new.list.items (with_it c) c.in_ok-insert.ensures.rises (one_more c) (logs c) c.in-Some-pop_first.ensures.without;
-      partitioned = begun_partitioned m k f (was c) c.requires.settled c.requires.room c.insert.new.self c.pop_first.new.self c.push_into_room.new.list.items (with_it c) c.in_ok-insert.ensures.rises (one_more c) (logs c) c.in-Some-pop_first.ensures.without;
-      late = begun_late m k f (was c) c.requires.settled c.requires.room c.insert.new.self c.pop_first.new.self c.push_into_room.new.list.items (with_it c) c.in_ok-insert.ensures.rises (one_more c) (logs c) c.in-Some-pop_first.ensures.without (free c);
-      idle = begun_idle m k f (was c) c.requires.settled c.requires.room c.insert.new.self c.pop_first.new.self c.push_into_room.new.list.items (with_it c) c.in_ok-insert.ensures.rises (one_more c) (logs c) c.in-Some-pop_first.ensures.without;
+      flight = λ e. absurd (false≢true (sym (landed c) ∙ e));
+      logged = begun_logged m k f (was c) c.requires.settled c.requires.room c.insert.new.self c.pop_first.new.self (log c) (with_it c) c.in_ok-insert.ensures.rises (one_more c) (logs c) c.in-Some-pop_first.ensures.without;
+      partitioned = begun_partitioned m k f (was c) c.requires.settled c.requires.room c.insert.new.self c.pop_first.new.self (log c) (with_it c) c.in_ok-insert.ensures.rises (one_more c) (logs c) c.in-Some-pop_first.ensures.without;
+      late = begun_late m k f (was c) c.requires.settled c.requires.room c.insert.new.self c.pop_first.new.self (log c) (with_it c) c.in_ok-insert.ensures.rises (one_more c) (logs c) c.in-Some-pop_first.ensures.without (free c);
+      idle = begun_idle m k f (was c) c.requires.settled c.requires.room c.insert.new.self c.pop_first.new.self (log c) (with_it c) c.in_ok-insert.ensures.rises (one_more c) (logs c) c.in-Some-pop_first.ensures.without;
     }
 
 pub returns-clause-ok : goal.returns-clause-ok
 returns-clause-ok c = record {
   firing = c.in-Some-pop_first.firing;
   at = ap (λ (fs : FiringList). slice_get fs 0) c.in-Some-pop_first.ensures.some;
-  takes = begun_takes c.args.self.now c.requires.kept c.in-Some-pop_first.firing (was c) c.requires.settled c.requires.room c.insert.new.self c.pop_first.new.self c.push_into_room.new.list.items (with_it c) c.in_ok-insert.ensures.rises (one_more c) (logs c)
+  takes = begun_takes c.args.self.now c.requires.kept c.in-Some-pop_first.firing (was c) c.requires.settled c.requires.room c.insert.new.self c.pop_first.new.self (log c) (with_it c) c.in_ok-insert.ensures.rises (one_more c) (logs c)
       c.in-Some-pop_first.ensures.without;
   log = logs c;
 }

@@ -2,7 +2,9 @@ use Rattle.std.proofs.Common.{◌≡◌, ap, length, arith, length-append, [], �
 use Rattle.std.proofs.lemmas.List.{take-append-le}
 use Rattle.u_rule.specs.EntryOrder.{FiringList}
 use Rattle.std.proofs.lemmas.List.Elements.{Contains-append_right}
-use Rattle.u_machine.specs.Invariant.{IsLogged, IsPartitioned, HasLate}
+use Rattle.u_machine.specs.Invariant.{IsLogged, IsPartitioned, HasLate, log_of, log_with}
+use Rattle.std.proofs.lemmas.Bool.{false≢true}
+use Rattle.u_machine.proofs.Flight.{as_it_stands}
 use Rattle.u_machine.proofs.Settled.{not_logged, enabled_first}
 use Rattle.u_machine.proofs.Steps.{begins}
 use Rattle.u_machine.proofs.Sorting.{sorts_logged}
@@ -10,8 +12,10 @@ use Rattle.u_machine.proofs.LateTokens.{sorts_logged_late}
 use Rattle.u_machine.proofs.parts.Parts.begin_next.Goals as goal
 use Rattle.u_machine.proofs.parts.Parts.begin_next.Goals.{After-push_into_room}
 
-logs : (c : After-push_into_room) → c.push_into_room.new.list.items ≡ c.args.self.now.log.items ++ c.in-Some.firing ∷ []
-logs c = c.push_into_room.ensures.items ∙ ap (λ (l : FiringList). l ++ c.in-Some.firing ∷ []) c.reserve.ensures.items
+logs : (c : After-push_into_room) → log_with c.args.self.now.in_flight c.push_into_room.new.list.items c.args.self.now.parked ≡ (log_of c.args.self.now) ++ c.in-Some.firing ∷ []
+logs c =
+    as_it_stands _ _ _ c.requires.logged ∙ c.push_into_room.ensures.items
+    ∙ ap (λ (l : FiringList). l ++ c.in-Some.firing ∷ []) (c.reserve.ensures.items ∙ sym (as_it_stands _ _ _ c.requires.logged))
 
 pub returns-clause-kept : goal.returns-clause-kept
 returns-clause-kept c =
@@ -21,7 +25,7 @@ returns-clause-kept c =
     let rest = reverse c.take_first.new.turned.items in
     let n = c.in-Some.ensures.some in
     let l = logs c in
-    let s : take m.applied_count (m.log.items ++ f ∷ []) ≡ take m.applied_count m.log.items = take-append-le m.applied_count m.log.items (f ∷ []) k.logged.place in
+    let s : take m.applied_count ((log_of m) ++ f ∷ []) ≡ take m.applied_count (log_of m) = take-append-le m.applied_count (log_of m) (f ∷ []) k.logged.place in
     record {
       all_ready = k.all_ready;
       logged = subst (λ (log : FiringList). IsLogged m.job.now m.limit log m.applied_count m.parked m.matcher) (sym l)
@@ -29,6 +33,7 @@ returns-clause-kept c =
       partitioned = subst (λ (log : FiringList). IsPartitioned m.job.now log (take m.applied_count log ++ m.parked) k.all_ready rest m.matcher) (sym l)
           (rw s (sorts_logged _ _ _ _ _ _ k.partitioned f rest n));
       late = subst (λ (log : FiringList). HasLate m.job.now (take m.applied_count log ++ m.parked) k.all_ready m.ready rest m.late m.matcher) (sym l)
-          (rw s (sorts_logged_late _ _ _ _ _ _ _ k.late f rest n (Contains-append_right (take m.applied_count m.log.items) m.parked f (c.requires.taken f (rest, n)))));
-      idle = λ e. let a = length-append m.log.items (f ∷ []) in let b = k.logged.place in let d = ap length l in absurd (omega (arith, e));
+          (rw s (sorts_logged_late _ _ _ _ _ _ _ k.late f rest n (Contains-append_right (take m.applied_count (log_of m)) m.parked f (c.requires.taken f (rest, n)))));
+      flight = λ e. absurd (false≢true (sym c.requires.logged ∙ e));
+      idle = λ e. let a = length-append (log_of m) (f ∷ []) in let b = k.logged.place in let d = ap length l in absurd (omega (arith, e));
     }

@@ -20,6 +20,7 @@ returns-in_err-add_all-clause-kept c =
     let a = (goal.at.returns-in_err-add_all-clause-kept c).After-add_all in
     record {
       all_ready = k.all_ready;
+      flight = k.flight;
       logged = k.logged;
       partitioned = k.partitioned;
       late = makes_some _ _ _ _ _ _ _ k.late c.args.token.now c.deref.result.now c.add_all.new.ready c.requires.idle c.requires.late (exact a) c.add_all.ensures.some;
@@ -32,6 +33,7 @@ returns-clause-kept c =
     let a = (goal.at.returns-clause-kept c).After-add_all in
     record {
       all_ready = k.all_ready;
+      flight = k.flight;
       logged = k.logged;
       partitioned = k.partitioned;
       late = makes_all _ _ _ _ _ _ _ k.late c.args.token.now c.deref.result.now c.add_all.new.ready c.requires.idle c.requires.late (exact a) c.add_all.ensures.some c.take_out.new.self (λ f m. (c.in_ok-add_all.ensures.ok f).1 (inr m)) c.take_out.ensures.without;

@@ -8,6 +8,7 @@ use Rattle.u_rule.specs.EntryOrder.{entry_cmp, EntryList, FiringList}
 use Rattle.u_sets.specs.Rising.{Rises}
 use Rattle.u_sets.specs.Members.{IsWith}
 use Rattle.u_machine.specs.State.{state}
+use Rattle.std.proofs.lemmas.Bool.{false≢true}
 use Rattle.u_machine.proofs.Fresh.{only_one, fresh_log, fresh_partitioned}
 use Rattle.u_machine.proofs.LateTokens.{none_late}
 use Rattle.u_machine.proofs.parts.Parts.new.Goals as goal
@@ -24,6 +25,7 @@ held c =
 pub returns-clause-kept : goal.returns-clause-kept
 returns-clause-kept c = record {
   all_ready = c.in_ok-ready.ready;
+  flight = λ e. absurd (false≢true e);
   logged = rw (c.new.ensures.items, c.new-2.ensures, held c) (fresh_log c.args.job.now c.args.limit);
   partitioned = rw (c.new.ensures.items, c.new-2.ensures, c.new-4.ensures.items)
       (fresh_partitioned c.args.job.now c.args.limit c.enter.new.self c.in_ok-woken.woken.items c.in_ok-ready.ready (starts c)

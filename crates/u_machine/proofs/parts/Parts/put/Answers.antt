@@ -3,7 +3,7 @@ use Rattle.u_rule.specs.EntryOrder.{FiringList}
 use Rattle.u_match.specs.Waking.{EnterAnswer}
 use Rattle.u_match.specs.declared.matcher.Entered.{Entered}
 use Rattle.u_match.specs.declared.matcher.Entered.TheVariants as woken_entries
-use Rattle.u_machine.specs.Invariant.{IsPartitioned, HasLate, taken_of}
+use Rattle.u_machine.specs.Invariant.{IsPartitioned, HasLate, taken_of, log_of}
 use Rattle.u_machine.proofs.Lists.{slice_get_Contains}
 use Rattle.u_machine.proofs.Going.{slice_get_below}
 use Rattle.u_machine.proofs.Steps.{entered}
@@ -30,12 +30,13 @@ returns-in-Woken-clause-kept c =
     let (f, at, from, place, g) = c.requires.gives in
     record {
       all_ready = k.all_ready;
+      flight = k.flight;
       logged = entered _ _ _ _ _ _ k.logged f e more (slice_get_Contains _ _ f place) g w;
-      partitioned = subst (λ (fs : FiringList). IsPartitioned m.job.now m.log.items (taken_of m) k.all_ready fs more) (sym c.turned.ensures)
+      partitioned = subst (λ (fs : FiringList). IsPartitioned m.job.now (log_of m) (taken_of m) k.all_ready fs more) (sym c.turned.ensures)
           (woken_more _ _ _ _ _ _ k.partitioned e more found c.requires.idle fresh w exact order);
       late = subst (λ (fs : FiringList). HasLate m.job.now (taken_of m) k.all_ready m.ready fs m.late more) (sym c.turned.ensures)
           (enters_late _ _ _ _ _ _ _ k.late e more c.requires.idle fresh w (λ h i. (k.partitioned.fit h i).0) found exact (λ h x i t _. untaken_new m k few e fresh h ((exact h).0 i).0 t));
-      idle = λ q. let b = slice_get_below m.log.items at f place in absurd (omega (arith, b, q, from));
+      idle = λ q. let b = slice_get_below (log_of m) at f place in absurd (omega (arith, b, q, from));
     }
 
 pub returns-in-Woken-clause-applies : goal.returns-in-Woken-clause-applies

@@ -14,6 +14,7 @@ returns-in-Ok-clause-kept c =
     record {
       all_ready = f ∷ k.all_ready;
       logged = k.logged;
+      flight = k.flight;
       partitioned = sorts_ready _ _ _ _ _ _ k.partitioned f rest (f ∷ k.all_ready) n (λ t. c.requires.new f (rest, n) (parked_first m k f rest n t)) (with_first f k.all_ready);
       late = sorts_ready_late _ _ _ _ _ _ _ k.late f rest c.insert.new.self n k.partitioned.once c.in-Ok.ensures.ok;
       idle = λ e. absurd (not_idle m k f rest n (k.idle e));
