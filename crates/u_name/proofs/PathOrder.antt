@@ -1,8 +1,5 @@
 -- The order of contexts is that of their paths.
 use Rattle.std.specs.Prelude.{◌≡◌, ℕ, ◌<◌, ◌/◌, ◌%◌, ◌^◌, min, max, List, [], ◌∷◌, ◌++◌, refl}
-use Rattle.std.proofs.lemmas.Map.Text.{is_eq-slice_cmp}
-use Rattle.std.specs.Ordering.{is_eq, eq_by_cmp}
-use Rattle.std.specs.Str.{bytes_eq}
 use Rattle.std.proofs.Common.{sym, ◌∙◌, ap, arith, append_assoc}
 use Rattle.std.specs.Ordering.{ordering_then, nat_cmp}
 use Rattle.std.specs.declared.cmp.Ordering.{Ordering}
@@ -140,7 +137,3 @@ path_of_root = refl
 pub greatest_by : (s : Linkage) (o : Tree) (b : List ℕ) (i : ℕ) → max (greatest_turn o) i ≡ greatest_turn (tree_by s o b i)
 greatest_by (Loop n) o b i = refl
 greatest_by (Call n) o b i = refl
-
--- two contexts are the same exactly where their paths are
-pub same_paths : (x y : Tree) → IsContext x → IsContext y → bytes_eq (path x) (path y) ≡ eq_by_cmp context_cmp x y
-same_paths x y f g = sym (is_eq-slice_cmp (path x) (path y)) ∙ ap is_eq (by_paths x y f g)

@@ -15,7 +15,7 @@ ghost use Rattle.u_name.specs.ContextLaws.{context_cmp_total};
 ghost use Rattle.u_name.specs.ContextHash.{context_hash, hashes_alike};
 
 use crate::block_name::BlockName;
-use crate::path::{CALL, LOOP, OF_ROOT, path_around};
+use crate::path::{CALL, LOOP, OF_ROOT, behind_alike, path_around};
 use std::alloc::{AllocError, Global};
 use std::cmp::Ordering;
 use std::hash::{Hash, Hasher};
@@ -207,7 +207,7 @@ impl Inner {
     }
 
     /// Whether they are the same. Where the digests differ, nothing else is looked at.
-    #[tactic(auto, using(crate::proofs::EqualContexts::other_digest, crate::proofs::PathOrder::same_paths))]
+    #[tactic(auto, using(crate::proofs::EqualContexts::other_digest))]
     fn is_same(&self, other: &Inner) -> bool
         requires own { IsBeside self.now }
         requires own_in { IsContext (inner_tree self.now) }
@@ -218,7 +218,8 @@ impl Inner {
         if self.digest != other.digest {
             return false;
         }
-        self.path == other.path
+        let (left, right) = behind_alike(&self.path, &other.path);
+        left == right
     }
 }
 

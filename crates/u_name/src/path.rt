@@ -8,9 +8,12 @@
 //! The first is the first eight bytes of the block's name, and its last eight are a word only where the
 //! eighth is not 0, for otherwise they are all 0. The number shares a word with an initiation below
 //! 2^48 - 1. Beside a greater one it stands with 2^48 - 1, and the initiation has a word of its own.
-ghost use Rattle.std.specs.Prelude.{◌≡◌, ◌+◌, ◌≤◌, ◌++◌, ◌∷◌, IfOk, length};
+//!
+//! Two of them are compared behind a front that both begin with, which is found eight words at a time.
+ghost use Rattle.std.specs.Prelude.{◌≡◌, ◌+◌, ◌≤◌, ◌++◌, ◌∷◌, ◌↔◌, IfOk, IsTrue, length};
 ghost use Rattle.u_name.specs.Words.{words, low_part, own_part, turn_words};
 ghost use Rattle.u_name.specs.Path.{kind_words, with_kind};
+ghost use Rattle.u_name.specs.Fronts.{AreBehindOneFront};
 
 use crate::block_name::BlockName;
 use std::alloc::{AllocError, Global};
@@ -26,6 +29,9 @@ pub(crate) const OF_ROOT: [u64; KIND_WORDS] = [0; KIND_WORDS];
 
 /// How many words the kinds take.
 const KIND_WORDS: usize = 2;
+
+/// How many words are compared at once.
+const AT_ONCE: usize = 8;
 
 /// How many bits of a word stand behind its first kind.
 const BEHIND_KIND: u32 = 62;
@@ -111,4 +117,34 @@ fn push_turn(all: &mut Vec<u64>, number: u16, initiation: u64) -> Result<(), All
         all.push(initiation)?;
     }
     Ok(())
+}
+
+/// Whether they are the same words. All are looked at, and nothing branches between them.
+fn are_alike(left: &[u64; AT_ONCE], right: &[u64; AT_ONCE]) -> bool
+    ensures { IsTrue result ↔ (left.now ≡ right.now) }
+{
+    let first = (left[0] ^ right[0]) | (left[1] ^ right[1]);
+    let second = (left[2] ^ right[2]) | (left[3] ^ right[3]);
+    let third = (left[4] ^ right[4]) | (left[5] ^ right[5]);
+    let fourth = (left[6] ^ right[6]) | (left[7] ^ right[7]);
+    ((first | second) | (third | fourth)) == 0
+}
+
+/// What stands behind a front that both begin with. The front is taken eight words at a time, so the
+/// rests may still begin alike.
+pub(crate) fn behind_alike<'a>(left: &'a [u64], right: &'a [u64]) -> (&'a [u64], &'a [u64])
+    ensures { AreBehindOneFront left.now right.now result.0.now result.1.now }
+{
+    let (mut left_rest, mut right_rest) = (left, right);
+    while let (Some((left_front, left_behind)), Some((right_front, right_behind))) = (
+        left_rest.split_first_chunk::<AT_ONCE>(),
+        right_rest.split_first_chunk::<AT_ONCE>(),
+    ) {
+        if !are_alike(left_front, right_front) {
+            break;
+        }
+        left_rest = left_behind;
+        right_rest = right_behind;
+    }
+    (left_rest, right_rest)
 }
