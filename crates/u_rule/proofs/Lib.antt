@@ -1,4 +1,5 @@
 pub mod Destinations
+pub mod SentTokens
 pub mod Orders
 pub mod Linkage
 pub mod Places

@@ -1,5 +1,5 @@
 -- Where the destinations of a statement lie: beside one activity.
-use Rattle.std.proofs.Common.{◌≡◌, refl, ap, sym, ◌∙◌, ℕ, List, [], ◌∷◌, ◌++◌, map, Contains, inl, inr, Some, None, Ok}
+use Rattle.std.proofs.Common.{◌≡◌, refl, ap, sym, ◌∙◌, ℕ, List, [], ◌∷◌, map, Contains, inl, inr, Some, None, Ok}
 use Rattle.u_name.specs.Context.{Tree, Top, InLoop, InCall}
 use Rattle.u_name.specs.Name.{Activity, left, IsInLoop}
 use Rattle.u_value.specs.declared.value.Value.{Value}
@@ -41,5 +41,5 @@ pub sent_on : (version : Version) (k : Kind) (a near : Activity) (v : Value) (ds
 sent_on version k a near v ds i n r = rw r (sent_alike k a near v ds i n)
 
 -- a refusal is a fault
-pub refused_on : (old new : List Entry) (version : Version) (k : Kind) (a : Activity) (v : Value) (ds : List Destination) (why : FaultKind) → new ≡ old ++ (fault_of a why ∷ []) → refusal_of version k a ≡ Some why → new ≡ old ++ handed_on version k a ds (Ok v)
-refused_on old new version k a v ds why e r = rw r e
+pub refused_on : (es : List Entry) (version : Version) (k : Kind) (a : Activity) (v : Value) (ds : List Destination) (why : FaultKind) → es ≡ fault_of a why ∷ [] → refusal_of version k a ≡ Some why → es ≡ handed_on version k a ds (Ok v)
+refused_on es version k a v ds why e r = rw r e

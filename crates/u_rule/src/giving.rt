@@ -5,19 +5,20 @@
 //! have a greatest, and that a fault is given beyond, is this project's profile, and that an `apply`
 //! of several arguments sends each to its own statement. Structures are those of Arvind and Nikhil
 //! (1990), which `alloc` makes, `store` writes and `fetch` reads.
-ghost use Rattle.std.specs.Prelude.{◌≡◌, ◌≤◌, ◌++◌, ◌∷◌, [], length, map, true, Ok, IfOk, IfSome, OnOk, MatchResult, None};
-ghost use Rattle.std.specs.List.{AllByRecursion};
+ghost use Rattle.std.specs.Prelude.{◌≡◌, ◌≤◌, ◌∷◌, [], length, true, Ok, IfOk, IfSome, MatchResult, None};
 ghost use Rattle.u_name.specs.Context.{IsBetween};
-ghost use Rattle.u_program.specs.Limits.{IsDestination, IsStatement, IsKind, the_limits};
+ghost use Rattle.u_program.specs.Limits.{IsStatement, IsKind, the_limits};
 ghost use Rattle.u_check.specs.Kinds.{is_end};
 ghost use Rattle.u_rule.specs.HandingOn.{outcome_of, IsReachable, IsRefusal, IsEndable};
 ghost use Rattle.u_rule.specs.Fits.{statement_of};
+ghost use Rattle.u_rule.specs.HeldEntries.{entries_given};
 ghost use Rattle.u_rule.specs.Structures.{cell_named, allocated, fetched, stored};
-ghost use Rattle.u_rule.specs.Rule.{first_of, result_of, value_of, list_of, sent, beside, reached, refusal_of, handed_on, arguments_from, begun, called, back_of, finished, ended, given, fault_of};
+ghost use Rattle.u_rule.specs.Rule.{first_of, result_of, value_of, list_of, beside, reached, refusal_of, handed_on, arguments_from, begun, called, back_of, finished, ended, given, fault_of};
 
 use crate::entry::Entry;
 use crate::firing::Firing;
 use crate::fits::{block_of, statement_of};
+use crate::held::{Given, Sending};
 use crate::initiations::last_turn;
 use crate::parameters::parameters_of;
 use crate::parts::{Fault, Token};
@@ -122,42 +123,12 @@ fn list_of<'a>(statement: &'a Statement, values: &[Value]) -> &'a [Destination]
     }
 }
 
-/// Adds one entry.
-fn alone(entry: Entry, entries: &mut Vec<Entry>) -> Result<(), AllocError>
-    ensures { OnOk result (entries.new.items ≡ entries.old.items ++ (entry ∷ [])) }
-{
-    entries.push(entry)?;
-    Ok(())
-}
-
-/// Adds the fault of the activity.
-fn fault(activity: &Name, kind: FaultKind, entries: &mut Vec<Entry>) -> Result<(), AllocError>
-    ensures { OnOk result
-        (entries.new.items ≡ entries.old.items ++ (fault_of activity.now kind ∷ [])) }
+/// The fault of the activity.
+fn fault<'a>(activity: &Name, kind: FaultKind) -> Result<Given<'a>, AllocError>
+    ensures { IfOk result (λ g. entries_given g ≡ fault_of activity.now kind ∷ []) }
 {
     let activity = activity.copy()?;
-    alone(Entry::Fault(Fault { activity, kind }), entries)
-}
-
-/// Adds the tokens of the value at the destinations, beside the activity.
-fn send(
-    activity: &Name,
-    value: &Value,
-    to: &[Destination],
-    entries: &mut Vec<Entry>,
-) -> Result<(), AllocError>
-    requires { AllByRecursion IsDestination to.now }
-    ensures { OnOk result
-        (entries.new.items
-        ≡ entries.old.items ++ map (sent (beside activity.now) value.now) to.now) }
-{
-    for destination in to {
-        let name = activity
-            .plain(destination.statement)
-            .map_err(|_| AllocError)?;
-        entries.push(Entry::Token(Token::new(name, destination.port, value.copy()?)))?;
-    }
-    Ok(())
+    Ok(Given::Alone(Entry::Fault(Fault { activity, kind })))
 }
 
 /// The activity beside which the destinations lie of a statement of that kind.
@@ -180,118 +151,111 @@ fn reached(alloc: Global, version: Version, kind: &Kind, activity: &Name) -> Res
     }
 }
 
-/// Adds the value at each of the destinations, or the fault why the statement reaches none.
+/// The value at each of the destinations, or the fault why the statement reaches none.
 #[tactic(auto, using(crate::proofs::Linkage::refused_on, crate::proofs::Destinations::list_in_range))]
-fn delivered(
+fn delivered<'a>(
+    alloc: Global,
     version: Version,
-    statement: &Statement,
+    statement: &'a Statement,
     firing: &Firing,
-    value: &Value,
-    entries: &mut Vec<Entry>,
-) -> Result<(), AllocError>
+    value: Value,
+) -> Result<Given<'a>, AllocError>
     requires reaches { IsReachable statement.now.kind firing.now.activity }
     requires limits { IsStatement the_limits statement.now }
-    ensures { OnOk result
-        (entries.new.items ≡ entries.old.items
-        ++ handed_on version statement.now.kind firing.now.activity
+    ensures { IfOk result (λ g. entries_given g
+        ≡ handed_on version statement.now.kind firing.now.activity
         (list_of statement.now.kind statement.now firing.now.values)
-        (Ok value.now)) }
+        (Ok value)) }
 {
     let activity = &firing.activity;
     let to = list_of(statement, firing.values.as_slice());
-    let alloc = *entries.allocator();
     match reached(alloc, version, statement.kind(), activity) {
-        Ok(near) => send(&near, value, to, entries),
-        Err(NameError::Deep) => fault(activity, FaultKind::Deep, entries),
-        Err(NameError::Initiation) => fault(activity, FaultKind::Initiation, entries),
+        Ok(near) => Ok(Given::Sent(Sending::new(near, value, to))),
+        Err(NameError::Deep) => fault(activity, FaultKind::Deep),
+        Err(NameError::Initiation) => fault(activity, FaultKind::Initiation),
         Err(NameError::NoMemory) => Err(AllocError),
     }
 }
 
-/// Adds what a statement that makes a value hands on.
-fn handed_on(
+/// What a statement that makes a value hands on.
+fn handed_on<'a>(
     alloc: Global,
     version: Version,
-    statement: &Statement,
+    statement: &'a Statement,
     firing: &Firing,
-    entries: &mut Vec<Entry>,
-) -> Result<(), AllocError>
+) -> Result<Given<'a>, AllocError>
     requires reaches { IsReachable statement.now.kind firing.now.activity }
     requires limits { IsStatement the_limits statement.now }
-    ensures { OnOk result
-        (entries.new.items ≡ entries.old.items
-        ++ handed_on version statement.now.kind firing.now.activity
+    ensures { IfOk result (λ g. entries_given g
+        ≡ handed_on version statement.now.kind firing.now.activity
         (list_of statement.now.kind statement.now firing.now.values)
         (result_of statement.now.kind firing.now.activity firing.now.values firing.now.write)) }
 {
     match made_by(alloc, statement.kind(), firing)? {
-        Made::Fault(kind) => fault(&firing.activity, kind, entries),
-        Made::Value(value) => delivered(version, statement, firing, &value, entries),
+        Made::Fault(kind) => fault(&firing.activity, kind),
+        Made::Value(value) => delivered(alloc, version, statement, firing, value),
     }
 }
 
-/// Adds the tokens of the arguments: each at the statement with its number, beside the first.
-fn arguments_at(
-    first: &Name,
-    arguments: &[Value],
-    entries: &mut Vec<Entry>,
-) -> Result<(), AllocError>
+/// The tokens of the arguments: each at the statement with its number, beside the first.
+fn arguments_at(alloc: Global, first: &Name, arguments: &[Value]) -> Result<Vec<Entry>, AllocError>
     requires { length arguments.now ≤ 4 }
-    ensures { OnOk result
-        (entries.new.items ≡ entries.old.items ++ arguments_from first.now 1 arguments.now) }
+    ensures { IfOk result (λ v. v.items ≡ arguments_from first.now 1 arguments.now) }
 {
+    let mut entries = Vec::new(alloc);
     let mut place = 1;
     for argument in arguments {
         let name = first.plain(place).map_err(|_| AllocError)?;
         entries.push(Entry::Token(Token::new(name, 1, argument.copy()?)))?;
         place += 1;
     }
-    Ok(())
+    Ok(entries)
 }
 
-/// Adds the arguments at the first statements of the called block, or the fault where the context is the
+/// The arguments at the first statements of the called block, or the fault where the context is the
 /// deepest.
-fn begun(
+fn begun<'a>(
     alloc: Global,
     activity: &Name,
     block: &BlockName,
     arguments: &[Value],
-    entries: &mut Vec<Entry>,
-) -> Result<(), AllocError>
+) -> Result<Given<'a>, AllocError>
     requires { length arguments.now ≤ 4 }
-    ensures { OnOk result
-        (entries.new.items ≡ entries.old.items ++ begun activity.now block.now arguments.now) }
+    ensures { IfOk result
+        (λ g. entries_given g ≡ begun activity.now block.now arguments.now) }
 {
-    match activity.call(alloc, *block, 1) {
-        Ok(first) => arguments_at(&first, arguments, entries),
-        Err(NameError::NoMemory) => Err(AllocError),
-        Err(_) => fault(activity, FaultKind::Deep, entries),
+    match (activity.call(alloc, *block, 1), arguments) {
+        (Ok(first), [only]) => {
+            let argument = only.copy()?;
+            Ok(Given::Alone(Entry::Token(Token::new(first, 1, argument))))
+        }
+        (Ok(first), _) => Ok(Given::Listed(arguments_at(alloc, &first, arguments)?)),
+        (Err(NameError::NoMemory), _) => Err(AllocError),
+        (Err(_), _) => fault(activity, FaultKind::Deep),
     }
 }
 
-/// Adds what `apply` gives. A first value that is no procedure of the program is looked for before
-/// another number of arguments, and this before the depth of the context.
-fn called(
+/// What `apply` gives. A first value that is no procedure of the program is looked for before another
+/// number of arguments, and this before the depth of the context.
+fn called<'a>(
     alloc: Global,
     program: &Program,
     activity: &Name,
     values: &[Value],
-    entries: &mut Vec<Entry>,
-) -> Result<(), AllocError>
-    ensures { OnOk result
-        (entries.new.items
-        ≡ entries.old.items ++ called program.now.blocks activity.now values.now) }
+) -> Result<Given<'a>, AllocError>
+    ensures { IfOk result
+        (λ g. entries_given g ≡ called program.now.blocks activity.now values.now) }
 {
     let Some((Value::Proc(procedure), arguments)) = values.split_first() else {
-        return fault(activity, FaultKind::Kind, entries);
+        return fault(activity, FaultKind::Kind);
     };
     let name = procedure.block();
     match block_of(program, name) {
-        None => fault(activity, FaultKind::Kind, entries),
+        None => fault(activity, FaultKind::Kind),
         Some(block) if arguments.len() == parameters_of(block) => {
-            begun(alloc, activity, name, arguments, entries)
+            begun(alloc, activity, name, arguments)
         }
-        Some(_) => fault(activity, FaultKind::Arity, entries),
+        Some(_) => fault(activity, FaultKind::Arity),
     }
 }
 
@@ -306,20 +270,14 @@ fn back_of(program: &Program, block: &BlockName, number: u16) -> Option<u16>
     }
 }
 
-/// Adds what `end` gives of its value: in the root the answer, in a call its result.
-fn finished(
-    program: &Program,
-    activity: &Name,
-    value: Value,
-    entries: &mut Vec<Entry>,
-) -> Result<(), AllocError>
+/// What `end` gives of its value: in the root the answer, in a call its result.
+fn finished(program: &Program, activity: &Name, value: Value) -> Result<Entry, AllocError>
     requires { IsEndable program.now.blocks activity.now.context }
-    ensures { OnOk result
-        (entries.new.items ≡ entries.old.items
-        ++ finished program.now.blocks activity.now activity.now.context value) }
+    ensures { IfOk result (λ e. e ∷ []
+        ≡ finished program.now.blocks activity.now activity.now.context value) }
 {
     match activity.context().node() {
-        Node::Root => alone(Entry::Answer(value), entries),
+        Node::Root => Ok(Entry::Answer(value)),
         Node::Loop { .. } => unreachable!(),
         Node::Call {
             block,
@@ -329,67 +287,58 @@ fn finished(
             None => unreachable!(),
             Some(back) => {
                 let name = activity.back(back).map_err(|_| AllocError)?;
-                alone(Entry::Token(Token::new(name, 1, value)), entries)
+                Ok(Entry::Token(Token::new(name, 1, value)))
             }
         },
     }
 }
 
-/// Adds what `end` gives.
-fn ended(
-    program: &Program,
-    activity: &Name,
-    values: &[Value],
-    entries: &mut Vec<Entry>,
-) -> Result<(), AllocError>
+/// What `end` gives.
+fn ended<'a>(program: &Program, activity: &Name, values: &[Value]) -> Result<Given<'a>, AllocError>
     requires { IsEndable program.now.blocks activity.now.context }
-    ensures { OnOk result
-        (entries.new.items ≡ entries.old.items
-        ++ ended program.now.blocks activity.now (first_of values.now)) }
+    ensures { IfOk result (λ g. entries_given g
+        ≡ ended program.now.blocks activity.now (first_of values.now)) }
 {
     match values {
-        [first, ..] => finished(program, activity, first.copy()?, entries),
-        _ => fault(activity, FaultKind::Kind, entries),
+        [first, ..] => Ok(Given::Alone(finished(program, activity, first.copy()?)?)),
+        _ => fault(activity, FaultKind::Kind),
     }
 }
 
-/// Adds what `store` gives: the write of its third value into the cell that the others name.
-fn stored(activity: &Name, values: &[Value], entries: &mut Vec<Entry>) -> Result<(), AllocError>
-    ensures { OnOk result
-        (entries.new.items ≡ entries.old.items ++ stored activity.now values.now) }
+/// What `store` gives: the write of its third value into the cell that the others name.
+fn stored<'a>(activity: &Name, values: &[Value]) -> Result<Given<'a>, AllocError>
+    ensures { IfOk result (λ g. entries_given g ≡ stored activity.now values.now) }
 {
     match (cell_named(values), values) {
         (Ok((structure, index)), [_, _, value, ..]) => {
-            alone(wrote(structure, index, activity, value)?, entries)
+            Ok(Given::Alone(wrote(structure, index, activity, value)?))
         }
-        (Ok(_), _) => fault(activity, FaultKind::Kind, entries),
-        (Err(kind), _) => fault(activity, kind, entries),
+        (Ok(_), _) => fault(activity, FaultKind::Kind),
+        (Err(kind), _) => fault(activity, kind),
     }
 }
 
-/// Adds what a statement gives on the values at its ports, and on the write that it reads.
-pub(crate) fn add_given(
+/// What a statement gives on the values at its ports, and on the write that it reads.
+pub(crate) fn given_at<'a>(
     alloc: Global,
     program: &Program,
-    statement: &Statement,
+    statement: &'a Statement,
     firing: &Firing,
-    entries: &mut Vec<Entry>,
-) -> Result<(), AllocError>
+) -> Result<Given<'a>, AllocError>
     requires limits { IsStatement the_limits statement.now }
     requires reaches { IsReachable statement.now.kind firing.now.activity }
     requires ends { is_end statement.now.kind ≡ true
         → IsEndable program.now.blocks firing.now.activity.context }
-    ensures { OnOk result
-        (entries.new.items ≡ entries.old.items
-        ++ given program.now.version program.now.blocks statement.now firing.now.activity
+    ensures { IfOk result (λ g. entries_given g
+        ≡ given program.now.version program.now.blocks statement.now firing.now.activity
         firing.now.values firing.now.write) }
 {
     let activity = &firing.activity;
     let values = firing.values.as_slice();
     match statement.kind() {
-        Kind::Apply(..) => called(alloc, program, activity, values, entries),
-        Kind::End => ended(program, activity, values, entries),
-        Kind::Store => stored(activity, values, entries),
-        _ => handed_on(alloc, program.version(), statement, firing, entries),
+        Kind::Apply(..) => called(alloc, program, activity, values),
+        Kind::End => ended(program, activity, values),
+        Kind::Store => stored(activity, values),
+        _ => handed_on(alloc, program.version(), statement, firing),
     }
 }

@@ -15,7 +15,9 @@ mod firing;
 mod firing_reading;
 mod fits;
 mod giving;
+mod held;
 mod initiations;
+mod lent;
 mod parameters;
 mod parts;
 mod ports;
@@ -28,11 +30,13 @@ mod writing;
 
 pub use entry::Entry;
 pub use firing::Firing;
+pub use held::{Given, Sending};
+pub use lent::{NameRef, TokenRef};
 pub use parts::{Fault, MOST_PORTS, Token, Write, Written};
 pub use ports::ports_at;
 pub use reading::TextError;
 pub use rule::{
-    RuleError, give, given_by, gives, is_firing, is_firing_in_place, is_fitting, needs, start,
+    RuleError, given, given_by, gives, is_firing, is_firing_in_place, is_fitting, needs, start,
 };
 pub use shared_written::SharedWritten;
 pub use structures::{cell_at, names_cell};

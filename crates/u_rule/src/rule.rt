@@ -4,7 +4,7 @@
 //! in Arvind and Gostelow (1982); a firing that reads a cell needs a write of it too, as in Arvind and
 //! Nikhil (1990). By this project's profile an operator that has no value for its
 //! operands gives a fault in its place, and `end` in the root gives the answer.
-ghost use Rattle.std.specs.Prelude.{◌≡◌, ◌≤◌, ◌<◌, ◌+◌, ◌++◌, List, [], ◌∷◌, true, false, length, Some, Ok, Err, IfOk, IfSome, OnOk, IsTrue, ◌↔◌};
+ghost use Rattle.std.specs.Prelude.{◌≡◌, ◌≤◌, ◌<◌, ◌+◌, ◌++◌, List, true, false, length, Some, Ok, Err, IfOk, IfSome, OnOk, IsTrue, ◌↔◌};
 ghost use Rattle.std.specs.Option.{option_copied};
 ghost use Rattle.u_program.specs.Limits.{IsStatement, the_limits};
 ghost use Rattle.u_program.specs.Parts.{BlockParts};
@@ -12,13 +12,15 @@ ghost use Rattle.u_rule.specs.declared.rule.RuleError.TheVariants as errors;
 ghost use Rattle.u_rule.specs.EntryOrder.{entry_cmp};
 ghost use Rattle.u_sets.specs.Rising.{Rises};
 ghost use Rattle.u_rule.specs.Fits.{statement_of, fits_at, IsExecutable, IsPlaced, IsFitting, AllFit};
+ghost use Rattle.u_rule.specs.HeldEntries.{entries_given};
 ghost use Rattle.u_rule.specs.Parts.{most_ports};
 ghost use Rattle.u_rule.specs.Rule.{tokens_from, start_of, needs_of, gives_of, is_firing_of, is_firing_at, has_its_values};
 
 use crate::entry::Entry;
 use crate::firing::Firing;
 use crate::fits::{fits, statement_of};
-use crate::giving::add_given;
+use crate::giving::given_at;
+use crate::held::Given;
 use crate::initiations::fires_in_turns;
 use crate::parts::Token;
 use crate::structures::{add_write, has_its_write};
@@ -206,27 +208,20 @@ pub fn gives(alloc: Global, job: &Job, firing: &Firing) -> Result<Vec<Entry>, Ru
     }
     // Brings in that the program lies within its limits.
     let _ = program.blocks();
-    let mut entries = Vec::new(alloc);
-    add_given(alloc, program, statement, firing, &mut entries)?;
+    let all = given_at(alloc, program, statement, firing)?;
+    let entries = all.into_list(alloc)?;
     Ok(entries)
 }
 
-/// Adds the entries that a firing of the job gives, as `gives` returns them, behind those that stand in
-/// the list. A list that has room for them does not grow. It doesn't look whether it is a firing of the
-/// job. On an error a part of them may stand there.
+/// What a firing of the job gives: the entries that `gives` returns. It doesn't look whether it is a
+/// firing of the job.
 ///
 /// # Errors
 /// `AllocError` where there is no memory.
 #[tactic(auto, unfolding(crate::specs::Rule::gives_of, crate::specs::Rule::is_firing_of), using(crate::proofs::Follow::leaves_loop, crate::proofs::Follow::ends_call))]
-pub fn give(
-    alloc: Global,
-    job: &Job,
-    firing: &Firing,
-    given: &mut Vec<Entry>,
-) -> Result<(), AllocError>
+pub fn given<'a>(alloc: Global, job: &'a Job, firing: &Firing) -> Result<Given<'a>, AllocError>
     requires { IsTrue (is_firing_of job.now firing.now) }
-    ensures all { OnOk result
-        (given.new.items ≡ given.old.items ++ gives_of job.now firing.now) }
+    ensures all { IfOk result (λ g. entries_given g ≡ gives_of job.now firing.now) }
     ensures fitting { AllFit job.now.program.blocks (gives_of job.now firing.now) }
 {
     let program = job.program();
@@ -235,7 +230,7 @@ pub fn give(
     };
     // Brings in that the program lies within its limits.
     let _ = program.blocks();
-    add_given(alloc, program, statement, firing, given)
+    given_at(alloc, program, statement, firing)
 }
 
 /// The entries that a firing of the job gives, as `gives` returns them. It doesn't look whether it is
@@ -248,8 +243,7 @@ pub fn given_by(alloc: Global, job: &Job, firing: &Firing) -> Result<Vec<Entry>,
     ensures all { IfOk result (λ v. v.items ≡ gives_of job.now firing.now) }
     ensures fitting { IfOk result (λ v. AllFit job.now.program.blocks v.items) }
 {
-    let mut all = Vec::new(alloc);
-    give(alloc, job, firing, &mut all)?;
+    let all = given(alloc, job, firing)?.into_list(alloc)?;
     Ok(all)
 }
 

@@ -4,14 +4,14 @@ use Rattle.u_rule.proofs.Follow.{leaves_loop, ends_call, all_given_fit, firing_f
 use Rattle.u_rule.proofs.InOrder.{all_given_rise}
 use Rattle.u_rule.proofs.rule.gives.Goals as goal
 
-pub add_given-requires-clause-reaches : goal.add_given-requires-clause-reaches
-add_given-requires-clause-reaches c =
+pub given_at-requires-clause-reaches : goal.given_at-requires-clause-reaches
+given_at-requires-clause-reaches c =
     let f = at_region c.args.job.now.program.blocks c.in-Some.statement.now c.args.firing.now (search rules) in
     let w = leaves_loop c.args.job.now.program.blocks c.program-program.ensures.checked c.in-Some.statement.now c.args.firing.now.activity (search rules) f in
     search rules
 
-pub add_given-requires-clause-ends : goal.add_given-requires-clause-ends
-add_given-requires-clause-ends c =
+pub given_at-requires-clause-ends : goal.given_at-requires-clause-ends
+given_at-requires-clause-ends c =
     let f = at_region c.args.job.now.program.blocks c.in-Some.statement.now c.args.firing.now (search rules) in
     let w = ends_call c.args.job.now.program.blocks c.program-program.ensures.checked c.in-Some.statement.now c.args.firing.now.activity (search rules) f in
     search rules
@@ -21,10 +21,10 @@ unfolding is_firing_of
 returns-clause-order c =
     let f = firing_fits c.args.job.now c.args.firing.now c.in-Some.statement.now (search rules) (search rules) in
     let w = leaves_loop c.args.job.now.program.blocks c.program-program.ensures.checked c.in-Some.statement.now c.args.firing.now.activity (search rules) f in
-    all_given_rise c.add_given.new.entries.items c.args.job.now.program.version c.args.job.now.program.blocks c.in-Some.statement.now c.args.firing.now.activity c.args.firing.now.values c.args.firing.now.write (search rules) (search rules) w
+    all_given_rise c.in_ok-entries.entries.items c.args.job.now.program.version c.args.job.now.program.blocks c.in-Some.statement.now c.args.firing.now.activity c.args.firing.now.values c.args.firing.now.write (search rules) (search rules) w
 
 pub returns-clause-fitting : goal.returns-clause-fitting
 unfolding is_firing_of
 returns-clause-fitting c =
     let f = firing_fits c.args.job.now c.args.firing.now c.in-Some.statement.now (search rules) (search rules) in
-    all_given_fit c.args.job.now.program.blocks c.program-program.ensures.checked c.add_given.new.entries.items c.args.job.now.program.version c.in-Some.statement.now c.args.firing.now.activity c.args.firing.now.values c.args.firing.now.write (search rules) (search rules) (search rules) f
+    all_given_fit c.args.job.now.program.blocks c.program-program.ensures.checked c.in_ok-entries.entries.items c.args.job.now.program.version c.in-Some.statement.now c.args.firing.now.activity c.args.firing.now.values c.args.firing.now.write (search rules) (search rules) (search rules) f

@@ -1,10 +1,10 @@
 use Rattle.std.proofs.Common.{rules}
 use Rattle.u_rule.specs.Rule.{is_firing_of, gives_of}
 use Rattle.u_rule.proofs.Follow.{ends_call, all_given_fit, firing_fits}
-use Rattle.u_rule.proofs.rule.give.Goals as goal
+use Rattle.u_rule.proofs.rule.given.Goals as goal
 
-pub add_given-requires-clause-ends : goal.add_given-requires-clause-ends
-add_given-requires-clause-ends c =
+pub given_at-requires-clause-ends : goal.given_at-requires-clause-ends
+given_at-requires-clause-ends c =
     let f = firing_fits c.args.job.now c.args.firing.now c.in-Some.statement.now (search rules) (search rules) in
     let w = ends_call c.args.job.now.program.blocks c.program-program.ensures.checked c.in-Some.statement.now c.args.firing.now.activity (search rules) f in
     search rules
