@@ -2,6 +2,7 @@
 ghost use Rattle.std.specs.Prelude.{◌≡◌, ◌<◌, ◌-◌, [], IfOk, IfSome, IfNone, Contains, length, slice_get, Some};
 ghost use Rattle.u_system.specs.Firing.{Distinct};
 ghost use Rattle.u_name.specs.Context.{IsBetween};
+ghost use Rattle.u_names.specs.Frames.{beside};
 ghost use Rattle.u_names.specs.Groups.{behind, Grows};
 
 use crate::names::Names;
@@ -77,12 +78,28 @@ impl Activities {
         ensures grows { Grows self.old self.new }
         ensures distinct { Distinct self.new }
     {
+        let number = self.number_beside(activity, activity.statement())?;
+        Ok(number)
+    }
+
+    /// The number of the activity of that statement, 1 to 999, beside the other: that of the same context,
+    /// block and initiation. If it has none, it gets one as by `number_of`.
+    ///
+    /// # Errors
+    /// As `number_of`.
+    pub fn number_beside(&mut self, near: &Name, statement: u16) -> Result<usize, AllocError>
+        requires { IsBetween 1 statement 999 }
+        ensures number { IfOk result
+            (λ n. slice_get self.new n ≡ Some (beside near.now statement)) }
+        ensures grows { Grows self.old self.new }
+        ensures distinct { Distinct self.new }
+    {
         if self.leaders.len() >= MOST_GROUPS {
             return Err(AllocError);
         }
-        let behind = behind_of(activity.statement());
-        let first = activity.statement() - behind;
-        let place = self.leaders.id_beside(activity, first)?;
+        let behind = behind_of(statement);
+        let first = statement - behind;
+        let place = self.leaders.id_beside(near, first)?;
         Ok(GROUP * place + usize::from(behind))
     }
 

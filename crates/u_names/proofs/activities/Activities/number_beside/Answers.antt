@@ -6,7 +6,7 @@ use Rattle.u_name.specs.Name.{Activity}
 use Rattle.u_names.specs.Frames.{beside}
 use Rattle.u_names.specs.Groups.{behind, leader, groups, Grows}
 use Rattle.u_names.proofs.Grouped.{number_in, new_small, groups_grow, groups_distinct, more_leaders, first_is}
-use Rattle.u_names.proofs.activities.Activities.number_of.Goals as goal
+use Rattle.u_names.proofs.activities.Activities.number_beside.Goals as goal
 
 pub returns-then-len-ge-MOST_GROUPS-clause-distinct : goal.returns-then-len-ge-MOST_GROUPS-clause-distinct
 returns-then-len-ge-MOST_GROUPS-clause-distinct c =
@@ -18,15 +18,13 @@ returns-in_err-place-clause-distinct c =
 
 pub invariant_of-self-2 : goal.invariant_of-self-2
 invariant_of-self-2 c =
-    let st = c.statement.ensures.value in
-    let first : c.statement-2.result - c.behind_of-behind.result ≡ leader c.args.activity.now.statement =
-    ap (λ (n : ℕ). n - c.behind_of-behind.result) c.statement-2.ensures.value
-    ∙ ap (λ (n : ℕ). c.args.activity.now.statement - n) (c.behind_of-behind.ensures.value ∙ ap (λ (n : ℕ). behind n) st) in
+    let first : c.args.statement - c.behind_of-behind.result ≡ leader c.args.statement =
+    ap (λ (n : ℕ). c.args.statement - n) c.behind_of-behind.ensures.value in
     let l = c.if-len-ge-MOST_GROUPS.false in
     let n = c.len.ensures in
-    more_leaders c.self.inside.leaders c.id_beside.new.self (beside c.args.activity.now (leader c.args.activity.now.statement))
-    (subst (λ (n : ℕ). GoesLast c.self.inside.leaders (beside c.args.activity.now n) c.id_beside.new.self) first c.in_ok-place.ensures.ok) c.in_ok-place.ensures.distinct
-    (first_is c.args.activity.now.statement c.statement.ensures.bounds.statement.0 c.statement.ensures.bounds.statement.1) (omega (arith, l, n)) c.self.invariant
+    more_leaders c.self.inside.leaders c.id_beside.new.self (beside c.args.near.now (leader c.args.statement))
+    (subst (λ (n : ℕ). GoesLast c.self.inside.leaders (beside c.args.near.now n) c.id_beside.new.self) first c.in_ok-place.ensures.ok) c.in_ok-place.ensures.distinct
+    (first_is c.args.statement c.requires.0 c.requires.1) (omega (arith, l, n)) c.self.invariant
 
 pub overflow_mul-result : goal.overflow_mul-result
 overflow_mul-result c =
@@ -46,13 +44,11 @@ overflow_add-result c =
 
 pub returns-clause-number : goal.returns-clause-number
 returns-clause-number c =
-    let st = c.statement.ensures.value in
-    let first : c.statement-2.result - c.behind_of-behind.result ≡ leader c.args.activity.now.statement =
-    ap (λ (n : ℕ). n - c.behind_of-behind.result) c.statement-2.ensures.value
-    ∙ ap (λ (n : ℕ). c.args.activity.now.statement - n) (c.behind_of-behind.ensures.value ∙ ap (λ (n : ℕ). behind n) st) in
-    let far : c.from.result ≡ behind c.args.activity.now.statement = c.from.ensures ∙ c.behind_of-behind.ensures.value ∙ ap (λ (n : ℕ). behind n) st in
-    subst (λ (n : ℕ). slice_get (groups c.id_beside.new.self) (3 * c.in_ok-place.place + n) ≡ Some c.args.activity.now) (sym far)
-    (number_in c.id_beside.new.self c.args.activity.now c.in_ok-place.place c.statement.ensures.bounds.statement.0 (c.in_ok-place.ensures.number ∙ ap (λ (n : ℕ). Some (beside c.args.activity.now n)) first))
+    let first : c.args.statement - c.behind_of-behind.result ≡ leader c.args.statement =
+    ap (λ (n : ℕ). c.args.statement - n) c.behind_of-behind.ensures.value in
+    let far : c.from.result ≡ behind c.args.statement = c.from.ensures ∙ c.behind_of-behind.ensures.value in
+    subst (λ (n : ℕ). slice_get (groups c.id_beside.new.self) (3 * c.in_ok-place.place + n) ≡ Some (beside c.args.near.now c.args.statement)) (sym far)
+    (number_in c.id_beside.new.self (beside c.args.near.now c.args.statement) c.in_ok-place.place c.requires.0 (c.in_ok-place.ensures.number ∙ ap (λ (n : ℕ). Some (beside c.args.near.now n)) first))
 
 pub returns-clause-grows : goal.returns-clause-grows
 returns-clause-grows c = subst (λ (bs : List Activity). Grows bs (groups c.id_beside.new.self)) c.self.view_is (groups_grow c.self.inside.leaders c.id_beside.new.self _ c.in_ok-place.ensures.ok)
