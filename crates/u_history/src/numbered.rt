@@ -20,7 +20,7 @@ use crate::tables::Tables;
 use std::alloc::{AllocError, AllocFailed, Global};
 use std::marker::Model;
 use u_name::{Cell, Name};
-use u_rule::{Entry, Token, Written};
+use u_rule::{Entry, NameRef, TokenRef, Written};
 use u_value::Value;
 
 /// A set of entries whose activities have numbers, which they keep. Contracts see the entries, in order,
@@ -78,12 +78,12 @@ impl NumberedHistory {
     ///
     /// # Errors
     /// `AllocError` where there is no memory; all have the numbers that they had.
-    pub fn number_of(&mut self, activity: &Name) -> Result<usize, AllocError>
+    pub fn number_at(&mut self, activity: &NameRef<'_>) -> Result<usize, AllocError>
         ensures number { IfOk result (IsNumberOf self.new.names activity.now) }
         ensures names { Grows self.old.names self.new.names }
         ensures same { self.new.entries ≡ self.old.entries }
     {
-        let number = self.tables.number_of(activity)?;
+        let number = self.tables.number_at(activity)?;
         Ok(number)
     }
 
@@ -168,7 +168,7 @@ impl NumberedHistory {
     ///
     /// # Errors
     /// `AllocError` where there is no memory; the set stays as it was.
-    pub fn put_at(&mut self, number: usize, item: &Token) -> Result<bool, AllocError>
+    pub fn put_at(&mut self, number: usize, item: &TokenRef<'_>) -> Result<bool, AllocError>
         requires { IsNumberOf self.old.names item.now.activity number }
         ensures ok { OnOk result
             (IsWith self.old.entries (kinds.Token item.now) self.new.entries) }

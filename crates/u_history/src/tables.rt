@@ -23,7 +23,7 @@ use std::alloc::{AllocError, AllocFailed, Global};
 use std::array;
 use u_name::{Cell, Name};
 use u_names::{Activities, CellSet};
-use u_rule::{Entry, MOST_PORTS, Token, Write, Written};
+use u_rule::{Entry, MOST_PORTS, NameRef, Token, TokenRef, Write, Written};
 use u_sets::{Column, ListedSet, put_in_order};
 use u_value::Value;
 
@@ -187,14 +187,15 @@ impl Tables {
     }
 
     /// The number of the activity, which it gets where it has none.
-    pub fn number_of(&mut self, activity: &Name) -> Result<usize, AllocError>
+    pub fn number_at(&mut self, activity: &NameRef<'_>) -> Result<usize, AllocError>
         requires { AreTables self.old }
         ensures number { IfOk result (IsNumberOf self.new.names activity.now) }
         ensures names { Grows self.old.names self.new.names }
         ensures same { HoldsTheSame self.old self.new }
         ensures tables { AreTables self.new }
     {
-        let number = self.names.number_of(activity)?;
+        let (near, statement) = activity.parts();
+        let number = self.names.number_beside(near, statement)?;
         Ok(number)
     }
 
@@ -286,7 +287,7 @@ impl Tables {
     }
 
     /// Puts a copy of the token in, whose activity has the number. Returns whether it was new.
-    pub fn put_at(&mut self, number: usize, item: &Token) -> Result<bool, AllocError>
+    pub fn put_at(&mut self, number: usize, item: &TokenRef<'_>) -> Result<bool, AllocError>
         requires tables { AreTables self.old }
         requires number { IsNumberOf self.old.names item.now.activity number }
         ensures ok { OnOk result (HoldsMore self.old (kinds.Token item.now) self.new) }
@@ -312,7 +313,7 @@ impl Tables {
         ensures back { IfErr result (λ e. e.value ≡ kinds.Token item) }
         ensures tables { AreTables self.new }
     {
-        let Ok(number) = self.number_of(item.activity()) else {
+        let Ok(number) = self.number_at(&NameRef::of(item.activity())) else {
             return Err(AllocFailed {
                 value: Entry::Token(item),
             });
@@ -345,7 +346,7 @@ impl Tables {
     }
 
     /// Puts a copy of the token in. Returns whether it was new.
-    fn insert_token_copy(&mut self, item: &Token) -> Result<bool, AllocError>
+    fn insert_token_copy(&mut self, item: &TokenRef<'_>) -> Result<bool, AllocError>
         requires { AreTables self.old }
         ensures ok { OnOk result (HoldsMore self.old (kinds.Token item.now) self.new) }
         ensures new { IfOk result
@@ -354,7 +355,7 @@ impl Tables {
         ensures err { OnErr result (HoldsTheSame self.old self.new) }
         ensures tables { AreTables self.new }
     {
-        let number = self.number_of(item.activity())?;
+        let number = self.number_at(item.activity())?;
         let added = self.put_at(number, item)?;
         Ok(added)
     }
@@ -369,7 +370,7 @@ impl Tables {
         ensures tables { AreTables self.new }
     {
         if let Entry::Token(token) = entry {
-            return self.insert_token_copy(token);
+            return self.insert_token_copy(&TokenRef::of(token));
         }
         let copy = entry.copy()?;
         let added = self.insert(copy)?;

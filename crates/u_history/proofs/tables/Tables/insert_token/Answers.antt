@@ -10,7 +10,7 @@ pub returns-in-Ok-put-clause-ok : goal.returns-in-Ok-put-clause-ok
 returns-in-Ok-put-clause-ok c =
     let parts = c.into_parts-activity.ensures.parts in
     let who : c.into_parts-activity.result.0 ≡ c.args.item.activity = ap (λ (k : TokenParts). k.activity) parts in
-    let number = subst (λ (a : Activity). IsNumberOf c.number_of.new.self.names a c.in-Ok.number) (c.activity.ensures ∙ sym who) c.in-Ok.ensures.number in
+    let number = subst (λ (a : Activity). IsNumberOf c.number_at.new.self.names a c.in-Ok.number) (c.of.ensures ∙ c.activity.ensures ∙ sym who) c.in-Ok.ensures.number in
     let more = c.in-Ok-put.ensures.ok c.into_parts-activity.result.0 number in
     subst (λ (s : Contents). HasMore s (kinds.Token c.args.item) (contents_of c.put.new.self)) c.in-Ok.ensures.same
-    (subst (λ (k : TokenParts). HasMore (contents_of c.number_of.new.self) (kinds.Token k) (contents_of c.put.new.self)) parts more)
+    (subst (λ (k : TokenParts). HasMore (contents_of c.number_at.new.self) (kinds.Token k) (contents_of c.put.new.self)) parts more)
