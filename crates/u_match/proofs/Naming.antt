@@ -2,11 +2,12 @@
 use Rattle.std.proofs.Common.{◌≡◌, ◌⊎◌, inl, inr, ◌∙◌, refl, arith, ℕ, ◌<◌, [], ◌∷◌, Bool, true, false, Ok}
 use Rattle.std.specs.Prelude.{ℤ, nat_lt}
 use Rattle.std.proofs.lemmas.Bool.Decides.{nat_tests}
+use Rattle.u_name.specs.Context.{IsBetween}
 use Rattle.u_name.specs.Cell.{CellOf}
 use Rattle.u_value.specs.Pointer.{Pointer}
 use Rattle.u_value.specs.declared.value.Value.{Value}
 use Rattle.u_value.specs.declared.value.Value.TheVariants as values
-use Rattle.u_rule.specs.Parts.{TokenParts, IsToken}
+use Rattle.u_rule.specs.Parts.{TokenParts, most_ports}
 use Rattle.u_rule.specs.Structures.{cell_named}
 use Rattle.u_rule.specs.declared.entry.Entry.{Entry}
 use Rattle.u_match.specs.Keys.{ReadTable, IsMet, Notes, NamesNone}
@@ -22,8 +23,8 @@ int_of (values.Ref p) (values.Int z) c e = (z, refl)
 int_of v w c e = cc
 
 -- what is no structure at the first port and no index at the second names none
-pub names_none : (t : TokenParts) → IsToken t → ((p : Pointer) → t.value ≡ values.Ref p → t.port ≡ 1 → ⊥) → ((z : ℤ) → t.value ≡ values.Int z → t.port ≡ 2 → ⊥) → NamesNone t
-names_none t b no_ref no_int v w c e first second = elim (port_cases t.port b.port.0) [
+pub names_none : (t : TokenParts) → IsBetween 1 t.port most_ports → ((p : Pointer) → t.value ≡ values.Ref p → t.port ≡ 1 → ⊥) → ((z : ℤ) → t.value ≡ values.Int z → t.port ≡ 2 → ⊥) → NamesNone t
+names_none t b no_ref no_int v w c e first second = elim (port_cases t.port b.0) [
   | inl p ↦ (let (r, h) = ref_of v w c e in absurd (no_ref r (first p ∙ h) p))
   | inr (inl p) ↦ (let (z, h) = int_of v w c e in absurd (no_int z (second p ∙ h) p))
   | inr (inr p) ↦ p

@@ -22,8 +22,9 @@ use crate::ordering::put_in_order;
 use std::alloc::{AllocError, Global};
 use u_check::Job;
 use u_history::NumberedHistory;
-use u_name::Name;
-use u_rule::{Firing, Token, Written, cell_at, is_firing, is_firing_in_place, ports_at};
+use u_rule::{
+    Firing, NameRef, TokenRef, Written, cell_at, is_firing, is_firing_in_place, ports_at,
+};
 use u_value::Value;
 
 /// How firings of an activity are made.
@@ -43,7 +44,7 @@ pub(crate) struct Joining<'a> {
     pub(crate) alloc: Global,
     pub(crate) job: &'a Job,
     pub(crate) history: &'a NumberedHistory,
-    pub(crate) activity: &'a Name,
+    pub(crate) activity: &'a NameRef<'a>,
     pub(crate) number: usize,
     pub(crate) making: Making,
 }
@@ -102,6 +103,7 @@ impl Joining<'_> {
     }
 
     /// Adds the firings of two values that read one of the writes.
+    #[inline(never)]
     fn add_readings(
         &self,
         first: &Value,
@@ -227,6 +229,7 @@ impl Joining<'_> {
     /// Adds the firings that have the chosen values and behind them one of each of the lists. What is
     /// chosen stays.
     #[cycle(choosing)]
+    #[inline(never)]
     fn add_all(
         &self,
         lists: &[&[Value]],
@@ -291,7 +294,7 @@ impl Joining<'_> {
 
     /// The firings of the job that the token wakes where it enters the history, in no order. They go into
     /// the empty list. What lies at a port is asked of the history only where the activity has that port.
-    fn gathered(&self, token: &Token, mut found: Vec<Firing>) -> Result<Vec<Firing>, Halt>
+    fn gathered(&self, token: &TokenRef<'_>, mut found: Vec<Firing>) -> Result<Vec<Firing>, Halt>
         requires known { IsKnown self.now.making.is_executable self.now.job.now
             self.now.activity.now }
         requires activity { self.now.activity.now ≡ token.now.activity }
@@ -332,7 +335,11 @@ impl Joining<'_> {
     /// # Errors
     /// `TooMany` where there are more than `most`, and it gives up on the first that is one too many.
     /// `NoMemory` where there is no memory.
-    pub(crate) fn woken_by(&self, token: &Token, room: Vec<Firing>) -> Result<Vec<Firing>, Halt>
+    pub(crate) fn woken_by(
+        &self,
+        token: &TokenRef<'_>,
+        room: Vec<Firing>,
+    ) -> Result<Vec<Firing>, Halt>
         requires known { IsKnown self.now.making.is_executable self.now.job.now
             self.now.activity.now }
         requires activity { self.now.activity.now ≡ token.now.activity }

@@ -4,16 +4,19 @@ ghost use Rattle.u_rule.specs.EntryOrder.{firing};
 ghost use Rattle.u_rule.specs.Parts.{IsValueList};
 
 use std::alloc::{AllocError, Global};
-use u_name::Name;
-use u_rule::{Firing, SharedWritten, Values, Written};
+use u_rule::{Firing, NameRef, SharedWritten, Values, Written};
 use u_value::Value;
 
 /// The firing of one value.
-pub(crate) fn of_one(alloc: Global, activity: &Name, first: &Value) -> Result<Firing, AllocError>
+pub(crate) fn of_one(
+    alloc: Global,
+    activity: &NameRef<'_>,
+    first: &Value,
+) -> Result<Firing, AllocError>
     ensures { IfOk result (λ f. f ≡ firing activity.now (first.now ∷ []) None) }
 {
     Ok(Firing {
-        activity: activity.copy()?,
+        activity: activity.name()?,
         values: Values::one(alloc, first.copy()?)?,
         write: None,
     })
@@ -22,14 +25,14 @@ pub(crate) fn of_one(alloc: Global, activity: &Name, first: &Value) -> Result<Fi
 /// The firing of two values.
 pub(crate) fn of_two(
     alloc: Global,
-    activity: &Name,
+    activity: &NameRef<'_>,
     first: &Value,
     second: &Value,
 ) -> Result<Firing, AllocError>
     ensures { IfOk result (λ f. f ≡ firing activity.now (first.now ∷ second.now ∷ []) None) }
 {
     Ok(Firing {
-        activity: activity.copy()?,
+        activity: activity.name()?,
         values: Values::two(alloc, first.copy()?, second.copy()?)?,
         write: None,
     })
@@ -38,7 +41,7 @@ pub(crate) fn of_two(
 /// The firing of the values, one for each port.
 pub(crate) fn of_values(
     alloc: Global,
-    activity: &Name,
+    activity: &NameRef<'_>,
     values: &[Value],
 ) -> Result<Firing, AllocError>
     requires { IsValueList values.now }
@@ -46,7 +49,7 @@ pub(crate) fn of_values(
 {
     let values = Values::of(alloc, values)?;
     Ok(Firing {
-        activity: activity.copy()?,
+        activity: activity.name()?,
         values,
         write: None,
     })
@@ -55,7 +58,7 @@ pub(crate) fn of_values(
 /// The firing of two values that reads a write.
 pub(crate) fn of_read(
     alloc: Global,
-    activity: &Name,
+    activity: &NameRef<'_>,
     first: &Value,
     second: &Value,
     by: &Written,
@@ -65,7 +68,7 @@ pub(crate) fn of_read(
 {
     let by = SharedWritten::new(alloc, by.copy()?)?;
     Ok(Firing {
-        activity: activity.copy()?,
+        activity: activity.name()?,
         values: Values::two(alloc, first.copy()?, second.copy()?)?,
         write: Some(by),
     })

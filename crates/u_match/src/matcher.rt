@@ -1,6 +1,7 @@
 //! Sets of entries that say what each new entry enables.
 ghost use Rattle.std.specs.Prelude.{◌≡◌, ◌↔◌, [], IfOk, IfErr, OnOk, OnErr, IsTrue, Contains, ◌⊎◌, length};
 ghost use Rattle.u_rule.specs.declared.entry.Entry.{Entry};
+ghost use Rattle.u_rule.specs.declared.entry.Entry.TheVariants.{Token as token_entry};
 ghost use Rattle.u_rule.specs.declared.firing.Firing.{Firing};
 ghost use Rattle.u_rule.specs.EntryOrder.{firing_cmp};
 ghost use Rattle.u_rule.specs.Rule.{system_of};
@@ -8,6 +9,7 @@ ghost use Rattle.u_rule.specs.Fits.{IsFitting};
 ghost use Rattle.u_system.specs.Firing.{Enabled};
 ghost use Rattle.u_sets.specs.Rising.{Rises};
 ghost use Rattle.u_sets.specs.Members.{IsWith, AreThose, HasOr};
+ghost use Rattle.u_sets.specs.Columns.{IsNumberOf};
 ghost use Rattle.u_match.specs.Keys.{IsComplete};
 ghost use Rattle.u_match.specs.Numbers.{IsNumberOfEntry, NumbersEntry};
 ghost use Rattle.u_match.specs.Waking.{IsWokenBy, WakesSome, EnterAnswer};
@@ -16,16 +18,28 @@ use crate::enabling::has_all_of;
 use crate::halt::Halt;
 use crate::joining_tokens::{Joining, Making};
 use crate::meeting::Reads;
-use crate::noting_reads::note;
+use crate::noting_reads::{note, note_reads_of};
 use crate::waking_reads::Entering;
 use std::alloc::{AllocError, Global};
 use std::marker::Model;
 use u_check::Job;
 use u_history::{History, NumberedHistory};
-use u_rule::{Entry, Firing};
+use u_rule::{Entry, Firing, NameRef, TokenRef};
 
 /// As many firings are made as a token enters, and no more.
 const MOST_AT_ONCE: usize = 16;
+
+/// So the firings of a token that fits the job are made as it enters.
+const FEW: Making = Making {
+    most: MOST_AT_ONCE,
+    is_executable: true,
+};
+
+/// So all the firings of a token are made, which may be one that fits no job.
+const ALL: Making = Making {
+    most: usize::MAX,
+    is_executable: false,
+};
 
 /// What came of an entry that enters.
 #[derive(Drop)]
@@ -66,7 +80,7 @@ fn number_of(history: &mut NumberedHistory, entry: &Entry) -> Result<usize, Allo
 {
     match entry {
         Entry::Token(token) => {
-            let number = history.number_of(token.activity())?;
+            let number = history.number_at(&NameRef::of(token.activity()))?;
             Ok(number)
         }
         _ => Ok(0),
@@ -93,7 +107,7 @@ fn put(history: &mut NumberedHistory, number: usize, entry: &Entry) -> Result<bo
     ensures err { OnErr result (history.new.entries ≡ history.old.entries) }
 {
     match entry {
-        Entry::Token(token) => history.put_at(number, token),
+        Entry::Token(token) => history.put_at(number, &TokenRef::of(token)),
         _ => history.insert_copy(entry),
     }
 }
@@ -120,6 +134,40 @@ fn admit(
     Ok(added)
 }
 
+/// Lets the token, whose activity has the number, enter the history, with the reads that it makes. Returns
+/// whether it was new.
+fn admit_token(
+    history: &mut NumberedHistory,
+    number: usize,
+    reads: &mut Reads,
+    token: &TokenRef<'_>,
+) -> Result<bool, AllocError>
+    requires number { IsNumberOf history.old.names token.now.activity number }
+    requires complete { IsComplete reads.old history.old.entries }
+    ensures ok { OnOk result
+        (IsWith history.old.entries (token_entry token.now) history.new.entries) }
+    ensures new { IfOk result
+        (λ b. IsTrue b ↔ (Contains history.old.entries (token_entry token.now) → ⊥)) }
+    ensures still { IfOk result
+        (λ b. (IsTrue b → ⊥) → history.new.entries ≡ history.old.entries) }
+    ensures err { OnErr result (history.new.entries ≡ history.old.entries) }
+    ensures complete { IsComplete reads.new history.new.entries }
+{
+    note_reads_of(history, number, reads, token)?;
+    let added = history.put_at(number, token)?;
+    Ok(added)
+}
+
+/// Whether the history has the token.
+#[inline(never)]
+fn has_token(history: &NumberedHistory, token: &TokenRef<'_>) -> Result<bool, AllocError>
+    ensures { IfOk result
+        (λ b. IsTrue b ↔ Contains history.now.entries (token_entry token.now)) }
+{
+    let entry = Entry::Token(token.token()?);
+    Ok(history.contains(&entry))
+}
+
 /// An entry that enters a history, where the firings of a job that it wakes are made. If it is a token,
 /// its activity has the number.
 #[derive(Clone, Copy)]
@@ -132,36 +180,30 @@ struct Waking<'a> {
 }
 
 impl Waking<'_> {
-    /// The firings that the entry wakes where it enters. Of those that a token wakes there may be so many
-    /// at most, and they go into the empty list.
-    fn firings(&self, reads: &Reads, making: Making, room: Vec<Firing>) -> Result<Vec<Firing>, Halt>
-        requires known { IsTrue making.is_executable
-            → IsFitting self.now.job.now.program.blocks self.now.entry.now }
+    /// The firings that the entry wakes where it enters.
+    fn firings(&self, reads: &Reads) -> Result<Vec<Firing>, Halt>
         requires number { NumbersEntry self.now.history.now.names self.now.entry.now
             self.now.number }
         requires complete { IsComplete reads.now self.now.history.now.entries }
-        requires empty { room.items ≡ [] }
         ensures exact { IfOk result
             (λ v. AreThose
             (IsWokenBy self.now.job.now self.now.entry.now
             (HasOr self.now.history.now.entries self.now.entry.now))
             v.items) }
         ensures rises { IfOk result (λ v. Rises firing_cmp v.items) }
-        ensures many { IfErr result
-            (λ e. e ≡ Halt.TooMany → WakesSome self.now.job.now self.now.entry.now
-            (HasOr self.now.history.now.entries self.now.entry.now)) }
     {
         match self.entry {
             Entry::Token(token) => {
+                let token = TokenRef::of(token);
                 let joining = Joining {
                     alloc: self.alloc,
                     job: self.job,
                     history: self.history,
                     activity: token.activity(),
                     number: self.number,
-                    making,
+                    making: ALL,
                 };
-                joining.woken_by(token, room)
+                joining.woken_by(&token, Vec::new(self.alloc))
             }
             Entry::Write(write) => {
                 let entering = Entering {
@@ -173,8 +215,8 @@ impl Waking<'_> {
                 let found = entering.woken_by_write(reads, write)?;
                 Ok(found)
             }
-            Entry::Fault(_fault) => Ok(room),
-            Entry::Answer(_value) => Ok(room),
+            Entry::Fault(_fault) => Ok(Vec::new(self.alloc)),
+            Entry::Answer(_value) => Ok(Vec::new(self.alloc)),
         }
     }
 
@@ -190,11 +232,7 @@ impl Waking<'_> {
             v.items) }
         ensures rises { IfOk result (λ v. Rises firing_cmp v.items) }
     {
-        let making = Making {
-            most: usize::MAX,
-            is_executable: false,
-        };
-        match self.firings(reads, making, Vec::new(self.alloc)) {
+        match self.firings(reads) {
             Ok(found) => Ok(found),
             Err(_) => Err(AllocError),
         }
@@ -286,12 +324,14 @@ impl Matcher {
         &mut self,
         job: &Job,
         entry: &Entry,
-        mut room: Vec<Firing>,
+        room: Vec<Firing>,
     ) -> Result<Entered, AllocError>
         requires { IsFitting job.now.program.blocks entry.now }
         ensures { EnterAnswer job.now self.old entry.now result self.new }
     {
-        room.clear();
+        if let Entry::Token(token) = entry {
+            return self.enter_token(job, &TokenRef::of(token), room);
+        }
         let history = self.history.numbered_mut();
         let number = number_of(history, entry)?;
         let waking = Waking {
@@ -301,21 +341,50 @@ impl Matcher {
             entry,
             number,
         };
-        let making = Making {
-            most: MOST_AT_ONCE,
-            is_executable: true,
+        let found = waking.all(&self.reads)?;
+        let added = admit(history, number, &mut self.reads, entry)?;
+        if !added {
+            return Ok(Entered::Known);
+        }
+        Ok(Entered::Woken(found))
+    }
+
+    /// `enter_few` of the token, which comes by reference: neither it nor the name of its activity is made.
+    ///
+    /// # Errors
+    /// As `enter_few`.
+    pub fn enter_token(
+        &mut self,
+        job: &Job,
+        token: &TokenRef<'_>,
+        mut room: Vec<Firing>,
+    ) -> Result<Entered, AllocError>
+        requires { IsFitting job.now.program.blocks (token_entry token.now) }
+        ensures { EnterAnswer job.now self.old (token_entry token.now) result self.new }
+    {
+        room.clear();
+        let history = self.history.numbered_mut();
+        let number = history.number_at(token.activity())?;
+        let joining = Joining {
+            alloc: self.alloc,
+            job,
+            history,
+            activity: token.activity(),
+            number,
+            making: FEW,
         };
-        let found = match waking.firings(&self.reads, making, room) {
+        let found = match joining.woken_by(token, room) {
             Ok(found) => found,
             Err(Halt::TooMany) => {
-                if history.contains(entry) {
+                let known = has_token(history, token)?;
+                if known {
                     return Ok(Entered::Known);
                 }
                 return Ok(Entered::Many);
             }
             Err(Halt::NoMemory) => return Err(AllocError),
         };
-        let added = admit(history, number, &mut self.reads, entry)?;
+        let added = admit_token(history, number, &mut self.reads, token)?;
         if !added {
             return Ok(Entered::Known);
         }

@@ -12,7 +12,7 @@ use u_history::NumberedHistory;
 use u_name::Name;
 use u_names::CellSet;
 use u_order::ExactOrd;
-use u_rule::Token;
+use u_rule::TokenRef;
 use u_value::Value;
 
 /// A read of a cell, which waits for the cell's writes: an activity, with the structure and the index
@@ -38,7 +38,7 @@ pub(crate) type Reads = CellSet<Read>;
 pub(crate) fn met_at<'a>(
     history: &'a NumberedHistory,
     number: usize,
-    token: &'a Token,
+    token: &'a TokenRef<'a>,
     port: u8,
 ) -> &'a [Value]
     requires { MayNumber history.now.names token.now.activity number }
@@ -52,11 +52,12 @@ pub(crate) fn met_at<'a>(
 
 /// The values that the token meets at each of the first ports of its activity, which has the number; of
 /// so many ports.
+#[inline(never)]
 pub(crate) fn met_at_each<'a>(
     alloc: Global,
     history: &'a NumberedHistory,
     number: usize,
-    token: &'a Token,
+    token: &'a TokenRef<'a>,
     ports: usize,
 ) -> Result<Vec<&'a [Value]>, AllocError>
     requires number { MayNumber history.now.names token.now.activity number }

@@ -10,14 +10,13 @@ ghost use Rattle.u_match.specs.Numbers.{NumbersEntry};
 use crate::meeting::{Read, Reads, met_at};
 use std::alloc::AllocError;
 use u_history::NumberedHistory;
-use u_name::Name;
-use u_rule::{Entry, Token, cell_at};
+use u_rule::{Entry, NameRef, TokenRef, cell_at};
 use u_value::Value;
 
 /// Notes the read of the cell that the structure and the index name, where they name one.
 fn note_read(
     reads: &mut Reads,
-    activity: &Name,
+    activity: &NameRef<'_>,
     structure: &Value,
     index: &Value,
 ) -> Result<(), AllocError>
@@ -30,7 +29,7 @@ fn note_read(
         Some(cell) => cell,
     };
     let read = Read {
-        activity: activity.copy()?,
+        activity: activity.name()?,
         structure: structure.copy()?,
         index: index.copy()?,
     };
@@ -41,7 +40,7 @@ fn note_read(
 /// Notes the reads of the cells that the structure names with one of the indices.
 fn note_indices(
     reads: &mut Reads,
-    activity: &Name,
+    activity: &NameRef<'_>,
     structure: &Value,
     indices: &[Value],
 ) -> Result<(), AllocError>
@@ -56,9 +55,10 @@ fn note_indices(
 }
 
 /// Notes the reads of the cells that one of the structures names with one of the indices.
+#[inline(never)]
 fn note_reads(
     reads: &mut Reads,
-    activity: &Name,
+    activity: &NameRef<'_>,
     structures: &[Value],
     indices: &[Value],
 ) -> Result<(), AllocError>
@@ -76,7 +76,7 @@ fn note_reads(
 /// Whether the token may name a cell with what it meets: a structure at the first port, or an index at
 /// the second.
 #[tactic(auto, using(crate::proofs::Naming::names_none))]
-fn may_name(token: &Token) -> bool
+fn may_name(token: &TokenRef<'_>) -> bool
     ensures { IsFalse result → NamesNone token.now }
 {
     let port = token.port();
@@ -90,11 +90,14 @@ fn may_name(token: &Token) -> bool
 
 /// Notes the reads that the token, whose activity has the number, makes with what it meets. A token
 /// beyond the second port makes none.
-fn note_reads_of(
+///
+/// # Errors
+/// `AllocError` where there is no memory; what the table had it still has.
+pub(crate) fn note_reads_of(
     history: &NumberedHistory,
     number: usize,
     reads: &mut Reads,
-    token: &Token,
+    token: &TokenRef<'_>,
 ) -> Result<(), AllocError>
     requires { MayNumber history.now.names token.now.activity number }
     ensures kept { Within (Contains reads.new) reads.old }
@@ -129,7 +132,7 @@ pub(crate) fn note(
 {
     match entry {
         Entry::Token(token) => {
-            note_reads_of(history, number, reads, token)?;
+            note_reads_of(history, number, reads, &TokenRef::of(token))?;
             Ok(())
         }
         Entry::Write(_write) => Ok(()),

@@ -7,6 +7,16 @@ ghost use Rattle.u_system.specs.Firing.{Same};
 use u_rule::Firing;
 
 /// Puts the firings in order, each once.
+#[inline(never)]
+fn sort_each_once(firings: &mut Vec<Firing>)
+    ensures rises { Rises firing_cmp firings.new.items }
+    ensures same { Same (Contains firings.new.items) (Contains firings.old.items) }
+{
+    firings.sort_unstable();
+    firings.dedup();
+}
+
+/// Puts the firings in order, each once. One firing alone is left as it is.
 pub(crate) fn put_in_order(firings: &mut Vec<Firing>)
     ensures rises { Rises firing_cmp firings.new.items }
     ensures same { Same (Contains firings.new.items) (Contains firings.old.items) }
@@ -14,6 +24,5 @@ pub(crate) fn put_in_order(firings: &mut Vec<Firing>)
     if firings.len() < 2 {
         return;
     }
-    firings.sort_unstable();
-    firings.dedup();
+    sort_each_once(firings);
 }

@@ -18,7 +18,7 @@ use crate::ordering::put_in_order;
 use std::alloc::{AllocError, Global};
 use u_check::Job;
 use u_history::NumberedHistory;
-use u_rule::{Entry, Firing, RuleError, Write, Written, needs};
+use u_rule::{Entry, Firing, NameRef, RuleError, Write, Written, needs};
 use u_sets::{has, place_in};
 
 /// Whether the two are one entry.
@@ -76,7 +76,8 @@ fn wake_each(alloc: Global, write: &Write, reads: &[Read]) -> Result<Vec<Firing>
     let by = written_by(write)?;
     let mut found = Vec::new(alloc);
     for read in reads {
-        let woken = of_read(alloc, &read.activity, &read.structure, &read.index, &by)?;
+        let activity = NameRef::of(&read.activity);
+        let woken = of_read(alloc, &activity, &read.structure, &read.index, &by)?;
         add(&mut found, woken)?;
     }
     Ok(found)

@@ -1,5 +1,7 @@
-use Rattle.std.proofs.Common.{sym, ◌∙◌, subst}
+use Rattle.std.proofs.Common.{ap, sym, ◌∙◌, subst}
+use Rattle.u_rule.specs.Parts.{TokenParts}
 use Rattle.u_rule.specs.declared.entry.Entry.{Entry}
+use Rattle.u_rule.specs.declared.entry.Entry.TheVariants as entries
 use Rattle.u_match.specs.Keys.{IsCompleteWith}
 use Rattle.u_match.specs.Numbers.{NumbersEntry}
 use Rattle.u_match.proofs.Noted.{keeps_itself}
@@ -7,12 +9,15 @@ use Rattle.u_match.proofs.Completing.{with_other, with_token}
 use Rattle.u_match.proofs.noting_reads.note.Goals as goal
 
 pub note_reads_of-requires : goal.note_reads_of-requires
-note_reads_of-requires c = subst (λ (e : Entry). NumbersEntry c.args.history.now.names e c.args.number) c.in-Token.is c.requires
+note_reads_of-requires c =
+    let is = ap (λ (t : TokenParts). entries.Token t) c.of.ensures ∙ sym c.in-Token.is in
+    subst (λ (e : Entry). NumbersEntry c.args.history.now.names e c.args.number) (sym is) c.requires
 
 pub returns-in_ok-note_reads_of-in-Token-clause-ok : goal.returns-in_ok-note_reads_of-in-Token-clause-ok
 returns-in_ok-note_reads_of-in-Token-clause-ok c =
-    subst (λ (e : Entry). IsCompleteWith c.args.reads.now c.args.history.now.entries e c.note_reads_of.new.reads) (sym c.in-Token.is)
-    (with_token c.args.reads.now c.note_reads_of.new.reads c.args.history.now.entries c.note_reads_of.ensures.kept c.in-Token.token c.in_ok-note_reads_of-in-Token.ensures.ok)
+    let is = ap (λ (t : TokenParts). entries.Token t) c.of.ensures ∙ sym c.in-Token.is in
+    subst (λ (e : Entry). IsCompleteWith c.args.reads.now c.args.history.now.entries e c.note_reads_of.new.reads) is
+    (with_token c.args.reads.now c.note_reads_of.new.reads c.args.history.now.entries c.note_reads_of.ensures.kept c.of.result c.in_ok-note_reads_of-in-Token.ensures.ok)
 
 pub returns-in-Write-clause-ok : goal.returns-in-Write-clause-ok
 returns-in-Write-clause-ok c =

@@ -10,10 +10,10 @@ returns-in-None-clause-ok c = notes_none c.args.activity.now c.args.structure.no
 
 pub returns-clause-ok : goal.returns-clause-ok
 returns-clause-ok c =
-    notes_one c.args.activity.now c.args.structure.now c.args.index.now c.in_ok-named.named c.in-Some.cell (read c.in_ok-copy.field-0 c.in_ok-copy-2.field-0 c.in_ok-copy-3.field-0) c.args.reads.now c.insert.new.self c.in-Some.is c.in_ok-named.ensures
-    (ap (λ (a : Activity). read a c.in_ok-copy-2.field-0 c.in_ok-copy-3.field-0) c.in_ok-copy.ensures
-    ∙ (ap (λ (v : Value). read c.args.activity.now v c.in_ok-copy-3.field-0) c.in_ok-copy-2.ensures
-    ∙ ap (λ (v : Value). read c.args.activity.now c.args.structure.now v) c.in_ok-copy-3.ensures))
+    notes_one c.args.activity.now c.args.structure.now c.args.index.now c.in_ok-named.named c.in-Some.cell (read c.in_ok-name.field-0 c.in_ok-copy.field-0 c.in_ok-copy-2.field-0) c.args.reads.now c.insert.new.self c.in-Some.is c.in_ok-named.ensures
+    (ap (λ (a : Activity). read a c.in_ok-copy.field-0 c.in_ok-copy-2.field-0) c.in_ok-name.ensures
+    ∙ (ap (λ (v : Value). read c.args.activity.now v c.in_ok-copy-2.field-0) c.in_ok-copy.ensures
+    ∙ ap (λ (v : Value). read c.args.activity.now c.args.structure.now v) c.in_ok-copy-2.ensures))
     c.in_ok-insert.ensures.ok
 
 pub returns-clause-kept : goal.returns-clause-kept

@@ -44,7 +44,7 @@ returns-then-ports-gt2-clause-exact c =
     answered_all (Contains c.args.self.now.history.now.entries) c.args.token.now c.args.self.now.job.now lists
     (subst (λ (ls : List (Bor ValueList)). AreMetFrom (Contains c.args.self.now.history.now.entries) c.args.token.now 1 (lent_lists ls)) (sym c.deref.ensures.value) c.in_ok-lists.ensures.each)
     c.add_all.new.found.items (λ two. omega (arith, c.if-ports-gt2.true, ports, two))
-    (lent_count c.deref.result.now ∙ ap length c.deref.ensures.value ∙ c.in_ok-lists.ensures.count ∙ ports) c.port.ensures.range.port.0 high
+    (lent_count c.deref.result.now ∙ ap length c.deref.ensures.value ∙ c.in_ok-lists.ensures.count ∙ ports) c.port.ensures.range.0 high
     (subst (λ (a : Activity). Gains [] (JoinsAll c.args.self.now.job.now a [] lists) c.add_all.new.found.items) c.requires.activity
     (subst (λ (vs : ValueList). Gains [] (JoinsAll c.args.self.now.job.now c.args.self.now.activity.now vs lists) c.add_all.new.found.items) c.new-chosen.ensures.items
     (subst (λ (xs : List Firing). Gains xs (JoinsAll c.args.self.now.job.now c.args.self.now.activity.now c.new-chosen.result.items lists) c.add_all.new.found.items) c.requires.empty c.in_ok-add_all.ensures.ok)))
@@ -55,7 +55,7 @@ returns-then-ports-eq1-clause-exact c =
     let high : c.args.token.now.port ≤ ports_at c.args.self.now.job.now c.args.token.now.activity = omega (arith, ports, c.if-ports-from.false, c.from.ensures, c.port.ensures.port) in
     answered_ones (Contains c.args.self.now.history.now.entries) c.args.token.now c.args.self.now.job.now c.met_at-firsts.result.now
     c.met_at-firsts.ensures
-    c.add_ones.new.found.items (sym ports ∙ c.if-ports-eq1.true) c.port.ensures.range.port.0 high
+    c.add_ones.new.found.items (sym ports ∙ c.if-ports-eq1.true) c.port.ensures.range.0 high
     (subst (λ (a : Activity). Gains [] (SomeOf c.met_at-firsts.result.now (IsOne c.args.self.now.job.now a)) c.add_ones.new.found.items) c.requires.activity
     (subst (λ (xs : List Firing). Gains xs (SomeOf c.met_at-firsts.result.now (IsOne c.args.self.now.job.now c.args.self.now.activity.now)) c.add_ones.new.found.items) c.requires.empty c.in_ok-add_ones.ensures.ok))
 
@@ -63,12 +63,12 @@ pub returns-clause-exact : goal.returns-clause-exact
 returns-clause-exact c =
     let ports : c.ports_at-ports.result ≡ ports_at c.args.self.now.job.now c.args.token.now.activity = c.ports_at-ports.ensures ∙ ap (ports_at c.args.self.now.job.now) c.requires.activity in
     let high : c.args.token.now.port ≤ c.ports_at-ports.result = omega (arith, c.if-ports-from.false, c.from.ensures, c.port.ensures.port) in
-    let two : c.ports_at-ports.result ≡ 2 = two_left c.ports_at-ports.result (omega (arith, c.port.ensures.range.port.0, high)) (omega (arith, c.if-ports-gt2.false)) c.if-ports-eq1.false in
+    let two : c.ports_at-ports.result ≡ 2 = two_left c.ports_at-ports.result (omega (arith, c.port.ensures.range.0, high)) (omega (arith, c.if-ports-gt2.false)) c.if-ports-eq1.false in
     answered_twos (Contains c.args.self.now.history.now.entries) c.args.token.now c.args.self.now.job.now c.met_at-firsts.result.now
     c.met_at-firsts.ensures
     c.add_twos.new.found.items c.met_at-seconds.result.now
     c.met_at-seconds.ensures
-    (sym ports ∙ two) (two_of c.args.token.now.port c.ports_at-ports.result c.port.ensures.range.port.0 high two)
+    (sym ports ∙ two) (two_of c.args.token.now.port c.ports_at-ports.result c.port.ensures.range.0 high two)
     (subst (λ (a : Activity). Gains [] (SomeOf c.met_at-firsts.result.now (JoinsSome c.args.self.now.job.now (Contains c.args.self.now.history.now.entries) a c.met_at-seconds.result.now)) c.add_twos.new.found.items) c.requires.activity
     (subst (λ (xs : List Firing). Gains xs (SomeOf c.met_at-firsts.result.now (JoinsSome c.args.self.now.job.now (Contains c.args.self.now.history.now.entries) c.args.self.now.activity.now c.met_at-seconds.result.now)) c.add_twos.new.found.items) c.requires.empty c.in_ok-add_twos.ensures.ok))
 
@@ -82,7 +82,7 @@ returns-in_err-add_all-clause-many c =
     (λ found g. answered_all (Contains c.args.self.now.history.now.entries) c.args.token.now c.args.self.now.job.now lists
     (subst (λ (ls : List (Bor ValueList)). AreMetFrom (Contains c.args.self.now.history.now.entries) c.args.token.now 1 (lent_lists ls)) (sym c.deref.ensures.value) c.in_ok-lists.ensures.each)
     found (λ two. omega (arith, c.if-ports-gt2.true, ports, two))
-    (lent_count c.deref.result.now ∙ ap length c.deref.ensures.value ∙ c.in_ok-lists.ensures.count ∙ ports) c.port.ensures.range.port.0 high g)
+    (lent_count c.deref.result.now ∙ ap length c.deref.ensures.value ∙ c.in_ok-lists.ensures.count ∙ ports) c.port.ensures.range.0 high g)
     (alls c.args.self.now.job.now c.args.token.now.activity c.args.self.now.history.now.entries [] lists)
     (subst (λ (a : Activity). HasSome (JoinsAll c.args.self.now.job.now a [] lists)) c.requires.activity
     (subst (λ (vs : ValueList). HasSome (JoinsAll c.args.self.now.job.now c.args.self.now.activity.now vs lists)) c.new-chosen.ensures.items some))) (search rules)
@@ -93,7 +93,7 @@ returns-in_err-add_ones-clause-many c =
     let high : c.args.token.now.port ≤ ports_at c.args.self.now.job.now c.args.token.now.activity = omega (arith, ports, c.if-ports-from.false, c.from.ensures, c.port.ensures.port) in
     too_many c.from_residual-in_err-add_ones.result (HasSome (SomeOf c.met_at-firsts.result.now (IsOne c.args.self.now.job.now c.args.self.now.activity.now))) (WakesSome c.args.self.now.job.now (entries.Token c.args.token.now) (HasOr c.args.self.now.history.now.entries (entries.Token c.args.token.now)))
     (λ some. wakes_some (Contains c.args.self.now.history.now.entries) c.args.token.now c.args.self.now.job.now (SomeOf c.met_at-firsts.result.now (IsOne c.args.self.now.job.now c.args.token.now.activity))
-    (λ found g. answered_ones (Contains c.args.self.now.history.now.entries) c.args.token.now c.args.self.now.job.now c.met_at-firsts.result.now c.met_at-firsts.ensures found (sym ports ∙ c.if-ports-eq1.true) c.port.ensures.range.port.0 high g)
+    (λ found g. answered_ones (Contains c.args.self.now.history.now.entries) c.args.token.now c.args.self.now.job.now c.met_at-firsts.result.now c.met_at-firsts.ensures found (sym ports ∙ c.if-ports-eq1.true) c.port.ensures.range.0 high g)
     (ones c.args.self.now.job.now c.args.token.now.activity c.args.self.now.history.now.entries c.met_at-firsts.result.now)
     (subst (λ (a : Activity). HasSome (SomeOf c.met_at-firsts.result.now (IsOne c.args.self.now.job.now a))) c.requires.activity some)) (search rules)
 
@@ -101,8 +101,8 @@ pub returns-in_err-add_twos-clause-many : goal.returns-in_err-add_twos-clause-ma
 returns-in_err-add_twos-clause-many c =
     let ports : c.ports_at-ports.result ≡ ports_at c.args.self.now.job.now c.args.token.now.activity = c.ports_at-ports.ensures ∙ ap (ports_at c.args.self.now.job.now) c.requires.activity in
     let high : c.args.token.now.port ≤ c.ports_at-ports.result = omega (arith, c.if-ports-from.false, c.from.ensures, c.port.ensures.port) in
-    let two : c.ports_at-ports.result ≡ 2 = two_left c.ports_at-ports.result (omega (arith, c.port.ensures.range.port.0, high)) (omega (arith, c.if-ports-gt2.false)) c.if-ports-eq1.false in
-    let port = two_of c.args.token.now.port c.ports_at-ports.result c.port.ensures.range.port.0 high two in
+    let two : c.ports_at-ports.result ≡ 2 = two_left c.ports_at-ports.result (omega (arith, c.port.ensures.range.0, high)) (omega (arith, c.if-ports-gt2.false)) c.if-ports-eq1.false in
+    let port = two_of c.args.token.now.port c.ports_at-ports.result c.port.ensures.range.0 high two in
     too_many c.from_residual-in_err-add_twos.result (HasSome (SomeOf c.met_at-firsts.result.now (JoinsSome c.args.self.now.job.now (Contains c.args.self.now.history.now.entries) c.args.self.now.activity.now c.met_at-seconds.result.now))) (WakesSome c.args.self.now.job.now (entries.Token c.args.token.now) (HasOr c.args.self.now.history.now.entries (entries.Token c.args.token.now)))
     (λ some. wakes_some (Contains c.args.self.now.history.now.entries) c.args.token.now c.args.self.now.job.now (SomeOf c.met_at-firsts.result.now (JoinsSome c.args.self.now.job.now (Contains c.args.self.now.history.now.entries) c.args.token.now.activity c.met_at-seconds.result.now))
     (λ found g. answered_twos (Contains c.args.self.now.history.now.entries) c.args.token.now c.args.self.now.job.now c.met_at-firsts.result.now c.met_at-firsts.ensures found c.met_at-seconds.result.now c.met_at-seconds.ensures (sym ports ∙ two) port g)
