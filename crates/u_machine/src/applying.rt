@@ -2,7 +2,8 @@
 //! which has a file of its own.
 //!
 //! A firing that begins to be applied goes to the end of the log, and its entries enter one after
-//! another. Where nothing else is parked it is in flight meanwhile, and goes there once they have.
+//! another. The least ready one is in flight meanwhile, where nothing else is parked, and goes there
+//! once they have.
 //! Each entry that is new enters the matcher. Of the firings that it wakes, those that were taken go to
 //! the end of the log, and the others are ready from then on; a token that wakes many is put off, and
 //! its firings are made later (`late_tokens`). So entries enter in the order in which they were given:
@@ -12,18 +13,22 @@
 ghost use Rattle.std.specs.Prelude.{◌≡◌, ◌↔◌, ◌<◌, ◌≤◌, ◌+◌, [], ◌∷◌, OnOk, IfOk, IsOk, IsTrue, IsFalse, Contains, ◌-◌, length, true, false};
 ghost use Rattle.u_rule.specs.Rule.{system_of};
 ghost use Rattle.u_rule.specs.Fits.{IsFitting, AllFit};
+ghost use Rattle.u_rule.specs.HeldEntries.{entries_given};
 ghost use Rattle.u_rule.specs.declared.entry.Entry.{Entry};
+ghost use Rattle.u_rule.specs.declared.entry.Entry.TheVariants as entries;
 ghost use Rattle.u_rule.specs.declared.firing.Firing.{Firing};
+ghost use Rattle.u_sets.specs.Members.{HasOr};
+ghost use Rattle.u_match.specs.Waking.{WakesSome};
 ghost use Rattle.u_machine.specs.Calls.{Applies};
-ghost use Rattle.u_machine.specs.Invariant.{state_of, woken_of, IsNext, Invariant, Gives, HasEntered, EnteredBefore, GoesOn, SameButApplied, Lengthens, MakesMore, log_of};
+ghost use Rattle.u_machine.specs.Invariant.{state_of, woken_of, IsNext, Invariant, Gives, HasEntered, EnteredBefore, GoesOn, SameButApplied, Lengthens, log_of};
 
 use crate::parts::Parts;
 use crate::room::{first_of, push_into_room, put_first, take_first, turned};
 use std::alloc::AllocError;
-use std::mem;
+use std::{mem, slice};
 use u_check::Job;
 use u_match::Entered;
-use u_rule::{Entry, Firing, give};
+use u_rule::{Entry, Firing, Given, Sending, TokenRef, given};
 
 impl<'a> Parts<'a> {
     /// Whether a firing is parked that is not being applied, since it waits for its needs.
@@ -87,7 +92,68 @@ impl<'a> Parts<'a> {
         }
     }
 
+    /// Lets a token enter as `put_made` does. It is made for this.
+    #[inline(never)]
+    fn put_token_made(&mut self, token: &TokenRef<'_>) -> Result<(), AllocError>
+        requires kept { Invariant self.old }
+        requires idle { woken_of self.old ≡ [] }
+        requires gives { Gives self.old (entries.Token token.now) }
+        ensures kept { Invariant self.new }
+        ensures applies { Applies (state_of self.old) (state_of self.new) }
+        ensures goes { GoesOn self.old self.new }
+        ensures has { OnOk result (Contains self.new.matcher (entries.Token token.now)) }
+    {
+        let made = token.token()?;
+        self.put_made(&Entry::Token(made))
+    }
+
+    /// Lets a token enter as `put_late` does. It is made for this.
+    #[inline(never)]
+    fn put_token_late(&mut self, token: &TokenRef<'_>) -> Result<(), AllocError>
+        requires kept { Invariant self.old }
+        requires idle { woken_of self.old ≡ [] }
+        requires gives { Gives self.old (entries.Token token.now) }
+        requires new { Contains self.old.matcher (entries.Token token.now) → ⊥ }
+        requires wakes { WakesSome self.old.job.now (entries.Token token.now)
+            (HasOr self.old.matcher (entries.Token token.now)) }
+        requires unparked { length self.old.parked
+            ≤ length (log_of self.old) - self.old.applied_count }
+        ensures kept { Invariant self.new }
+        ensures applies { Applies (state_of self.old) (state_of self.new) }
+        ensures goes { GoesOn self.old self.new }
+        ensures has { OnOk result (Contains self.new.matcher (entries.Token token.now)) }
+    {
+        let made = token.token()?;
+        self.put_late(&Entry::Token(made))
+    }
+
+    /// Lets a token enter that the firing gives which is being applied, as `put` does.
+    fn put_token(&mut self, token: &TokenRef<'_>) -> Result<(), AllocError>
+        requires kept { Invariant self.old }
+        requires idle { woken_of self.old ≡ [] }
+        requires gives { Gives self.old (entries.Token token.now) }
+        requires fits { IsFitting self.old.job.now.program.blocks (entries.Token token.now) }
+        ensures kept { Invariant self.new }
+        ensures applies { Applies (state_of self.old) (state_of self.new) }
+        ensures goes { GoesOn self.old self.new }
+        ensures has { OnOk result (Contains self.new.matcher (entries.Token token.now)) }
+    {
+        if self.has_waiting() {
+            return self.put_token_made(token);
+        }
+        let room = mem::replace(&mut self.woken, Vec::new(self.alloc));
+        match self.matcher.enter_token(self.job, token, room)? {
+            Entered::Known => Ok(()),
+            Entered::Woken(firings) => {
+                self.woken = turned(firings);
+                Ok(())
+            }
+            Entered::Many => self.put_token_late(token),
+        }
+    }
+
     /// The next firing that was woken was taken: it begins to be applied.
+    #[inline(never)]
     fn begin_next(&mut self) -> Result<(), AllocError>
         requires kept { Invariant self.old }
         requires logged { self.old.in_flight ≡ false }
@@ -196,7 +262,25 @@ impl<'a> Parts<'a> {
         Ok(())
     }
 
+    /// Lets a token enter, unless it did, and does what follows from it.
+    fn enter_token(&mut self, token: &TokenRef<'_>) -> Result<(), AllocError>
+        requires kept { Invariant self.old }
+        requires idle { woken_of self.old ≡ [] }
+        requires gives { Gives self.old (entries.Token token.now) }
+        requires fits { IsFitting self.old.job.now.program.blocks (entries.Token token.now) }
+        ensures kept { Invariant self.new }
+        ensures applies { Applies (state_of self.old) (state_of self.new) }
+        ensures goes { GoesOn self.old self.new }
+        ensures idle { OnOk result (woken_of self.new ≡ []) }
+        ensures has { OnOk result (Contains self.new.matcher (entries.Token token.now)) }
+    {
+        self.put_token(token)?;
+        self.sort_all()?;
+        Ok(())
+    }
+
     /// Lets all these entries enter.
+    #[inline(never)]
     fn enter_all(&mut self, given: &[Entry]) -> Result<(), AllocError>
         requires kept { Invariant self.old }
         requires idle { woken_of self.old ≡ [] }
@@ -215,34 +299,43 @@ impl<'a> Parts<'a> {
         Ok(())
     }
 
-    /// The list for what a firing gives, which is empty. It has the room of the last one.
-    fn take_list(&mut self) -> Vec<Entry>
-        requires { Invariant self.old }
-        ensures none { result.items ≡ [] }
-        ensures kept { Invariant self.new }
-        ensures same { MakesMore self.old self.new }
-    {
-        let mut given = mem::replace(&mut self.given, Vec::new(self.alloc));
-        given.clear();
-        given
-    }
-
-    /// Lets all these entries enter, and keeps the list, whose room is used again.
-    fn enter_and_keep(&mut self, given: Vec<Entry>) -> Result<(), AllocError>
+    /// Lets all these tokens enter.
+    fn enter_sent(&mut self, sent: &Sending<'_>) -> Result<(), AllocError>
         requires kept { Invariant self.old }
         requires idle { woken_of self.old ≡ [] }
-        requires gives { (e : Entry) → Contains given.items e → Gives self.old e }
-        requires fit { AllFit self.old.job.now.program.blocks given.items }
+        requires gives { (e : Entry) → Contains sent.now e → Gives self.old e }
+        requires fit { AllFit self.old.job.now.program.blocks sent.now }
         ensures kept { Invariant self.new }
         ensures applies { Applies (state_of self.old) (state_of self.new) }
         ensures goes { GoesOn self.old self.new }
         ensures idle { OnOk result (woken_of self.new ≡ []) }
         ensures has { OnOk result
-            ((e : Entry) → Contains given.items e → Contains self.new.matcher e) }
+            ((e : Entry) → Contains sent.now e → Contains self.new.matcher e) }
     {
-        self.enter_all(&given)?;
-        self.given = given;
+        for place in 0..sent.len() {
+            self.enter_token(&sent.token(place))?;
+        }
         Ok(())
+    }
+
+    /// Lets all enter that a firing gives.
+    fn enter_what(&mut self, given: &Given<'_>) -> Result<(), AllocError>
+        requires kept { Invariant self.old }
+        requires idle { woken_of self.old ≡ [] }
+        requires gives { (e : Entry) → Contains (entries_given given.now) e → Gives self.old e }
+        requires fit { AllFit self.old.job.now.program.blocks (entries_given given.now) }
+        ensures kept { Invariant self.new }
+        ensures applies { Applies (state_of self.old) (state_of self.new) }
+        ensures goes { GoesOn self.old self.new }
+        ensures idle { OnOk result (woken_of self.new ≡ []) }
+        ensures has { OnOk result
+            ((e : Entry) → Contains (entries_given given.now) e → Contains self.new.matcher e) }
+    {
+        match given {
+            Given::Sent(sent) => self.enter_sent(sent),
+            Given::Alone(entry) => self.enter_all(slice::from_ref(entry)),
+            Given::Listed(entries) => self.enter_all(entries),
+        }
     }
 
     /// Lets all enter that the firing in flight gives.
@@ -256,12 +349,11 @@ impl<'a> Parts<'a> {
         ensures idle { OnOk result (woken_of self.new ≡ []) }
         ensures has { OnOk result (HasEntered self.new self.new.applied_count) }
     {
-        let mut given = self.take_list();
         let Some(firing) = self.parked.first() else {
             unreachable!();
         };
-        give(self.alloc, self.job, firing, &mut given)?;
-        self.enter_and_keep(given)?;
+        let all = given(self.alloc, self.job, firing)?;
+        self.enter_what(&all)?;
         Ok(())
     }
 
@@ -313,9 +405,8 @@ impl<'a> Parts<'a> {
         ensures idle { OnOk result (woken_of self.new ≡ []) }
         ensures has { OnOk result (HasEntered self.new place) }
     {
-        let mut given = self.take_list();
-        give(self.alloc, self.job, &self.log[place], &mut given)?;
-        self.enter_and_keep(given)?;
+        let all = given(self.alloc, self.job, &self.log[place])?;
+        self.enter_what(&all)?;
         Ok(())
     }
 
@@ -377,6 +468,7 @@ impl<'a> Parts<'a> {
     }
 
     /// Goes on with the firings of the log until all are applied. Those that were woken are sorted out.
+    #[inline(never)]
     fn settle_logged(&mut self) -> Result<(), AllocError>
         requires kept { Invariant self.old }
         requires logged { self.old.in_flight ≡ false }

@@ -35,8 +35,6 @@ pub(crate) struct Parts<'a> {
     pub(crate) ready: OrderedSet<Firing>,
     /// The tokens that were put off: the firings that they wake are enabled, and not made.
     pub(crate) late: OrderedSet<Entry>,
-    /// A list for what a firing gives, whose room is used again.
-    pub(crate) given: Vec<Entry>,
     /// The firings that the last entry woke and that are still to be sorted out, the last one first. Once
     /// they are, the list's room is used for what the next entry wakes.
     pub(crate) woken: Vec<Firing>,
@@ -78,7 +76,6 @@ impl<'a> Parts<'a> {
             ready,
             late: OrderedSet::new(alloc),
             woken: Vec::new(alloc),
-            given: Vec::new(alloc),
             matcher,
         })
     }
