@@ -7,7 +7,6 @@ pub mod ContextLaws
 pub mod ContextHash
 pub mod Words
 pub mod Path
-pub mod Fronts
 pub mod Digest
 pub mod LinkTree
 pub mod LinkDepth

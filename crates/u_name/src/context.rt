@@ -15,7 +15,7 @@ ghost use Rattle.u_name.specs.ContextLaws.{context_cmp_total};
 ghost use Rattle.u_name.specs.ContextHash.{context_hash, hashes_alike};
 
 use crate::block_name::BlockName;
-use crate::path::{CALL, LOOP, OF_ROOT, behind_alike, path_around};
+use crate::path::{CALL, LOOP, OF_ROOT, compare_words, path_around};
 use std::alloc::{AllocError, Global};
 use std::cmp::Ordering;
 use std::hash::{Hash, Hasher};
@@ -203,7 +203,7 @@ impl Inner {
         requires others_in { IsContext (inner_tree other.now) }
         ensures { result ≡ context_cmp (inner_tree self.now) (inner_tree other.now) }
     {
-        self.path.cmp(&other.path)
+        compare_words(&self.path, &other.path)
     }
 
     /// Whether they are the same. Where the digests differ, nothing else is looked at.
@@ -218,8 +218,7 @@ impl Inner {
         if self.digest != other.digest {
             return false;
         }
-        let (left, right) = behind_alike(&self.path, &other.path);
-        left == right
+        self.compare(other).is_eq()
     }
 }
 

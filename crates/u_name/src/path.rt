@@ -9,14 +9,16 @@
 //! eighth is not 0, for otherwise they are all 0. The number shares a word with an initiation below
 //! 2^48 - 1. Beside a greater one it stands with 2^48 - 1, and the initiation has a word of its own.
 //!
-//! Two of them are compared behind a front that both begin with, which is found eight words at a time.
-ghost use Rattle.std.specs.Prelude.{◌≡◌, ◌+◌, ◌≤◌, ◌++◌, ◌∷◌, ◌↔◌, IfOk, IsTrue, length};
+//! Two of them are compared word by word, up to the first that differs.
+ghost use Rattle.std.specs.Prelude.{◌≡◌, ◌+◌, ◌≤◌, ◌++◌, ◌∷◌, IfOk, length, drop};
+ghost use Rattle.std.specs.Ordering.{nat_cmp};
+ghost use Rattle.std.specs.Cmp.Lexicographic.{slice_cmp};
 ghost use Rattle.u_name.specs.Words.{words, low_part, own_part, turn_words};
 ghost use Rattle.u_name.specs.Path.{kind_words, with_kind};
-ghost use Rattle.u_name.specs.Fronts.{AreBehindOneFront};
 
 use crate::block_name::BlockName;
 use std::alloc::{AllocError, Global};
+use std::cmp::Ordering;
 
 /// The kind of a loop's context.
 pub(crate) const LOOP: u8 = 1;
@@ -29,9 +31,6 @@ pub(crate) const OF_ROOT: [u64; KIND_WORDS] = [0; KIND_WORDS];
 
 /// How many words the kinds take.
 const KIND_WORDS: usize = 2;
-
-/// How many words are compared at once.
-const AT_ONCE: usize = 8;
 
 /// How many bits of a word stand behind its first kind.
 const BEHIND_KIND: u32 = 62;
@@ -119,32 +118,44 @@ fn push_turn(all: &mut Vec<u64>, number: u16, initiation: u64) -> Result<(), All
     Ok(())
 }
 
-/// Whether they are the same words. All are looked at, and nothing branches between them.
-fn are_alike(left: &[u64; AT_ONCE], right: &[u64; AT_ONCE]) -> bool
-    ensures { IsTrue result ↔ (left.now ≡ right.now) }
+/// The order of two paths: that of the first words that differ, and where there are none, that of the
+/// lengths. Words are looked at four at a time, and the last ones singly.
+pub(crate) fn compare_words(left: &[u64], right: &[u64]) -> Ordering
+    ensures { result ≡ slice_cmp nat_cmp left.now right.now }
 {
-    let first = (left[0] ^ right[0]) | (left[1] ^ right[1]);
-    let second = (left[2] ^ right[2]) | (left[3] ^ right[3]);
-    let third = (left[4] ^ right[4]) | (left[5] ^ right[5]);
-    let fourth = (left[6] ^ right[6]) | (left[7] ^ right[7]);
-    ((first | second) | (third | fourth)) == 0
+    let both = left.len().min(right.len());
+    let mut place = 0;
+    while place + 3 < both {
+        if left[place] != right[place] {
+            return left[place].cmp(&right[place]);
+        }
+        if left[place + 1] != right[place + 1] {
+            return left[place + 1].cmp(&right[place + 1]);
+        }
+        if left[place + 2] != right[place + 2] {
+            return left[place + 2].cmp(&right[place + 2]);
+        }
+        if left[place + 3] != right[place + 3] {
+            return left[place + 3].cmp(&right[place + 3]);
+        }
+        place += 4;
+    }
+    compare_from(left, right, place)
 }
 
-/// What stands behind a front that both begin with. The front is taken eight words at a time, so the
-/// rests may still begin alike.
-pub(crate) fn behind_alike<'a>(left: &'a [u64], right: &'a [u64]) -> (&'a [u64], &'a [u64])
-    ensures { AreBehindOneFront left.now right.now result.0.now result.1.now }
+/// The order of what stands in two paths from that place on.
+fn compare_from(left: &[u64], right: &[u64], from: usize) -> Ordering
+    requires in_left { from ≤ length left.now }
+    requires in_right { from ≤ length right.now }
+    ensures { result ≡ slice_cmp nat_cmp (drop from left.now) (drop from right.now) }
 {
-    let (mut left_rest, mut right_rest) = (left, right);
-    while let (Some((left_front, left_behind)), Some((right_front, right_behind))) = (
-        left_rest.split_first_chunk::<AT_ONCE>(),
-        right_rest.split_first_chunk::<AT_ONCE>(),
-    ) {
-        if !are_alike(left_front, right_front) {
-            break;
+    let both = left.len().min(right.len());
+    let mut place = from;
+    while place < both {
+        if left[place] != right[place] {
+            return left[place].cmp(&right[place]);
         }
-        left_rest = left_behind;
-        right_rest = right_behind;
+        place += 1;
     }
-    (left_rest, right_rest)
+    left.len().cmp(&right.len())
 }
