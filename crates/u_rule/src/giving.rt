@@ -124,11 +124,11 @@ fn list_of<'a>(statement: &'a Statement, values: &[Value]) -> &'a [Destination]
 }
 
 /// The fault of the activity.
-fn fault<'a>(activity: &Name, kind: FaultKind) -> Result<Given<'a>, AllocError>
+fn fault<'a>(alloc: Global, activity: &Name, kind: FaultKind) -> Result<Given<'a>, AllocError>
     ensures { IfOk result (λ g. entries_given g ≡ fault_of activity.now kind ∷ []) }
 {
     let activity = activity.copy()?;
-    Ok(Given::Alone(Entry::Fault(Fault { activity, kind })))
+    Given::one(alloc, Entry::Fault(Fault { activity, kind }))
 }
 
 /// The activity beside which the destinations lie of a statement of that kind.
@@ -171,8 +171,8 @@ fn delivered<'a>(
     let to = list_of(statement, firing.values.as_slice());
     match reached(alloc, version, statement.kind(), activity) {
         Ok(near) => Ok(Given::Sent(Sending::new(near, value, to))),
-        Err(NameError::Deep) => fault(activity, FaultKind::Deep),
-        Err(NameError::Initiation) => fault(activity, FaultKind::Initiation),
+        Err(NameError::Deep) => fault(alloc, activity, FaultKind::Deep),
+        Err(NameError::Initiation) => fault(alloc, activity, FaultKind::Initiation),
         Err(NameError::NoMemory) => Err(AllocError),
     }
 }
@@ -192,7 +192,7 @@ fn handed_on<'a>(
         (result_of statement.now.kind firing.now.activity firing.now.values firing.now.write)) }
 {
     match made_by(alloc, statement.kind(), firing)? {
-        Made::Fault(kind) => fault(&firing.activity, kind),
+        Made::Fault(kind) => fault(alloc, &firing.activity, kind),
         Made::Value(value) => delivered(alloc, version, statement, firing, value),
     }
 }
@@ -227,11 +227,11 @@ fn begun<'a>(
     match (activity.call(alloc, *block, 1), arguments) {
         (Ok(first), [only]) => {
             let argument = only.copy()?;
-            Ok(Given::Alone(Entry::Token(Token::new(first, 1, argument))))
+            Ok(Given::Alone(Token::new(first, 1, argument)))
         }
         (Ok(first), _) => Ok(Given::Listed(arguments_at(alloc, &first, arguments)?)),
         (Err(NameError::NoMemory), _) => Err(AllocError),
-        (Err(_), _) => fault(activity, FaultKind::Deep),
+        (Err(_), _) => fault(alloc, activity, FaultKind::Deep),
     }
 }
 
@@ -247,15 +247,15 @@ fn called<'a>(
         (λ g. entries_given g ≡ called program.now.blocks activity.now values.now) }
 {
     let Some((Value::Proc(procedure), arguments)) = values.split_first() else {
-        return fault(activity, FaultKind::Kind);
+        return fault(alloc, activity, FaultKind::Kind);
     };
     let name = procedure.block();
     match block_of(program, name) {
-        None => fault(activity, FaultKind::Kind),
+        None => fault(alloc, activity, FaultKind::Kind),
         Some(block) if arguments.len() == parameters_of(block) => {
             begun(alloc, activity, name, arguments)
         }
-        Some(_) => fault(activity, FaultKind::Arity),
+        Some(_) => fault(alloc, activity, FaultKind::Arity),
     }
 }
 
@@ -271,13 +271,18 @@ fn back_of(program: &Program, block: &BlockName, number: u16) -> Option<u16>
 }
 
 /// What `end` gives of its value: in the root the answer, in a call its result.
-fn finished(program: &Program, activity: &Name, value: Value) -> Result<Entry, AllocError>
+fn finished<'a>(
+    alloc: Global,
+    program: &Program,
+    activity: &Name,
+    value: Value,
+) -> Result<Given<'a>, AllocError>
     requires { IsEndable program.now.blocks activity.now.context }
-    ensures { IfOk result (λ e. e ∷ []
+    ensures { IfOk result (λ g. entries_given g
         ≡ finished program.now.blocks activity.now activity.now.context value) }
 {
     match activity.context().node() {
-        Node::Root => Ok(Entry::Answer(value)),
+        Node::Root => Given::one(alloc, Entry::Answer(value)),
         Node::Loop { .. } => unreachable!(),
         Node::Call {
             block,
@@ -287,34 +292,39 @@ fn finished(program: &Program, activity: &Name, value: Value) -> Result<Entry, A
             None => unreachable!(),
             Some(back) => {
                 let name = activity.back(back).map_err(|_| AllocError)?;
-                Ok(Entry::Token(Token::new(name, 1, value)))
+                Ok(Given::Alone(Token::new(name, 1, value)))
             }
         },
     }
 }
 
 /// What `end` gives.
-fn ended<'a>(program: &Program, activity: &Name, values: &[Value]) -> Result<Given<'a>, AllocError>
+fn ended<'a>(
+    alloc: Global,
+    program: &Program,
+    activity: &Name,
+    values: &[Value],
+) -> Result<Given<'a>, AllocError>
     requires { IsEndable program.now.blocks activity.now.context }
     ensures { IfOk result (λ g. entries_given g
         ≡ ended program.now.blocks activity.now (first_of values.now)) }
 {
     match values {
-        [first, ..] => Ok(Given::Alone(finished(program, activity, first.copy()?)?)),
-        _ => fault(activity, FaultKind::Kind),
+        [first, ..] => finished(alloc, program, activity, first.copy()?),
+        _ => fault(alloc, activity, FaultKind::Kind),
     }
 }
 
 /// What `store` gives: the write of its third value into the cell that the others name.
-fn stored<'a>(activity: &Name, values: &[Value]) -> Result<Given<'a>, AllocError>
+fn stored<'a>(alloc: Global, activity: &Name, values: &[Value]) -> Result<Given<'a>, AllocError>
     ensures { IfOk result (λ g. entries_given g ≡ stored activity.now values.now) }
 {
     match (cell_named(values), values) {
         (Ok((structure, index)), [_, _, value, ..]) => {
-            Ok(Given::Alone(wrote(structure, index, activity, value)?))
+            Given::one(alloc, wrote(structure, index, activity, value)?)
         }
-        (Ok(_), _) => fault(activity, FaultKind::Kind),
-        (Err(kind), _) => fault(activity, kind),
+        (Ok(_), _) => fault(alloc, activity, FaultKind::Kind),
+        (Err(kind), _) => fault(alloc, activity, kind),
     }
 }
 
@@ -337,8 +347,8 @@ pub(crate) fn given_at<'a>(
     let values = firing.values.as_slice();
     match statement.kind() {
         Kind::Apply(..) => called(alloc, program, activity, values),
-        Kind::End => ended(program, activity, values),
-        Kind::Store => stored(activity, values),
+        Kind::End => ended(alloc, program, activity, values),
+        Kind::Store => stored(alloc, activity, values),
         _ => handed_on(alloc, program.version(), statement, firing),
     }
 }

@@ -1,5 +1,5 @@
 //! What a firing gives, as it is held: tokens of one value are lent one by one, and no list of them is
-//! made.
+//! made. A token alone is held as it is, and all else in a list, so that little is moved.
 ghost use Rattle.std.specs.Prelude.{◌≡◌, ◌<◌, [], ◌∷◌, IfOk, length, map, slice_get, Some};
 ghost use Rattle.std.specs.List.{AllByRecursion};
 ghost use Rattle.u_program.specs.Limits.{IsDestination};
@@ -9,6 +9,7 @@ ghost use Rattle.u_rule.specs.declared.entry.Entry.TheVariants as entries;
 
 use crate::entry::Entry;
 use crate::lent::{NameRef, TokenRef};
+use crate::parts::Token;
 use std::alloc::{AllocError, Global};
 use std::marker::Model;
 use u_name::Name;
@@ -20,9 +21,9 @@ use u_value::Value;
 pub enum Given<'a> {
     /// Tokens of one value.
     Sent(Sending<'a>),
-    /// One entry.
-    Alone(Entry),
-    /// Several entries, or none.
+    /// One token.
+    Alone(Token),
+    /// All else: several entries, none, or one that is no token.
     Listed(Vec<Entry>),
 }
 
@@ -118,6 +119,13 @@ fn list_of(alloc: Global, entry: Entry) -> Result<Vec<Entry>, AllocError>
 }
 
 impl<'a> Given<'a> {
+    /// That entry alone, in a list. It need not be a token.
+    pub(crate) fn one(alloc: Global, entry: Entry) -> Result<Given<'a>, AllocError>
+        ensures { IfOk result (λ g. entries_given g ≡ entry ∷ []) }
+    {
+        Ok(Given::Listed(list_of(alloc, entry)?))
+    }
+
     /// The list of the entries.
     ///
     /// # Errors
@@ -127,7 +135,7 @@ impl<'a> Given<'a> {
     {
         match self {
             Given::Sent(sent) => tokens_of(alloc, &sent.near, &sent.value, sent.to),
-            Given::Alone(entry) => list_of(alloc, entry),
+            Given::Alone(token) => list_of(alloc, Entry::Token(token)),
             Given::Listed(entries) => Ok(entries),
         }
     }
