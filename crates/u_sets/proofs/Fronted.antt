@@ -10,7 +10,7 @@ use Rattle.std.proofs.lemmas.List.Edits.{length-remove}
 use Rattle.std.proofs.lemmas.List.Elements.{Contains-append_left, Contains-append_right, Contains-append_cases}
 use Rattle.u_system.proofs.Member.{Contains-nil, Contains-head, Contains-tail, Contains-cons_cases}
 use Rattle.u_sets.specs.Rising.{Rises}
-use Rattle.u_sets.specs.Members.{IsWith, IsWithout, IsFirstMoved}
+use Rattle.u_sets.specs.Members.{IsWith, IsWithout}
 use Rattle.u_sets.specs.Fronted.{IsFronted}
 use Rattle.u_sets.proofs.Places.{one_list, irreflexive}
 
@@ -69,14 +69,6 @@ module _ {X : Type 0} where
       | inl k ↦ inr (Contains-append_left a new z k)
       | inr k ↦ elim (w.rest z k) [ inl e ↦ inl e | inr j ↦ inr (Contains-append_right a new z j) ]
     ];
-  }
-
-  -- the only key, put before none
-  pub first_moved : (a b only old rest : List X) (k : X) → a ++ b ≡ [] → only ≡ k ∷ a → old ≡ k ∷ rest → IsFirstMoved old (only ++ b) rest
-  first_moved a b only old rest k e f g = record {
-    first = k;
-    was = g;
-    is = ap (λ (l : List X). l ++ b) f ∙ ap (λ (l : List X). k ∷ l) e;
   }
 
   pub only_fronted : (R : X → X → Ordering) (a b only : List X) (k : X) → a ++ b ≡ [] → only ≡ k ∷ a → IsFronted R only b

@@ -1,14 +1,14 @@
 -- Lists that fall: their turned lists rise, and they rise by the order that is turned round.
-use Rattle.std.proofs.Common.{◌≡◌, Bool, IsTrue, ◌⊎◌, inl, inr, ◌↔◌, ℕ, zero, suc, ◌+◌, ◌<◌, ◌≤◌, List, [], ◌∷◌, ◌++◌, reverse, length, refl, sym, ap, subst, ◌∙◌, Ordering, arith, Some, None, Option, option_to_list, IfSome, get_or, length-append, append-nil, slice_get}
+use Rattle.std.proofs.Common.{◌≡◌, Bool, IsTrue, ◌⊎◌, inl, inr, ◌↔◌, ℕ, zero, suc, ◌+◌, ◌<◌, ◌≤◌, List, [], ◌∷◌, ◌++◌, reverse, length, refl, sym, ap, subst, ◌∙◌, Ordering, arith, Some, None, Option, option_to_list, IfSome, get_or, length-append, append-nil, slice_get, take}
 use Rattle.std.specs.Prelude.{Contains, remove}
 use Rattle.std.specs.List.{insert}
 use Rattle.std.specs.Cmp.{IsTotalOrder}
 use Rattle.std.specs.Ordering.{is_lt, ordering_reverse}
 use Rattle.std.specs.declared.cmp.Ordering.TheVariants.{Less, Equal, Greater}
-use Rattle.std.proofs.lemmas.List.{get_or_default, reverse-reverse, reverse-append, length-reverse}
+use Rattle.std.proofs.lemmas.List.{get_or_default, reverse-reverse, reverse-append, length-reverse, take_all, take_more}
 use Rattle.std.proofs.lemmas.List.Sorted.{IsPermutation-reverse, Contains-permutation}
 use Rattle.std.proofs.lemmas.List.Elements.{Contains-get_or, Contains-append_left}
-use Rattle.u_system.proofs.Member.{Contains-nil, Contains-head, Contains-cons_cases}
+use Rattle.u_system.proofs.Member.{Contains-nil, Contains-head, Contains-tail, Contains-cons_cases}
 use Rattle.u_order.specs.Exact.{IsExact}
 use Rattle.u_sets.specs.Rising.{Rises}
 use Rattle.u_sets.specs.Members.{IsWith, IsWithout}
@@ -189,3 +189,34 @@ module _ {X : Type 0} (R : X → X → Ordering) (o : IsTotalOrder R) where
         rises = (subst (λ (l : List X). Rises R l) was f.rises).1;
         few = (let n = f.few in omega (arith, n, length-reverse old, length-reverse new, ap length e, length-append new (x ∷ [])));
       }
+
+  -- a key that stands before the least of a front and the others goes first
+  pub before_all : (xs b : List X) (i : ℕ) (v k : X) → IsFronted R (reverse xs) b → length xs ≡ i + 1 → length xs < 8 → v ≡ get_or xs i v → R k v ≡ Less → IsFronted R (k ∷ reverse xs) b
+  before_all xs b i v k f n few at l =
+      let whole : xs ≡ take i xs ++ v ∷ [] =
+      sym (take_all (i + 1) xs (omega (arith, n))) ∙ take_more xs i v (omega (arith, n)) ∙ ap (λ (x : X). take i xs ++ x ∷ []) (sym at) in
+      let turned : reverse xs ≡ v ∷ reverse (take i xs) = ap reverse whole ∙ last_off (take i xs) v in
+      let up : Rises R (v ∷ (reverse (take i xs) ++ b)) = subst (λ (t : List X). Rises R (t ++ b)) turned f.rises in
+      let first : (y : X) → Contains (v ∷ (reverse (take i xs) ++ b)) y → R k y ≡ Less =
+      λ y m. elim (Contains-cons_cases v y (reverse (take i xs) ++ b) m) [ inl e ↦ subst (λ (z : X). R k z ≡ Less) e l | inr t ↦ o.trans k v y l (up.0 y t) ] in
+      record {
+        rises = ((λ y m. first y (subst (λ (t : List X). Contains (t ++ b) y) turned m)), f.rises);
+        few = let r = length-reverse xs in omega (arith, few, r);
+      }
+
+module _ {X : Type 0} where
+  -- the only item of a list
+  pub only_item : (xs : List X) (x : X) → length xs ≡ 1 → x ≡ get_or xs 0 x → xs ≡ x ∷ []
+  only_item [] x n e = absurd (omega (arith, n))
+  only_item (y ∷ []) x n e = ap (λ (z : X). z ∷ []) (sym e)
+  only_item (y ∷ z ∷ xs) x n e = absurd (omega (arith, n))
+
+  -- an item that goes to the end of a front is the first of the set
+  pub goes_before : (front added list b : List X) (x : X) → length list ≡ 1 → x ≡ get_or list 0 x → added ≡ front ++ list → reverse added ≡ x ∷ reverse front
+  goes_before front added list b x n e a = ap reverse (a ∙ ap (λ (t : List X). front ++ t) (only_item list x n e)) ∙ last_off front x
+
+  pub with_first : (a : List X) (x : X) → IsWith a x (x ∷ a)
+  with_first a x z = (
+    (λ m. elim (Contains-cons_cases x z a m) [ inl e ↦ inr e | inr k ↦ inl k ]),
+    λ s. elim s [ inl k ↦ Contains-tail x z a k | inr e ↦ subst (λ (y : X). Contains (x ∷ a) y) e (Contains-head x a) ],
+  )

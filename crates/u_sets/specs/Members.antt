@@ -35,8 +35,8 @@ SomeOf {Y} ys P f = (y : Y) × Contains ys y × P y f
 abbrev pub GoesLast : {X : Type 0} → List X → X → List X → Type 0
 GoesLast old y new = (Contains old y × (new ≡ old)) ⊎ ((Contains old y → ⊥) × (new ≡ old ++ y ∷ []))
 
--- the first of old is the only one of the other list now, and the rest is left
-pub record IsFirstMoved {X : Type 0} (old only rest : List X) : Type 0 where
-  pub first : X
-  pub was : old ≡ first ∷ rest
-  pub is : only ≡ first ∷ []
+-- the last item of a list is taken out, and goes into the set
+pub record TakesLast {X : Type 0} (old items new rest : List X) : Type 0 where
+  pub last : X
+  pub was : items ≡ rest ++ last ∷ []
+  pub with : IsWith old last new

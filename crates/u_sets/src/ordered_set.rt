@@ -1,14 +1,15 @@
 //! Sets that are kept in order.
-ghost use Rattle.std.specs.Prelude.{◌≡◌, ◌↔◌, ◌+◌, ◌<◌, ◌++◌, [], ◌∷◌, reverse, OnOk, OnErr, IfOk, IfErr, IfSome, IfNone, Contains, IsTrue, IsFalse, length, slice_get};
+ghost use Rattle.std.specs.Prelude.{◌≡◌, ◌↔◌, ◌+◌, ◌<◌, ◌≤◌, ◌++◌, [], ◌∷◌, reverse, OnOk, OnErr, IfOk, IfErr, IfSome, IfNone, Contains, IsTrue, IsFalse, length, slice_get};
 ghost use Rattle.std.specs.Option.{option_copied};
 ghost use Rattle.std.specs.Iterator.{at_most};
 ghost use Rattle.std.specs.declared.cmp.Ordering.TheVariants.{Less};
 ghost use Rattle.std.specs.Map.Iter.{ShowsInOrder, TakesFirst, deref};
 ghost use Rattle.u_sets.specs.Rising.{Rises};
-ghost use Rattle.u_sets.specs.Members.{IsWith, IsWithout, IsFirstMoved};
+ghost use Rattle.u_sets.specs.Members.{IsWith, IsWithout, TakesLast};
 ghost use Rattle.u_sets.specs.Fronted.{IsFronted};
 
 use crate::falling::{place_of, put_in_place};
+use crate::room::push_into_room;
 use crate::tree_set::TreeSet;
 use std::alloc::{AllocError, AllocFailed, Global};
 use std::collections::btree_set::Iter;
@@ -87,6 +88,28 @@ fn goes_behind<K: ExactOrd + Drop>(keys: &TreeSet<K>, key: &K) -> bool
 
 /// Puts the greatest key of a full front, which stands first, before the others, which are all
 /// greater.
+#[inline(never)]
+fn move_greatest<K: ExactOrd + Drop>(
+    front: &mut Vec<K>,
+    others: &mut TreeSet<K>,
+) -> Result<(), AllocError>
+    requires fronted { IsFronted K.cmp (reverse front.old.items) others.old }
+    requires full { 8 ≤ length front.old.items }
+    ensures same { reverse front.new.items ++ others.new ≡ reverse front.old.items ++ others.old }
+    ensures fronted { IsFronted K.cmp (reverse front.new.items) others.new }
+    ensures room { OnOk result (length front.new.items < 8) }
+{
+    let greatest = front.remove(0);
+    match others.insert(greatest) {
+        Ok(_) => Ok(()),
+        Err(refused) => {
+            front.insert(0, refused.value).unwrap();
+            Err(AllocError)
+        }
+    }
+}
+
+/// Makes room in the front for one more.
 fn make_room<K: ExactOrd + Drop>(
     front: &mut Vec<K>,
     others: &mut TreeSet<K>,
@@ -99,14 +122,22 @@ fn make_room<K: ExactOrd + Drop>(
     if front.len() < MOST_IN_FRONT {
         return Ok(());
     }
-    let greatest = front.remove(0);
-    match others.insert(greatest) {
-        Ok(_) => Ok(()),
-        Err(refused) => {
-            front.insert(0, refused.value).unwrap();
-            Err(AllocError)
-        }
+    move_greatest(front, others)
+}
+
+/// Whether the key stands before all others, and the front has room for it.
+fn goes_first<K: ExactOrd + Drop>(front: &[K], others: &TreeSet<K>, key: &K) -> bool
+    requires { IsFronted K.cmp (reverse front.now) others.now }
+    ensures { IsTrue result → IsFronted K.cmp (key.now ∷ reverse front.now) others.now }
+{
+    let many = front.len();
+    if many == 0 {
+        return others.len() == 0;
     }
+    if many >= MOST_IN_FRONT {
+        return false;
+    }
+    key.cmp(&front[many - 1]).is_lt()
 }
 
 impl<K: ExactOrd + Drop> OrderedSet<K> {
@@ -160,10 +191,6 @@ impl<K: ExactOrd + Drop> OrderedSet<K> {
         ensures rises { Rises K.cmp self.new }
         ensures count { IfOk result (λ b. IsTrue b → length self.new ≡ length self.old + 1) }
     {
-        if self.is_empty() {
-            self.front.push(key)?;
-            return Ok(true);
-        }
         let Ok(()) = make_room(&mut self.front, &mut self.others) else {
             return Err(AllocFailed { value: key });
         };
@@ -173,6 +200,44 @@ impl<K: ExactOrd + Drop> OrderedSet<K> {
         }
         let added_in_front = put_in_place(&mut self.front, key)?;
         Ok(added_in_front)
+    }
+
+    /// Takes the last item out of the list, and puts it in.
+    #[inline(never)]
+    fn insert_taken(&mut self, list: &mut Vec<K>) -> Result<(), AllocError>
+        requires { 0 < length list.old.items }
+        ensures ok { OnOk result (TakesLast self.old list.old.items self.new list.new.items) }
+        ensures err { OnErr result ((self.new ≡ self.old) × (list.new.items ≡ list.old.items)) }
+        ensures rises { Rises K.cmp self.new }
+    {
+        let Some(last) = list.pop() else {
+            unreachable!();
+        };
+        match self.insert(last) {
+            Ok(_) => Ok(()),
+            Err(refused) => {
+                push_into_room(list, refused.value);
+                Err(AllocError)
+            }
+        }
+    }
+
+    /// Takes the last item out of the list, and puts it in, unless it is there. An item alone that stands
+    /// before all keys is not looked for.
+    ///
+    /// # Errors
+    /// `AllocError` where there is no memory; the set and the list stay as they were.
+    pub fn insert_last_of(&mut self, list: &mut Vec<K>) -> Result<(), AllocError>
+        requires { 0 < length list.old.items }
+        ensures ok { OnOk result (TakesLast self.old list.old.items self.new list.new.items) }
+        ensures err { OnErr result ((self.new ≡ self.old) × (list.new.items ≡ list.old.items)) }
+        ensures rises { Rises K.cmp self.new }
+    {
+        if list.len() == 1 && goes_first(&self.front, &self.others, &list[0]) {
+            self.front.append(list)?;
+            return Ok(());
+        }
+        self.insert_taken(list)
     }
 
     /// Takes the key out. Returns whether it was there.
@@ -211,28 +276,6 @@ impl<K: ExactOrd + Drop> OrderedSet<K> {
             return self.others.pop_first();
         }
         self.front.pop()
-    }
-
-    /// Takes the least key out of the other set, and puts it into this one, which has none.
-    ///
-    /// # Errors
-    /// `AllocError` where there is no memory; both sets stay as they were.
-    #[tactic(auto, using(crate::proofs::Fronted::first_moved))]
-    pub fn take_first_from(&mut self, other: &mut OrderedSet<K>) -> Result<(), AllocError>
-        requires none { self.old ≡ [] }
-        requires some { 0 < length other.old }
-        ensures ok { OnOk result (IsFirstMoved other.old self.new other.new) }
-        ensures err { OnErr result ((self.new ≡ []) × (other.new ≡ other.old)) }
-        ensures rises { OnOk result (Rises K.cmp other.new) }
-    {
-        self.front.reserve(1)?;
-        let Some(first) = other.pop_first() else {
-            unreachable!();
-        };
-        let Ok(()) = self.front.push(first) else {
-            unreachable!();
-        };
-        Ok(())
     }
 
     /// Takes out a key that is there. The only key is found without comparing.

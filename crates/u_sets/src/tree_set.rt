@@ -58,6 +58,7 @@ impl<K: ExactOrd + Drop> TreeSet<K> {
     ///
     /// # Errors
     /// `AllocFailed` with the key where there is no memory; the set stays as it was.
+    #[inline(never)]
     pub fn insert(&mut self, key: K) -> Result<bool, AllocFailed<K>>
         ensures ok { OnOk result (IsWith self.old key self.new) }
         ensures new { IfOk result (λ b. IsTrue b ↔ (Contains self.old key → ⊥)) }
@@ -90,6 +91,7 @@ impl<K: ExactOrd + Drop> TreeSet<K> {
     }
 
     /// Takes the least key out.
+    #[inline(never)]
     pub fn pop_first(&mut self) -> Option<K>
         ensures some { IfSome result (λ k. self.old ≡ k ∷ self.new) }
         ensures without { IfSome result (λ k. IsWithout self.old k self.new) }
