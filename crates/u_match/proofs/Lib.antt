@@ -1,5 +1,6 @@
 pub mod Steps
 pub mod Wakes
+pub mod Left
 pub mod Noted
 pub mod MetValues
 pub mod Choices

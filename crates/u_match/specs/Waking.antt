@@ -1,5 +1,5 @@
 -- Which firings an entry wakes, and what comes of an entry that enters.
-use Rattle.std.specs.Prelude.{◌≡◌, List, ◌∷◌, Contains, Result, Ok, Err}
+use Rattle.std.specs.Prelude.{◌≡◌, List, [], ◌∷◌, Contains, Result, Ok, Err}
 use Rattle.std.specs.declared.alloc.AllocError.{AllocError}
 use Rattle.u_check.specs.Jobs.{JobParts}
 use Rattle.u_rule.specs.Rule.{system_of}
@@ -25,11 +25,27 @@ pub record WakesSome (job : JobParts) (entry : Entry) (H : Entry → Type 0) : T
   pub rest : List Firing
   pub exact : AreThose (IsWokenBy job entry H) (first ∷ rest)
 
--- the entry was there; or it is new and enters, with the firings that it wakes, in order; or it is new,
--- and nothing changes since it would wake many; or there is no memory, and nothing changes
-abbrev pub EnterAnswer : JobParts → List Entry → Entry → Result Entered AllocError → List Entry → Type 0
-EnterAnswer job old entry (Ok entered.Known) new = Contains old entry × (new ≡ old)
-EnterAnswer job old entry (Ok (entered.Woken v)) new =
-    (Contains old entry → ⊥) × IsWith old entry new × AreThose (IsWokenBy job entry (Contains new)) v.items × Rises firing_cmp v.items
-EnterAnswer job old entry (Ok entered.Many) new = (Contains old entry → ⊥) × (new ≡ old) × WakesSome job entry (HasOr old entry)
-EnterAnswer job old entry (Err _) new = new ≡ old
+-- The entry was there; or it is new and enters, and the firings are those that it wakes, in order; or it is
+-- new, and nothing changes since it would wake many; or there is no memory, and nothing changes.
+abbrev pub Enters : JobParts → List Entry → Entry → Result Entered AllocError → List Firing → List Entry → Type 0
+Enters job old entry (Ok entered.Known) woken new = Contains old entry × (new ≡ old)
+Enters job old entry (Ok entered.Woken) woken new =
+    (Contains old entry → ⊥) × IsWith old entry new × AreThose (IsWokenBy job entry (Contains new)) woken × Rises firing_cmp woken
+Enters job old entry (Ok entered.Many) woken new = (Contains old entry → ⊥) × (new ≡ old) × WakesSome job entry (HasOr old entry)
+Enters job old entry (Err _) woken new = new ≡ old
+
+-- the same, and nothing else is woken
+abbrev pub EnterAnswer : JobParts → List Entry → Entry → Result Entered AllocError → List Firing → List Entry → Type 0
+EnterAnswer job old entry (Ok entered.Known) woken new = (woken ≡ []) × Contains old entry × (new ≡ old)
+EnterAnswer job old entry (Ok entered.Woken) woken new =
+    (Contains old entry → ⊥) × IsWith old entry new × AreThose (IsWokenBy job entry (Contains new)) woken × Rises firing_cmp woken
+EnterAnswer job old entry (Ok entered.Many) woken new =
+    (woken ≡ []) × (Contains old entry → ⊥) × (new ≡ old) × WakesSome job entry (HasOr old entry)
+EnterAnswer job old entry (Err _) woken new = (woken ≡ []) × (new ≡ old)
+
+-- what is left of the firings: all of them where the entry woke them, and else nothing
+abbrev pub IsLeft : Result Entered AllocError → List Firing → List Firing → Type 0
+IsLeft (Ok entered.Woken) firings left = left ≡ firings
+IsLeft (Ok entered.Known) firings left = left ≡ []
+IsLeft (Ok entered.Many) firings left = left ≡ []
+IsLeft (Err _) firings left = left ≡ []

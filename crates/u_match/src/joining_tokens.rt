@@ -294,39 +294,39 @@ impl Joining<'_> {
 
     /// The firings of the job that the token wakes where it enters the history, in no order. They go into
     /// the empty list. What lies at a port is asked of the history only where the activity has that port.
-    fn gathered(&self, token: &TokenRef<'_>, mut found: Vec<Firing>) -> Result<Vec<Firing>, Halt>
+    fn gathered(&self, token: &TokenRef<'_>, found: &mut Vec<Firing>) -> Result<(), Halt>
         requires known { IsKnown self.now.making.is_executable self.now.job.now
             self.now.activity.now }
         requires activity { self.now.activity.now ≡ token.now.activity }
         requires number { MayNumber self.now.history.now.names token.now.activity self.now.number }
-        requires empty { found.items ≡ [] }
-        ensures exact { IfOk result
-            (λ v. AreThose
+        requires empty { found.old.items ≡ [] }
+        ensures exact { OnOk result
+            (AreThose
             (IsWokenBy self.now.job.now (token_entry token.now)
             (HasOr self.now.history.now.entries (token_entry token.now)))
-            v.items) }
+            found.new.items) }
         ensures many { IfErr result
             (λ e. e ≡ Halt.TooMany → WakesSome self.now.job.now (token_entry token.now)
             (HasOr self.now.history.now.entries (token_entry token.now))) }
     {
         let ports = ports_at(self.job, self.activity);
         if ports < usize::from(token.port()) {
-            return Ok(found);
+            return Ok(());
         }
         if ports > 2 {
             let lists = met_at_each(self.alloc, self.history, self.number, token, ports)?;
             let mut chosen = Vec::new(self.alloc);
-            self.add_all(&lists, &mut chosen, &mut found)?;
-            return Ok(found);
+            self.add_all(&lists, &mut chosen, found)?;
+            return Ok(());
         }
         let firsts = met_at(self.history, self.number, token, 1);
         if ports == 1 {
-            self.add_ones(firsts, &mut found)?;
-            return Ok(found);
+            self.add_ones(firsts, found)?;
+            return Ok(());
         }
         let seconds = met_at(self.history, self.number, token, 2);
-        self.add_twos(firsts, seconds, &mut found)?;
-        Ok(found)
+        self.add_twos(firsts, seconds, found)?;
+        Ok(())
     }
 
     /// The firings of the job that the token, one of the activity, wakes where it enters the history. They
@@ -334,29 +334,25 @@ impl Joining<'_> {
     ///
     /// # Errors
     /// `TooMany` where there are more than `most`, and it gives up on the first that is one too many.
-    /// `NoMemory` where there is no memory.
-    pub(crate) fn woken_by(
-        &self,
-        token: &TokenRef<'_>,
-        room: Vec<Firing>,
-    ) -> Result<Vec<Firing>, Halt>
+    /// `NoMemory` where there is no memory. The list may have some of the firings then.
+    pub(crate) fn woken_by(&self, token: &TokenRef<'_>, found: &mut Vec<Firing>) -> Result<(), Halt>
         requires known { IsKnown self.now.making.is_executable self.now.job.now
             self.now.activity.now }
         requires activity { self.now.activity.now ≡ token.now.activity }
         requires number { MayNumber self.now.history.now.names token.now.activity self.now.number }
-        requires empty { room.items ≡ [] }
-        ensures exact { IfOk result
-            (λ v. AreThose
+        requires empty { found.old.items ≡ [] }
+        ensures exact { OnOk result
+            (AreThose
             (IsWokenBy self.now.job.now (token_entry token.now)
             (HasOr self.now.history.now.entries (token_entry token.now)))
-            v.items) }
-        ensures rises { IfOk result (λ v. Rises firing_cmp v.items) }
+            found.new.items) }
+        ensures rises { OnOk result (Rises firing_cmp found.new.items) }
         ensures many { IfErr result
             (λ e. e ≡ Halt.TooMany → WakesSome self.now.job.now (token_entry token.now)
             (HasOr self.now.history.now.entries (token_entry token.now))) }
     {
-        let mut found = self.gathered(token, room)?;
-        put_in_order(&mut found);
-        Ok(found)
+        self.gathered(token, found)?;
+        put_in_order(found);
+        Ok(())
     }
 }

@@ -1,5 +1,5 @@
 //! Sets of entries that say what each new entry enables.
-ghost use Rattle.std.specs.Prelude.{◌≡◌, ◌↔◌, [], IfOk, IfErr, OnOk, OnErr, IsTrue, Contains, ◌⊎◌, length};
+ghost use Rattle.std.specs.Prelude.{◌≡◌, ◌↔◌, [], Ok, IfOk, IfErr, OnOk, OnErr, IsTrue, Contains, ◌⊎◌, length};
 ghost use Rattle.u_rule.specs.declared.entry.Entry.{Entry};
 ghost use Rattle.u_rule.specs.declared.entry.Entry.TheVariants.{Token as token_entry};
 ghost use Rattle.u_rule.specs.declared.firing.Firing.{Firing};
@@ -9,10 +9,10 @@ ghost use Rattle.u_rule.specs.Fits.{IsFitting};
 ghost use Rattle.u_system.specs.Firing.{Enabled};
 ghost use Rattle.u_sets.specs.Rising.{Rises};
 ghost use Rattle.u_sets.specs.Members.{IsWith, AreThose, HasOr};
-ghost use Rattle.u_sets.specs.Columns.{IsNumberOf};
+ghost use Rattle.u_sets.specs.Columns.{IsNumberOf, MayNumber};
 ghost use Rattle.u_match.specs.Keys.{IsComplete};
 ghost use Rattle.u_match.specs.Numbers.{IsNumberOfEntry, NumbersEntry};
-ghost use Rattle.u_match.specs.Waking.{IsWokenBy, WakesSome, EnterAnswer};
+ghost use Rattle.u_match.specs.Waking.{IsWokenBy, WakesSome, Enters, EnterAnswer, IsLeft};
 
 use crate::enabling::has_all_of;
 use crate::halt::Halt;
@@ -42,12 +42,12 @@ const ALL: Making = Making {
 };
 
 /// What came of an entry that enters.
-#[derive(Drop)]
+#[derive(Clone, Copy)]
 pub enum Entered {
     /// It was there already.
     Known,
-    /// It is new, and wakes these firings, in order and each once.
-    Woken(Vec<Firing>),
+    /// It is new, and the firings that it wakes are made.
+    Woken,
     /// It is a new token and wakes so many firings that they were not made, and it did not enter.
     Many,
 }
@@ -180,31 +180,51 @@ struct Waking<'a> {
 }
 
 impl Waking<'_> {
-    /// The firings that the entry wakes where it enters.
-    fn firings(&self, reads: &Reads) -> Result<Vec<Firing>, Halt>
+    /// The firings that the token, which is the entry, wakes where it enters. They go into the empty list.
+    /// More than the largest `usize` have no room.
+    fn firings_of_token(
+        &self,
+        token: &TokenRef<'_>,
+        found: &mut Vec<Firing>,
+    ) -> Result<(), AllocError>
+        requires number { MayNumber self.now.history.now.names token.now.activity self.now.number }
+        requires empty { found.old.items ≡ [] }
+        ensures exact { OnOk result
+            (AreThose
+            (IsWokenBy self.now.job.now (token_entry token.now)
+            (HasOr self.now.history.now.entries (token_entry token.now)))
+            found.new.items) }
+        ensures rises { OnOk result (Rises firing_cmp found.new.items) }
+    {
+        let joining = Joining {
+            alloc: self.alloc,
+            job: self.job,
+            history: self.history,
+            activity: token.activity(),
+            number: self.number,
+            making: ALL,
+        };
+        match joining.woken_by(token, found) {
+            Ok(()) => Ok(()),
+            Err(_) => Err(AllocError),
+        }
+    }
+
+    /// The firings that the entry wakes where it enters. They go into the empty list.
+    fn firings(&self, reads: &Reads, found: &mut Vec<Firing>) -> Result<(), AllocError>
         requires number { NumbersEntry self.now.history.now.names self.now.entry.now
             self.now.number }
         requires complete { IsComplete reads.now self.now.history.now.entries }
-        ensures exact { IfOk result
-            (λ v. AreThose
+        requires empty { found.old.items ≡ [] }
+        ensures exact { OnOk result
+            (AreThose
             (IsWokenBy self.now.job.now self.now.entry.now
             (HasOr self.now.history.now.entries self.now.entry.now))
-            v.items) }
-        ensures rises { IfOk result (λ v. Rises firing_cmp v.items) }
+            found.new.items) }
+        ensures rises { OnOk result (Rises firing_cmp found.new.items) }
     {
         match self.entry {
-            Entry::Token(token) => {
-                let token = TokenRef::of(token);
-                let joining = Joining {
-                    alloc: self.alloc,
-                    job: self.job,
-                    history: self.history,
-                    activity: token.activity(),
-                    number: self.number,
-                    making: ALL,
-                };
-                joining.woken_by(&token, Vec::new(self.alloc))
-            }
+            Entry::Token(token) => self.firings_of_token(&TokenRef::of(token), found),
             Entry::Write(write) => {
                 let entering = Entering {
                     alloc: self.alloc,
@@ -212,30 +232,20 @@ impl Waking<'_> {
                     entries: self.history,
                     entry: self.entry,
                 };
-                let found = entering.woken_by_write(reads, write)?;
-                Ok(found)
+                entering.woken_by_write(reads, write, found)
             }
-            Entry::Fault(_fault) => Ok(Vec::new(self.alloc)),
-            Entry::Answer(_value) => Ok(Vec::new(self.alloc)),
+            Entry::Fault(_fault) => Ok(()),
+            Entry::Answer(_value) => Ok(()),
         }
     }
+}
 
-    /// All the firings that the entry wakes where it enters. More than the largest `usize` have no room.
-    fn all(&self, reads: &Reads) -> Result<Vec<Firing>, AllocError>
-        requires number { NumbersEntry self.now.history.now.names self.now.entry.now
-            self.now.number }
-        requires complete { IsComplete reads.now self.now.history.now.entries }
-        ensures exact { IfOk result
-            (λ v. AreThose
-            (IsWokenBy self.now.job.now self.now.entry.now
-            (HasOr self.now.history.now.entries self.now.entry.now))
-            v.items) }
-        ensures rises { IfOk result (λ v. Rises firing_cmp v.items) }
-    {
-        match self.firings(reads) {
-            Ok(found) => Ok(found),
-            Err(_) => Err(AllocError),
-        }
+/// Empties the list, unless the entry that came woke the firings in it.
+fn keep_woken(came: Result<Entered, AllocError>, firings: &mut Vec<Firing>)
+    ensures { IsLeft came firings.old.items firings.new.items }
+{
+    if !matches!(came, Ok(Entered::Woken)) {
+        firings.clear();
     }
 }
 
@@ -308,30 +318,23 @@ impl Matcher {
             entry,
             number,
         };
-        let found = waking.all(&self.reads)?;
+        let mut found = Vec::new(self.alloc);
+        waking.firings(&self.reads, &mut found)?;
         admit(history, number, &mut self.reads, entry)?;
         Ok(found)
     }
 
-    /// Lets an entry that fits the job enter the set, unless it is there already or is a token that wakes
-    /// more than 16 firings. Of these no more than that are made before it answers `Many`, and the token
-    /// did not enter then. What a write wakes is always made. The list is emptied, and its room is used
-    /// for the firings that a token wakes.
-    ///
-    /// # Errors
-    /// `AllocError` where there is no memory; the set stays as it was.
-    pub fn enter_few(
+    /// Lets the entry enter the set, unless it is there already. All the firings that it wakes are made, and
+    /// go into the empty list; where it does not answer `Woken`, that may have some of them.
+    fn let_in(
         &mut self,
         job: &Job,
         entry: &Entry,
-        room: Vec<Firing>,
+        found: &mut Vec<Firing>,
     ) -> Result<Entered, AllocError>
-        requires { IsFitting job.now.program.blocks entry.now }
-        ensures { EnterAnswer job.now self.old entry.now result self.new }
+        requires { found.old.items ≡ [] }
+        ensures { Enters job.now self.old entry.now result found.new.items self.new }
     {
-        if let Entry::Token(token) = entry {
-            return self.enter_token(job, &TokenRef::of(token), room);
-        }
         let history = self.history.numbered_mut();
         let number = number_of(history, entry)?;
         let waking = Waking {
@@ -341,28 +344,26 @@ impl Matcher {
             entry,
             number,
         };
-        let found = waking.all(&self.reads)?;
+        waking.firings(&self.reads, found)?;
         let added = admit(history, number, &mut self.reads, entry)?;
         if !added {
             return Ok(Entered::Known);
         }
-        Ok(Entered::Woken(found))
+        Ok(Entered::Woken)
     }
 
-    /// `enter_few` of the token, which comes by reference: neither it nor the name of its activity is made.
-    ///
-    /// # Errors
-    /// As `enter_few`.
-    pub fn enter_token(
+    /// Lets a token enter as `enter_token` does, but the list is empty at first, and where it does not answer
+    /// `Woken`, that may have some of the firings.
+    fn let_token_in(
         &mut self,
         job: &Job,
         token: &TokenRef<'_>,
-        mut room: Vec<Firing>,
+        found: &mut Vec<Firing>,
     ) -> Result<Entered, AllocError>
-        requires { IsFitting job.now.program.blocks (token_entry token.now) }
-        ensures { EnterAnswer job.now self.old (token_entry token.now) result self.new }
+        requires fits { IsFitting job.now.program.blocks (token_entry token.now) }
+        requires empty { found.old.items ≡ [] }
+        ensures { Enters job.now self.old (token_entry token.now) result found.new.items self.new }
     {
-        room.clear();
         let history = self.history.numbered_mut();
         let number = history.number_at(token.activity())?;
         let joining = Joining {
@@ -373,8 +374,8 @@ impl Matcher {
             number,
             making: FEW,
         };
-        let found = match joining.woken_by(token, room) {
-            Ok(found) => found,
+        match joining.woken_by(token, found) {
+            Ok(()) => {}
             Err(Halt::TooMany) => {
                 let known = has_token(history, token)?;
                 if known {
@@ -383,12 +384,70 @@ impl Matcher {
                 return Ok(Entered::Many);
             }
             Err(Halt::NoMemory) => return Err(AllocError),
-        };
+        }
         let added = admit_token(history, number, &mut self.reads, token)?;
         if !added {
             return Ok(Entered::Known);
         }
-        Ok(Entered::Woken(found))
+        Ok(Entered::Woken)
+    }
+
+    /// Lets an entry enter as `enter_few` does, but it never answers `Many`: all that the entry wakes is made.
+    #[inline(never)]
+    fn enter_whole(
+        &mut self,
+        job: &Job,
+        entry: &Entry,
+        found: &mut Vec<Firing>,
+    ) -> Result<Entered, AllocError>
+        ensures { EnterAnswer job.now self.old entry.now result found.new.items self.new }
+    {
+        found.clear();
+        let came = self.let_in(job, entry, found);
+        keep_woken(came, found);
+        came
+    }
+
+    /// Lets an entry that fits the job enter the set, unless it is there already or is a token that wakes
+    /// more than 16 firings. Of these no more than that are made before it answers `Many`, and the token
+    /// did not enter then. What a write wakes is always made. The list is emptied and its room is used:
+    /// after `Woken` it has the firings that the entry wakes, in order and each once, and else nothing.
+    ///
+    /// # Errors
+    /// `AllocError` where there is no memory; the set stays as it was.
+    pub fn enter_few(
+        &mut self,
+        job: &Job,
+        entry: &Entry,
+        woken: &mut Vec<Firing>,
+    ) -> Result<Entered, AllocError>
+        requires { IsFitting job.now.program.blocks entry.now }
+        ensures { EnterAnswer job.now self.old entry.now result woken.new.items self.new }
+    {
+        match entry {
+            Entry::Token(token) => self.enter_token(job, &TokenRef::of(token), woken),
+            _ => self.enter_whole(job, entry, woken),
+        }
+    }
+
+    /// `enter_few` of the token, which comes by reference: neither it nor the name of its activity is made.
+    ///
+    /// # Errors
+    /// As `enter_few`.
+    pub fn enter_token(
+        &mut self,
+        job: &Job,
+        token: &TokenRef<'_>,
+        woken: &mut Vec<Firing>,
+    ) -> Result<Entered, AllocError>
+        requires { IsFitting job.now.program.blocks (token_entry token.now) }
+        ensures { EnterAnswer job.now self.old (token_entry token.now) result woken.new.items
+            self.new }
+    {
+        woken.clear();
+        let came = self.let_token_in(job, token, woken);
+        keep_woken(came, woken);
+        came
     }
 
     /// Lets the entry enter the set. The firings that it wakes are not made: `woken_by` makes them.
@@ -424,7 +483,8 @@ impl Matcher {
             entry,
             number: number_for(history, entry),
         };
-        let found = waking.all(&self.reads)?;
+        let mut found = Vec::new(self.alloc);
+        waking.firings(&self.reads, &mut found)?;
         Ok(found)
     }
 }

@@ -1,6 +1,6 @@
 //! The firings that a write wakes: of those that are made of a read that waits for its cell, the ones
 //! whose needs are there. The table of reads may have more than the history, so each need is looked up.
-ghost use Rattle.std.specs.Prelude.{◌≡◌, ◌↔◌, ◌⊎◌, IfOk, OnOk, IsTrue, Contains};
+ghost use Rattle.std.specs.Prelude.{◌≡◌, ◌↔◌, ◌⊎◌, [], IfOk, OnOk, IsTrue, Contains};
 ghost use Rattle.u_rule.specs.declared.entry.Entry.TheVariants.{Write as write_entry};
 ghost use Rattle.u_rule.specs.declared.entry.Entry.{Entry};
 ghost use Rattle.u_rule.specs.declared.firing.Firing.{Firing};
@@ -131,45 +131,50 @@ impl Entering<'_> {
         Ok(())
     }
 
-    /// Those of the firings that the entry wakes, in order and each once. Of firings that stand in order
-    /// each goes behind those that were found before.
+    /// Adds those of the firings that the entry wakes to the empty list, in order and each once. Of firings
+    /// that stand in order each goes behind those that were found before.
     ///
     /// # Errors
     /// `AllocError` where there is no memory.
-    fn woken_of(&self, firings: &[Firing]) -> Result<Vec<Firing>, AllocError>
-        ensures exact { IfOk result
-            (λ v. AreThose
+    fn add_woken_of(&self, firings: &[Firing], found: &mut Vec<Firing>) -> Result<(), AllocError>
+        requires { found.old.items ≡ [] }
+        ensures exact { OnOk result
+            (AreThose
             (λ (f : Firing). Contains firings.now f
             × IsWokenBy self.now.job.now self.now.entry.now
-            (HasOr self.now.entries.now.entries self.now.entry.now) f) v.items) }
-        ensures rises { IfOk result (λ v. Rises firing_cmp v.items) }
+            (HasOr self.now.entries.now.entries self.now.entry.now) f) found.new.items) }
+        ensures rises { OnOk result (Rises firing_cmp found.new.items) }
     {
-        let mut found = Vec::new(self.alloc);
         for firing in firings {
-            self.add_woken(firing, &mut found)?;
+            self.add_woken(firing, found)?;
         }
-        Ok(found)
+        Ok(())
     }
 
-    /// The firings of the job that the write wakes where it enters. They stand in order, each once. The
-    /// reads are those that wait in the set.
+    /// The firings of the job that the write wakes where it enters. They stand in order, each once, in the
+    /// list, which was empty. The reads are those that wait in the set.
+    ///
+    /// # Errors
+    /// `AllocError` where there is no memory. The list may have some of the firings then.
     pub(crate) fn woken_by_write(
         &self,
         reads: &Reads,
         write: &Write,
-    ) -> Result<Vec<Firing>, AllocError>
+        found: &mut Vec<Firing>,
+    ) -> Result<(), AllocError>
         requires complete { IsComplete reads.now self.now.entries.now.entries }
         requires is { self.now.entry.now ≡ write_entry write.now }
-        ensures exact { IfOk result
-            (λ v. AreThose
+        requires empty { found.old.items ≡ [] }
+        ensures exact { OnOk result
+            (AreThose
             (IsWokenBy self.now.job.now self.now.entry.now
-            (HasOr self.now.entries.now.entries self.now.entry.now)) v.items) }
-        ensures rises { IfOk result (λ v. Rises firing_cmp v.items) }
+            (HasOr self.now.entries.now.entries self.now.entry.now)) found.new.items) }
+        ensures rises { OnOk result (Rises firing_cmp found.new.items) }
     {
         let waiting = reads.under(&write.cell);
         let mut met = wake_each(self.alloc, write, waiting)?;
         put_in_order(&mut met);
-        let found = self.woken_of(&met)?;
-        Ok(found)
+        self.add_woken_of(&met, found)?;
+        Ok(())
     }
 }

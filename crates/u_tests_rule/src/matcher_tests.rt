@@ -300,8 +300,9 @@ fn is_known(
         return Ok(false);
     }
     let len = matcher.len();
-    let came = matcher.enter_few(job, entry, Vec::new(alloc))?;
-    Ok(matches!(came, Entered::Known) && matcher.len() == len)
+    let mut woken = Vec::new(alloc);
+    let came = matcher.enter_few(job, entry, &mut woken)?;
+    Ok(matches!(came, Entered::Known) && woken.is_empty() && matcher.len() == len)
 }
 
 /// The firings that the entry wakes in a matcher with these entries.
@@ -326,13 +327,17 @@ fn comes_with(
     if !is_fitting(job, entry) {
         return Ok(None);
     }
-    let (is_right, is_put_off) = match matcher.enter_few(job, entry, Vec::new(alloc))? {
+    let mut woken = Vec::new(alloc);
+    let (is_right, is_put_off) = match matcher.enter_few(job, entry, &mut woken)? {
         Entered::Known => (false, false),
-        Entered::Woken(found) => (
-            found.as_slice() == wanted && is_known(alloc, matcher, job, entry)?,
+        Entered::Woken => (
+            woken.as_slice() == wanted && is_known(alloc, matcher, job, entry)?,
             false,
         ),
-        Entered::Many => (wakes_later(alloc, matcher, job, entry, wanted)?, true),
+        Entered::Many => (
+            woken.is_empty() && wakes_later(alloc, matcher, job, entry, wanted)?,
+            true,
+        ),
     };
     if is_right {
         return Ok(Some(is_put_off));

@@ -79,17 +79,18 @@ fn wakes(
         let found = matcher.enter(job, entry)?;
         return Ok(found.as_slice() == wanted);
     }
-    let woken = match matcher.enter_few(job, entry, Vec::new(alloc))? {
+    let mut woken = Vec::new(alloc);
+    match matcher.enter_few(job, entry, &mut woken)? {
         Entered::Known => return Ok(false),
-        Entered::Woken(found) => found,
+        Entered::Woken => {}
         Entered::Many => {
             matcher.enter_alone(entry)?;
             if !matcher.contains(entry) {
                 return Ok(false);
             }
-            matcher.woken_by(job, entry)?
+            woken = matcher.woken_by(job, entry)?;
         }
-    };
+    }
     Ok(woken.as_slice() == wanted)
 }
 

@@ -5,11 +5,11 @@ use Rattle.u_match.proofs.Wakes.{woken_over}
 use Rattle.u_match.proofs.Numbered.{numbers}
 use Rattle.u_match.proofs.matcher.Matcher.enter.Goals as goal
 
-pub all-requires-clause-number : goal.all-requires-clause-number
-all-requires-clause-number c = numbers c.number_of.new.history.names c.args.entry.now c.in_ok-number.number c.in_ok-number.ensures.number
+pub firings-requires-clause-number : goal.firings-requires-clause-number
+firings-requires-clause-number c = numbers c.number_of.new.history.names c.args.entry.now c.in_ok-number.number c.in_ok-number.ensures.number
 
 pub returns-clause-exact : goal.returns-clause-exact
-returns-clause-exact c = woken_over c.args.job.now c.args.entry.now c.number_of.new.history.entries c.admit.new.history.entries c.in_ok-found.found.items c.in_ok-admit.ensures.ok c.in_ok-found.ensures.exact
+returns-clause-exact c = woken_over c.args.job.now c.args.entry.now c.number_of.new.history.entries c.admit.new.history.entries c.firings.new.found.items c.in_ok-admit.ensures.ok c.in_ok-firings.ensures.exact
 
 pub returns-clause-ok : goal.returns-clause-ok
 returns-clause-ok c =

@@ -6,7 +6,7 @@ use Rattle.u_sets.proofs.Gathering.{scan_all}
 use Rattle.u_match.specs.Waking.{IsWokenBy}
 use Rattle.u_sets.proofs.Steps.{round, from_nothing}
 use Rattle.u_match.proofs.Wakes.{among}
-use Rattle.u_match.proofs.waking_reads.Entering.woken_of.Goals as goal
+use Rattle.u_match.proofs.waking_reads.Entering.add_woken_of.Goals as goal
 
 pub loop-firing-preserved : goal.loop-firing-preserved
 loop-firing-preserved c = record {

@@ -6,7 +6,7 @@ use Rattle.u_rule.specs.EntryOrder.{firing_cmp}
 use Rattle.u_sets.specs.Members.{SomeOf}
 use Rattle.u_sets.specs.Rising.{Rises}
 use Rattle.u_match.specs.Waking.{IsWokenBy}
-use Rattle.u_match.proofs.waking_reads.Entering.woken_of.Given as goal
+use Rattle.u_match.proofs.waking_reads.Entering.add_woken_of.Given as goal
 
 abbrev pub invariant-loop-firing : goal.invariant-loop-firing
 invariant-loop-firing l = record {
