@@ -20,7 +20,6 @@ mod initiations;
 mod lent;
 mod parameters;
 mod parts;
-mod ports;
 mod reading;
 mod rule;
 mod shared_written;
@@ -33,10 +32,10 @@ pub use firing::Firing;
 pub use held::{Given, Sending};
 pub use lent::{NameRef, TokenRef};
 pub use parts::{Fault, MOST_PORTS, Token, Write, Written};
-pub use ports::ports_at;
 pub use reading::TextError;
 pub use rule::{
-    RuleError, given, given_by, gives, is_firing, is_firing_in_place, is_fitting, needs, start,
+    RuleError, given, given_by, gives, is_firing, is_firing_of_statement, is_fitting, needs, start,
+    statement_at,
 };
 pub use shared_written::SharedWritten;
 pub use structures::{cell_at, names_cell};

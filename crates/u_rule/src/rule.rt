@@ -22,6 +22,7 @@ use crate::fits::{fits, statement_of};
 use crate::giving::given_at;
 use crate::held::Given;
 use crate::initiations::fires_in_turns;
+use crate::lent::NameRef;
 use crate::parts::Token;
 use crate::structures::{add_write, has_its_write};
 use std::alloc::{AllocError, AllocFailed, Global};
@@ -38,6 +39,14 @@ fn executed<'a>(program: &'a Program, activity: &Name) -> Option<&'a Statement>
     ensures limits { IfSome result (λ s. IsStatement the_limits s.now) }
 {
     statement_of(program, activity.block(), activity.statement())
+}
+
+/// The statement that an activity executes, where the job has it.
+pub fn statement_at<'a>(job: &'a Job, activity: &NameRef<'_>) -> Option<&'a Statement>
+    ensures { option_copied result
+        ≡ statement_of job.now.program.blocks activity.now.block activity.now.statement }
+{
+    statement_of(job.program(), activity.block(), activity.statement())
 }
 
 /// Whether the activity may execute a statement of that region.
@@ -125,19 +134,16 @@ fn is_fitting_firing_at(statement: &Statement, firing: &Firing) -> bool
 }
 
 /// Whether it is a firing of the job, as `is_firing` answers, where its activity may execute the statement
-/// that it names. It does not go through the context.
+/// that it names, and this is that statement. It neither looks for the statement nor goes through the
+/// context.
 #[tactic(auto, unfolding(crate::specs::Rule::is_firing_of))]
-pub fn is_firing_in_place(job: &Job, firing: &Firing) -> bool
-    requires { IsExecutable job.now.program.blocks firing.now.activity }
+pub fn is_firing_of_statement(job: &Job, statement: &Statement, firing: &Firing) -> bool
+    requires executable { IsExecutable job.now.program.blocks firing.now.activity }
+    requires stands { statement_of job.now.program.blocks firing.now.activity.block
+        firing.now.activity.statement ≡ Some statement.now }
     ensures { result ≡ is_firing_of job.now firing.now }
 {
-    let program = job.program();
-    match executed(program, &firing.activity) {
-        None => false,
-        Some(statement) => {
-            is_fitting_firing_at(statement, firing) && fires_in_turns(program, firing)
-        }
-    }
+    is_fitting_firing_at(statement, firing) && fires_in_turns(job.program(), firing)
 }
 
 /// Why a list of entries could not be made.
