@@ -1,9 +1,10 @@
 -- The firings that are gathered from lists of what a token meets are those that it wakes.
-use Rattle.std.proofs.Common.{◌≡◌, ◌↔◌, ◌⊎◌, inl, inr, sym, refl, arith, ℕ, zero, suc, ◌≤◌, ◌<◌, List, [], ◌∷◌, length, Contains}
+use Rattle.std.proofs.Common.{◌≡◌, ◌↔◌, ◌⊎◌, inl, inr, sym, ap, refl, arith, ℕ, zero, suc, ◌≤◌, ◌<◌, List, [], ◌∷◌, length, Contains, None}
 use Rattle.u_value.specs.declared.value.Value.{Value}
 use Rattle.u_check.specs.Jobs.{JobParts}
 use Rattle.u_rule.specs.Parts.{TokenParts, ValueList}
-use Rattle.u_rule.specs.Ports.{ports_at}
+use Rattle.u_rule.specs.Fits.{statement_of}
+use Rattle.u_match.specs.Ports.{ports_in, ports_at}
 use Rattle.u_rule.specs.declared.entry.Entry.{Entry}
 use Rattle.u_rule.specs.declared.firing.Firing.{Firing}
 use Rattle.u_sets.specs.Members.{SomeOf, Gains}
@@ -34,6 +35,19 @@ module _ (H : Entry → Type 0) (t : TokenParts) (job : JobParts) where
     where
       lacks : Woken H t job f → Contains [] f
       lacks w = let high = (place_of H t job f w).to in let n = counts H t job f w in absurd (omega (arith, l, high, n))
+
+  -- nor where it has no statement
+  pub answered_nowhere : statement_of job.program.blocks t.activity.block t.activity.statement ≡ None → (f : Firing) → Contains [] f ↔ Woken H t job f
+  answered_nowhere none f = ((λ m. absurd (Contains-nil f m)), lacks)
+    where
+      lacks : Woken H t job f → Contains [] f
+      lacks w =
+          let place = place_of H t job f w in
+          let low = place.from in
+          let high = place.to in
+          let n = counts H t job f w in
+          let zero_ports : ports_at job t.activity ≡ 0 = ap ports_in none in
+          absurd (omega (arith, low, high, n, zero_ports))
 
   -- from the lists of what is met at the ports
   module _ (lists : List ValueList) (met_each : AreMetFrom H t 1 lists) (found : List Firing) where

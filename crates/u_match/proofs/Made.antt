@@ -9,7 +9,7 @@ use Rattle.u_check.specs.Jobs.{JobParts}
 use Rattle.u_check.specs.Kinds.{ports_of}
 use Rattle.u_rule.specs.Parts.{most_ports, TokenParts, token, ValueList}
 use Rattle.u_rule.specs.Fits.{statement_of, fits_at}
-use Rattle.u_rule.specs.Ports.{ports_in, ports_at}
+use Rattle.u_match.specs.Ports.{ports_in, ports_at}
 use Rattle.u_rule.specs.Rule.{is_firing_of, is_firing_at, needs_of, tokens_from}
 use Rattle.u_rule.specs.EntryOrder.{firing}
 use Rattle.u_rule.specs.Structures.{cell_named, wrote, has_its_write}
@@ -35,6 +35,10 @@ counted_at p (Some s) f h =
 
 pub counted : (job : JobParts) (f : Firing) → IsTrue (is_firing_of job f) → length f.values ≡ ports_at job f.activity
 counted job f h = counted_at job.program.blocks (statement_of job.program.blocks f.activity.block f.activity.statement) f (at_statement job f h)
+
+-- as many ports as its statement
+pub ports_of_stated : (job : JobParts) (a : Activity) (s : StatementParts) → statement_of job.program.blocks a.block a.statement ≡ Some s → ports_of s.kind ≡ ports_at job a
+ports_of_stated job a s e = ap ports_in (sym e)
 
 -- how many ports an activity has at most
 few_in : (s : Option StatementParts) → ports_in s ≤ most_ports

@@ -5,7 +5,8 @@ use Rattle.u_name.specs.Cell.{CellOf}
 use Rattle.u_value.specs.declared.value.Value.{Value}
 use Rattle.u_check.specs.Jobs.{JobParts}
 use Rattle.u_rule.specs.Parts.{ValueList}
-use Rattle.u_rule.specs.Fits.{IsExecutable}
+use Rattle.u_program.specs.Parts.{StatementParts}
+use Rattle.u_rule.specs.Fits.{statement_of, IsExecutable}
 use Rattle.u_rule.specs.Rule.{is_firing_of}
 use Rattle.u_rule.specs.EntryOrder.{firing, written}
 use Rattle.u_rule.specs.Structures.{cell_named}
@@ -17,9 +18,9 @@ use Rattle.u_sets.specs.Members.{SomeOf}
 use Rattle.u_history.specs.Outcomes.{PairIn}
 use Rattle.u_match.specs.declared.meeting.Read.{Read}
 
--- where it is known, the activity may execute the statement that it names
-abbrev pub IsKnown : Bool → JobParts → Activity → Type 0
-IsKnown known job a = IsTrue known → IsExecutable job.program.blocks a
+-- s is the statement that the activity names, and where it is known so, the activity may execute it
+abbrev pub IsKnown : Bool → JobParts → Activity → StatementParts → Type 0
+IsKnown known job a s = (statement_of job.program.blocks a.block a.statement ≡ Some s) × (IsTrue known → IsExecutable job.program.blocks a)
 
 -- f is that firing, and one of the job
 abbrev pub IsKept : JobParts → Firing → Firing → Type 0

@@ -1,3 +1,4 @@
+pub mod Ports
 pub mod Keys
 pub mod ReadOrder
 pub mod Finite

@@ -12,6 +12,7 @@ ghost use Rattle.u_sets.specs.Columns.{MayNumber};
 ghost use Rattle.u_match.specs.Finite.{HasSome};
 ghost use Rattle.u_match.specs.Joins.{IsKnown, IsKept, IsOne, IsReading, ReadsCell, JoinsTwo, JoinsSome, JoinsAll};
 ghost use Rattle.u_match.specs.Keys.{lent_lists};
+ghost use Rattle.u_match.specs.Ports.{ports_at};
 ghost use Rattle.u_rule.specs.Parts.{most_ports};
 ghost use Rattle.u_match.specs.Waking.{IsWokenBy, WakesSome};
 
@@ -20,11 +21,10 @@ use crate::making_firings::{of_one, of_read, of_two, of_values};
 use crate::meeting::{met_at, met_at_each};
 use crate::ordering::put_in_order;
 use std::alloc::{AllocError, Global};
-use u_check::Job;
+use u_check::{Job, ports_of};
 use u_history::NumberedHistory;
-use u_rule::{
-    Firing, NameRef, TokenRef, Written, cell_at, is_firing, is_firing_in_place, ports_at,
-};
+use u_program::Statement;
+use u_rule::{Firing, NameRef, TokenRef, Written, cell_at, is_firing, is_firing_of_statement};
 use u_value::Value;
 
 /// How firings of an activity are made.
@@ -32,33 +32,44 @@ use u_value::Value;
 pub(crate) struct Making {
     /// How many there may be at most.
     pub(crate) most: usize,
-    /// Whether it is known that the activity may execute the statement that it names. Then no firing's
-    /// context is gone through.
+    /// Whether it is known that the activity may execute the statement that it names. Then the statement is
+    /// not looked for again, and no firing's context is gone through.
     pub(crate) is_executable: bool,
 }
 
-/// What the firings of one activity are made over: the job, the history, and the activity with its
-/// number; and how they are made.
+/// What the firings of one activity are made over: the job, the history, and the activity with its number
+/// and the statement that it executes; and how they are made.
 #[derive(Clone, Copy)]
 pub(crate) struct Joining<'a> {
     pub(crate) alloc: Global,
     pub(crate) job: &'a Job,
     pub(crate) history: &'a NumberedHistory,
     pub(crate) activity: &'a NameRef<'a>,
+    pub(crate) statement: &'a Statement,
     pub(crate) number: usize,
     pub(crate) making: Making,
 }
 
 impl Joining<'_> {
+    /// How many ports the activity has.
+    #[tactic(auto, using(crate::proofs::Made::ports_of_stated))]
+    fn ports(&self) -> usize
+        requires { IsKnown self.now.making.is_executable self.now.job.now self.now.activity.now
+            self.now.statement.now }
+        ensures { result ≡ ports_at self.now.job.now self.now.activity.now }
+    {
+        ports_of(self.statement.kind())
+    }
+
     /// Whether the firing, one of the activity, is one of the job.
     fn is_one(&self, firing: &Firing) -> bool
         requires known { IsKnown self.now.making.is_executable self.now.job.now
-            self.now.activity.now }
+            self.now.activity.now self.now.statement.now }
         requires own { firing.now.activity ≡ self.now.activity.now }
         ensures { result ≡ is_firing_of self.now.job.now firing.now }
     {
         if self.making.is_executable {
-            return is_firing_in_place(self.job, firing);
+            return is_firing_of_statement(self.job, self.statement, firing);
         }
         is_firing(self.job, firing)
     }
@@ -66,7 +77,7 @@ impl Joining<'_> {
     /// Adds the firing, if it is one of the job.
     fn add(&self, found: &mut Vec<Firing>, firing: Firing) -> Result<(), Halt>
         requires known { IsKnown self.now.making.is_executable self.now.job.now
-            self.now.activity.now }
+            self.now.activity.now self.now.statement.now }
         requires own { firing.activity ≡ self.now.activity.now }
         ensures ok { OnOk result
             (Gains found.old.items (IsKept self.now.job.now firing) found.new.items) }
@@ -87,7 +98,7 @@ impl Joining<'_> {
     /// Adds the firings of one value of the list.
     fn add_ones(&self, firsts: &[Value], found: &mut Vec<Firing>) -> Result<(), Halt>
         requires known { IsKnown self.now.making.is_executable self.now.job.now
-            self.now.activity.now }
+            self.now.activity.now self.now.statement.now }
         ensures ok { OnOk result
             (Gains found.old.items
             (SomeOf firsts.now (IsOne self.now.job.now self.now.activity.now)) found.new.items) }
@@ -112,7 +123,7 @@ impl Joining<'_> {
         found: &mut Vec<Firing>,
     ) -> Result<(), Halt>
         requires known { IsKnown self.now.making.is_executable self.now.job.now
-            self.now.activity.now }
+            self.now.activity.now self.now.statement.now }
         ensures ok { OnOk result
             (Gains found.old.items
             (SomeOf writes.now
@@ -133,7 +144,7 @@ impl Joining<'_> {
     /// Adds the firings of two values that read a write of the cell that these name.
     fn add_reads(&self, first: &Value, second: &Value, found: &mut Vec<Firing>) -> Result<(), Halt>
         requires known { IsKnown self.now.making.is_executable self.now.job.now
-            self.now.activity.now }
+            self.now.activity.now self.now.statement.now }
         ensures ok { OnOk result
             (Gains found.old.items
             (ReadsCell self.now.job.now (Contains self.now.history.now.entries)
@@ -157,7 +168,7 @@ impl Joining<'_> {
     /// Adds the firings that have these two values, and besides nothing or a write.
     fn add_two(&self, first: &Value, second: &Value, found: &mut Vec<Firing>) -> Result<(), Halt>
         requires known { IsKnown self.now.making.is_executable self.now.job.now
-            self.now.activity.now }
+            self.now.activity.now self.now.statement.now }
         ensures ok { OnOk result
             (Gains found.old.items
             (JoinsTwo self.now.job.now (Contains self.now.history.now.entries)
@@ -182,7 +193,7 @@ impl Joining<'_> {
         found: &mut Vec<Firing>,
     ) -> Result<(), Halt>
         requires known { IsKnown self.now.making.is_executable self.now.job.now
-            self.now.activity.now }
+            self.now.activity.now self.now.statement.now }
         ensures ok { OnOk result
             (Gains found.old.items
             (JoinsSome self.now.job.now (Contains self.now.history.now.entries)
@@ -207,7 +218,7 @@ impl Joining<'_> {
         found: &mut Vec<Firing>,
     ) -> Result<(), Halt>
         requires known { IsKnown self.now.making.is_executable self.now.job.now
-            self.now.activity.now }
+            self.now.activity.now self.now.statement.now }
         ensures ok { OnOk result
             (Gains found.old.items
             (SomeOf firsts.now
@@ -237,7 +248,7 @@ impl Joining<'_> {
         found: &mut Vec<Firing>,
     ) -> Result<(), Halt>
         requires known { IsKnown self.now.making.is_executable self.now.job.now
-            self.now.activity.now }
+            self.now.activity.now self.now.statement.now }
         requires ports { IsBetween 1 (length chosen.old.items + length lists.now) most_ports }
         ensures ok { OnOk result
             (Gains found.old.items
@@ -270,7 +281,7 @@ impl Joining<'_> {
         found: &mut Vec<Firing>,
     ) -> Result<(), Halt>
         requires known { IsKnown self.now.making.is_executable self.now.job.now
-            self.now.activity.now }
+            self.now.activity.now self.now.statement.now }
         requires ports { IsBetween 1 (length chosen.old.items + 1 + length others.now) most_ports }
         ensures ok { OnOk result
             (Gains found.old.items
@@ -296,7 +307,7 @@ impl Joining<'_> {
     /// the empty list. What lies at a port is asked of the history only where the activity has that port.
     fn gathered(&self, token: &TokenRef<'_>, found: &mut Vec<Firing>) -> Result<(), Halt>
         requires known { IsKnown self.now.making.is_executable self.now.job.now
-            self.now.activity.now }
+            self.now.activity.now self.now.statement.now }
         requires activity { self.now.activity.now ≡ token.now.activity }
         requires number { MayNumber self.now.history.now.names token.now.activity self.now.number }
         requires empty { found.old.items ≡ [] }
@@ -309,7 +320,7 @@ impl Joining<'_> {
             (λ e. e ≡ Halt.TooMany → WakesSome self.now.job.now (token_entry token.now)
             (HasOr self.now.history.now.entries (token_entry token.now))) }
     {
-        let ports = ports_at(self.job, self.activity);
+        let ports = self.ports();
         if ports < usize::from(token.port()) {
             return Ok(());
         }
@@ -337,7 +348,7 @@ impl Joining<'_> {
     /// `NoMemory` where there is no memory. The list may have some of the firings then.
     pub(crate) fn woken_by(&self, token: &TokenRef<'_>, found: &mut Vec<Firing>) -> Result<(), Halt>
         requires known { IsKnown self.now.making.is_executable self.now.job.now
-            self.now.activity.now }
+            self.now.activity.now self.now.statement.now }
         requires activity { self.now.activity.now ≡ token.now.activity }
         requires number { MayNumber self.now.history.now.names token.now.activity self.now.number }
         requires empty { found.old.items ≡ [] }

@@ -1,5 +1,5 @@
 //! Sets of entries that say what each new entry enables.
-ghost use Rattle.std.specs.Prelude.{◌≡◌, ◌↔◌, [], Ok, IfOk, IfErr, OnOk, OnErr, IsTrue, Contains, ◌⊎◌, length};
+ghost use Rattle.std.specs.Prelude.{◌≡◌, ◌↔◌, [], IfOk, IfErr, OnOk, OnErr, IsTrue, Contains, ◌⊎◌, length};
 ghost use Rattle.u_rule.specs.declared.entry.Entry.{Entry};
 ghost use Rattle.u_rule.specs.declared.entry.Entry.TheVariants.{Token as token_entry};
 ghost use Rattle.u_rule.specs.declared.firing.Firing.{Firing};
@@ -24,7 +24,7 @@ use std::alloc::{AllocError, Global};
 use std::marker::Model;
 use u_check::Job;
 use u_history::{History, NumberedHistory};
-use u_rule::{Entry, Firing, NameRef, TokenRef};
+use u_rule::{Entry, Firing, NameRef, TokenRef, statement_at};
 
 /// As many firings are made as a token enters, and no more.
 const MOST_AT_ONCE: usize = 16;
@@ -181,7 +181,7 @@ struct Waking<'a> {
 
 impl Waking<'_> {
     /// The firings that the token, which is the entry, wakes where it enters. They go into the empty list.
-    /// More than the largest `usize` have no room.
+    /// More than the largest `usize` have no room. An activity that has no statement fires never.
     fn firings_of_token(
         &self,
         token: &TokenRef<'_>,
@@ -196,11 +196,15 @@ impl Waking<'_> {
             found.new.items) }
         ensures rises { OnOk result (Rises firing_cmp found.new.items) }
     {
+        let Some(statement) = statement_at(self.job, token.activity()) else {
+            return Ok(());
+        };
         let joining = Joining {
             alloc: self.alloc,
             job: self.job,
             history: self.history,
             activity: token.activity(),
+            statement,
             number: self.number,
             making: ALL,
         };
@@ -364,6 +368,9 @@ impl Matcher {
         requires empty { found.old.items ≡ [] }
         ensures { Enters job.now self.old (token_entry token.now) result found.new.items self.new }
     {
+        let Some(statement) = statement_at(job, token.activity()) else {
+            unreachable!();
+        };
         let history = self.history.numbered_mut();
         let number = history.number_at(token.activity())?;
         let joining = Joining {
@@ -371,6 +378,7 @@ impl Matcher {
             job,
             history,
             activity: token.activity(),
+            statement,
             number,
             making: FEW,
         };

@@ -1,4 +1,4 @@
-use Rattle.std.proofs.Common.{◌∙◌, inl, inr, refl, sym, subst, List}
+use Rattle.std.proofs.Common.{rules, ◌∙◌, inl, inr, refl, sym, subst, List}
 use Rattle.std.specs.Prelude.{Contains}
 use Rattle.u_name.specs.Name.{Activity}
 use Rattle.u_rule.specs.Fits.{IsExecutable}
@@ -6,17 +6,20 @@ use Rattle.u_rule.specs.declared.entry.Entry.{Entry}
 use Rattle.u_rule.specs.declared.entry.Entry.TheVariants as entries
 use Rattle.u_sets.specs.Columns.{IsNumberOf}
 use Rattle.u_sets.specs.Members.{IsWith}
-use Rattle.u_match.proofs.Executing.{executes}
+use Rattle.u_match.proofs.Executing.{executes, nowhere}
 use Rattle.u_match.proofs.Wakes.{woken_over}
 use Rattle.u_match.proofs.matcher.Matcher.let_token_in.Goals as goal
 
+pub unreachable-requires : goal.unreachable-requires
+unreachable-requires c = nowhere c.args.job.now.program.blocks c.args.token.now c.requires.fits (search rules)
+
 pub woken_by-requires-clause-known : goal.woken_by-requires-clause-known
-woken_by-requires-clause-known c k =
+woken_by-requires-clause-known c =
     let p = c.args.job.now.program.blocks in
-    subst (λ (a : Activity). IsExecutable p a) (sym c.activity-2.ensures) (executes p c.args.token.now c.requires.fits)
+    (search rules, λ k. subst (λ (a : Activity). IsExecutable p a) (sym c.activity-3.ensures) (executes p c.args.token.now c.requires.fits))
 
 pub woken_by-requires-clause-number : goal.woken_by-requires-clause-number
-woken_by-requires-clause-number c = inl (subst (λ (a : Activity). IsNumberOf c.number_at.new.self.names a c.in_ok-number.number) c.activity.ensures c.in_ok-number.ensures.number)
+woken_by-requires-clause-number c = inl (subst (λ (a : Activity). IsNumberOf c.number_at.new.self.names a c.in_ok-number.number) c.activity-2.ensures c.in_ok-number.ensures.number)
 
 pub returns-then-not-added : goal.returns-then-not-added
 returns-then-not-added c =
