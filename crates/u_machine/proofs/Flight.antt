@@ -1,7 +1,7 @@
--- The log of a machine, and the firing in flight.
-use Rattle.std.proofs.Common.{◌≡◌, ◌⊎◌, inl, inr, ◌<◌, ◌≤◌, ◌+◌, ◌-◌, ◌∙◌, Bool, true, false, ℕ, ◌++◌, [], ◌∷◌, length, length-append, take, refl, sym, ap, arith}
-use Rattle.std.specs.Prelude.{vec_len, vec_capacity, Contains, slice_get, Some}
-use Rattle.std.proofs.lemmas.List.{take-append-le}
+-- The parked firings, and the firing in flight, which stands at the end of the log.
+use Rattle.std.proofs.Common.{◌≡◌, ◌⊎◌, inl, inr, ◌<◌, ◌≤◌, ◌+◌, ◌-◌, ◌∙◌, Bool, true, false, ℕ, ◌++◌, [], ◌∷◌, length, drop, refl, sym, ap, subst, arith}
+use Rattle.std.specs.Prelude.{Contains}
+use Rattle.std.proofs.lemmas.List.{length-drop}
 use Rattle.u_system.proofs.Member.{Contains-nil, Contains-head, Contains-tail, Contains-cons_cases}
 use Rattle.u_sets.specs.Rising.{Rises}
 use Rattle.u_sets.specs.Members.{IsWith, IsWithout}
@@ -9,43 +9,46 @@ use Rattle.u_sets.proofs.Places.{irreflexive}
 use Rattle.u_rule.specs.declared.firing.Firing.{Firing}
 use Rattle.u_rule.specs.EntryOrder.{FiringList, firing_cmp}
 use Rattle.u_rule.specs.ExactOrders.{firing_cmp_total}
+use Rattle.u_machine.proofs.Lists.{Contains-dropped}
 use Rattle.u_machine.specs.declared.parts.Parts.{Parts}
-use Rattle.u_machine.specs.Invariant.{Invariant, IsInFlight, log_with, log_of}
+use Rattle.u_machine.specs.Invariant.{Invariant, IsInFlight, parked_with, parked_of}
 
--- where none is in flight, the log is as it stands
-pub as_it_stands : (b : Bool) (log parked : FiringList) → b ≡ false → log_with b log parked ≡ log
-as_it_stands true log parked e = absurd (cc)
-as_it_stands false log parked e = refl
+-- where none is in flight, the parked firings are those of the set
+pub as_they_wait : (b : Bool) (n : ℕ) (log parked : FiringList) → b ≡ false → parked_with b n log parked ≡ parked
+as_they_wait true n log parked e = absurd (cc)
+as_they_wait false n log parked e = refl
 
--- the firing in flight goes last
-pub with_the_last : (b : Bool) (log parked : FiringList) → b ≡ true → log_with b log parked ≡ log ++ parked
-with_the_last true log parked e = refl
-with_the_last false log parked e = absurd (cc)
+-- the firing in flight stands in the log
+pub as_it_flies : (b : Bool) (n : ℕ) (log parked : FiringList) → b ≡ true → parked_with b n log parked ≡ drop n log
+as_it_flies true n log parked e = refl
+as_it_flies false n log parked e = absurd (cc)
 
-none_flies : (b : Bool) (log parked : FiringList) (n len c : ℕ) → (b ≡ true → IsInFlight n log parked len c) → n ≡ length (log_with b log parked) → b ≡ false
-none_flies true log parked n len c h e = let f = h refl in let l = length-append log parked in absurd (omega (arith, f.place, f.only, l, e))
-none_flies false log parked n len c h e = refl
+none_flies : (b : Bool) (n : ℕ) (log parked : FiringList) → (b ≡ true → IsInFlight n log parked) → n ≡ length log → b ≡ false
+none_flies true n log parked h e = let f = h refl in absurd (omega (arith, f.last, e))
+none_flies false n log parked h e = refl
 
 -- where all is applied, none is in flight
-pub not_flying : (p : Parts) → Invariant p → p.applied_count ≡ length (log_of p) → p.in_flight ≡ false
-not_flying p k e = none_flies p.in_flight p.log.items p.parked p.applied_count (vec_len p.log) (vec_capacity p.log) k.flight e
+pub not_flying : (p : Parts) → Invariant p → p.applied_count ≡ length p.log.items → p.in_flight ≡ false
+not_flying p k e = none_flies p.in_flight p.applied_count p.log.items p.parked k.flight e
+
+-- where all is applied, the parked firings are those of the set
+pub all_wait : (p : Parts) → Invariant p → p.applied_count ≡ length p.log.items → parked_of p ≡ p.parked
+all_wait p k e = as_they_wait p.in_flight p.applied_count p.log.items p.parked (not_flying p k e)
 
 -- the firing in flight alone is parked
-few_fly : (b : Bool) (log parked : FiringList) (n len c : ℕ) → (b ≡ true → IsInFlight n log parked len c) → b ≡ true → length parked ≤ length (log_with b log parked) - n
-few_fly true log parked n len c h e = let f = h refl in let l = length-append log parked in omega (arith, f.place, f.only, l)
-few_fly false log parked n len c h e = absurd (cc)
+pub few_parked : (p : Parts) → p.in_flight ≡ true → length (parked_of p) ≤ length p.log.items - p.applied_count
+few_parked p e =
+    let d = ap length (as_it_flies p.in_flight p.applied_count p.log.items p.parked e) in
+    let l = length-drop p.applied_count p.log.items in
+    omega (arith, d, l)
 
-pub few_parked : (p : Parts) → Invariant p → p.in_flight ≡ true → length p.parked ≤ length (log_of p) - p.applied_count
-few_parked p k e = few_fly p.in_flight p.log.items p.parked p.applied_count (vec_len p.log) (vec_capacity p.log) k.flight e
+behind_all : (log : FiringList) (f : Firing) → drop (length log) (log ++ f ∷ []) ≡ f ∷ []
+behind_all [] f = refl
+behind_all (g ∷ log) f = behind_all log f
 
--- what was applied stands in the log
-pub applied_stand : (b : Bool) (log parked : FiringList) (n len c : ℕ) → (b ≡ true → IsInFlight n log parked len c) → take n (log_with b log parked) ≡ take n log
-applied_stand true log parked n len c h = let f = h refl in take-append-le n log parked (omega (arith, f.place))
-applied_stand false log parked n len c h = refl
-
-pub applied_within : (b : Bool) (log parked : FiringList) (n len c : ℕ) → (b ≡ true → IsInFlight n log parked len c) → n ≤ length (log_with b log parked) → n ≤ length log
-applied_within true log parked n len c h w = let f = h refl in omega (arith, f.place)
-applied_within false log parked n len c h w = w
+-- the last of a list stands alone behind the others
+pub behind_others : (n : ℕ) (log : FiringList) (f : Firing) → n ≡ length log → drop n (log ++ f ∷ []) ≡ f ∷ []
+behind_others n log f e = subst (λ (k : ℕ). drop k (log ++ f ∷ []) ≡ f ∷ []) (sym e) (behind_all log f)
 
 -- the only one is that, in a list that had none
 pub with_only : (old new : FiringList) (f : Firing) → old ≡ [] → new ≡ f ∷ [] → IsWith old f new
@@ -65,19 +68,31 @@ without_first old less f r e = record {
   rest = λ g m. Contains-cons_cases f g less (rw e at m);
 }
 
-behind_all : (xs ys : FiringList) → slice_get (xs ++ ys) (length xs) ≡ slice_get ys 0
-behind_all [] ys = refl
-behind_all (x ∷ xs) ys = behind_all xs ys
+one_rises : (fs : FiringList) → length fs ≡ 1 → Rises firing_cmp fs
+one_rises [] e = absurd (omega (arith, e))
+one_rises (f ∷ []) e = only_rises (f ∷ []) f refl
+one_rises (f ∷ g ∷ fs) e = absurd (omega (arith, e))
 
--- the firing in flight stands behind those that were applied
-pub flying_at : (p : Parts) → Invariant p → p.in_flight ≡ true → (f : Firing) → slice_get p.parked 0 ≡ Some f → slice_get (log_of p) p.applied_count ≡ Some f
-flying_at p k e f at =
-    let place = (k.flight e).place in
-    rw (with_the_last p.in_flight p.log.items p.parked e, place) (behind_all p.log.items p.parked ∙ at)
+parked_rise : (b : Bool) (n : ℕ) (log parked : FiringList) → (b ≡ true → IsInFlight n log parked) → Rises firing_cmp parked → Rises firing_cmp (parked_with b n log parked)
+parked_rise true n log parked h r = let f = h refl in let l = length-drop n log in one_rises (drop n log) (omega (arith, f.last, l))
+parked_rise false n log parked h r = r
 
-pub flying_below : (p : Parts) → Invariant p → p.in_flight ≡ true → p.applied_count < length (log_of p)
-flying_below p k e =
-    let f = k.flight e in
-    let w = ap length (with_the_last p.in_flight p.log.items p.parked e) in
-    let l = length-append p.log.items p.parked in
-    omega (arith, f.place, f.only, w, l)
+-- the parked firings rise
+pub they_rise : (p : Parts) → Invariant p → Rises firing_cmp p.parked → Rises firing_cmp (parked_of p)
+they_rise p k r = parked_rise p.in_flight p.applied_count p.log.items p.parked k.flight r
+
+set_within : (b : Bool) (n : ℕ) (log parked : FiringList) → (b ≡ true → IsInFlight n log parked) → (f : Firing) → Contains parked f → Contains (parked_with b n log parked) f
+set_within true n log parked h f m = absurd (Contains-nil f (rw (h refl).alone at m))
+set_within false n log parked h f m = m
+
+-- those of the set are parked
+pub parked_there : (p : Parts) → Invariant p → (f : Firing) → Contains p.parked f → Contains (parked_of p) f
+parked_there p k f m = set_within p.in_flight p.applied_count p.log.items p.parked k.flight f m
+
+set_or_log : (b : Bool) (n : ℕ) (log parked : FiringList) (f : Firing) → Contains (parked_with b n log parked) f → Contains parked f ⊎ Contains log f
+set_or_log true n log parked f m = inr (Contains-dropped n log f m)
+set_or_log false n log parked f m = inl m
+
+-- a parked firing is in the set, or in the log
+pub parked_where : (p : Parts) (f : Firing) → Contains (parked_of p) f → Contains p.parked f ⊎ Contains p.log.items f
+parked_where p f m = set_or_log p.in_flight p.applied_count p.log.items p.parked f m

@@ -7,7 +7,7 @@ use Rattle.u_rule.specs.Rule.{system_of}
 use Rattle.u_rule.specs.EntryOrder.{FiringList, EntryList}
 use Rattle.u_machine.proofs.Lists.{le_split}
 use Rattle.u_machine.specs.declared.parts.Parts.{Parts}
-use Rattle.u_machine.specs.Invariant.{GoesOn, SameButApplied, Lengthens, Gives, HasEntered, EnteredBefore, log_of}
+use Rattle.u_machine.specs.Invariant.{GoesOn, SameButApplied, Lengthens, Gives, HasEntered, EnteredBefore}
 
 pub lengthens_none : (a b : FiringList) → b ≡ a → Lengthens a b
 lengthens_none a b e = ([], e ∙ sym (append-nil a))
@@ -19,7 +19,7 @@ pub lengthens_le : (a b : FiringList) → Lengthens a b → length a ≤ length 
 lengthens_le a b p = let l = length-append a p.0 in let e = ap length p.1 in omega arith
 
 pub goes_on : (a b c : Parts) → GoesOn a b → GoesOn b c → GoesOn a c
-goes_on a b c p q = record { job = q.job ∙ p.job; applied_count = q.applied_count ∙ p.applied_count; log = lengthens_on (log_of a) (log_of b) (log_of c) p.log q.log; in_flight = q.in_flight ∙ p.in_flight }
+goes_on a b c p q = record { job = q.job ∙ p.job; applied_count = q.applied_count ∙ p.applied_count; log = lengthens_on a.log.items b.log.items c.log.items p.log q.log; in_flight = q.in_flight ∙ p.in_flight }
 
 slice_get_longer : {X : Type 0} (xs ys : List X) (k : ℕ) (x : X) → slice_get xs k ≡ Some x → slice_get (xs ++ ys) k ≡ Some x
 slice_get_longer [] ys k x e = absurd (cc)
@@ -28,7 +28,7 @@ slice_get_longer (y ∷ xs) ys (suc k) x e = slice_get_longer xs ys k x e
 
 -- what a firing gives that is being applied, it gives still
 pub gives_still : (a b : Parts) (e : Entry) → GoesOn a b → Gives a e → Gives b e
-gives_still a b e p (f, place, from, at, g) = (f, place, omega (arith, from, p.applied_count), rw p.log.1 (slice_get_longer (log_of a) p.log.0 place f at), rw p.job g)
+gives_still a b e p (f, place, from, at, g) = (f, place, omega (arith, from, p.applied_count), rw p.log.1 (slice_get_longer a.log.items p.log.0 place f at), rw p.job g)
 
 pub slice_get_below : {X : Type 0} (xs : List X) (k : ℕ) (x : X) → slice_get xs k ≡ Some x → k < length xs
 slice_get_below [] k x e = absurd (cc)
@@ -41,15 +41,15 @@ slice_get_before (y ∷ xs) ys zero x l e = e
 slice_get_before (y ∷ xs) ys (suc k) x l e = slice_get_before xs ys k x (omega (arith, l)) e
 
 -- what has entered is there still as the log goes on
-pub entered_longer : (a b : Parts) (k : ℕ) → GoesOn a b → ((e : Entry) → Contains a.matcher e → Contains b.matcher e) → k < length (log_of a) → HasEntered a k → HasEntered b k
-entered_longer a b k p more l h f at e g = more e (h f (slice_get_before (log_of a) p.log.0 k f l (rw p.log.1 at at)) e (rw p.job at g))
+pub entered_longer : (a b : Parts) (k : ℕ) → GoesOn a b → ((e : Entry) → Contains a.matcher e → Contains b.matcher e) → k < length a.log.items → HasEntered a k → HasEntered b k
+entered_longer a b k p more l h f at e g = more e (h f (slice_get_before a.log.items p.log.0 k f l (rw p.log.1 at at)) e (rw p.job at g))
 
 -- and as more of it is applied
 pub entered_still : (a b : Parts) (k : ℕ) → SameButApplied a b → HasEntered a k → HasEntered b k
 entered_still a b k s h f at e g = rw s.matcher (h f (rw s.log at at) e (rw s.job at g))
 
 -- the places before the next one are those before this one, and this one
-pub entered_more : (a b : Parts) (place : ℕ) → GoesOn a b → ((e : Entry) → Contains a.matcher e → Contains b.matcher e) → place < length (log_of a) → EnteredBefore a place → HasEntered b place → EnteredBefore b (place + 1)
+pub entered_more : (a b : Parts) (place : ℕ) → GoesOn a b → ((e : Entry) → Contains a.matcher e → Contains b.matcher e) → place < length a.log.items → EnteredBefore a place → HasEntered b place → EnteredBefore b (place + 1)
 entered_more a b place p more l before here k from to = at (le_split k place (omega (arith, to)))
   where
     at : (k ≡ place) ⊎ (k < place) → HasEntered b k
@@ -60,8 +60,8 @@ pub still_on : (a b c : Parts) → SameButApplied a b → SameButApplied b c →
 still_on a b c p q = record { job = q.job ∙ p.job; log = q.log ∙ p.log; woken = q.woken ∙ p.woken; matcher = q.matcher ∙ p.matcher }
 
 -- all has entered that the firing at that place gives, which were these
-pub entered_here : (a b : Parts) (place : ℕ) (f : Firing) (es : EntryList) → GoesOn a b → place < length (log_of a) → slice_get (log_of a) place ≡ Some f → es ≡ (system_of a.job.now).gives f → ((e : Entry) → Contains es e → Contains b.matcher e) → HasEntered b place
+pub entered_here : (a b : Parts) (place : ℕ) (f : Firing) (es : EntryList) → GoesOn a b → place < length a.log.items → slice_get a.log.items place ≡ Some f → es ≡ (system_of a.job.now).gives f → ((e : Entry) → Contains es e → Contains b.matcher e) → HasEntered b place
 entered_here a b place f es p l at is has g there e m =
-    let same : Some g ≡ Some f = sym (slice_get_before (log_of a) p.log.0 place g l (rw p.log.1 at there)) ∙ at in
+    let same : Some g ≡ Some f = sym (slice_get_before a.log.items p.log.0 place g l (rw p.log.1 at there)) ∙ at in
     let one : g ≡ f = cc in
     has e (rw is (subst (λ (h : Firing). Contains ((system_of a.job.now).gives h) e) one (rw p.job at m)))

@@ -18,7 +18,7 @@ use Rattle.u_machine.specs.declared.answer.Step.TheVariants as step
 use Rattle.u_machine.specs.State.{State, Taken, IsSettled, IsReady, AreReady, IsPick, IsPickIn, IsReadyIn, NothingReady}
 use Rattle.u_machine.specs.Calls.{Applies, FireAnswer, firing_le}
 use Rattle.u_machine.specs.Masks.{is_in, those_in}
-use Rattle.u_machine.specs.Invariant.{state_of, Invariant, KnowsLeast, NeedsNoLate, log_of}
+use Rattle.u_machine.specs.Invariant.{state_of, Invariant, KnowsLeast, NeedsNoLate}
 use Rattle.u_machine.proofs.Lists.{slice_get_Contains, some_at}
 use Rattle.u_machine.proofs.LateTokens.{made_is_ready}
 use Rattle.u_machine.proofs.Masked.{to_filter, from_filter}
@@ -72,7 +72,7 @@ pick_before a b pick f p (ready, are, at) = (ready, are_ready_before a b p ready
 pub pick_in_before : (a b : State) (buckets pick : ℕ) (f : Firing) → Applies a b → IsPickIn b buckets pick f → IsPickIn a buckets pick f
 pick_in_before a b buckets pick f p (ready, are, at) = (ready, are_ready_before a b p ready are, at)
 
-module _ (p : Parts) (k : Invariant p) (st : p.applied_count ≡ length (log_of p)) where
+module _ (p : Parts) (k : Invariant p) (st : p.applied_count ≡ length p.log.items) where
   -- something that is ready is there, made or not
   pub ready_there : (f : Firing) → IsReady (state_of p) f → Contains k.all_ready f
   ready_there f is = over ((kept_in_order p k st).1 f is.0)

@@ -1,6 +1,6 @@
 -- How a machine is kept: its log runs ahead of what was applied, and the firings that an entry enabled
 -- are sorted out one after another.
-use Rattle.std.specs.Prelude.{◌≡◌, ◌↔◌, Bool, true, false, ℕ, vec_len, vec_capacity, ◌≤◌, ◌<◌, [], ◌∷◌, ◌++◌, Some, ◌⊎◌, length, reverse, take, drop, Contains, slice_get}
+use Rattle.std.specs.Prelude.{◌≡◌, ◌↔◌, Bool, true, false, ℕ, ◌+◌, ◌≤◌, ◌<◌, [], ◌∷◌, ◌++◌, Some, ◌⊎◌, length, reverse, take, drop, Contains, slice_get}
 use Rattle.std.specs.declared.cmp.Ordering.TheVariants.{Less}
 use Rattle.u_check.specs.Jobs.{JobParts}
 use Rattle.u_rule.specs.Rule.{system_of}
@@ -15,28 +15,28 @@ use Rattle.u_machine.specs.State.{State, state, IsSound, IsPick}
 use Rattle.u_machine.specs.Calls.{Takes}
 use Rattle.u_machine.specs.declared.parts.Parts.{Parts}
 
--- the log, as it goes on: a firing in flight is the only parked one, and goes to the end of the log once it is applied
-abbrev pub log_with : Bool → FiringList → FiringList → FiringList
-log_with true log parked = log ++ parked
-log_with false log parked = log
+-- The parked firings: one that is in flight stands at the end of the log, behind those that were applied, and no
+-- others are parked.
+abbrev pub parked_with : Bool → ℕ → FiringList → FiringList → FiringList
+parked_with true applied_count log parked = drop applied_count log
+parked_with false applied_count log parked = parked
 
-abbrev pub log_of : Parts → FiringList
-log_of p = log_with p.in_flight p.log.items p.parked
+abbrev pub parked_of : Parts → FiringList
+parked_of p = parked_with p.in_flight p.applied_count p.log.items p.parked
 
--- All that stands in the log was applied, the firing in flight alone is parked, and the log has room for it.
-pub record IsInFlight (applied_count : ℕ) (log parked : FiringList) (len capacity : ℕ) : Type 0 where
-  pub place : applied_count ≡ length log
-  pub only : length parked ≡ 1
-  pub room : len < capacity
+-- The last firing of the log alone is being applied, and it is not among the parked ones, of which there are none.
+pub record IsInFlight (applied_count : ℕ) (log parked : FiringList) : Type 0 where
+  pub last : length log ≡ applied_count + 1
+  pub alone : parked ≡ []
 
 -- The first `applied_count` firings of the log were applied: all that they give has entered. The others
 -- of the log are being applied, and count as parked until they are. The matcher has the history.
 abbrev pub state_of : Parts → State
-state_of p = state p.job.now p.limit (take p.applied_count (log_of p)) p.parked p.matcher
+state_of p = state p.job.now p.limit (take p.applied_count p.log.items) (parked_of p) p.matcher
 
 -- the taken firings
 abbrev pub taken_of : Parts → FiringList
-taken_of p = take p.applied_count (log_of p) ++ p.parked
+taken_of p = take p.applied_count p.log.items ++ parked_of p
 
 -- the firings that the last entry woke and that are still to be sorted out
 abbrev pub woken_of : Parts → FiringList
@@ -81,19 +81,19 @@ pub record HasLate (job : JobParts) (taken all_ready ready woken : FiringList) (
 -- what is kept: where nothing is being applied, nothing is left to be sorted out
 pub record Invariant (p : Parts) : Type 0 where
   pub all_ready : FiringList
-  pub logged : IsLogged p.job.now p.limit (log_of p) p.applied_count p.parked p.matcher
-  pub partitioned : IsPartitioned p.job.now (log_of p) (taken_of p) all_ready (woken_of p) p.matcher
+  pub logged : IsLogged p.job.now p.limit p.log.items p.applied_count (parked_of p) p.matcher
+  pub partitioned : IsPartitioned p.job.now p.log.items (taken_of p) all_ready (woken_of p) p.matcher
   pub late : HasLate p.job.now (taken_of p) all_ready p.ready (woken_of p) p.late p.matcher
-  pub idle : p.applied_count ≡ length (log_of p) → woken_of p ≡ []
-  pub flight : p.in_flight ≡ true → IsInFlight p.applied_count p.log.items p.parked (vec_len p.log) (vec_capacity p.log)
+  pub idle : p.applied_count ≡ length p.log.items → woken_of p ≡ []
+  pub flight : p.in_flight ≡ true → IsInFlight p.applied_count p.log.items p.parked
 
 -- a firing that is being applied gives the entry
 abbrev pub Gives : Parts → Entry → Type 0
-Gives p e = (f : Firing) × (place : ℕ) × (p.applied_count ≤ place) × (slice_get (log_of p) place ≡ Some f) × Contains ((system_of p.job.now).gives f) e
+Gives p e = (f : Firing) × (place : ℕ) × (p.applied_count ≤ place) × (slice_get p.log.items place ≡ Some f) × Contains ((system_of p.job.now).gives f) e
 
 -- all that the firing at that place of the log gives has entered
 abbrev pub HasEntered : Parts → ℕ → Type 0
-HasEntered p place = (f : Firing) → slice_get (log_of p) place ≡ Some f → (e : Entry) → Contains ((system_of p.job.now).gives f) e → Contains p.matcher e
+HasEntered p place = (f : Firing) → slice_get p.log.items place ≡ Some f → (e : Entry) → Contains ((system_of p.job.now).gives f) e → Contains p.matcher e
 
 -- of the firings that are being applied and stand before that place of the log, all that they give has entered
 abbrev pub EnteredBefore : Parts → ℕ → Type 0
@@ -107,13 +107,13 @@ Lengthens old new = (rest : FiringList) × (new ≡ old ++ rest)
 pub record GoesOn (old new : Parts) : Type 0 where
   pub job : new.job.now ≡ old.job.now
   pub applied_count : new.applied_count ≡ old.applied_count
-  pub log : Lengthens (log_of old) (log_of new)
+  pub log : Lengthens old.log.items new.log.items
   pub in_flight : new.in_flight ≡ old.in_flight
 
 -- more of the log is applied, and the log and the woken firings are the same
 pub record SameButApplied (old new : Parts) : Type 0 where
   pub job : new.job.now ≡ old.job.now
-  pub log : (log_of new) ≡ (log_of old)
+  pub log : new.log.items ≡ old.log.items
   pub woken : woken_of new ≡ woken_of old
   pub matcher : new.matcher ≡ old.matcher
 
@@ -122,7 +122,7 @@ pub record Begins (old : Parts) (place : ℕ) (new : Parts) : Type 0 where
   pub firing : Firing
   pub at : slice_get old.ready place ≡ Some firing
   pub takes : Takes (state_of old) firing (state_of new)
-  pub log : (log_of new) ≡ (log_of old) ++ firing ∷ []
+  pub log : new.log.items ≡ old.log.items ++ firing ∷ []
 
 -- f needs no late token
 abbrev pub NeedsNoLate : Parts → Firing → Type 0
@@ -137,7 +137,7 @@ KnowsLeast p =
 -- nothing changes but what is made: tokens that were late may be late no more
 pub record MakesMore (old new : Parts) : Type 0 where
   pub state : state_of new ≡ state_of old
-  pub log : (log_of new) ≡ (log_of old)
+  pub log : new.log.items ≡ old.log.items
   pub applied_count : new.applied_count ≡ old.applied_count
   pub woken : woken_of new ≡ woken_of old
   pub in_flight : new.in_flight ≡ old.in_flight
@@ -155,4 +155,4 @@ pub record BeginsPicked (old : Parts) (pick : ℕ) (new : Parts) : Type 0 where
   pub firing : Firing
   pub picked : IsPick (state_of old) pick firing
   pub takes : Takes (state_of old) firing (state_of new)
-  pub log : (log_of new) ≡ (log_of old) ++ firing ∷ []
+  pub log : new.log.items ≡ old.log.items ++ firing ∷ []

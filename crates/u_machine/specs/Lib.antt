@@ -5,3 +5,4 @@ pub mod Calls
 pub mod Taking
 pub mod Obeying
 pub mod Invariant
+pub mod Lent

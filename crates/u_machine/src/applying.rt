@@ -2,8 +2,8 @@
 //! which has a file of its own.
 //!
 //! A firing that begins to be applied goes to the end of the log, and its entries enter one after
-//! another. The least ready one is in flight meanwhile, where nothing else is parked, and goes there
-//! once they have.
+//! another. Until they have it is parked: the set of the parked firings has a copy of it, unless nothing
+//! else is parked; then it is in flight.
 //! Each entry that is new enters the matcher. Of the firings that it wakes, those that were taken go to
 //! the end of the log, and the others are ready from then on; a token that wakes many is put off, and
 //! its firings are made later (`late_tokens`). So entries enter in the order in which they were given:
@@ -20,22 +20,22 @@ ghost use Rattle.u_rule.specs.declared.firing.Firing.{Firing};
 ghost use Rattle.u_sets.specs.Members.{HasOr};
 ghost use Rattle.u_match.specs.Waking.{WakesSome};
 ghost use Rattle.u_machine.specs.Calls.{Applies};
-ghost use Rattle.u_machine.specs.Invariant.{state_of, woken_of, IsNext, Invariant, Gives, HasEntered, EnteredBefore, GoesOn, SameButApplied, Lengthens, log_of};
+ghost use Rattle.u_machine.specs.Invariant.{state_of, woken_of, IsNext, Invariant, Gives, HasEntered, EnteredBefore, GoesOn, SameButApplied, Lengthens, parked_of};
 
 use crate::parts::Parts;
-use crate::room::{first_of, push_into_room, put_first, take_first, turned};
+use crate::turning::{first_of, take_first, turn_round};
 use std::alloc::AllocError;
-use std::{mem, slice};
 use u_check::Job;
 use u_match::Entered;
 use u_rule::{Entry, Firing, Given, Sending, TokenRef, given};
+use u_sets::push_into_room;
 
 impl<'a> Parts<'a> {
     /// Whether a firing is parked that is not being applied, since it waits for its needs.
     fn has_waiting(&self) -> bool
         requires { Invariant self.now }
-        ensures { IsFalse result → length self.now.parked
-            ≤ length (log_of self.now) - self.now.applied_count }
+        ensures { IsFalse result → length (parked_of self.now)
+            ≤ length self.now.log.items - self.now.applied_count }
     {
         if self.in_flight {
             return false;
@@ -61,8 +61,9 @@ impl<'a> Parts<'a> {
         if self.matcher.contains(entry) {
             return Ok(());
         }
-        let found = self.matcher.enter(self.job, entry)?;
-        self.woken = turned(found);
+        let mut found = self.matcher.enter(self.job, entry)?;
+        turn_round(&mut found);
+        self.woken = found;
         Ok(())
     }
 
@@ -81,11 +82,10 @@ impl<'a> Parts<'a> {
         if self.has_waiting() {
             return self.put_made(entry);
         }
-        let room = mem::replace(&mut self.woken, Vec::new(self.alloc));
-        match self.matcher.enter_few(self.job, entry, room)? {
+        match self.matcher.enter_few(self.job, entry, &mut self.woken)? {
             Entered::Known => Ok(()),
-            Entered::Woken(woken) => {
-                self.woken = turned(woken);
+            Entered::Woken => {
+                turn_round(&mut self.woken);
                 Ok(())
             }
             Entered::Many => self.put_late(entry),
@@ -116,8 +116,8 @@ impl<'a> Parts<'a> {
         requires new { Contains self.old.matcher (entries.Token token.now) → ⊥ }
         requires wakes { WakesSome self.old.job.now (entries.Token token.now)
             (HasOr self.old.matcher (entries.Token token.now)) }
-        requires unparked { length self.old.parked
-            ≤ length (log_of self.old) - self.old.applied_count }
+        requires unparked { length (parked_of self.old)
+            ≤ length self.old.log.items - self.old.applied_count }
         ensures kept { Invariant self.new }
         ensures applies { Applies (state_of self.old) (state_of self.new) }
         ensures goes { GoesOn self.old self.new }
@@ -141,11 +141,10 @@ impl<'a> Parts<'a> {
         if self.has_waiting() {
             return self.put_token_made(token);
         }
-        let room = mem::replace(&mut self.woken, Vec::new(self.alloc));
-        match self.matcher.enter_token(self.job, token, room)? {
+        match self.matcher.enter_token(self.job, token, &mut self.woken)? {
             Entered::Known => Ok(()),
-            Entered::Woken(firings) => {
-                self.woken = turned(firings);
+            Entered::Woken => {
+                turn_round(&mut self.woken);
                 Ok(())
             }
             Entered::Many => self.put_token_late(token),
@@ -158,7 +157,7 @@ impl<'a> Parts<'a> {
         requires kept { Invariant self.old }
         requires logged { self.old.in_flight ≡ false }
         requires some { 0 < length (woken_of self.old) }
-        requires taken { (f : Firing) → IsNext self.old f → Contains self.old.parked f }
+        requires taken { (f : Firing) → IsNext self.old f → Contains (parked_of self.old) f }
         ensures kept { Invariant self.new }
         ensures same { state_of self.new ≡ state_of self.old }
         ensures goes { GoesOn self.old self.new }
@@ -176,22 +175,14 @@ impl<'a> Parts<'a> {
     fn ready_next(&mut self) -> Result<(), AllocError>
         requires kept { Invariant self.old }
         requires some { 0 < length (woken_of self.old) }
-        requires new { (f : Firing) → IsNext self.old f → Contains self.old.parked f → ⊥ }
+        requires new { (f : Firing) → IsNext self.old f → Contains (parked_of self.old) f → ⊥ }
         ensures kept { Invariant self.new }
         ensures same { state_of self.new ≡ state_of self.old }
         ensures goes { GoesOn self.old self.new }
         ensures ok { OnOk result (length (woken_of self.new) < length (woken_of self.old)) }
     {
-        let Some(firing) = take_first(&mut self.woken) else {
-            unreachable!();
-        };
-        match self.ready.insert(firing) {
-            Ok(_) => Ok(()),
-            Err(refused) => {
-                put_first(&mut self.woken, refused.value);
-                Err(AllocError)
-            }
-        }
+        self.ready.insert_last_of(&mut self.woken)?;
+        Ok(())
     }
 
     /// Whether a firing that was woken is parked. None is where no more are parked than are being
@@ -199,7 +190,7 @@ impl<'a> Parts<'a> {
     fn is_parked(&self, firing: &Firing) -> bool
         requires kept { Invariant self.now }
         requires woken { Contains (woken_of self.now) firing.now }
-        ensures parked { IsTrue result ↔ Contains self.now.parked firing.now }
+        ensures parked { IsTrue result ↔ Contains (parked_of self.now) firing.now }
         ensures logged { IsTrue result → self.now.in_flight ≡ false }
     {
         if self.in_flight {
@@ -333,72 +324,18 @@ impl<'a> Parts<'a> {
     {
         match given {
             Given::Sent(sent) => self.enter_sent(sent),
-            Given::Alone(entry) => self.enter_all(slice::from_ref(entry)),
+            Given::Alone(token) => self.enter_token(&TokenRef::of(token)),
             Given::Listed(entries) => self.enter_all(entries),
         }
-    }
-
-    /// Lets all enter that the firing in flight gives.
-    fn enter_flying(&mut self) -> Result<(), AllocError>
-        requires kept { Invariant self.old }
-        requires flight { self.old.in_flight ≡ true }
-        requires idle { woken_of self.old ≡ [] }
-        ensures kept { Invariant self.new }
-        ensures applies { Applies (state_of self.old) (state_of self.new) }
-        ensures goes { GoesOn self.old self.new }
-        ensures idle { OnOk result (woken_of self.new ≡ []) }
-        ensures has { OnOk result (HasEntered self.new self.new.applied_count) }
-    {
-        let Some(firing) = self.parked.first() else {
-            unreachable!();
-        };
-        let all = given(self.alloc, self.job, firing)?;
-        self.enter_what(&all)?;
-        Ok(())
-    }
-
-    /// The firing in flight is applied: all that it gives has entered. It goes to the end of the log.
-    fn land(&mut self)
-        requires kept { Invariant self.old }
-        requires flight { self.old.in_flight ≡ true }
-        requires idle { woken_of self.old ≡ [] }
-        requires all { HasEntered self.old self.old.applied_count }
-        ensures kept { Invariant self.new }
-        ensures applies { Applies (state_of self.old) (state_of self.new) }
-        ensures same { log_of self.new ≡ log_of self.old }
-        ensures all { self.new.applied_count ≡ length (log_of self.new) }
-    {
-        let Some(firing) = self.parked.pop_first() else {
-            unreachable!();
-        };
-        push_into_room(&mut self.log, firing);
-        self.in_flight = false;
-        self.applied_count += 1;
-    }
-
-    /// The firing in flight is applied, and goes to the end of the log.
-    fn settle_flying(&mut self) -> Result<(), AllocError>
-        requires kept { Invariant self.old }
-        requires flight { self.old.in_flight ≡ true }
-        requires idle { woken_of self.old ≡ [] }
-        ensures kept { Invariant self.new }
-        ensures applies { Applies (state_of self.old) (state_of self.new) }
-        ensures log { Lengthens (log_of self.old) (log_of self.new) }
-        ensures ok { OnOk result (self.new.applied_count ≡ length (log_of self.new)) }
-    {
-        self.enter_flying()?;
-        self.land();
-        Ok(())
     }
 
     /// Lets all enter that the firing at that place of the log gives, one of those that are being
     /// applied.
     fn enter_given(&mut self, place: usize) -> Result<(), AllocError>
         requires kept { Invariant self.old }
-        requires logged { self.old.in_flight ≡ false }
         requires idle { woken_of self.old ≡ [] }
         requires from { self.old.applied_count ≤ place }
-        requires to { place < length (log_of self.old) }
+        requires to { place < length self.old.log.items }
         ensures kept { Invariant self.new }
         ensures applies { Applies (state_of self.old) (state_of self.new) }
         ensures goes { GoesOn self.old self.new }
@@ -410,12 +347,43 @@ impl<'a> Parts<'a> {
         Ok(())
     }
 
+    /// The firing in flight is applied: all that it gives has entered.
+    fn land(&mut self)
+        requires kept { Invariant self.old }
+        requires flight { self.old.in_flight ≡ true }
+        requires idle { woken_of self.old ≡ [] }
+        requires all { HasEntered self.old self.old.applied_count }
+        ensures kept { Invariant self.new }
+        ensures applies { Applies (state_of self.old) (state_of self.new) }
+        ensures same { self.new.log.items ≡ self.old.log.items }
+        ensures all { self.new.applied_count ≡ length self.new.log.items }
+    {
+        self.in_flight = false;
+        let all = self.log.len();
+        self.applied_count = all;
+    }
+
+    /// The firing in flight is applied.
+    fn settle_flying(&mut self) -> Result<(), AllocError>
+        requires kept { Invariant self.old }
+        requires flight { self.old.in_flight ≡ true }
+        requires idle { woken_of self.old ≡ [] }
+        ensures kept { Invariant self.new }
+        ensures applies { Applies (state_of self.old) (state_of self.new) }
+        ensures log { Lengthens self.old.log.items self.new.log.items }
+        ensures ok { OnOk result (self.new.applied_count ≡ length self.new.log.items) }
+    {
+        self.enter_given(self.applied_count)?;
+        self.land();
+        Ok(())
+    }
+
     /// The next firing of the log is applied: all that it gives has entered.
     fn close(&mut self)
         requires kept { Invariant self.old }
         requires logged { self.old.in_flight ≡ false }
-        requires some { self.old.applied_count < length (log_of self.old) }
-        requires idle { self.old.applied_count + 1 ≡ length (log_of self.old)
+        requires some { self.old.applied_count < length self.old.log.items }
+        requires idle { self.old.applied_count + 1 ≡ length self.old.log.items
             → woken_of self.old ≡ [] }
         requires all { HasEntered self.old self.old.applied_count }
         ensures kept { Invariant self.new }
@@ -432,13 +400,13 @@ impl<'a> Parts<'a> {
         requires kept { Invariant self.old }
         requires logged { self.old.in_flight ≡ false }
         requires idle { woken_of self.old ≡ [] }
-        requires none { self.old.applied_count + length self.old.parked
-            ≡ length (log_of self.old) }
-        requires all { EnteredBefore self.old (length (log_of self.old)) }
+        requires none { self.old.applied_count + length (parked_of self.old)
+            ≡ length self.old.log.items }
+        requires all { EnteredBefore self.old (length self.old.log.items) }
         ensures kept { Invariant self.new }
         ensures applies { Applies (state_of self.old) (state_of self.new) }
         ensures still { SameButApplied self.old self.new }
-        ensures applied_count { self.new.applied_count ≡ length (log_of self.old) }
+        ensures applied_count { self.new.applied_count ≡ length self.old.log.items }
     {
         self.parked.clear();
         self.applied_count = self.log.len();
@@ -450,8 +418,8 @@ impl<'a> Parts<'a> {
         requires kept { Invariant self.old }
         requires logged { self.old.in_flight ≡ false }
         requires from { self.old.applied_count ≤ place }
-        requires to { place ≤ length (log_of self.old) }
-        requires idle { place ≡ length (log_of self.old) → woken_of self.old ≡ [] }
+        requires to { place ≤ length self.old.log.items }
+        requires idle { place ≡ length self.old.log.items → woken_of self.old ≡ [] }
         requires all { EnteredBefore self.old place }
         ensures kept { Invariant self.new }
         ensures applies { Applies (state_of self.old) (state_of self.new) }
@@ -475,8 +443,8 @@ impl<'a> Parts<'a> {
         requires idle { woken_of self.old ≡ [] }
         ensures kept { Invariant self.new }
         ensures applies { Applies (state_of self.old) (state_of self.new) }
-        ensures log { Lengthens (log_of self.old) (log_of self.new) }
-        ensures ok { OnOk result (self.new.applied_count ≡ length (log_of self.new)) }
+        ensures log { Lengthens self.old.log.items self.new.log.items }
+        ensures ok { OnOk result (self.new.applied_count ≡ length self.new.log.items) }
     {
         let mut place = self.applied_count;
         while place < self.log.len() {
@@ -495,9 +463,9 @@ impl<'a> Parts<'a> {
         requires { Invariant self.old }
         ensures kept { Invariant self.new }
         ensures applies { Applies (state_of self.old) (state_of self.new) }
-        ensures log { Lengthens (log_of self.old) (log_of self.new) }
-        ensures ok { OnOk result (self.new.applied_count ≡ length (log_of self.new)) }
-        ensures still { self.old.applied_count ≡ length (log_of self.old)
+        ensures log { Lengthens self.old.log.items self.new.log.items }
+        ensures ok { OnOk result (self.new.applied_count ≡ length self.new.log.items) }
+        ensures still { self.old.applied_count ≡ length self.old.log.items
             → IsOk result × (self.new ≡ self.old) }
     {
         if self.is_settled() {

@@ -6,9 +6,9 @@ ghost use Rattle.u_machine.specs.Obeying.{Does, Obeys, AreMet, Extends};
 
 use crate::answer::{ListRefusal, Ran, Refusal, Step, StepIn, TakeRefusal, Took};
 use crate::machine::Machine;
-use crate::room::push_into_room;
 use std::alloc::{AllocError, Global};
 use u_rule::Firing;
+use u_sets::push_into_room;
 
 /// One call of a machine.
 #[derive(Drop)]

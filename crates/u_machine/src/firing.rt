@@ -6,7 +6,7 @@ ghost use Rattle.u_rule.specs.EntryOrder.{firing_cmp};
 ghost use Rattle.u_rule.specs.declared.firing.Firing.{Firing};
 ghost use Rattle.u_machine.specs.State.{IsSettled, NothingReady, IsReady, count_of};
 ghost use Rattle.u_machine.specs.Calls.{FireAnswer, RunAnswer};
-ghost use Rattle.u_machine.specs.Invariant.{state_of, Invariant, Begins, BeginsPicked, log_of};
+ghost use Rattle.u_machine.specs.Invariant.{state_of, Invariant, Begins, BeginsPicked};
 
 use crate::answer::{Ran, Refusal, Step};
 use crate::parts::Parts;
@@ -40,7 +40,7 @@ impl<'a> Parts<'a> {
     /// no token is late.
     fn begin_at(&mut self, place: usize) -> Result<(), AllocError>
         requires kept { Invariant self.old }
-        requires settled { self.old.applied_count ≡ length (log_of self.old) }
+        requires settled { self.old.applied_count ≡ length self.old.log.items }
         requires made { self.old.late ≡ [] }
         requires ready { place < length self.old.ready }
         requires room { count_of (state_of self.old) < self.old.limit }
@@ -60,7 +60,7 @@ impl<'a> Parts<'a> {
     /// as far as they have to be known. All that was begun before is applied.
     fn begin_picked(&mut self, pick: usize) -> Result<(), AllocError>
         requires kept { Invariant self.old }
-        requires settled { self.old.applied_count ≡ length (log_of self.old) }
+        requires settled { self.old.applied_count ≡ length self.old.log.items }
         requires ready { (f : Firing) × IsReady (state_of self.old) f }
         requires room { count_of (state_of self.old) < self.old.limit }
         ensures kept { Invariant self.new }
@@ -103,7 +103,7 @@ impl<'a> Parts<'a> {
     /// Whether nothing is ready, made or not. All that was begun is applied.
     pub(crate) fn is_quiet(&self) -> bool
         requires kept { Invariant self.now }
-        requires settled { self.now.applied_count ≡ length (log_of self.now) }
+        requires settled { self.now.applied_count ≡ length self.now.log.items }
         ensures quiet { IsTrue result → NothingReady (state_of self.now) }
         ensures ready { IsFalse result → (f : Firing) × IsReady (state_of self.now) f }
     {

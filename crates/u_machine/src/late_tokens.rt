@@ -15,7 +15,7 @@ ghost use Rattle.u_rule.specs.declared.entry.Entry.TheVariants.{Token as token_e
 ghost use Rattle.u_sets.specs.Members.{HasOr, IsUnion};
 ghost use Rattle.u_match.specs.Waking.{WakesSome};
 ghost use Rattle.u_machine.specs.Calls.{Applies};
-ghost use Rattle.u_machine.specs.Invariant.{state_of, woken_of, Invariant, Gives, GoesOn, MakesMore, GainsSome, HasNoneOf, NeedsNoLate, KnowsLeast, log_of};
+ghost use Rattle.u_machine.specs.Invariant.{state_of, woken_of, Invariant, Gives, GoesOn, MakesMore, GainsSome, HasNoneOf, NeedsNoLate, KnowsLeast, parked_of};
 
 use crate::parts::Parts;
 use std::alloc::{AllocError, Global};
@@ -209,8 +209,8 @@ impl<'a> Parts<'a> {
         requires gives { Gives self.old entry.now }
         requires new { Contains self.old.matcher entry.now → ⊥ }
         requires wakes { WakesSome self.old.job.now entry.now (HasOr self.old.matcher entry.now) }
-        requires unparked { length self.old.parked
-            ≤ length (log_of self.old) - self.old.applied_count }
+        requires unparked { length (parked_of self.old)
+            ≤ length self.old.log.items - self.old.applied_count }
         ensures kept { Invariant self.new }
         ensures applies { Applies (state_of self.old) (state_of self.new) }
         ensures goes { GoesOn self.old self.new }

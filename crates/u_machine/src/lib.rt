@@ -8,10 +8,12 @@ mod firing;
 mod late_tokens;
 mod machine;
 mod masks;
+mod parked;
 mod parts;
-mod room;
 mod taking;
+mod turning;
 
 pub use answer::{ListRefusal, Ran, Refusal, Step, StepIn, TakeRefusal, Took};
 pub use commands::{Command, Reply};
 pub use machine::Machine;
+pub use parked::{Parked, ParkedFirings};

@@ -14,13 +14,13 @@ ghost use Rattle.u_machine.specs.Calls.{FireAnswer, FireInAnswer, RunAnswer, Tak
 ghost use Rattle.u_machine.specs.Taking.{Fits, HasSoManyNew, IsTooLong, TakeAllAnswer};
 
 use crate::answer::{ListRefusal, Ran, Refusal, Step, StepIn, TakeRefusal, Took};
+use crate::parked::Parked;
 use crate::parts::Parts;
 use std::alloc::{AllocError, Global};
 use std::marker::Model;
 use u_check::Job;
 use u_history::History;
 use u_rule::Firing;
-use u_sets::OrderedSet;
 
 /// A job with its taken firings and its history.
 ///
@@ -230,10 +230,10 @@ impl<'a> Machine<'a> {
     }
 
     /// The firings that were taken and not applied, in order.
-    pub fn parked(&self) -> &OrderedSet<Firing>
-        ensures { result.now ≡ self.now.parked }
+    pub fn parked(&self) -> Parked<'_>
+        ensures { result ≡ self.now.parked }
     {
-        &self.parts.parked
+        self.parts.lent_parked()
     }
 
     /// Whether the firing was taken, so that it is not to be taken again.

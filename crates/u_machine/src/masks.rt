@@ -8,7 +8,7 @@ ghost use Rattle.u_rule.specs.declared.firing.Firing.{Firing};
 ghost use Rattle.u_machine.specs.State.{IsPickIn, IsReadyIn};
 ghost use Rattle.u_machine.specs.Masks.{has_bucket, those_in, IsTokenIn};
 ghost use Rattle.u_machine.specs.Calls.{FireInAnswer};
-ghost use Rattle.u_machine.specs.Invariant.{state_of, Invariant, MakesMore, log_of};
+ghost use Rattle.u_machine.specs.Invariant.{state_of, Invariant, MakesMore};
 
 use crate::answer::{Refusal, StepIn};
 use crate::parts::Parts;
@@ -102,7 +102,7 @@ impl<'a> Parts<'a> {
     /// Whether a ready firing, made or not, has its bucket in the mask. All that was begun is applied.
     fn has_any_in(&self, buckets: u64) -> bool
         requires kept { Invariant self.now }
-        requires settled { self.now.applied_count ≡ length (log_of self.now) }
+        requires settled { self.now.applied_count ≡ length self.now.log.items }
         ensures some { IsTrue result → (f : Firing) × IsReadyIn (state_of self.now) buckets f }
         ensures none { IsFalse result
             → (f : Firing) → IsReadyIn (state_of self.now) buckets f → ⊥ }
@@ -117,7 +117,7 @@ impl<'a> Parts<'a> {
     /// all late tokens are made before. All that was begun is applied.
     fn picked(&mut self, buckets: u64, pick: usize) -> Result<Firing, AllocError>
         requires kept { Invariant self.old }
-        requires settled { self.old.applied_count ≡ length (log_of self.old) }
+        requires settled { self.old.applied_count ≡ length self.old.log.items }
         requires ready { (f : Firing) × IsReadyIn (state_of self.old) buckets f }
         ensures kept { Invariant self.new }
         ensures makes { MakesMore self.old self.new }

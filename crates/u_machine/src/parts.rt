@@ -7,8 +7,9 @@ ghost use Rattle.std.specs.Prelude.{◌≡◌, ◌↔◌, [], ◌∷◌, IfOk, I
 ghost use Rattle.u_rule.specs.Rule.{system_of};
 ghost use Rattle.u_machine.specs.State.{IsSettled, state};
 ghost use Rattle.u_system.specs.Firing.{Same};
-ghost use Rattle.u_machine.specs.Invariant.{state_of, Invariant, log_of};
+ghost use Rattle.u_machine.specs.Invariant.{state_of, Invariant, parked_of};
 
+use crate::parked::Parked;
 use std::alloc::{AllocError, Global};
 use u_check::Job;
 use u_match::Matcher;
@@ -22,14 +23,14 @@ pub(crate) struct Parts<'a> {
     pub(crate) job: &'a Job,
     /// The greatest number of taken firings.
     pub(crate) limit: usize,
-    /// The applied firings, and behind them those that are being applied, without one in flight.
+    /// The applied firings, and behind them those that are being applied.
     pub(crate) log: Vec<Firing>,
     /// How many firings of the log were applied.
     pub(crate) applied_count: usize,
-    /// The firings that were taken and not applied.
+    /// The firings that were taken and not applied, without one in flight.
     pub(crate) parked: OrderedSet<Firing>,
-    /// Whether the only parked firing is in flight: it is being applied, and goes to the end of the log
-    /// once it is, which has room for it. So it is moved there, and never copied.
+    /// Whether a firing is in flight: it stands at the end of the log, is being applied, and nothing else
+    /// is parked. So it is never copied.
     pub(crate) in_flight: bool,
     /// The firings that are enabled and not taken, as far as they were made.
     pub(crate) ready: OrderedSet<Firing>,
@@ -80,16 +81,24 @@ impl<'a> Parts<'a> {
         })
     }
 
+    /// The firings that were taken and not applied, in order.
+    pub(crate) fn lent_parked(&self) -> Parked<'_>
+        requires { Invariant self.now }
+        ensures { result ≡ parked_of self.now }
+    {
+        if self.in_flight {
+            return Parked::flying(&self.log[self.applied_count], &self.parked);
+        }
+        Parked::waiting(&self.parked)
+    }
+
     /// Whether all that was begun is applied.
     pub(crate) fn is_settled(&self) -> bool
         requires { Invariant self.now }
         ensures settled { IsTrue result ↔ IsSettled (state_of self.now) }
         ensures applied_count { IsTrue result
-            ↔ (self.now.applied_count ≡ length (log_of self.now)) }
+            ↔ (self.now.applied_count ≡ length self.now.log.items) }
     {
-        if self.in_flight {
-            return false;
-        }
         if self.applied_count < self.log.len() {
             return false;
         }

@@ -6,17 +6,16 @@ ghost use Rattle.u_rule.specs.Rule.{system_of};
 ghost use Rattle.u_machine.specs.State.{Taken, count_of};
 ghost use Rattle.u_machine.specs.Calls.{Takes, TakeAnswer};
 ghost use Rattle.u_machine.specs.Taking.{AreFirings, IsFirstOther, AreNew, HasSoManyNew, GainsNew, Fits, IsTooLong, TakeAllAnswer};
-ghost use Rattle.u_machine.specs.Invariant.{state_of, woken_of, Invariant, Begins, NeedsNoLate, log_of};
+ghost use Rattle.u_machine.specs.Invariant.{state_of, woken_of, Invariant, Begins, NeedsNoLate, parked_of};
 ghost use Rattle.u_rule.specs.declared.firing.Firing.{Firing};
 ghost use Rattle.u_machine.specs.declared.answer.Took.TheVariants as answers;
 
 use crate::answer::{ListRefusal, TakeRefusal, Took};
 use crate::parts::Parts;
-use crate::room::push_into_room;
 use std::alloc::AllocError;
 use u_check::Job;
 use u_rule::{Firing, is_firing};
-use u_sets::PlacedSet;
+use u_sets::{PlacedSet, push_into_room};
 
 /// The place of the first that is no firing of the job.
 fn first_other(job: &Job, firings: &[Firing]) -> Option<usize>
@@ -33,7 +32,7 @@ fn first_other(job: &Job, firings: &[Firing]) -> Option<usize>
 
 /// Whether the two are one firing.
 #[tactic(auto, using(crate::proofs::Once::same_firing))]
-fn is_same(left: &Firing, right: &Firing) -> bool
+pub(crate) fn is_same(left: &Firing, right: &Firing) -> bool
     ensures { IsTrue result ↔ (left.now ≡ right.now) }
 {
     left.cmp(right).is_eq()
@@ -59,22 +58,18 @@ impl<'a> Parts<'a> {
         is_among(&self.woken, firing)
     }
 
-    /// Whether the firing is in the log, or in flight. It is compared with each of them.
+    /// Whether the firing is in the log. It is compared with each of those there.
     fn is_logged(&self, firing: &Firing) -> bool
-        requires { Invariant self.now }
-        ensures { IsTrue result ↔ Contains (log_of self.now) firing.now }
+        ensures { IsTrue result ↔ Contains self.now.log.items firing.now }
     {
-        if is_among(&self.log, firing) {
-            return true;
-        }
-        self.in_flight && self.parked.contains(firing)
+        is_among(&self.log, firing)
     }
 
     /// Whether the firing was applied or is being applied. Each firing that has all that it needs is in
     /// the log, or ready, or still to be sorted out, or needs a late token, and the log has no others.
     fn has_begun(&self, firing: &Firing) -> bool
         requires { Invariant self.now }
-        ensures { IsTrue result ↔ Contains (log_of self.now) firing.now }
+        ensures { IsTrue result ↔ Contains self.now.log.items firing.now }
     {
         let Ok(held) = self.matcher.has_all_of(self.job, firing) else {
             return self.is_logged(firing);
@@ -109,7 +104,7 @@ impl<'a> Parts<'a> {
     /// Whether no further firing may be taken. All that was begun is applied.
     pub(crate) fn is_full(&self) -> bool
         requires kept { Invariant self.now }
-        requires settled { self.now.applied_count ≡ length (log_of self.now) }
+        requires settled { self.now.applied_count ≡ length self.now.log.items }
         ensures full { IsTrue result → count_of (state_of self.now) ≡ self.now.limit }
         ensures room { IsFalse result → count_of (state_of self.now) < self.now.limit }
     {
@@ -119,14 +114,14 @@ impl<'a> Parts<'a> {
     /// A ready firing begins to be applied. All that was begun before is applied.
     pub(crate) fn begin(&mut self, firing: Firing) -> Result<(), AllocError>
         requires kept { Invariant self.old }
-        requires settled { self.old.applied_count ≡ length (log_of self.old) }
+        requires settled { self.old.applied_count ≡ length self.old.log.items }
         requires ready { Contains self.old.ready firing }
         requires made { NeedsNoLate self.old firing }
         requires room { count_of (state_of self.old) < self.old.limit }
         ensures kept { Invariant self.new }
         ensures takes { OnOk result (Takes (state_of self.old) firing (state_of self.new)) }
         ensures err { OnErr result (state_of self.new ≡ state_of self.old) }
-        ensures log { OnOk result ((log_of self.new) ≡ (log_of self.old) ++ firing ∷ []) }
+        ensures log { OnOk result (self.new.log.items ≡ self.old.log.items ++ firing ∷ []) }
     {
         let waiting = firing.copy(self.alloc)?;
         self.log.reserve(1)?;
@@ -139,7 +134,7 @@ impl<'a> Parts<'a> {
     /// The least ready firing begins to be applied, where nothing is parked: it is in flight.
     fn launch_least(&mut self) -> Result<(), AllocError>
         requires kept { Invariant self.old }
-        requires settled { self.old.applied_count ≡ length (log_of self.old) }
+        requires settled { self.old.applied_count ≡ length self.old.log.items }
         requires unparked { self.old.parked ≡ [] }
         requires ready { 0 < length self.old.ready }
         requires made { (f : Firing) → slice_get self.old.ready 0 ≡ Some f
@@ -152,7 +147,10 @@ impl<'a> Parts<'a> {
         self.log.reserve(1)?;
         // Brings in that the ready firings rise.
         let _count = self.ready.len();
-        self.parked.take_first_from(&mut self.ready)?;
+        let Some(firing) = self.ready.pop_first() else {
+            unreachable!();
+        };
+        push_into_room(&mut self.log, firing);
         self.in_flight = true;
         Ok(())
     }
@@ -160,7 +158,7 @@ impl<'a> Parts<'a> {
     /// The least ready firing begins to be applied, as in `begin`. It is found without comparing.
     pub(crate) fn begin_least(&mut self) -> Result<(), AllocError>
         requires kept { Invariant self.old }
-        requires settled { self.old.applied_count ≡ length (log_of self.old) }
+        requires settled { self.old.applied_count ≡ length self.old.log.items }
         requires ready { 0 < length self.old.ready }
         requires made { (f : Firing) → slice_get self.old.ready 0 ≡ Some f
             → NeedsNoLate self.old f }
@@ -198,7 +196,7 @@ impl<'a> Parts<'a> {
     /// A ready firing begins to be applied, as in `begin`. The least one is not looked for.
     fn begin_ready(&mut self, firing: &Firing, is_least: bool) -> Result<(), AllocError>
         requires kept { Invariant self.old }
-        requires settled { self.old.applied_count ≡ length (log_of self.old) }
+        requires settled { self.old.applied_count ≡ length self.old.log.items }
         requires ready { Contains self.old.ready firing.now }
         requires made { NeedsNoLate self.old firing.now }
         requires least { IsTrue is_least → slice_get self.old.ready 0 ≡ Some firing.now }
@@ -206,7 +204,7 @@ impl<'a> Parts<'a> {
         ensures kept { Invariant self.new }
         ensures takes { OnOk result (Takes (state_of self.old) firing.now (state_of self.new)) }
         ensures err { OnErr result (state_of self.new ≡ state_of self.old) }
-        ensures log { OnOk result ((log_of self.new) ≡ (log_of self.old) ++ firing.now ∷ []) }
+        ensures log { OnOk result (self.new.log.items ≡ self.old.log.items ++ firing.now ∷ []) }
     {
         if is_least {
             self.begin_least()?;
@@ -221,7 +219,7 @@ impl<'a> Parts<'a> {
     /// was taken. All that was begun before is applied.
     fn take_made(&mut self, firing: &Firing, is_least: bool) -> Result<Took, TakeRefusal>
         requires kept { Invariant self.old }
-        requires settled { self.old.applied_count ≡ length (log_of self.old) }
+        requires settled { self.old.applied_count ≡ length self.old.log.items }
         requires ready { Contains self.old.ready firing.now }
         requires made { NeedsNoLate self.old firing.now }
         requires least { IsTrue is_least → slice_get self.old.ready 0 ≡ Some firing.now }
@@ -238,7 +236,7 @@ impl<'a> Parts<'a> {
     /// begun before is applied.
     fn take_ready(&mut self, firing: &Firing, is_least: bool) -> Result<Took, TakeRefusal>
         requires kept { Invariant self.old }
-        requires settled { self.old.applied_count ≡ length (log_of self.old) }
+        requires settled { self.old.applied_count ≡ length self.old.log.items }
         requires ready { Contains self.old.ready firing.now }
         requires least { IsTrue is_least → slice_get self.old.ready 0 ≡ Some firing.now }
         ensures kept { Invariant self.new }
@@ -258,8 +256,8 @@ impl<'a> Parts<'a> {
     /// parked already. All that was begun before is applied.
     fn park(&mut self, firing: &Firing) -> Result<Took, AllocError>
         requires kept { Invariant self.old }
-        requires settled { self.old.applied_count ≡ length (log_of self.old) }
-        requires unapplied { Contains (log_of self.old) firing.now → ⊥ }
+        requires settled { self.old.applied_count ≡ length self.old.log.items }
+        requires unapplied { Contains self.old.log.items firing.now → ⊥ }
         requires unready { Contains self.old.ready firing.now → ⊥ }
         requires made { NeedsNoLate self.old firing.now }
         requires firing { IsTrue ((system_of self.old.job.now).is_firing firing.now) }
@@ -279,10 +277,12 @@ impl<'a> Parts<'a> {
 
     /// The refusal, unless the firing is parked and so was taken.
     fn unless_parked(&self, firing: &Firing, refusal: TakeRefusal) -> Result<Took, TakeRefusal>
+        requires kept { Invariant self.now }
+        requires settled { self.now.applied_count ≡ length self.now.log.items }
         ensures known { IfOk result
-            (λ t. (t ≡ answers.Known) × Contains self.now.parked firing.now) }
+            (λ t. (t ≡ answers.Known) × Contains (parked_of self.now) firing.now) }
         ensures refused { IfErr result
-            (λ e. (e ≡ refusal) × (Contains self.now.parked firing.now → ⊥)) }
+            (λ e. (e ≡ refusal) × (Contains (parked_of self.now) firing.now → ⊥)) }
     {
         if self.parked.contains(firing) {
             Ok(Took::Known)
@@ -295,8 +295,8 @@ impl<'a> Parts<'a> {
     /// can't be put there.
     fn park_or_known(&mut self, firing: &Firing) -> Result<Took, TakeRefusal>
         requires kept { Invariant self.old }
-        requires settled { self.old.applied_count ≡ length (log_of self.old) }
-        requires unapplied { Contains (log_of self.old) firing.now → ⊥ }
+        requires settled { self.old.applied_count ≡ length self.old.log.items }
+        requires unapplied { Contains self.old.log.items firing.now → ⊥ }
         requires unready { Contains self.old.ready firing.now → ⊥ }
         requires made { NeedsNoLate self.old firing.now }
         requires firing { IsTrue ((system_of self.old.job.now).is_firing firing.now) }
@@ -314,8 +314,8 @@ impl<'a> Parts<'a> {
     /// it needs are made, and it is among them or is parked. All that was begun before is applied.
     fn take_late(&mut self, firing: &Firing) -> Result<Took, TakeRefusal>
         requires kept { Invariant self.old }
-        requires settled { self.old.applied_count ≡ length (log_of self.old) }
-        requires unapplied { Contains (log_of self.old) firing.now → ⊥ }
+        requires settled { self.old.applied_count ≡ length self.old.log.items }
+        requires unapplied { Contains self.old.log.items firing.now → ⊥ }
         requires firing { IsTrue ((system_of self.old.job.now).is_firing firing.now) }
         requires room { count_of (state_of self.old) < self.old.limit }
         ensures kept { Invariant self.new }
@@ -335,8 +335,8 @@ impl<'a> Parts<'a> {
     /// is parked already. All that was begun before is applied.
     fn take_early(&mut self, firing: &Firing) -> Result<Took, TakeRefusal>
         requires kept { Invariant self.old }
-        requires settled { self.old.applied_count ≡ length (log_of self.old) }
-        requires unapplied { Contains (log_of self.old) firing.now → ⊥ }
+        requires settled { self.old.applied_count ≡ length self.old.log.items }
+        requires unapplied { Contains self.old.log.items firing.now → ⊥ }
         requires unready { Contains self.old.ready firing.now → ⊥ }
         requires firing { IsTrue ((system_of self.old.job.now).is_firing firing.now) }
         ensures kept { Invariant self.new }
@@ -355,7 +355,7 @@ impl<'a> Parts<'a> {
     /// is looked at first.
     fn take_settled(&mut self, firing: &Firing) -> Result<Took, TakeRefusal>
         requires kept { Invariant self.old }
-        requires settled { self.old.applied_count ≡ length (log_of self.old) }
+        requires settled { self.old.applied_count ≡ length self.old.log.items }
         ensures kept { Invariant self.new }
         ensures answer { TakeAnswer (state_of self.old) firing.now result (state_of self.new) }
     {
@@ -413,7 +413,7 @@ impl<'a> Parts<'a> {
     /// Whether so many more firings may be taken. All that was begun is applied.
     fn has_room(&self, more: usize) -> bool
         requires kept { Invariant self.now }
-        requires settled { self.now.applied_count ≡ length (log_of self.now) }
+        requires settled { self.now.applied_count ≡ length self.now.log.items }
         ensures room { IsTrue result → count_of (state_of self.now) + more ≤ self.now.limit }
         ensures full { IsFalse result → self.now.limit < count_of (state_of self.now) + more }
     {
@@ -468,7 +468,7 @@ impl<'a> Parts<'a> {
     /// would be too long. All that was begun is applied.
     fn may_take(&self, firings: &[Firing]) -> bool
         requires kept { Invariant self.now }
-        requires settled { self.now.applied_count ≡ length (log_of self.now) }
+        requires settled { self.now.applied_count ≡ length self.now.log.items }
         ensures fits { IsTrue result → Fits (state_of self.now) firings.now }
         ensures long { IsFalse result → IsTooLong (state_of self.now) firings.now }
     {

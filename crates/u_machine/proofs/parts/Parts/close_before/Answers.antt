@@ -1,22 +1,32 @@
-use Rattle.std.proofs.Common.{length, arith, ap}
+use Rattle.std.proofs.Common.{◌≡◌, length, arith, ap}
 use Rattle.u_machine.proofs.Going.{entered_still, still_on}
 use Rattle.u_machine.proofs.States.{applies_trans}
+use Rattle.u_machine.proofs.Flight.{as_they_wait}
 use Rattle.u_machine.proofs.Settled.{ends_there}
 use Rattle.u_machine.proofs.parts.Parts.close_before.Goals as goal
+use Rattle.u_machine.proofs.parts.Parts.close_before.Goals.{Then-len-place}
+
+-- as many are parked as stand there before the place, so it is the end of the log
+ends : (c : Then-len-place) → c.args.place ≡ length c.args.self.now.log.items
+ends c =
+    let n = c.len.ensures.len in
+    let w = ap length (as_they_wait c.args.self.now.in_flight c.args.self.now.applied_count c.args.self.now.log.items c.args.self.now.parked c.requires.logged) in
+    ends_there c.args.self.now c.requires.kept c.args.place c.requires.from c.requires.to (omega (arith, n, w, c.if-len-place.true))
 
 pub close_all-requires-clause-idle : goal.close_all-requires-clause-idle
-close_all-requires-clause-idle c = c.requires.idle (ends_there c.args.self.now c.requires.kept c.args.place c.requires.from c.requires.to (omega (arith, c.len.ensures.len, c.if-len-place.true)))
+close_all-requires-clause-idle c = c.requires.idle (ends (goal.at.close_all-requires-clause-idle c).Then-len-place)
 
 pub close_all-requires-clause-none : goal.close_all-requires-clause-none
 close_all-requires-clause-none c =
     let n = c.len.ensures.len in
-    let e = ends_there c.args.self.now c.requires.kept c.args.place c.requires.from c.requires.to (omega (arith, n, c.if-len-place.true)) in
-    omega (arith, n, c.if-len-place.true, c.requires.from)
+    let w = ap length (as_they_wait c.args.self.now.in_flight c.args.self.now.applied_count c.args.self.now.log.items c.args.self.now.parked c.requires.logged) in
+    let e = ends (goal.at.close_all-requires-clause-none c).Then-len-place in
+    omega (arith, n, w, c.if-len-place.true, c.requires.from, e)
 
 pub close_all-requires-clause-all : goal.close_all-requires-clause-all
 close_all-requires-clause-all c k from to =
-    let e = ends_there c.args.self.now c.requires.kept c.args.place c.requires.from c.requires.to (omega (arith, c.len.ensures.len, c.if-len-place.true)) in
-    c.requires.all k from (omega (arith, to))
+    let e = ends (goal.at.close_all-requires-clause-all c).Then-len-place in
+    c.requires.all k from (omega (arith, to, e))
 
 pub close-requires-clause-idle : goal.close-requires-clause-idle
 close-requires-clause-idle c e =

@@ -1,6 +1,4 @@
 use Rattle.u_rule.specs.HeldEntries.{entries_given}
-use Rattle.u_machine.specs.Invariant.{log_of}
-use Rattle.u_machine.proofs.Flight.{as_it_stands}
 use Rattle.u_machine.proofs.Going.{entered_here}
 use Rattle.u_machine.proofs.Lists.{slice_get_at}
 use Rattle.u_machine.proofs.parts.Parts.enter_given.Goals as goal
@@ -9,6 +7,6 @@ pub returns-clause-has : goal.returns-clause-has
 returns-clause-has c =
     let p = c.args.self.now in
     let f = c.index.result.now in
-    let at = slice_get_at (log_of p) c.args.place f c.requires.to (rw (as_it_stands _ p.log.items p.parked c.requires.logged) c.index.ensures) in
+    let at = slice_get_at p.log.items c.args.place f c.requires.to c.index.ensures in
     entered_here p c.enter_what.new.self c.args.place f (entries_given c.in_ok-all.all) c.enter_what.ensures.goes c.requires.to at
     c.in_ok-all.ensures.all c.in_ok-enter_what.ensures.has

@@ -3,9 +3,8 @@ use Rattle.std.specs.Prelude.{slice_get}
 use Rattle.u_rule.specs.declared.firing.Firing.{Firing}
 use Rattle.u_machine.specs.State.{IsPick}
 use Rattle.u_machine.specs.Calls.{MayFire}
-use Rattle.u_machine.specs.Invariant.{state_of, log_of}
+use Rattle.u_machine.specs.Invariant.{state_of}
 use Rattle.u_machine.proofs.States.{takes_between, room_before, fire_no_memory, ready_before, nothing_before, quiet_whole}
-use Rattle.u_machine.proofs.Flight.{as_it_stands, not_flying}
 use Rattle.u_machine.proofs.Settled.{kept_in_order, settled_there, settled_back, settles, stays_unsettled}
 use Rattle.u_machine.proofs.Picking.{pick_exists, pick_is_ready, pick_before}
 use Rattle.u_machine.proofs.Replies.{fired_at}
@@ -65,10 +64,6 @@ returns-in_err-settle-2-clause-answer c =
     fire_no_memory (state_of c.args.self.now) (state_of c.settle-2.new.self) c.args.pick _ c.from_residual-in_err-settle-2.ensures.1
     (inr (b.firing, may_fire a c.if-is_full.false b.firing b.picked, inr (takes_between _ _ _ _ _ c.settle.ensures.applies b.takes c.settle-2.ensures.applies)))
 
--- the log, as it stands
-logs : (c : After-is_full) → length (log_of c.settle.new.self) ≡ length c.settle.new.self.log.items
-logs c = ap length (as_it_stands _ c.settle.new.self.log.items c.settle.new.self.parked (not_flying c.settle.new.self c.settle.ensures.kept c.in_ok-settle.ensures.ok))
-
 pub returns-clause-answer : goal.returns-clause-answer
 returns-clause-answer c =
     let a = (goal.at.returns-clause-answer c).After-is_full in
@@ -77,6 +72,6 @@ returns-clause-answer c =
       may_fire a c.if-is_full.false b.firing b.picked,
       takes_between _ _ _ _ _ c.settle.ensures.applies b.takes c.settle-2.ensures.applies,
       settled_there c.settle-2.new.self c.settle-2.ensures.kept c.in_ok-settle-2.ensures.ok,
-      subst (λ (n : ℕ). slice_get (take c.settle-2.new.self.applied_count (log_of c.settle-2.new.self)) n ≡ Some b.firing) (let n = c.len-place.ensures in let e : length (log_of c.settle.new.self) ≡ c.len-place.result = omega (arith, n, logs a) in e)
-          (fired_at (log_of c.settle.new.self) b.firing (log_of c.begin_picked.new.self) c.settle-2.new.self.applied_count (log_of c.settle-2.new.self) b.log c.settle-2.ensures.log c.in_ok-settle-2.ensures.ok),
+      subst (λ (n : ℕ). slice_get (take c.settle-2.new.self.applied_count c.settle-2.new.self.log.items) n ≡ Some b.firing) (let n = c.len-place.ensures in let e : length c.settle.new.self.log.items ≡ c.len-place.result = omega (arith, n) in e)
+          (fired_at c.settle.new.self.log.items b.firing c.begin_picked.new.self.log.items c.settle-2.new.self.applied_count c.settle-2.new.self.log.items b.log c.settle-2.ensures.log c.in_ok-settle-2.ensures.ok),
     )

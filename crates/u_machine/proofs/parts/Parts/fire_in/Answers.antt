@@ -3,9 +3,8 @@ use Rattle.std.specs.Prelude.{slice_get}
 use Rattle.u_rule.specs.declared.firing.Firing.{Firing}
 use Rattle.u_machine.specs.State.{IsPickIn}
 use Rattle.u_machine.specs.Calls.{Applies, MayFireIn}
-use Rattle.u_machine.specs.Invariant.{state_of, log_of}
+use Rattle.u_machine.specs.Invariant.{state_of}
 use Rattle.u_machine.proofs.States.{takes_between, applies_trans, room_before, ready_before, ready_after, nothing_before, quiet_whole}
-use Rattle.u_machine.proofs.Flight.{as_it_stands, not_flying}
 use Rattle.u_machine.proofs.Settled.{kept_in_order, settled_there, settled_back, settles, stays_unsettled}
 use Rattle.u_machine.proofs.Making.{makes_applies}
 use Rattle.u_machine.proofs.Picking.{pick_in_exists, pick_in_is_ready, pick_in_before}
@@ -94,22 +93,16 @@ returns-in_err-settle-2-clause-answer c =
     fire_in_no_memory (state_of c.args.self.now) (state_of c.settle-2.new.self) c.args.buckets c.args.pick _ c.from_residual-in_err-settle-2.ensures.1
     (inr (c.in_ok-firing.firing, may_fire a c.if-is_full.false c.in_ok-firing.firing c.in_ok-firing.ensures.picked.0, inr (takes_between _ _ _ _ _ (before b) c.in_ok-begin.ensures.takes c.settle-2.ensures.applies)))
 
--- the log, as it stands
-logs : (c : In_ok-firing) → length (log_of c.picked.new.self) ≡ length c.picked.new.self.log.items
-logs c =
-    let landed = not_flying c.settle.new.self c.settle.ensures.kept c.in_ok-settle.ensures.ok in
-    ap length (as_it_stands _ c.picked.new.self.log.items c.picked.new.self.parked (c.picked.ensures.makes.in_flight ∙ landed))
-
 pub returns-clause-answer : goal.returns-clause-answer
 returns-clause-answer c =
     let a = (goal.at.returns-clause-answer c).After-is_full in
     let b = (goal.at.returns-clause-answer c).In_ok-firing in
     let f = c.in_ok-firing.firing in
-    let at : slice_get (take c.settle-2.new.self.applied_count (log_of c.settle-2.new.self)) (length (log_of c.picked.new.self)) ≡ Some f =
-    fired_at (log_of c.picked.new.self) f (log_of c.begin.new.self) c.settle-2.new.self.applied_count (log_of c.settle-2.new.self) c.in_ok-begin.ensures.log c.settle-2.ensures.log c.in_ok-settle-2.ensures.ok in (
+    let at : slice_get (take c.settle-2.new.self.applied_count c.settle-2.new.self.log.items) (length c.picked.new.self.log.items) ≡ Some f =
+    fired_at c.picked.new.self.log.items f c.begin.new.self.log.items c.settle-2.new.self.applied_count c.settle-2.new.self.log.items c.in_ok-begin.ensures.log c.settle-2.ensures.log c.in_ok-settle-2.ensures.ok in (
       f,
       may_fire a c.if-is_full.false f c.in_ok-firing.ensures.picked.0,
       takes_between _ _ _ _ _ (before b) c.in_ok-begin.ensures.takes c.settle-2.ensures.applies,
       settled_there c.settle-2.new.self c.settle-2.ensures.kept c.in_ok-settle-2.ensures.ok,
-      subst (λ (n : ℕ). slice_get (take c.settle-2.new.self.applied_count (log_of c.settle-2.new.self)) n ≡ Some f) (let n = c.len-place.ensures in let e : length (log_of c.picked.new.self) ≡ c.len-place.result = omega (arith, n, logs b) in e) at,
+      subst (λ (n : ℕ). slice_get (take c.settle-2.new.self.applied_count c.settle-2.new.self.log.items) n ≡ Some f) (let n = c.len-place.ensures in let e : length c.picked.new.self.log.items ≡ c.len-place.result = omega (arith, n) in e) at,
     )

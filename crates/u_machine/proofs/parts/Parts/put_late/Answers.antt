@@ -2,7 +2,7 @@ use Rattle.std.proofs.Common.{◌++◌, ◌∷◌, inl, inr, refl, arith, subst}
 use Rattle.std.specs.Prelude.{Contains}
 use Rattle.u_rule.specs.declared.entry.Entry.{Entry}
 use Rattle.u_rule.specs.declared.firing.Firing.{Firing}
-use Rattle.u_machine.specs.Invariant.{taken_of, log_of}
+use Rattle.u_machine.specs.Invariant.{taken_of}
 use Rattle.u_sets.specs.Members.{IsWith}
 use Rattle.u_system.proofs.Member.{Contains-head}
 use Rattle.u_machine.proofs.Going.{slice_get_below}
@@ -33,9 +33,9 @@ returns-in-Ok-clause-kept c =
       all_ready = k.all_ready ++ fs;
       flight = k.flight;
       logged = entered _ _ _ _ _ _ k.logged f e more (slice_get_Contains _ _ f place) g w;
-      partitioned = put_late_partitioned _ _ _ _ _ _ _ k.late e more c.requires.idle c.requires.new w fit fs exact free (log_of m) k.partitioned;
+      partitioned = put_late_partitioned _ _ _ _ _ _ _ k.late e more c.requires.idle c.requires.new w fit fs exact free m.log.items k.partitioned;
       late = puts_late _ _ _ _ _ _ _ k.late e more c.requires.idle c.requires.new w fit fs exact free c.insert.new.self c.requires.wakes.token (with_late (goal.at.returns-in-Ok-clause-kept c).After-enter_alone) (c.requires.wakes.first, Contains-head c.requires.wakes.first c.requires.wakes.rest);
-      idle = λ q. let b = slice_get_below (log_of m) at f place in absurd (omega (arith, b, q, from));
+      idle = λ q. let b = slice_get_below m.log.items at f place in absurd (omega (arith, b, q, from));
     }
 
 pub returns-in-Ok-clause-applies : goal.returns-in-Ok-clause-applies

@@ -2,7 +2,7 @@ use Rattle.std.proofs.Common.{◌≡◌, ◌∙◌, [], arith, inl, inr, refl, s
 use Rattle.std.specs.Prelude.{Contains}
 use Rattle.u_system.proofs.Member.{Contains-nil}
 use Rattle.u_rule.specs.EntryOrder.{FiringList}
-use Rattle.u_machine.specs.Invariant.{state_of, woken_of, IsPartitioned, HasLate, taken_of, log_of}
+use Rattle.u_machine.specs.Invariant.{state_of, woken_of, IsPartitioned, HasLate, taken_of}
 use Rattle.u_machine.proofs.Lists.{slice_get_Contains}
 use Rattle.u_machine.proofs.Going.{slice_get_below, gives_still}
 use Rattle.u_machine.proofs.Steps.{entered}
@@ -28,11 +28,11 @@ returns-clause-kept c =
       all_ready = k.all_ready;
       flight = k.flight;
       logged = entered _ _ _ _ _ _ k.logged f e more (slice_get_Contains _ _ f place) g w;
-      partitioned = subst (λ (fs : FiringList). IsPartitioned p.job.now (log_of p) (taken_of p) k.all_ready fs more) (sym c.turned.ensures)
+      partitioned = subst (λ (fs : FiringList). IsPartitioned p.job.now p.log.items (taken_of p) k.all_ready fs more) (sym c.turn_round.ensures)
           (woken_more _ _ _ _ _ _ k.partitioned e more found none fresh w c.in_ok-found.ensures.exact c.in_ok-found.ensures.order);
-      late = subst (λ (fs : FiringList). HasLate p.job.now (taken_of p) k.all_ready p.ready fs p.late more) (sym c.turned.ensures)
+      late = subst (λ (fs : FiringList). HasLate p.job.now (taken_of p) k.all_ready p.ready fs p.late more) (sym c.turn_round.ensures)
           (enters_late _ _ _ _ _ _ _ k.late e more none fresh w (λ h i. (k.partitioned.fit h i).0) found c.in_ok-found.ensures.exact (λ h x _ _ i. Contains-nil x (rw c.in_ok-make_all.ensures.ok at i)));
-      idle = λ q. let b = slice_get_below (log_of p) at f place in absurd (omega (arith, b, q, from));
+      idle = λ q. let b = slice_get_below p.log.items at f place in absurd (omega (arith, b, q, from));
     }
 
 pub returns-clause-applies : goal.returns-clause-applies

@@ -1,8 +1,6 @@
 use Rattle.std.proofs.Common.{◌<◌, ◌∙◌, ap, arith, length}
-use Rattle.u_machine.specs.Invariant.{log_of}
 use Rattle.u_machine.proofs.States.{applies_trans}
 use Rattle.u_machine.proofs.Going.{lengthens_on, lengthens_le, goes_on, entered_more, entered_longer}
-use Rattle.u_machine.proofs.Flight.{as_it_stands}
 use Rattle.u_machine.proofs.Settled.{log_within}
 use Rattle.u_machine.proofs.parts.Parts.settle_logged.Goals as goal
 
@@ -23,8 +21,7 @@ pub loop-place-smaller : goal.loop-place-smaller
 loop-place-smaller c =
     let v = c.loop-place.invariant in
     let w = log_within c.loop-place.self v.kept in
-    let s = ap length (as_it_stands _ c.loop-place.self.log.items c.loop-place.self.parked (v.goes.in_flight ∙ c.requires.logged)) in
-    let b : c.loop-place.place < length (log_of c.loop-place.self) = omega (arith, s) in
+    let b : c.loop-place.place < length c.loop-place.self.log.items = let n = c.len.ensures in omega (arith, n, c.loop-place-test.true) in
     let l = v.applies.grows.limit in
     omega (arith, w, b)
 
@@ -32,8 +29,7 @@ pub loop-place-preserved : goal.loop-place-preserved
 loop-place-preserved c =
     let v = c.loop-place.invariant in
     let e = c.enter_given.ensures in
-    let s = ap length (as_it_stands _ c.loop-place.self.log.items c.loop-place.self.parked (v.goes.in_flight ∙ c.requires.logged)) in
-    let b : c.loop-place.place < length (log_of c.loop-place.self) = omega (arith, s) in
+    let b : c.loop-place.place < length c.loop-place.self.log.items = let n = c.len.ensures in omega (arith, n, c.loop-place-test.true) in
     record {
       kept = e.kept;
       applies = applies_trans _ _ _ v.applies e.applies;

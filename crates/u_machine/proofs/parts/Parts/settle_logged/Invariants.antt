@@ -1,6 +1,6 @@
 use Rattle.std.proofs.Common.{◌≡◌, [], ◌-◌, ◌≤◌, length}
 use Rattle.u_machine.specs.Calls.{Applies}
-use Rattle.u_machine.specs.Invariant.{state_of, woken_of, Invariant, EnteredBefore, GoesOn, log_of}
+use Rattle.u_machine.specs.Invariant.{state_of, woken_of, Invariant, EnteredBefore, GoesOn}
 use Rattle.u_machine.proofs.parts.Parts.settle_logged.Given as goal
 
 abbrev pub invariant-loop-place : goal.invariant-loop-place
@@ -10,7 +10,7 @@ invariant-loop-place l = record {
   goes : GoesOn l.fn.self l.self;
   idle : woken_of l.self ≡ [];
   from : l.self.applied_count ≤ l.place;
-  to : l.place ≤ length (log_of l.self);
+  to : l.place ≤ length l.self.log.items;
   all : EnteredBefore l.self l.place;
 }
 

@@ -1,6 +1,6 @@
 use Rattle.std.proofs.Common.{inl, inr}
 use Rattle.u_machine.specs.Calls.{IsNew}
-use Rattle.u_machine.specs.Invariant.{state_of, log_of}
+use Rattle.u_machine.specs.Invariant.{state_of}
 use Rattle.u_machine.proofs.States.{Applies-refl, takes_between}
 use Rattle.u_machine.proofs.Beginning.{new_if_ready, in_all}
 use Rattle.u_machine.proofs.Settled.{settled_there}
@@ -31,7 +31,7 @@ pub returns-clause-answer : goal.returns-clause-answer
 returns-clause-answer c = (
   is_new (goal.at.returns-clause-answer c).After-begin_ready,
   takes_between _ _ _ _ _ (Applies-refl _) c.in_ok-begin_ready.ensures.takes c.settle.ensures.applies,
-  applied_has (log_of c.args.self.now) c.args.firing.now (log_of c.begin_ready.new.self) c.settle.new.self.applied_count (log_of c.settle.new.self)
+  applied_has c.args.self.now.log.items c.args.firing.now c.begin_ready.new.self.log.items c.settle.new.self.applied_count c.settle.new.self.log.items
       c.in_ok-begin_ready.ensures.log c.settle.ensures.log c.in_ok-settle.ensures.ok,
   settled_there c.settle.new.self c.settle.ensures.kept c.in_ok-settle.ensures.ok,
 )
