@@ -12,6 +12,7 @@ use crate::plan::End;
 use crate::worker::{Life, Saved, Setting, Worker};
 use core::mem::replace;
 use std::alloc::{AllocError, Global};
+use u_machine::Parked;
 use u_outlet::Named;
 use u_program::Version;
 use u_replica::{Replica, RestoreError, write_checkpoint};
@@ -46,7 +47,8 @@ fn front_text(alloc: Global, version: Version, firings: &[Firing]) -> Result<Vec
     ensures valid { IfOk result (λ _. AreFirings firings.now) }
 {
     let mut bytes = Vec::new(alloc);
-    write_checkpoint(version, firings, &OrderedSet::new(alloc), &mut bytes)?;
+    let none = OrderedSet::new(alloc);
+    write_checkpoint(version, firings, &Parked::waiting(&none), &mut bytes)?;
     Ok(bytes)
 }
 

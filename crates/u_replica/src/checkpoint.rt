@@ -9,9 +9,9 @@ ghost use Rattle.u_replica.specs.Checkpoints.{AreFirings};
 use std::alloc::{AllocError, AllocFailed};
 use thiserror::Error;
 use u_delta::{Firings, all_in_range, in_range, write_firings};
+use u_machine::Parked;
 use u_program::Version;
 use u_rule::Firing;
-use u_sets::OrderedSet;
 use u_text::{cut_back, push_long};
 
 /// Whether all of a checkpoint was there.
@@ -57,7 +57,7 @@ impl<T: Drop> From<AllocFailed<T>> for CheckpointError {
 }
 
 /// The parts of each firing of the set are in their ranges. It does nothing.
-fn set_in_range(firings: &OrderedSet<Firing>)
+fn set_in_range(firings: &Parked<'_>)
     ensures { AreFirings firings.now }
 {
     for firing in firings.iter() {
@@ -67,7 +67,7 @@ fn set_in_range(firings: &OrderedSet<Firing>)
 
 /// Appends a line for each firing of the set, in order. On an error a part of them may stand there.
 #[tactic(auto, using(u_text::proofs::AppendingLaws::extends_by, u_text::proofs::AppendingLaws::extends_behind))]
-fn push_set(out: &mut Vec<u8>, firings: &OrderedSet<Firing>) -> Result<(), AllocError>
+fn push_set(out: &mut Vec<u8>, firings: &Parked<'_>) -> Result<(), AllocError>
     ensures ok { OnOk result
         (out.new.items ≡ out.old.items ++ ended (map firing_text firings.now)) }
     ensures err { OnErr result (Extends out.old.items out.new.items) }
@@ -109,7 +109,7 @@ fn push_head(out: &mut Vec<u8>, version: Version) -> Result<(), AllocError>
 fn push_checkpoint(
     version: Version,
     applied: &[Firing],
-    parked: &OrderedSet<Firing>,
+    parked: &Parked<'_>,
     out: &mut Vec<u8>,
 ) -> Result<(), AllocError>
     ensures ok { OnOk result (out.new.items
@@ -135,7 +135,7 @@ fn push_checkpoint(
 pub fn write_checkpoint(
     version: Version,
     applied: &[Firing],
-    parked: &OrderedSet<Firing>,
+    parked: &Parked<'_>,
     out: &mut Vec<u8>,
 ) -> Result<(), AllocError>
     ensures ok { OnOk result

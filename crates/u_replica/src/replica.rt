@@ -294,7 +294,7 @@ impl<'a> Replica<'a> {
         write_checkpoint(
             version,
             self.machine.applied(),
-            self.machine.parked(),
+            &self.machine.parked(),
             &mut bytes,
         )?;
         Ok(bytes)

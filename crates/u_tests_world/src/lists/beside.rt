@@ -10,10 +10,9 @@ use crate::looks::{answer_text, are_same, ask_text, is_text, mark_of, replica_of
 use std::alloc::{AllocError, Global};
 use u_delta::Ask;
 use u_history::History;
-use u_machine::Machine;
+use u_machine::{Machine, Parked};
 use u_replica::Replica;
 use u_rule::Firing;
-use u_sets::OrderedSet;
 use u_world::World;
 
 /// Whether these are the firings with these numbers, in the same order.
@@ -27,7 +26,7 @@ fn is_list(table: &Table, numbers: &[usize], firings: &[Firing]) -> bool {
 }
 
 /// Whether the parked firings are those that the plain replica parks.
-fn is_parked(table: &Table, plain: &PlainReplica, parked: &OrderedSet<Firing>) -> bool {
+fn is_parked(table: &Table, plain: &PlainReplica, parked: &Parked<'_>) -> bool {
     let mut count = 0usize;
     for (number, firing) in table.firings.iter().enumerate() {
         if plain.stage(number) == Stage::Parked {
@@ -58,7 +57,7 @@ fn is_history(table: &Table, plain: &PlainReplica, history: &History) -> bool {
 fn machine_agrees(table: &Table, plain: &PlainReplica, machine: &Machine<'_>) -> bool {
     machine.is_settled()
         && is_list(table, &plain.log, machine.applied())
-        && is_parked(table, plain, machine.parked())
+        && is_parked(table, plain, &machine.parked())
         && is_history(table, plain, machine.history())
 }
 
