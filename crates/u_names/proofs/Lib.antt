@@ -1,8 +1,9 @@
 pub mod Celled
 pub mod Framed
 pub mod Grouped
+pub mod KeyedContexts
+pub mod KeyedFrames
 pub mod Mapped
 pub mod OneNumber
-pub mod SameFrame
 pub mod SamePlace
 pub mod Alone

@@ -37,17 +37,21 @@ module _ {X : Type 0} where
   pub member_at : (xs : List X) (i : ℕ) (x : X) → slice_get xs i ≡ Some x → Contains xs x
   member_at xs i x e = subst (λ (y : X). Contains xs y) (get_at xs i x x e) (there_at xs i x (below_at xs i x e))
 
-  -- what stands at a place stays there where something goes last
-  front_stays : (xs : List X) (y d : X) (i : ℕ) → i < length xs → get_or (xs ++ y ∷ []) i d ≡ get_or xs i d
-  front_stays [] y d i l = absurd (omega (arith, l))
-  front_stays (x ∷ xs) y d zero l = refl
-  front_stays (x ∷ xs) y d (suc i) l = front_stays xs y d i (omega (arith, l))
+  -- what stands at a place stays there where others go behind
+  pub front_stays : (xs ys : List X) (d : X) (i : ℕ) → i < length xs → get_or (xs ++ ys) i d ≡ get_or xs i d
+  front_stays [] ys d i l = absurd (omega (arith, l))
+  front_stays (x ∷ xs) ys d zero l = refl
+  front_stays (x ∷ xs) ys d (suc i) l = front_stays xs ys d i (omega (arith, l))
+
+  pub longer : (xs ys : List X) → length xs ≤ length (xs ++ ys)
+  longer [] ys = omega arith
+  longer (x ∷ xs) ys = let l = longer xs ys in omega (arith, l)
 
   pub stays_at : (xs ys : List X) (y d : X) (i : ℕ) → GoesLast xs y ys → i < length xs → get_or ys i d ≡ get_or xs i d
   stays_at xs ys y d i (inl (m, e)) l = ap (λ (zs : List X). get_or zs i d) e
-  stays_at xs ys y d i (inr (n, e)) l = ap (λ (zs : List X). get_or zs i d) e ∙ front_stays xs y d i l
+  stays_at xs ys y d i (inr (n, e)) l = ap (λ (zs : List X). get_or zs i d) e ∙ front_stays xs (y ∷ []) d i l
 
-  pushed : (xs : List X) (y : X) → length (xs ++ y ∷ []) ≡ suc (length xs)
+  pub pushed : (xs : List X) (y : X) → length (xs ++ y ∷ []) ≡ suc (length xs)
   pushed [] y = refl
   pushed (x ∷ xs) y = ap suc (pushed xs y)
 

@@ -1,4 +1,5 @@
 pub mod CellPairs
+pub mod Contexts
 pub mod ExactOrders
 pub mod Frames
 pub mod Groups

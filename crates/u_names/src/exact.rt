@@ -1,10 +1,15 @@
-//! Frames, places and spots tie with nothing but themselves.
-ghost use Rattle.u_names.specs.ExactOrders.{frame_ties, place_ties, spot_ties};
+//! Keys of contexts, frames, places and spots tie with nothing but themselves.
+ghost use Rattle.u_names.specs.ExactOrders.{key_ties, frame_ties, place_ties, spot_ties};
 
+use crate::context_keys::ContextKey;
 use crate::frames::Frame;
 use crate::places::Place;
 use crate::spots::Spot;
 use u_order::ExactOrd;
+
+impl ExactOrd for ContextKey {
+    ghost exact = { key_ties };
+}
 
 impl ExactOrd for Frame {
     ghost exact = { frame_ties };

@@ -1,70 +1,46 @@
 //! Frames: what the names of one block have in common in one context.
-ghost use Rattle.std.specs.Prelude.{◌≡◌, ◌↔◌, [], OnOk, OnErr, IfOk, IfSome, IfNone, Contains, IsTrue, length, slice_get, Some};
-ghost use Rattle.std.specs.Option.{option_copied};
+ghost use Rattle.std.specs.Prelude.{◌≡◌, ◌<◌, [], OnOk, OnErr, IfOk, IfSome, IfNone, Contains, length, slice_get, Some};
 ghost use Rattle.u_system.specs.Firing.{Distinct};
 ghost use Rattle.u_sets.specs.Members.{GoesLast};
 ghost use Rattle.u_name.specs.Context.{IsBetween};
-ghost use Rattle.u_name.specs.Name.{activity};
-ghost use Rattle.u_names.specs.Frames.{frame_of};
+ghost use Rattle.u_names.specs.Frames.{frame_key, frame_of};
+ghost use Rattle.u_names.specs.Places.{place};
+ghost use Rattle.u_names.specs.NameLists.{name_at};
 
+use crate::contexts::Contexts;
 use std::alloc::{AllocError, Global};
 use std::marker::Model;
-use u_name::{BlockName, Context, Name};
+use u_name::{BlockName, Name};
 use u_sets::PlacedSet;
 
-/// A block in a context.
+/// A block in a context that has a number: that number, and the block.
 #[derive(PartialEq, Eq, PartialOrd, Ord, Hash, Drop)]
 pub(crate) struct Frame {
-    context: Context,
+    context: u32,
     block: BlockName,
 }
 
 impl Model for Frame {
-    ghost use Rattle.u_names.specs.Frames.{FrameParts, frame, frame_code};
+    ghost use Rattle.u_names.specs.Frames.{FrameKey, frame_key, frame_key_code};
 
-    ghost Value = { FrameParts };
+    ghost Value = { FrameKey };
 
-    ghost coded = { frame_code };
+    ghost coded = { frame_key_code };
 
-    ghost view = { λ f. frame f.context f.block };
+    ghost view = { λ f. frame_key f.context f.block };
 
     ghost inverse = { λ f. record { context = f.context; block = f.block } };
 }
 
 impl Frame {
-    /// The frame of the name.
-    fn of(name: &Name) -> Result<Frame, AllocError>
-        ensures { IfOk result (λ f. f ≡ frame_of name.now) }
+    /// The frame of the name, whose context has that number.
+    fn of(context: u32, name: &Name) -> Frame
+        ensures { result ≡ frame_key context name.now.block }
     {
-        Ok(Frame {
-            context: name.context().copy()?,
+        Frame {
+            context,
             block: *name.block(),
-        })
-    }
-
-    /// Whether it is the frame of the name.
-    #[tactic(auto, using(crate::proofs::SameFrame::same_frame, crate::proofs::SameFrame::other_block, crate::proofs::SameFrame::same_context_of))]
-    fn is_of(&self, name: &Name) -> bool
-        ensures { IsTrue result ↔ (self.now ≡ frame_of name.now) }
-    {
-        if self.block != *name.block() {
-            return false;
         }
-        self.context == *name.context()
-    }
-
-    /// The name in this frame with that statement and initiation.
-    ///
-    /// # Errors
-    /// `AllocError` where so many share the context already, 2^63, that no copy can be made.
-    pub(crate) fn name(&self, statement: u16, initiation: u64) -> Result<Name, AllocError>
-        requires statement_in { IsBetween 1 statement 999 }
-        requires initiation_in { IsBetween 1 initiation 18446744073709551615 }
-        ensures { IfOk result
-            (λ n. n ≡ activity self.now.context self.now.block statement initiation) }
-    {
-        let context = self.context.copy()?;
-        Ok(Name::new(context, self.block, statement, initiation))
     }
 }
 
@@ -72,6 +48,7 @@ impl Frame {
 /// the list of the frames.
 #[derive(Drop)]
 pub(crate) struct Frames {
+    contexts: Contexts,
     frames: PlacedSet<Frame>,
     /// The number that was asked for last, which is looked at first.
     last: usize,
@@ -79,29 +56,15 @@ pub(crate) struct Frames {
 
 impl Model for Frames {
     ghost use Rattle.std.specs.Prelude.{List};
-    ghost use Rattle.u_names.specs.Frames.{FrameParts, frames_code};
-    ghost use Rattle.u_system.specs.Firing.{Distinct};
+    ghost use Rattle.u_names.specs.Frames.{FrameParts, frames_code, frames_at, AreFrames};
 
     ghost Value = { List FrameParts };
 
     ghost coded = { frames_code };
 
-    ghost view = { λ f. f.frames };
+    ghost view = { λ f. frames_at f.contexts f.frames };
 
-    ghost invariant = { λ f. Distinct f.frames };
-}
-
-/// The first of the frames, from that number on, that is the name's.
-fn scanned(frames: &[Frame], name: &Name) -> Option<usize>
-    ensures number { IfSome result (λ i. slice_get frames.now i ≡ Some (frame_of name.now)) }
-    ensures none { IfNone result (Contains frames.now (frame_of name.now) → ⊥) }
-{
-    for number in 0..frames.len() {
-        if frames[number].is_of(name) {
-            return Some(number);
-        }
-    }
-    None
+    ghost invariant = { λ f. AreFrames f.contexts f.frames };
 }
 
 impl Frames {
@@ -110,6 +73,7 @@ impl Frames {
         ensures { result ≡ [] }
     {
         Frames {
+            contexts: Contexts::new(alloc),
             frames: PlacedSet::new(alloc),
             last: 0,
         }
@@ -120,7 +84,11 @@ impl Frames {
         ensures { IfSome result (λ i. slice_get self.now i ≡ Some (frame_of name.now)) }
     {
         let frame = self.frames.get(self.last)?;
-        if frame.is_of(name) {
+        if frame.block != *name.block() {
+            return None;
+        }
+        let context = self.contexts.get(frame.context)?;
+        if context == name.context() {
             return Some(self.last);
         }
         None
@@ -129,7 +97,8 @@ impl Frames {
     /// The number of the name's frame. A frame that is new goes last.
     ///
     /// # Errors
-    /// `AllocError` where there is no memory; the frames stay as they were.
+    /// `AllocError` where there is no memory, or where 2^32 contexts have numbers already; the frames
+    /// stay as they were.
     pub(crate) fn number_of(&mut self, name: &Name) -> Result<usize, AllocError>
         ensures number { IfOk result (λ i. slice_get self.new i ≡ Some (frame_of name.now)) }
         ensures ok { OnOk result (GoesLast self.old (frame_of name.now) self.new) }
@@ -139,7 +108,8 @@ impl Frames {
         if let Some(last) = self.last_of(name) {
             return Ok(last);
         }
-        let (number, _) = self.frames.insert(Frame::of(name)?)?;
+        let context = self.contexts.number_of(name.context())?;
+        let (number, _) = self.frames.insert(Frame::of(context, name))?;
         self.last = number;
         Ok(number)
     }
@@ -152,16 +122,32 @@ impl Frames {
         if let Some(last) = self.last_of(name) {
             return Some(last);
         }
-        match Frame::of(name) {
-            Ok(frame) => self.frames.place_of(&frame),
-            Err(_) => scanned(self.frames.as_slice(), name),
-        }
+        let context = self.contexts.find(name.context())?;
+        self.frames.place_of(&Frame::of(context, name))
     }
 
-    /// The frame that has that number, if there is one.
-    pub(crate) fn get(&self, number: usize) -> Option<&Frame>
-        ensures { option_copied result ≡ slice_get self.now number }
+    /// The name with that statement and initiation in the frame that has that number.
+    ///
+    /// # Errors
+    /// `AllocError` where so many share the context already, 2^63, that no copy can be made.
+    pub(crate) fn name(
+        &self,
+        number: usize,
+        statement: u16,
+        initiation: u64,
+    ) -> Result<Name, AllocError>
+        requires there { number < length self.now }
+        requires statement_in { IsBetween 1 statement 999 }
+        requires initiation_in { IsBetween 1 initiation 18446744073709551615 }
+        ensures { IfOk result (λ n. n ≡ name_at self.now (place number statement initiation)) }
     {
-        self.frames.get(number)
+        let Some(frame) = self.frames.get(number) else {
+            unreachable!()
+        };
+        let Some(context) = self.contexts.get(frame.context) else {
+            unreachable!()
+        };
+        let name = Name::new(context.copy()?, frame.block, statement, initiation);
+        Ok(name)
     }
 }

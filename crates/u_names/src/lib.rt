@@ -4,6 +4,8 @@
 mod activities;
 mod cell_set;
 mod cells;
+mod context_keys;
+mod contexts;
 mod exact;
 mod frames;
 mod name_table;

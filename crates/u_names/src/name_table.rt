@@ -96,8 +96,8 @@ impl NameTable {
     /// The number of the name with that statement in place of its own. A name that is new goes last.
     ///
     /// # Errors
-    /// `AllocError` where there is no memory, or where 2^32 blocks in contexts have names already; the
-    /// names and their numbers stay as they were.
+    /// `AllocError` where there is no memory, or where 2^32 contexts or 2^32 blocks in contexts have
+    /// numbers already; the names and their numbers stay as they were.
     pub(crate) fn id_beside(&mut self, name: &Name, statement: u16) -> Result<usize, AllocError>
         requires { IsBetween 1 statement 999 }
         ensures number { IfOk result
@@ -137,10 +137,10 @@ impl NameTable {
         let Some(place) = self.places.get(id) else {
             return Ok(None);
         };
-        let Some(frame) = self.frames.get(place.frame()) else {
-            unreachable!()
-        };
-        let name = frame.name(place.statement(), place.initiation())?;
+        let frame = place.frame();
+        let name = self
+            .frames
+            .name(frame, place.statement(), place.initiation())?;
         Ok(Some(name))
     }
 

@@ -12,8 +12,7 @@ use std::marker::Model;
 use u_name::Name;
 
 /// A table of distinct names. The number of a name is its place, counted from 0, which it keeps. A
-/// context stands once in it for each block in which it has names, and a name takes two words.
-/// Contracts see the list of the names.
+/// context stands once in it, and a name takes two words. Contracts see the list of the names.
 #[derive(Drop)]
 pub struct Names {
     /// The table. Whatever an array has is dropped by one call, which keeps the proofs of functions
@@ -55,8 +54,8 @@ impl Names {
     /// The number of the name. A name that is new goes last.
     ///
     /// # Errors
-    /// `AllocError` where there is no memory, or where 2^32 blocks in contexts have names already; the
-    /// names and their numbers stay as they were.
+    /// `AllocError` where there is no memory, or where 2^32 contexts or 2^32 blocks in contexts have
+    /// numbers already; the names and their numbers stay as they were.
     pub fn id_of(&mut self, name: &Name) -> Result<usize, AllocError>
         ensures number { IfOk result (λ i. slice_get self.new i ≡ Some name.now) }
         ensures ok { OnOk result (GoesLast self.old name.now self.new) }
