@@ -23,3 +23,4 @@ pub mod LateTokens
 pub mod Making
 pub mod Picking
 pub mod Turned
+pub mod Queued

@@ -6,3 +6,4 @@ pub mod Taking
 pub mod Obeying
 pub mod Invariant
 pub mod Lent
+pub mod Queues

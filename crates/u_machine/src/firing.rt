@@ -1,8 +1,6 @@
 //! How ready firings are fired: the third of three things that a machine does with its parts, each of
 //! which has a file of its own.
 ghost use Rattle.std.specs.Prelude.{◌≡◌, ◌<◌, ◌%◌, [], IfOk, OnOk, OnErr, IsOk, IsTrue, IsFalse, length, slice_get, Some};
-ghost use Rattle.u_sets.specs.Rising.{Rises};
-ghost use Rattle.u_rule.specs.EntryOrder.{firing_cmp};
 ghost use Rattle.u_rule.specs.declared.firing.Firing.{Firing};
 ghost use Rattle.u_machine.specs.State.{IsSettled, NothingReady, IsReady, count_of};
 ghost use Rattle.u_machine.specs.Calls.{FireAnswer, RunAnswer};
@@ -12,16 +10,6 @@ use crate::answer::{Ran, Refusal, Step};
 use crate::parts::Parts;
 use std::alloc::AllocError;
 use u_rule::Firing;
-use u_sets::OrderedSet;
-
-/// The place that the number picks: it modulo the number of the firings, of which there is one.
-fn picked_place(ready: &OrderedSet<Firing>, pick: usize) -> usize
-    requires { 0 < length ready.now }
-    ensures place { result ≡ pick % length ready.now }
-    ensures rises { Rises firing_cmp ready.now }
-{
-    pick % ready.len()
-}
 
 impl<'a> Parts<'a> {
     /// A copy of the ready firing at that place.
@@ -75,7 +63,7 @@ impl<'a> Parts<'a> {
             return Ok(());
         }
         self.make_all()?;
-        let place = picked_place(&self.ready, pick);
+        let place = self.ready.picked_place(pick);
         self.begin_at(place)?;
         Ok(())
     }

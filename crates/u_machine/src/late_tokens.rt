@@ -18,6 +18,7 @@ ghost use Rattle.u_machine.specs.Calls.{Applies};
 ghost use Rattle.u_machine.specs.Invariant.{state_of, woken_of, Invariant, Gives, GoesOn, MakesMore, GainsSome, HasNoneOf, NeedsNoLate, KnowsLeast, parked_of};
 
 use crate::parts::Parts;
+use crate::priority_queue::PriorityQueue;
 use std::alloc::{AllocError, Global};
 use u_name::Name;
 use u_rule::{Entry, Firing, Token};
@@ -27,7 +28,7 @@ use u_value::Value;
 /// Puts copies of the firings into the set. On an error some of them may be there.
 fn add_all(
     alloc: Global,
-    ready: &mut OrderedSet<Firing>,
+    ready: &mut PriorityQueue<Firing>,
     firings: &[Firing],
 ) -> Result<(), AllocError>
     ensures some { GainsSome ready.old firings.now ready.new }

@@ -10,6 +10,7 @@ mod machine;
 mod masks;
 mod parked;
 mod parts;
+mod priority_queue;
 mod taking;
 mod turning;
 

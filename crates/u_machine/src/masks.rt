@@ -12,6 +12,7 @@ ghost use Rattle.u_machine.specs.Invariant.{state_of, Invariant, MakesMore};
 
 use crate::answer::{Refusal, StepIn};
 use crate::parts::Parts;
+use crate::priority_queue::PriorityQueue;
 use std::alloc::AllocError;
 use u_claims::bucket_of;
 use u_name::Name;
@@ -27,7 +28,7 @@ fn is_within(buckets: u64, activity: &Name) -> bool
 
 /// The firing that has so many of those in the mask before it; else how many are missing. It goes over
 /// the firings up to that one.
-fn nth_in(ready: &OrderedSet<Firing>, buckets: u64, before: usize) -> Result<&Firing, usize>
+fn nth_in(ready: &PriorityQueue<Firing>, buckets: u64, before: usize) -> Result<&Firing, usize>
     ensures ok { IfOk result (λ f. slice_get (those_in buckets ready.now) before ≡ Some f.now) }
     ensures err { IfErr result (λ left. length (those_in buckets ready.now) + left ≡ before) }
 {
@@ -44,7 +45,7 @@ fn nth_in(ready: &OrderedSet<Firing>, buckets: u64, before: usize) -> Result<&Fi
 }
 
 /// The firing at that place of those in the mask, which has a place.
-fn at_in(ready: &OrderedSet<Firing>, buckets: u64, place: usize) -> &Firing
+fn at_in(ready: &PriorityQueue<Firing>, buckets: u64, place: usize) -> &Firing
     requires { place < length (those_in buckets ready.now) }
     ensures { slice_get (those_in buckets ready.now) place ≡ Some result.now }
 {
@@ -56,7 +57,7 @@ fn at_in(ready: &OrderedSet<Firing>, buckets: u64, place: usize) -> &Firing
 
 /// The firing at place `pick` of those in the mask, modulo their number, where there is any. They are
 /// counted only where `pick` is not below their number.
-fn picked_in(ready: &OrderedSet<Firing>, buckets: u64, pick: usize) -> Option<&Firing>
+fn picked_in(ready: &PriorityQueue<Firing>, buckets: u64, pick: usize) -> Option<&Firing>
     ensures some { IfSome result (λ f. slice_get (those_in buckets ready.now)
         (pick % length (those_in buckets ready.now)) ≡ Some f.now) }
     ensures none { IfNone result (those_in buckets ready.now ≡ []) }

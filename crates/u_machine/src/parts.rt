@@ -10,6 +10,7 @@ ghost use Rattle.u_system.specs.Firing.{Same};
 ghost use Rattle.u_machine.specs.Invariant.{state_of, Invariant, parked_of};
 
 use crate::parked::Parked;
+use crate::priority_queue::PriorityQueue;
 use std::alloc::{AllocError, Global};
 use u_check::Job;
 use u_match::Matcher;
@@ -33,7 +34,7 @@ pub(crate) struct Parts<'a> {
     /// is parked. So it is never copied.
     pub(crate) in_flight: bool,
     /// The firings that are enabled and not taken, as far as they were made.
-    pub(crate) ready: OrderedSet<Firing>,
+    pub(crate) ready: PriorityQueue<Firing>,
     /// The tokens that were put off: the firings that they wake are enabled, and not made.
     pub(crate) late: OrderedSet<Entry>,
     /// The firings that the last entry woke and that are still to be sorted out, the last one first. Once
@@ -44,10 +45,10 @@ pub(crate) struct Parts<'a> {
 }
 
 /// The set of these firings.
-fn set_of(alloc: Global, firings: &[Firing]) -> Result<OrderedSet<Firing>, AllocError>
+fn set_of(alloc: Global, firings: &[Firing]) -> Result<PriorityQueue<Firing>, AllocError>
     ensures { IfOk result (λ s. Same (Contains s) (Contains firings.now)) }
 {
-    let mut set = OrderedSet::new(alloc);
+    let mut set = PriorityQueue::new(alloc);
     for firing in firings {
         set.insert(firing.copy(alloc)?)?;
     }

@@ -125,6 +125,7 @@ impl<'a> Parts<'a> {
     {
         let waiting = firing.copy(self.alloc)?;
         self.log.reserve(1)?;
+        self.ready.end_run()?;
         self.parked.insert(waiting)?;
         self.ready.remove(&firing);
         push_into_room(&mut self.log, firing);
@@ -146,7 +147,7 @@ impl<'a> Parts<'a> {
     {
         self.log.reserve(1)?;
         // Brings in that the ready firings rise.
-        let _count = self.ready.len();
+        let _none = self.ready.is_empty();
         let Some(firing) = self.ready.pop_first() else {
             unreachable!();
         };

@@ -2,7 +2,7 @@ use Rattle.std.proofs.Common.{◌≡◌, false, ◌+◌, length, ◌++◌, [], �
 use Rattle.std.specs.Prelude.{Contains}
 use Rattle.u_rule.specs.EntryOrder.{FiringList}
 use Rattle.u_rule.specs.declared.firing.Firing.{Firing}
-use Rattle.u_sets.specs.Members.{IsWith}
+use Rattle.u_sets.specs.Members.{IsWith, IsWithout}
 use Rattle.std.proofs.lemmas.Bool.{false≢true}
 use Rattle.u_machine.specs.Invariant.{parked_with, parked_of}
 use Rattle.u_machine.proofs.Flight.{as_they_wait, all_wait, not_flying}
@@ -28,6 +28,10 @@ one_more c =
     rw (waited c) (c.in_ok-insert.ensures.count
     (c.in_ok-insert.ensures.new.1 (λ m. unparked c.args.self.now c.requires.kept c.args.firing c.requires.ready (rw (waited c) (subst (λ (f : Firing). Contains c.args.self.now.parked f) c.in_ok-waiting.ensures m)))))
 
+-- what is ready, without the firing
+taken_out : (c : After-push_into_room) → IsWithout c.args.self.now.ready c.args.firing c.remove.new.self
+taken_out c = subst (λ (fs : FiringList). IsWithout fs c.args.firing c.remove.new.self) c.end_run.ensures c.remove.ensures.without
+
 -- the log, with the firing
 abbrev log : After-push_into_room → FiringList
 log c = c.push_into_room.new.list.items
@@ -46,13 +50,13 @@ returns-clause-kept c =
     record {
       all_ready = others m k f c.requires.ready;
       flight = λ e. absurd (false≢true (sym (landed c) ∙ e));
-      logged = rw (they_wait c) (begun_logged m k f c.requires.ready c.requires.settled c.requires.room c.insert.new.self c.remove.new.self (log c) (with_it c) c.in_ok-insert.ensures.rises (one_more c) (logs c) c.remove.ensures.without);
-      partitioned = rw (they_wait c) (begun_partitioned m k f c.requires.ready c.requires.settled c.requires.room c.insert.new.self c.remove.new.self (log c) (with_it c) c.in_ok-insert.ensures.rises (one_more c) (logs c) c.remove.ensures.without);
-      late = rw (they_wait c) (begun_late m k f c.requires.ready c.requires.settled c.requires.room c.insert.new.self c.remove.new.self (log c) (with_it c) c.in_ok-insert.ensures.rises (one_more c) (logs c) c.remove.ensures.without c.requires.made);
-      idle = begun_idle m k f c.requires.ready c.requires.settled c.requires.room c.insert.new.self c.remove.new.self (log c) (with_it c) c.in_ok-insert.ensures.rises (one_more c) (logs c) c.remove.ensures.without;
+      logged = rw (they_wait c) (begun_logged m k f c.requires.ready c.requires.settled c.requires.room c.insert.new.self c.remove.new.self (log c) (with_it c) c.in_ok-insert.ensures.rises (one_more c) (logs c) (taken_out c));
+      partitioned = rw (they_wait c) (begun_partitioned m k f c.requires.ready c.requires.settled c.requires.room c.insert.new.self c.remove.new.self (log c) (with_it c) c.in_ok-insert.ensures.rises (one_more c) (logs c) (taken_out c));
+      late = rw (they_wait c) (begun_late m k f c.requires.ready c.requires.settled c.requires.room c.insert.new.self c.remove.new.self (log c) (with_it c) c.in_ok-insert.ensures.rises (one_more c) (logs c) (taken_out c) c.requires.made);
+      idle = begun_idle m k f c.requires.ready c.requires.settled c.requires.room c.insert.new.self c.remove.new.self (log c) (with_it c) c.in_ok-insert.ensures.rises (one_more c) (logs c) (taken_out c);
     }
 
 pub returns-clause-takes : goal.returns-clause-takes
 returns-clause-takes c =
     rw (they_wait c) (begun_takes c.args.self.now c.requires.kept c.args.firing c.requires.ready c.requires.settled c.requires.room c.insert.new.self c.remove.new.self (log c) (with_it c) c.in_ok-insert.ensures.rises (one_more c) (logs c)
-    c.remove.ensures.without)
+    (taken_out c))

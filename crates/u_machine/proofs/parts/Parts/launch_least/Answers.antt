@@ -38,7 +38,7 @@ module _ (c : After-push_into_room) where
   one_more = let b = ap length none_before in omega (arith, b)
 
   without : IsWithout c.args.self.now.ready firing less
-  without = without_first c.args.self.now.ready less firing c.len-count.ensures.rises c.in-Some.ensures.some
+  without = without_first c.args.self.now.ready less firing c.is_empty-none.ensures.rises c.in-Some.ensures.some
 
   -- the log, with the firing
   abbrev log : FiringList
