@@ -1,11 +1,14 @@
 -- What contexts are compared by: two words with the kinds of their loops and calls from the innermost outwards, and the words
 -- of these from the outermost inwards.
-use Rattle.std.specs.Prelude.{ℕ, ◌+◌, ◌*◌, ◌/◌, ◌%◌, ◌^◌, List, [], ◌∷◌, ◌++◌, drop}
+use Rattle.std.specs.Prelude.{ℕ, ◌+◌, ◌*◌, ◌/◌, ◌%◌, ◌^◌, List, [], ◌∷◌, ◌++◌, drop, Option, None, Some}
 use Rattle.std.proofs.Common.{get_or}
+use Rattle.std.specs.Ordering.{nat_cmp}
+use Rattle.std.specs.declared.cmp.Ordering.{Ordering}
+use Rattle.std.specs.Cmp.Lexicographic.{slice_cmp}
 use Rattle.u_name.specs.declared.context.Linkage.{Linkage}
 use Rattle.u_name.specs.declared.context.Linkage.TheVariants.{Loop, Call}
 use Rattle.u_name.specs.Context.{Tree, Top, InLoop, InCall}
-use Rattle.u_name.specs.Words.{in_places, words}
+use Rattle.u_name.specs.Words.{in_places, words_by}
 
 -- a loop's kind is 1, and a call's is 2
 abbrev pub kinds : Tree → List ℕ
@@ -17,11 +20,17 @@ kinds (InCall outer block statement initiation) = 2 ∷ kinds outer
 unfoldable pub kinds_number : Tree → ℕ
 kinds_number t = in_places 4 64 (kinds t)
 
+-- how a block goes with that of the loop or call, if it is one
+abbrev pub block_in : Tree → List ℕ → Option Ordering
+block_in Top block = None
+block_in (InLoop outer own number initiation) block = Some (slice_cmp nat_cmp block own)
+block_in (InCall outer own statement initiation) block = Some (slice_cmp nat_cmp block own)
+
 -- the words of each loop and call
 abbrev pub frames : Tree → List ℕ
 frames Top = []
-frames (InLoop outer block number initiation) = frames outer ++ words block number initiation
-frames (InCall outer block statement initiation) = frames outer ++ words block statement initiation
+frames (InLoop outer block number initiation) = frames outer ++ words_by (block_in outer block) block number initiation
+frames (InCall outer block statement initiation) = frames outer ++ words_by (block_in outer block) block statement initiation
 
 abbrev pub path : Tree → List ℕ
 path t = kinds_number t / 2 ^ 64 ∷ kinds_number t % 2 ^ 64 ∷ frames t

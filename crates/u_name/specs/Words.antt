@@ -1,6 +1,9 @@
 -- The words of a loop or a call, which are numbers of 64 bits: one or two for the block, and one or two for the number and
 -- the initiation. The first words of two such codes tell whether they have second words, so codes in a row go by their parts.
-use Rattle.std.specs.Prelude.{ℕ, zero, suc, ◌+◌, ◌*◌, ◌/◌, ◌%◌, ◌^◌, ◌==◌, cond, nat_le, min, List, [], ◌∷◌, ◌++◌}
+-- Inside another loop or call its words tell first how its block goes with that one's, and leave it out where it is the same.
+use Rattle.std.specs.Prelude.{ℕ, zero, suc, ◌+◌, ◌*◌, ◌/◌, ◌%◌, ◌^◌, ◌==◌, cond, nat_le, min, List, [], ◌∷◌, ◌++◌, Option, None, Some}
+use Rattle.std.specs.declared.cmp.Ordering.{Ordering}
+use Rattle.std.specs.declared.cmp.Ordering.TheVariants.{Less, Equal, Greater}
 use Rattle.std.specs.Int.{from_be_bytes, w128}
 
 -- the number that digits make in so many places of a base, the first being the highest; places without a digit count as 0
@@ -41,3 +44,18 @@ turn_words number initiation = (number * 2 ^ 48 + min initiation own_word) ∷ o
 
 abbrev pub words : List ℕ → ℕ → ℕ → List ℕ
 words block number initiation = block_words block ++ turn_words number initiation
+
+-- 2 ^ 14, by which the number is more where the block is the same; the first word is then 2 ^ 62 to 2 ^ 63 - 1
+abbrev pub same_block : ℕ
+same_block = 16384
+
+-- 2 ^ 63, the word in front of a greater block; in front of a lesser one it is 0
+abbrev pub greater_block : ℕ
+greater_block = 9223372036854775808
+
+-- the words by how the block goes with that of the outer loop or call, if there is one
+abbrev pub words_by : Option Ordering → List ℕ → ℕ → ℕ → List ℕ
+words_by None block number initiation = words block number initiation
+words_by (Some Less) block number initiation = 0 ∷ words block number initiation
+words_by (Some Equal) block number initiation = turn_words (same_block + number) initiation
+words_by (Some Greater) block number initiation = greater_block ∷ words block number initiation

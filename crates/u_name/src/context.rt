@@ -7,7 +7,7 @@ ghost use Rattle.std.specs.Cmp.Rules.{comparing, hashing};
 ghost use Rattle.std.specs.Ordering.{eq_by_cmp, as_partial_cmp};
 ghost use Rattle.std.proofs.lemmas.Cmp.{eq_by_cmp_equiv};
 ghost use Rattle.u_name.specs.LinkTree.{tree_by, inner_tree, node_tree, IsBeside};
-ghost use Rattle.u_name.specs.Path.{path, kind_by, number_by};
+ghost use Rattle.u_name.specs.Path.{path, block_in, kind_by, number_by};
 ghost use Rattle.u_name.specs.Digest.{digest, next_digest, mark_by};
 ghost use Rattle.u_name.specs.Greatest.{greatest_turn};
 ghost use Rattle.u_name.specs.ContextOrder.{context_cmp};
@@ -15,7 +15,7 @@ ghost use Rattle.u_name.specs.ContextLaws.{context_cmp_total};
 ghost use Rattle.u_name.specs.ContextHash.{context_hash, hashes_alike};
 
 use crate::block_name::BlockName;
-use crate::path::{CALL, LOOP, OF_ROOT, compare_words, path_around};
+use crate::path::{CALL, LOOP, OF_ROOT, compare_words, path_around, push_words, words_many};
 use std::alloc::{AllocError, Global};
 use std::cmp::Ordering;
 use std::hash::{Hash, Hasher};
@@ -41,7 +41,8 @@ enum Link {
 
 /// A loop's or a call's context: what it is made of, and beside that how deep it is, what it is
 /// compared by (the kinds of its loops and calls, the innermost first, and the words of these, the
-/// outermost first), what it is hashed by, and the greatest initiation of its loops and calls.
+/// outermost first, where one in the block of its outer one mostly has one word), what it is hashed by,
+/// and the greatest initiation of its loops and calls.
 #[cycle(context)]
 #[derive(Drop)]
 struct Inner {
@@ -158,7 +159,7 @@ fn next_digest(outer: u64, mark: u64) -> u64
 
 impl Inner {
     /// What the context has that a loop or a call makes in the outer one, which is less than 64 deep.
-    #[tactic(auto, unfolding(crate::specs::Digest::digest), using(crate::proofs::PathOrder::path_by, crate::proofs::PathOrder::greatest_by))]
+    #[tactic(auto, unfolding(crate::specs::Digest::digest), using(crate::proofs::PathOrder::greatest_by))]
     fn new(
         alloc: Global,
         outer: Context,
@@ -166,19 +167,12 @@ impl Inner {
         block: BlockName,
         initiation: u64,
     ) -> Result<Inner, AllocError>
-        requires { depth outer < 64 }
+        requires shallow { depth outer < 64 }
+        requires number_in { number_by linkage ≤ 999 }
         ensures { IfOk result
             (λ i. (inner_tree i ≡ tree_by linkage outer block initiation) × IsBeside i) }
     {
-        let kind = linkage.kind();
-        let path = path_around(
-            alloc,
-            kind,
-            outer.path(),
-            &block,
-            linkage.number(),
-            initiation,
-        )?;
+        let path = outer.path_with(alloc, linkage, &block, initiation)?;
         let depth = outer.depth() as u8 + 1;
         let digest = next_digest(outer.digest(), linkage.mark(initiation));
         let greatest = outer.greatest_initiation().max(initiation);
@@ -316,6 +310,37 @@ impl Context {
         match &self.link {
             Link::Root => &OF_ROOT,
             Link::Inner(inner) => &inner.path,
+        }
+    }
+
+    /// What a context in it is compared by, which a loop or a call of that block makes in it.
+    #[tactic(auto, using(crate::proofs::PathOrder::path_by))]
+    fn path_with(
+        &self,
+        alloc: Global,
+        linkage: Linkage,
+        block: &BlockName,
+        initiation: u64,
+    ) -> Result<Vec<u64>, AllocError>
+        requires shallow { depth self.now < 64 }
+        requires number_in { number_by linkage ≤ 999 }
+        ensures { IfOk result
+            (λ v. v.items ≡ path (tree_by linkage self.now block.now initiation)) }
+    {
+        let inside = self.block_in(block);
+        let words = words_many(inside, block, initiation);
+        let mut all = path_around(alloc, linkage.kind(), self.path(), words)?;
+        push_words(&mut all, inside, block, linkage.number(), initiation)?;
+        Ok(all)
+    }
+
+    /// How the block goes with that of the innermost loop or call, and nothing for the root.
+    fn block_in(&self, block: &BlockName) -> Option<Ordering>
+        ensures { result ≡ block_in self.now block.now }
+    {
+        match &self.link {
+            Link::Root => None,
+            Link::Inner(inner) => Some(block.cmp(&inner.block)),
         }
     }
 

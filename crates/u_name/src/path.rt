@@ -4,16 +4,21 @@
 //!
 //! A kind has two bits, the innermost the highest two. The bits of no loop or call are 0.
 //!
-//! A loop or a call has two to four words, which go by block, number and initiation as plain numbers do.
-//! The first is the first eight bytes of the block's name, and its last eight are a word only where the
-//! eighth is not 0, for otherwise they are all 0. The number shares a word with an initiation below
-//! 2^48 - 1. Beside a greater one it stands with 2^48 - 1, and the initiation has a word of its own.
+//! A loop or a call has one to five words, which go by block, number and initiation as plain numbers do.
+//! The block's name is two words, of its first eight bytes and its last eight, and the second stands only
+//! where the eighth byte is not 0, for otherwise all behind it are 0. The number shares a word with an
+//! initiation below 2^48 - 1. Beside a greater one it stands with 2^48 - 1, and the initiation has a word
+//! of its own.
 //!
-//! Two of them are compared word by word, up to the first that differs.
+//! Inside another loop or call, the first word tells how the block goes with that one's. In front of the
+//! words of a lesser block it is 0, and in front of those of a greater one 2^63. The same block has no
+//! words of its own: its number stands with 2^14 more, so that the word is 2^62 or more, and below 2^63.
+//!
+//! Two paths are compared word by word, up to the first that differs.
 ghost use Rattle.std.specs.Prelude.{◌≡◌, ◌+◌, ◌≤◌, ◌++◌, ◌∷◌, IfOk, length, drop};
 ghost use Rattle.std.specs.Ordering.{nat_cmp};
 ghost use Rattle.std.specs.Cmp.Lexicographic.{slice_cmp};
-ghost use Rattle.u_name.specs.Words.{words, low_part, own_part, turn_words};
+ghost use Rattle.u_name.specs.Words.{low_part, turn_words, words_by};
 ghost use Rattle.u_name.specs.Path.{kind_words, with_kind};
 
 use crate::block_name::BlockName;
@@ -47,37 +52,71 @@ const BEHIND_NUMBER: u32 = 48;
 /// The least initiation that has a word of its own.
 const OWN_WORD: u64 = 0xFFFF_FFFF_FFFF;
 
-/// What a context is compared by, which is in a context that is compared by the numbers `outer`.
+/// By how much the number of a loop or a call is more where its block is that of the outer one.
+const SAME_BLOCK: u16 = 0x4000;
+
+/// The word in front of a block that is less than that of the outer loop or call.
+const LESSER_BLOCK: u64 = 0;
+
+/// The word in front of a block that is greater than that of the outer loop or call.
+const GREATER_BLOCK: u64 = 0x8000_0000_0000_0000;
+
+/// What a context that is compared by the numbers `outer` adds in front of the words of a loop or a call
+/// in it, with room for so many words.
 pub(crate) fn path_around(
     alloc: Global,
     kind: u8,
     outer: &[u64],
-    block: &BlockName,
-    number: u16,
-    initiation: u64,
+    words: usize,
 ) -> Result<Vec<u64>, AllocError>
     requires kind_in { kind ≤ 2 }
     requires has_kinds { 2 ≤ length outer.now }
-    ensures { IfOk result
-        (λ v. v.items ≡ with_kind kind outer.now ++ words block.now number initiation) }
+    requires few { words ≤ 5 }
+    ensures { IfOk result (λ v. v.items ≡ with_kind kind outer.now) }
 {
-    let (high, low) = block.words();
     let mut all = Vec::new(alloc);
-    all.reserve_exact(outer.len() + words_many(high, initiation))?;
+    all.reserve_exact(outer.len() + words)?;
     push_kinds(&mut all, kind, outer)?;
     all.extend_from_slice(&outer[KIND_WORDS..])?;
-    push_block(&mut all, high, low)?;
-    push_turn(&mut all, number, initiation)?;
     Ok(all)
 }
 
-/// How many words a loop or a call has.
-fn words_many(high: u64, initiation: u64) -> usize
-    ensures { result ≡ 2 + length (low_part high 0) + length (own_part initiation) }
+/// How many words a loop or a call has whose block goes so with that of the outer one, if there is one.
+pub(crate) fn words_many(inside: Option<Ordering>, block: &BlockName, initiation: u64) -> usize
+    ensures value { result ≡ length (words_by inside block.now 0 initiation) }
+    ensures few { result ≤ 5 }
 {
-    let block = if high % BYTE_VALUES == 0 { 1 } else { 2 };
+    let (high, _) = block.words();
+    let blocks = if high % BYTE_VALUES == 0 { 1 } else { 2 };
     let turn = if initiation < OWN_WORD { 1 } else { 2 };
-    block + turn
+    match inside {
+        None => blocks + turn,
+        Some(Ordering::Equal) => turn,
+        Some(_) => 1 + blocks + turn,
+    }
+}
+
+/// Appends the words of a loop or a call whose block goes so with that of the outer one, if there is one.
+pub(crate) fn push_words(
+    all: &mut Vec<u64>,
+    inside: Option<Ordering>,
+    block: &BlockName,
+    number: u16,
+    initiation: u64,
+) -> Result<(), AllocError>
+    requires { number ≤ 999 }
+    ensures { IfOk result
+        (λ _. all.new.items ≡ all.old.items ++ words_by inside block.now number initiation) }
+{
+    match inside {
+        None => {}
+        Some(Ordering::Less) => all.push(LESSER_BLOCK)?,
+        Some(Ordering::Equal) => return push_turn(all, SAME_BLOCK + number, initiation),
+        Some(Ordering::Greater) => all.push(GREATER_BLOCK)?,
+    }
+    let (high, low) = block.words();
+    push_block(all, high, low)?;
+    push_turn(all, number, initiation)
 }
 
 /// Appends the words of the kinds of `outer` with one more in front, which is the innermost.
