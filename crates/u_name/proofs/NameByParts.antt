@@ -94,11 +94,11 @@ tail_Reads =
 
 -- frames, the outermost first
 
-abbrev frames_text : List Frame → List ℕ
+abbrev pub frames_text : List Frame → List ℕ
 frames_text [] = []
 frames_text (f ∷ fs) = frame_text f ++ frames_text fs
 
-abbrev AreFrames : ℕ → List Frame → Type 0
+abbrev pub AreFrames : ℕ → List Frame → Type 0
 AreFrames zero fs = fs ≡ []
 AreFrames (suc d) [] = ⊥
 AreFrames (suc d) (f ∷ fs) = IsFrame f × AreFrames d fs
@@ -121,7 +121,7 @@ uncons_again : (d : ℕ) (z : List Frame) → AreFrames (suc d) z → (uncons z)
 uncons_again d [] v = absurd v
 uncons_again d (f ∷ fs) v = refl
 
-frames_Reads : (d : ℕ) → Reads frames_text (AreFrames d) NoByte (frames_at d)
+pub frames_Reads : (d : ℕ) → Reads frames_text (AreFrames d) NoByte (frames_at d)
 frames_Reads zero = mapped_Reads (empty_Reads []) {f = λ z. z} {g = λ z. z} (record { there = λ x v. v; spelled = λ x v. ap frames_text v; back = λ z v. v; again = λ z v. refl })
 frames_Reads (suc d) =
     mapped_Reads (both_Reads frame_Reads (λ _ _. frames_Reads d) (λ x y c r u v w m e. m))
@@ -130,7 +130,7 @@ frames_Reads (suc d) =
 
 -- the `(` and the `-`
 
-abbrev opens_text : ℕ → List ℕ
+abbrev pub opens_text : ℕ → List ℕ
 opens_text zero = 45 ∷ []
 opens_text (suc d) = 40 ∷ opens_text d
 
@@ -160,7 +160,7 @@ of_depth_again : (n d : ℕ) → d ≤ suc n → to_depth (of_depth d) ≡ d
 of_depth_again n zero v = refl
 of_depth_again n (suc d) v = refl
 
-opens_Reads : (n : ℕ) → Reads opens_text (λ d. d ≤ n) NoByte (opens_at n)
+pub opens_Reads : (n : ℕ) → Reads opens_text (λ d. d ≤ n) NoByte (opens_at n)
 opens_Reads zero = mapped_Reads (byte_Reads 45) {f = λ _. 0} {g = λ _. tt} (record { there = λ x v. omega arith; spelled = λ x v. refl; back = λ z v. refl; again = λ z v. omega arith })
 opens_Reads (suc n) =
     mapped_Reads (choice_Reads 40 (opens_Reads n) (byte_Reads 45) (λ y u v w e. let f = heads 45 40 u v e in omega arith))
@@ -186,7 +186,7 @@ whole_Reads =
 
 -- from what is read to the name and back
 
-abbrev frames_onto : Tree → List Frame → List Frame
+abbrev pub frames_onto : Tree → List Frame → List Frame
 frames_onto Top fs = fs
 frames_onto (InLoop o b l i) fs = frames_onto o ((b, (inl l, (i, tt))) ∷ fs)
 frames_onto (InCall o b s i) fs = frames_onto o ((b, (inr s, (i, tt))) ∷ fs)
@@ -194,7 +194,7 @@ frames_onto (InCall o b s i) fs = frames_onto o ((b, (inr s, (i, tt))) ∷ fs)
 abbrev whole_of : Activity → Whole
 whole_of n = (depth n.context, (frames_onto n.context [], (n.block, (n.statement, n.initiation))))
 
-abbrev parens : ℕ → List ℕ → List ℕ
+abbrev pub parens : ℕ → List ℕ → List ℕ
 parens zero t = t
 parens (suc n) t = 40 ∷ parens n t
 
@@ -206,11 +206,11 @@ parens-append : (n : ℕ) (a b : List ℕ) → parens n (a ++ b) ≡ parens n a 
 parens-append zero a b = refl
 parens-append (suc n) a b = ap (λ t. 40 ∷ t) (parens-append n a b)
 
-opens_text-is : (d : ℕ) → opens_text d ≡ parens d (45 ∷ [])
+pub opens_text-is : (d : ℕ) → opens_text d ≡ parens d (45 ∷ [])
 opens_text-is zero = refl
 opens_text-is (suc d) = ap (λ t. 40 ∷ t) (opens_text-is d)
 
-length-frames : (d : ℕ) (fs : List Frame) → AreFrames d fs → length fs ≡ d
+pub length-frames : (d : ℕ) (fs : List Frame) → AreFrames d fs → length fs ≡ d
 length-frames zero fs v = ap length v
 length-frames (suc d) [] v = absurd v
 length-frames (suc d) (f ∷ fs) v = ap (λ n. suc n) (length-frames d fs v.1)
@@ -219,7 +219,7 @@ depth-framed : (u : Tree) (b : List ℕ) (s : ℕ ⊎ ℕ) (k : ℕ × Unit {0})
 depth-framed u b (inl l) k = refl
 depth-framed u b (inr s) k = refl
 
-depth-tree_onto : (u : Tree) (fs : List Frame) → depth (tree_onto u fs) ≡ depth u + length fs
+pub depth-tree_onto : (u : Tree) (fs : List Frame) → depth (tree_onto u fs) ≡ depth u + length fs
 depth-tree_onto u [] = omega arith
 depth-tree_onto u (f ∷ fs) = omega (arith, depth-tree_onto (framed u f) fs, depth-framed u f.0 f.1.0 f.1.1)
 
@@ -227,7 +227,7 @@ framed_in : (u : Tree) (b : List ℕ) (s : ℕ ⊎ ℕ) (k : ℕ × Unit {0}) �
 framed_in u b (inl l) k v w = (v, w.0, w.1.0, w.1.1.0)
 framed_in u b (inr s) k v w = (v, w.0, w.1.0, w.1.1.0)
 
-tree_onto_in : (d : ℕ) (u : Tree) (fs : List Frame) → InRange u → AreFrames d fs → InRange (tree_onto u fs)
+pub tree_onto_in : (d : ℕ) (u : Tree) (fs : List Frame) → InRange u → AreFrames d fs → InRange (tree_onto u fs)
 tree_onto_in zero u fs v w = subst (λ fs. InRange (tree_onto u fs)) (sym w) v
 tree_onto_in (suc d) u [] v w = v
 tree_onto_in (suc d) u (f ∷ fs) v w = tree_onto_in d (framed u f) fs (framed_in u f.0 f.1.0 f.1.1 v w.0) w.1
@@ -237,7 +237,7 @@ unfolding context_text
 framed-text u b (inl l) k = simp append_assoc
 framed-text u b (inr s) k = simp append_assoc
 
-tree_onto-text : (u : Tree) (fs : List Frame) → context_text (tree_onto u fs) ≡ parens (length fs) (context_text u) ++ frames_text fs
+pub tree_onto-text : (u : Tree) (fs : List Frame) → context_text (tree_onto u fs) ≡ parens (length fs) (context_text u) ++ frames_text fs
 tree_onto-text u [] = sym (append-nil (context_text u))
 tree_onto-text u (f ∷ fs) =
     tree_onto-text (framed u f) fs
@@ -245,12 +245,12 @@ tree_onto-text u (f ∷ fs) =
     ∙ ap (λ t. t ++ frames_text fs) (parens-append (length fs) (40 ∷ context_text u) (frame_text f) ∙ ap (λ t. t ++ frame_text f) (parens-in (length fs) (context_text u)))
     ∙ append_assoc (40 ∷ parens (length fs) (context_text u)) (frame_text f) (frames_text fs)
 
-tree_onto-frames_onto : (t : Tree) (fs : List Frame) → tree_onto Top (frames_onto t fs) ≡ tree_onto t fs
+pub tree_onto-frames_onto : (t : Tree) (fs : List Frame) → tree_onto Top (frames_onto t fs) ≡ tree_onto t fs
 tree_onto-frames_onto Top fs = refl
 tree_onto-frames_onto (InLoop o b l i) fs = tree_onto-frames_onto o ((b, (inl l, (i, tt))) ∷ fs)
 tree_onto-frames_onto (InCall o b s i) fs = tree_onto-frames_onto o ((b, (inr s, (i, tt))) ∷ fs)
 
-frames_onto_in : (d : ℕ) (t : Tree) (fs : List Frame) → InRange t → AreFrames d fs → AreFrames (depth t + d) (frames_onto t fs)
+pub frames_onto_in : (d : ℕ) (t : Tree) (fs : List Frame) → InRange t → AreFrames d fs → AreFrames (depth t + d) (frames_onto t fs)
 frames_onto_in d Top fs v w = let e : d ≡ 0 + d = omega arith in subst (λ n. AreFrames n fs) e w
 frames_onto_in d (InLoop o b l i) fs v w =
     let e : depth o + suc d ≡ depth o + 1 + d = omega arith in

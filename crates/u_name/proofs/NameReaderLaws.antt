@@ -38,6 +38,10 @@ frames_from-is (suc d) u bs = step (λ v cs. frames_from-is d v cs) (frame_at bs
     step ih (Ok a) = ih (framed u a.0) a.1 ∙ sym (more u a.0 (frames_at d a.1))
     step ih (Err e) = refl
 
+pub frames_by_parts : (d : ℕ) (bs : List ℕ) → frames_from d Top bs ≡ ◌>>=◌ {A = List Frame × List ℕ} {B = Tree × List ℕ} (frames_at d bs) (λ a. Ok (tree_onto Top a.0, a.1))
+unfolding onto
+frames_by_parts d bs = frames_from-is d Top bs
+
 -- what the code does in one turn of its loop
 pub frames_turn : (d : ℕ) (u : Tree) (bs : List ℕ) (f : Frame) (rest : List ℕ) → 0 < d → frame_at bs ≡ Ok (f, rest) → frames_from d u bs ≡ frames_from (d - 1) (framed u f) rest
 frames_turn zero u bs f rest h e = absurd (omega arith)

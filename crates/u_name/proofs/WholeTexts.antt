@@ -55,7 +55,7 @@ R A = Result A (List ℕ)
 no_dash : (n b : ℕ) (bs : List ℕ) → b ≡ 40 → ◌≡◌ {A = R (ℕ × List ℕ)} (mapped {X = Unit {0}} {Z = ℕ} (λ _. n) (byte 45) (b ∷ bs)) (Err (b ∷ bs))
 no_dash n b bs e = ap (λ c. mapped {X = Unit {0}} {Z = ℕ} (λ _. n) (byte 45) (c ∷ bs)) e ∙ ap (λ c. Err (c ∷ bs)) (sym e)
 
-opens_deep : (n : ℕ) (bs : List ℕ) → n < paren_span (suc n) bs → opens_at n bs ≡ Err (drop n bs)
+pub opens_deep : (n : ℕ) (bs : List ℕ) → n < paren_span (suc n) bs → opens_at n bs ≡ Err (drop n bs)
 opens_deep n [] h = absurd (omega arith)
 opens_deep zero (b ∷ bs) h = elim (same_or b 40) [ alike e f ↦ no_dash 0 b bs e | unlike e f ↦ absurd (none f) ]
   where

@@ -2,7 +2,8 @@
 use Rattle.std.specs.Prelude.{◌≡◌, ℕ, ◌<◌, ◌≤◌, List, Result, Err, Ok}
 use Rattle.u_name.specs.declared.reading.ReadFault.{ReadFault}
 use Rattle.u_name.specs.declared.reading.ReadFault.TheVariants.{Stuck, Deep, NoMemory}
-use Rattle.u_name.specs.NameReader.{paren_span, dash_at, name_steps}
+use Rattle.u_name.specs.Context.{Tree}
+use Rattle.u_name.specs.NameReader.{paren_span, dash_at, context_at, name_steps}
 use Rattle.u_name.specs.Name.{Activity}
 
 -- stuck where the reader is, or out of memory
@@ -26,6 +27,13 @@ ReadsOpens bs depth rest = IsFine (paren_span 65 bs) × (depth ≤ 64) × (dash_
 
 abbrev pub ReadsNoOpens : List ℕ → ReadFault → List ℕ → Type 0
 ReadsNoOpens bs fault rest = FailsAt fault (paren_span 65 bs) (dash_at bs) rest
+
+-- a whole context is read
+abbrev pub ReadsContext : List ℕ → Tree → List ℕ → Type 0
+ReadsContext bs context rest = context_at bs ≡ Ok (context, rest)
+
+abbrev pub ReadsNoContext : List ℕ → ReadFault → List ℕ → Type 0
+ReadsNoContext bs fault rest = FailsAt fault (paren_span 65 bs) (context_at bs) rest
 
 -- a whole name is read
 abbrev pub ReadsName : List ℕ → Activity → List ℕ → Type 0

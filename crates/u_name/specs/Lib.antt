@@ -15,6 +15,7 @@ pub mod NameOrder
 pub mod NameText
 pub mod NameReader
 pub mod NameReading
+pub mod KeptContext
 pub mod CursorValues
 pub mod CursorAnswers
 pub mod Refusal

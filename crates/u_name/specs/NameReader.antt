@@ -73,6 +73,14 @@ frames_from (suc d) u bs = frame_at bs >>= λ a. frames_from d (framed u a.0) a.
 unfoldable pub dash_at : Reader ℕ
 dash_at bs = opens_at 64 bs
 
+-- a whole context
+abbrev pub context_at : Reader Tree
+context_at bs = dash_at bs >>= λ d. frames_from d.0 Top d.1
+
+-- the name in that context, behind the context's text
+abbrev pub name_in : Tree → Reader Activity
+name_in u bs = tail_at bs >>= λ t. Ok (activity u t.0.0 t.0.1.0 t.0.1.1, t.1)
+
 -- what stands behind the `-` of a context of that depth
 abbrev pub rest_at : ℕ → Reader Activity
 rest_at d bs = frames_from d Top bs >>= λ c. tail_at c.1 >>= λ t. Ok (activity c.0 t.0.0 t.0.1.0 t.0.1.1, t.1)

@@ -9,7 +9,7 @@ ghost use Rattle.u_name.specs.NameReader as reader;
 ghost use Rattle.u_name.specs.CursorValues.{ReadsLinkage, frame_value, tail_value};
 ghost use Rattle.u_name.specs.NameReading.{IsNameAt, IsNameOf, IsNameErrorAt, IsNameErrorOf};
 ghost use Rattle.u_name.specs.NameReader.{IsFrame, IsTail, paren_span, frames_from, name_steps};
-ghost use Rattle.u_name.specs.CursorAnswers.{Fails, IsFine, ReadsOpens, ReadsNoOpens, ReadsName, ReadsNoName};
+ghost use Rattle.u_name.specs.CursorAnswers.{Fails, IsFine, ReadsOpens, ReadsNoOpens, ReadsContext, ReadsNoContext, ReadsName, ReadsNoName};
 ghost use Rattle.u_name.specs.declared.reading.ReadFault.TheVariants as faults;
 ghost use Rattle.u_name.specs.declared.reading.NameTextError.TheVariants.{BadName};
 
@@ -31,12 +31,12 @@ struct Frame {
 
 /// The next byte is one that no text allows.
 #[derive(Debug, Drop)]
-struct Stuck;
+pub(crate) struct Stuck;
 
 /// What is left to read. Where a read answers `Stuck`, it is what begins with the byte that no text allows.
 #[derive(Drop)]
-struct Cursor<'a> {
-    rest: &'a [u8],
+pub(crate) struct Cursor<'a> {
+    pub(crate) rest: &'a [u8],
 }
 
 impl<'a> Cursor<'a> {
@@ -132,7 +132,7 @@ impl<'a> Cursor<'a> {
     }
 
     /// `.c.s.i`
-    fn tail(&mut self) -> Result<Tail, Stuck>
+    pub(crate) fn tail(&mut self) -> Result<Tail, Stuck>
         ensures fine { IfOk result (λ tail. IsTail (tail_value tail)) }
         ensures value { MatchResult result
             (λ tail. reader.tail_at self.old.rest.now ≡ Ok (tail_value tail, self.new.rest.now))
@@ -207,6 +207,16 @@ impl<'a> Cursor<'a> {
         Ok(context)
     }
 
+    pub(crate) fn context(&mut self, alloc: Global) -> Result<Context, ReadFault>
+        ensures { MatchResult result
+            (λ context. ReadsContext self.old.rest.now context self.new.rest.now)
+            (λ fault. ReadsNoContext self.old.rest.now fault self.new.rest.now) }
+    {
+        let depth = self.opens()?;
+        let context = self.frames(alloc, depth)?;
+        Ok(context)
+    }
+
     fn name(&mut self, alloc: Global) -> Result<Name, ReadFault>
         ensures { MatchResult result
             (λ name. ReadsName self.old.rest.now name self.new.rest.now)
@@ -241,16 +251,16 @@ fn extended(alloc: Global, outer: Context, frame: Frame) -> Result<Context, Allo
 
 /// The part of a name's text behind the context's.
 #[derive(Clone, Copy)]
-struct Tail {
-    block: BlockName,
-    statement: u64,
-    initiation: u64,
+pub(crate) struct Tail {
+    pub(crate) block: BlockName,
+    pub(crate) statement: u64,
+    pub(crate) initiation: u64,
 }
 
 /// Why a cursor gives no name. Where it is stuck, its rest begins with the byte that no name's text
 /// allows.
 #[derive(Debug, Drop)]
-enum ReadFault {
+pub(crate) enum ReadFault {
     Stuck,
     Deep,
     NoMemory,
@@ -395,7 +405,8 @@ fn stuck_at(bytes: &[u8], rest: &[u8]) -> NameTextError
     NameTextError::BadName(bytes.len() - rest.len())
 }
 
-fn behind(bytes: &[u8], offset: usize) -> &[u8]
+/// The bytes from the offset on.
+pub(crate) fn behind(bytes: &[u8], offset: usize) -> &[u8]
     requires { offset ≤ length bytes.now }
     ensures { drop offset bytes.now ≡ result.now }
 {
