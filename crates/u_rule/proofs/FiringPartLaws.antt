@@ -212,6 +212,17 @@ first_another name a b bs rest r h k = values_another name (a ∷ []) b bs rest 
 pub first_refused : (name : Activity) (a : Value) (bs rest : List ℕ) → next_at bs ≡ Err rest → firing_behind name (a ∷ []) bs ≡ Err rest
 first_refused name a bs rest h = values_refused name (a ∷ []) bs rest (omega arith) h
 
+-- behind the second
+
+pub second_end : (name : Activity) (a b : Value) (w : Option Written) (bs rest : List ℕ) → next_at bs ≡ Ok (End w, rest) → firing_behind name (a ∷ b ∷ []) bs ≡ Ok (firing name (a ∷ b ∷ []) w, rest)
+second_end name a b w bs rest h = values_end name (a ∷ b ∷ []) w bs rest (omega arith) h
+
+pub second_another : (name : Activity) (a b c : Value) (bs rest : List ℕ) (r : ReadOf Firing) → next_at bs ≡ Ok (Another c, rest) → firing_behind name (a ∷ b ∷ c ∷ []) rest ≡ r → firing_behind name (a ∷ b ∷ []) bs ≡ r
+second_another name a b c bs rest r h k = values_another name (a ∷ b ∷ []) c bs rest r (omega arith) h k
+
+pub second_refused : (name : Activity) (a b : Value) (bs rest : List ℕ) → next_at bs ≡ Err rest → firing_behind name (a ∷ b ∷ []) bs ≡ Err rest
+second_refused name a b bs rest h = values_refused name (a ∷ b ∷ []) bs rest (omega arith) h
+
 -- and where they are all
 
 none_left : (n : ℕ) → n ≡ most_ports → most_ports - n ≡ 0

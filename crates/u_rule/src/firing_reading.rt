@@ -18,7 +18,7 @@ use crate::reading::{TextError, spaced_name, spaced_value};
 use crate::shared_written::SharedWritten;
 use crate::values::Values;
 use std::alloc::{AllocError, Global};
-use u_name::{Front, Name, front_name};
+use u_name::{Front, KeptContext, Name, front_name_beside};
 use u_text::{after, after_all};
 use u_value::{Value, front_value};
 
@@ -215,7 +215,7 @@ fn with_all<'a>(
     Ok(Ok((firing, rest)))
 }
 
-/// The firing of these values or of more, behind the last of them.
+/// The firing of these values or of more, behind the last of them, three at least.
 #[tactic(auto, using(crate::proofs::FiringPartLaws::values_end, crate::proofs::FiringPartLaws::values_another, crate::proofs::FiringPartLaws::values_refused))]
 fn with_more(
     alloc: Global,
@@ -251,6 +251,43 @@ fn with_more(
     Ok(Ok((firing, rest)))
 }
 
+/// The firing of these two values or of more, behind the second. Two values take no list.
+#[tactic(auto, using(crate::proofs::FiringPartLaws::second_end, crate::proofs::FiringPartLaws::second_another, crate::proofs::FiringPartLaws::second_refused))]
+fn with_two(
+    alloc: Global,
+    activity: Name,
+    first: Value,
+    second: Value,
+    bytes: &[u8],
+) -> Result<Front<'_, Firing>, AllocError>
+    ensures { IfOk result (λ front. MatchResult front
+        (λ found. firing_behind activity (first ∷ second ∷ []) bytes.now
+        ≡ Ok (found.0, found.1.now))
+        (λ rest. firing_behind activity (first ∷ second ∷ []) bytes.now ≡ Err rest.now)) }
+{
+    let (next, rest) = match front_next(alloc, bytes)? {
+        Ok(found) => found,
+        Err(rest) => return Ok(Err(rest)),
+    };
+    let write = match next {
+        Next::Another(third) => {
+            let mut values = Vec::new(alloc);
+            values.push(first)?;
+            values.push(second)?;
+            values.push(third)?;
+            return with_more(alloc, activity, values, rest);
+        }
+        Next::End(write) => write,
+    };
+    let values = Values::two(alloc, first, second)?;
+    let firing = Firing {
+        activity,
+        values,
+        write,
+    };
+    Ok(Ok((firing, rest)))
+}
+
 /// The firing of this value or of more, behind the first. One value takes no list.
 #[tactic(auto, using(crate::proofs::FiringPartLaws::first_end, crate::proofs::FiringPartLaws::first_another, crate::proofs::FiringPartLaws::first_refused))]
 fn with_one(
@@ -268,12 +305,7 @@ fn with_one(
         Err(rest) => return Ok(Err(rest)),
     };
     let write = match next {
-        Next::Another(second) => {
-            let mut values = Vec::new(alloc);
-            values.push(first)?;
-            values.push(second)?;
-            return with_more(alloc, activity, values, rest);
-        }
+        Next::Another(second) => return with_two(alloc, activity, first, second, rest),
         Next::End(write) => write,
     };
     let values = Values::one(alloc, first)?;
@@ -298,27 +330,39 @@ fn with_name(alloc: Global, activity: Name, bytes: &[u8]) -> Result<Front<'_, Fi
     }
 }
 
-/// `f NAME`.
-fn front_activity(alloc: Global, bytes: &[u8]) -> Result<Front<'_, Name>, AllocError>
+/// `f NAME`. The name's context is kept for the next one.
+fn front_activity<'a>(
+    alloc: Global,
+    bytes: &'a [u8],
+    kept: &mut KeptContext<'a>,
+) -> Result<Front<'a, Name>, AllocError>
     ensures { IfOk result (λ front. MatchResult front
         (λ found. reader.activity_at bytes.now ≡ Ok (found.0, found.1.now))
         (λ rest. reader.activity_at bytes.now ≡ Err rest.now)) }
 {
-    match after(bytes, b'f') {
-        Ok(rest) => spaced_name(alloc, rest),
+    let rest = match after(bytes, b'f') {
+        Ok(rest) => rest,
+        Err(rest) => return Ok(Err(rest)),
+    };
+    match after(rest, b' ') {
+        Ok(rest) => front_name_beside(alloc, rest, kept),
         Err(rest) => Ok(Err(rest)),
     }
 }
 
 /// The firing whose line stands at the front, and what is left behind it. Where there is none, what
-/// begins with the byte with which no firing's line goes on.
+/// begins with the byte with which no firing's line goes on. The context is kept for the next line.
 #[tactic(auto, using(crate::proofs::FiringPartLaws::firing_named, crate::proofs::FiringPartLaws::firing_unnamed))]
-fn front_firing(alloc: Global, bytes: &[u8]) -> Result<Front<'_, Firing>, AllocError>
+fn front_firing<'a>(
+    alloc: Global,
+    bytes: &'a [u8],
+    kept: &mut KeptContext<'a>,
+) -> Result<Front<'a, Firing>, AllocError>
     ensures { IfOk result (λ front. MatchResult front
         (λ found. firing_at bytes.now ≡ Ok (found.0, found.1.now))
         (λ rest. firing_at bytes.now ≡ Err rest.now)) }
 {
-    match front_activity(alloc, bytes)? {
+    match front_activity(alloc, bytes, kept)? {
         Ok((activity, rest)) => with_name(alloc, activity, rest),
         Err(rest) => Ok(Err(rest)),
     }
@@ -373,9 +417,29 @@ impl Firing {
             (λ error. IsFiringErrorOf bytes.now error) }
     {
         let line = line_of(alloc, bytes)?;
-        match front_firing(alloc, &line)? {
+        let mut kept = KeptContext::root();
+        Firing::read_beside(alloc, bytes, &line, &mut kept)
+    }
+
+    /// Returns the firing whose text the bytes are, as `read` does. `line` is the bytes with a newline
+    /// behind them. Of lines that are read one after another with the same `kept`, one in the context of
+    /// the one before shares it, and takes no memory for it.
+    ///
+    /// # Errors
+    /// As `read`.
+    pub fn read_beside<'a>(
+        alloc: Global,
+        bytes: &[u8],
+        line: &'a [u8],
+        kept: &mut KeptContext<'a>,
+    ) -> Result<Firing, TextError>
+        requires { line.now ≡ reader.line bytes.now }
+        ensures { MatchResult result (λ firing. IsFiringOf bytes.now firing)
+            (λ error. IsFiringErrorOf bytes.now error) }
+    {
+        match front_firing(alloc, line, kept)? {
             Ok((firing, rest)) => whole(firing, bytes, rest),
-            Err(rest) => Err(refused_at(bytes, &line, rest)),
+            Err(rest) => Err(refused_at(bytes, line, rest)),
         }
     }
 }

@@ -120,6 +120,17 @@ impl Values {
         }
     }
 
+    /// The order of the two lists. Of one value each, no list is gone through.
+    #[tactic(auto, using(u_name::proofs::PathOrder::then_equal))]
+    fn compare(&self, other: &Values) -> Ordering
+        ensures { result ≡ values_order self.now other.now }
+    {
+        if let (Held::One([left]), Held::One([right])) = (&self.held, &other.held) {
+            return left.cmp(right);
+        }
+        self.as_slice().cmp(other.as_slice())
+    }
+
     /// An equal list. Three values and more are shared.
     ///
     /// # Errors
@@ -142,7 +153,7 @@ impl PartialEq for Values {
     ghost laws = { Prim.search (comparing, rules, values_order_total, eq_by_cmp_equiv) };
 
     fn eq(&self, other: &Values) -> bool {
-        self.as_slice().cmp(other.as_slice()).is_eq()
+        self.compare(other).is_eq()
     }
 }
 
@@ -160,7 +171,7 @@ impl Ord for Values {
     ghost matches_eq = { Prim.search (comparing, rules) };
 
     fn cmp(&self, other: &Values) -> Ordering {
-        self.as_slice().cmp(other.as_slice())
+        self.compare(other)
     }
 }
 
