@@ -2,6 +2,7 @@ pub mod DeltaLaws
 pub mod Written
 pub mod InRange
 pub mod LineLaws
+pub mod NewlineLaws
 pub mod HeadLaws
 pub mod MessageLaws
 pub mod ReadingLaws

@@ -1,7 +1,9 @@
 //! The first line of some bytes.
+ghost use Rattle.std.specs.Prelude.{◌≡◌, ◌≤◌, ◌<◌, [], MatchOption, drop, length};
+ghost use Rattle.u_text.specs.Pieces.{pieces, IsCutInto};
 ghost use Rattle.u_delta.specs.Front.{IsAhead};
 
-use u_text::cut;
+use memchr::memchr;
 
 /// What stands at the front of some bytes.
 #[derive(Drop)]
@@ -14,12 +16,34 @@ pub enum Ahead<'a> {
     TooLong,
 }
 
+/// The bytes from the offset on.
+fn behind(bytes: &[u8], offset: usize) -> &[u8]
+    requires { offset ≤ length bytes.now }
+    ensures { result.now ≡ drop offset bytes.now }
+{
+    &bytes[offset..]
+}
+
+/// The bytes before the first newline, and those behind it.
+#[tactic(auto, using(crate::proofs::NewlineLaws::cut_at_first, crate::proofs::NewlineLaws::cut_at_none, crate::proofs::NewlineLaws::within))]
+fn first_line(bytes: &[u8]) -> Option<(&[u8], &[u8])>
+    ensures cut { MatchOption result
+        (pieces 10 bytes.now ≡ ([], bytes.now))
+        (λ p. IsCutInto 10 bytes.now p.0.now p.1.now) }
+    ensures shorter { MatchOption result (0 ≤ 0) (λ p. length p.1.now < length bytes.now) }
+{
+    match memchr(b'\n', bytes) {
+        Some(place) => Some((&bytes[..place], behind(bytes, place + 1))),
+        None => None,
+    }
+}
+
 /// What stands at the front of the bytes.
 #[tactic(auto, using(crate::proofs::LineLaws::long_line, crate::proofs::LineLaws::long_rest))]
 pub fn look_ahead(bytes: &[u8]) -> Ahead<'_>
     ensures { IsAhead bytes.now result }
 {
-    match cut(bytes, b'\n') {
+    match first_line(bytes) {
         Some((line, _)) if line.len() > 32_768 => Ahead::TooLong,
         Some((line, rest)) => Ahead::Line(line, rest),
         None if bytes.len() > 32_768 => Ahead::TooLong,
