@@ -387,18 +387,6 @@ impl Context {
         Ok(Context { link })
     }
 
-    /// Lets the context share all with the other one, where the two are equal. It stays what it is.
-    pub(crate) fn share(&mut self, other: &Context)
-        ensures { self.new ≡ self.old }
-    {
-        if !self.is_same(other) {
-            return;
-        }
-        if let Ok(shared) = other.copy() {
-            *self = shared;
-        }
-    }
-
     /// Kinds first, and for the same kind the outer contexts. The parts are compared only where those
     /// are equal.
     fn compare(&self, other: &Context) -> Ordering

@@ -179,14 +179,6 @@ impl Name {
         self.beside(self.statement, self.initiation)
     }
 
-    /// Lets the name share its context with the other name, where the two contexts are equal. The name
-    /// stays what it is, and takes less memory.
-    pub fn share_context(&mut self, other: &Name)
-        ensures { self.new ≡ self.old }
-    {
-        self.context.share(&other.context);
-    }
-
     /// `u.c.t.i` for `u.c.s.i`: another statement of the same context.
     pub fn plain(&self, statement: u16) -> Result<Name, NameError>
         requires { IsBetween 1 statement 999 }

@@ -1,3 +1,4 @@
+pub mod EndedLines
 pub mod MarkLaws
 pub mod MergeLaws
 pub mod CheckpointWritten

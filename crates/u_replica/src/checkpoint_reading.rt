@@ -2,8 +2,8 @@
 ghost use Rattle.std.specs.Prelude.{◌≡◌, ◌↔◌, ◌∷◌, [], ◌++◌, ℕ, ◌<◌, List, length, take, IsTrue, MatchOption, MatchResult};
 ghost use Rattle.u_program.specs.declared.program.Version.{Version};
 ghost use Rattle.u_rule.specs.declared.firing.Firing.{Firing};
-ghost use Rattle.u_rule.specs.FiringReading.{IsFiringOf};
-ghost use Rattle.u_text.specs.Pieces.{pieces};
+ghost use Rattle.u_rule.specs.FiringReading.{line as ended_line, IsFiringOf};
+ghost use Rattle.u_text.specs.Pieces.{pieces, IsCutInto};
 ghost use Rattle.u_delta.specs.Lines.{lines_behind};
 ghost use Rattle.u_replica.specs.declared.checkpoint.Ending.TheVariants as endings;
 ghost use Rattle.u_replica.specs.declared.checkpoint.CheckpointError.TheVariants as errors;
@@ -16,6 +16,7 @@ ghost use Rattle.u_replica.specs.CheckpointReading.{AreRead, IsNoFiring, IsAnswe
 use crate::checkpoint::{Checkpoint, CheckpointError, Ending};
 use std::alloc::Global;
 use u_delta::{Ahead, Firings, look_ahead};
+use u_name::KeptContext;
 use u_program::Version;
 use u_rule::{Firing, TextError};
 use u_text::{after_all, long_word};
@@ -33,31 +34,35 @@ fn is_count_line(line: &[u8], count: u64) -> bool
     }
 }
 
-/// The firing that stands in line `number`.
-fn firing_in(alloc: Global, line: &[u8], number: usize) -> Result<Firing, CheckpointError>
+/// The line at the front of the bytes with its newline, behind which `others` stand.
+#[tactic(auto, using(crate::proofs::EndedLines::with_end, crate::proofs::EndedLines::end_within))]
+fn with_newline<'a>(bytes: &'a [u8], line: &[u8], others: &[u8]) -> &'a [u8]
+    requires { IsCutInto 10 bytes.now line.now others.now }
+    ensures { result.now ≡ ended_line line.now }
+{
+    let _ = others;
+    &bytes[..line.len() + 1]
+}
+
+/// The firing that stands in line `number`; `ended` is that line with its newline. A firing in the context
+/// of the one before it shares that context: mostly neighbours in a checkpoint belong to one context.
+fn firing_in<'a>(
+    alloc: Global,
+    line: &[u8],
+    ended: &'a [u8],
+    number: usize,
+    kept: &mut KeptContext<'a>,
+) -> Result<Firing, CheckpointError>
+    requires { ended.now ≡ ended_line line.now }
     ensures { MatchResult result
         (λ firing. IsFiringOf line.now firing)
         (λ error. IsNoFiring line.now number error) }
 {
-    match Firing::read(alloc, line) {
+    match Firing::read_beside(alloc, line, ended, kept) {
         Ok(firing) => Ok(firing),
         Err(TextError::BadText(_)) => Err(CheckpointError::BadLine(number)),
         Err(TextError::NoMemory) => Err(CheckpointError::NoMemory),
     }
-}
-
-/// Adds the firing. Where its context is that of the one before it, they share it: mostly neighbours
-/// in a checkpoint belong to one context.
-fn add(firings: &mut Vec<Firing>, mut firing: Firing) -> Result<(), CheckpointError>
-    ensures { MatchResult result
-        (λ _. firings.new.items ≡ firings.old.items ++ firing ∷ [])
-        (λ error. error ≡ errors.NoMemory) }
-{
-    if let Some(before) = firings.last() {
-        firing.activity.share_context(&before.activity);
-    }
-    firings.push(firing)?;
-    Ok(())
 }
 
 /// The checkpoint of these firings, of which all lines were read. Nothing may stand behind them.
@@ -84,6 +89,7 @@ fn read_firings(alloc: Global, head: Version, bytes: &[u8]) -> Result<Checkpoint
     ensures { IsAnswerBehind head (lines_behind (first_line head ∷ []) bytes.now) result }
 {
     let mut firings = Vec::new(alloc);
+    let mut kept = KeptContext::root();
     let mut rest = bytes;
     loop {
         let number = firings.len() + 2;
@@ -100,8 +106,9 @@ fn read_firings(alloc: Global, head: Version, bytes: &[u8]) -> Result<Checkpoint
         if is_count_line(line, firings.len() as u64) {
             return closed(head, firings, others);
         }
-        match firing_in(alloc, line, number) {
-            Ok(firing) => add(&mut firings, firing)?,
+        let ended = with_newline(rest, line, others);
+        match firing_in(alloc, line, ended, number, &mut kept) {
+            Ok(firing) => firings.push(firing)?,
             Err(error) => return Err(error),
         }
         rest = others;
