@@ -3,11 +3,11 @@ use Rattle.std.proofs.Common.{◌≡◌, ℕ, ◌<◌, ◌≤◌, List, [], ◌�
 use Rattle.std.specs.Prelude.{Contains, slice_get}
 use Rattle.std.proofs.lemmas.List.{take-append-le}
 use Rattle.std.proofs.lemmas.List.Elements.{Contains-append_left, Contains-push, Contains-push_cases}
-use Rattle.u_system.specs.Firing.{System}
+use Rattle.u_system.specs.Firing.{System, Derivation}
 use Rattle.u_system.proofs.Member.{Contains-nil}
 use Rattle.u_trace.specs.Stories.{IsGiver}
-use Rattle.u_trace.specs.Givers.{Notes, AreGivers}
-use Rattle.u_trace.proofs.Lists.{below_or_not, get_below, get_longer, get_push_cases, get_push_end, in_take, of_take, in_list}
+use Rattle.u_trace.specs.Givers.{Notes, AreGivers, AreFirings}
+use Rattle.u_trace.proofs.Lists.{below_or_not, get_below, get_longer, get_push_cases, get_push_end, in_take, of_take, of_list, in_list}
 
 module _ {E F : Type 0} (s : System E F) (log : List F) where
   not_below : (x : E) (j k : ℕ) → IsGiver s log x j → IsGiver s log x k → j < k → ⊥
@@ -91,3 +91,7 @@ module _ {E F : Type 0} (s : System E F) (log : List F) (f : F) (given : List E)
           at : (o : Option ℕ) → old x ≡ o → ⊥
           at None o = g.none x o h m c
           at (Some k) o = let w = n.kept x k o in cc
+
+-- those of a derivation are firings
+pub are_firings : {E F : Type 0} (s : System E F) (log : List F) → Derivation s log → AreFirings s log
+are_firings s log d f m = let p = of_list log f m in (d.each p.0 f p.1).0

@@ -9,3 +9,6 @@ pub mod PutLaws
 pub mod Entries
 pub mod HoldingLaws
 pub mod BlameLaws
+pub mod NumberLaws
+pub mod TableLaws
+pub mod NeedLaws

@@ -59,5 +59,13 @@ module _ {X : Type 0} where
   pub next_take : (xs : List X) (i : ℕ) (x : X) → i < length xs → x ≡ get_or xs i x → take (i + 1) xs ≡ take i xs ++ x ∷ []
   next_take xs i x l e = take_more xs i x l ∙ ap (λ (y : X). take i xs ++ y ∷ []) (sym e)
 
+  pub next_of : (xs : List X) (i : ℕ) (x : X) → slice_get xs i ≡ Some x → take (i + 1) xs ≡ take i xs ++ x ∷ []
+  next_of xs i x e = let h : i + 1 ≡ suc i = omega arith in ap (λ (n : ℕ). take n xs) h ∙ next xs i e
+    where
+      next : (xs : List X) (i : ℕ) → slice_get xs i ≡ Some x → take (suc i) xs ≡ take i xs ++ x ∷ []
+      next [] i e = absurd (cc)
+      next (y ∷ ys) zero e = let h : y ≡ x = cc in ap (λ (z : X). z ∷ []) h
+      next (y ∷ ys) (suc i) e = ap (λ (zs : List X). y ∷ zs) (next ys i e)
+
   pub same_at : (xs : List X) (k : ℕ) (x y : X) → slice_get xs k ≡ Some x → slice_get xs k ≡ Some y → x ≡ y
   same_at xs k x y p q = let h : Some x ≡ Some y = sym p ∙ q in cc

@@ -147,6 +147,14 @@ mark_one marks i P l is = record {
   exact = λ k. (let w = marked_at marks i k l in ((λ h. elim (w.0 h) [ inl m ↦ inl m | inr e ↦ inr ((is k).0 e) ]), λ h. w.1 (elim h [ inl m ↦ inl m | inr p ↦ inr ((is k).1 p) ])));
 }
 
+-- the place of an entry that is not the start
+module _ {E : Type 0} (start e : E) (at : E → Option ℕ) (marks : List Bool) where
+  pub marks_wanted : (i : ℕ) → i < length marks → (e ≡ start → ⊥) → at e ≡ Some i → Marks marks (IsWanted start at e) (set marks i true)
+  marks_wanted i l n h = mark_one marks i (IsWanted start at e) l (λ k. ((λ q. (n, h ∙ ap Some q)), λ w. let r : Some i ≡ Some k = sym h ∙ w.1 in cc))
+
+  pub marks_unwanted : at e ≡ None → Marks marks (IsWanted start at e) marks
+  marks_unwanted h = mark_none marks (IsWanted start at e) (λ k w. let r : None ≡ Some k = sym h ∙ w.1 in cc)
+
 -- the wanted places of one more entry
 pub marks_on : {E : Type 0} (P : E → ℕ → Type 0) (xs : List E) (y : E) (a b c : List Bool) → Marks a (SomeOf xs P) b → Marks b (P y) c → Marks a (SomeOf (xs ++ y ∷ []) P) c
 marks_on {E} P xs y a b c m n = record { count = n.count ∙ m.count; exact = λ k. (to k, back k) }

@@ -1,5 +1,5 @@
 -- The places of the givers of entries.
-use Rattle.std.specs.Prelude.{◌≡◌, ℕ, ◌⊎◌, List, Contains, Option, Some, None}
+use Rattle.std.specs.Prelude.{◌≡◌, ℕ, ◌⊎◌, List, Contains, Option, Some, None, IsTrue}
 use Rattle.u_system.specs.Firing.{System}
 use Rattle.u_trace.specs.Stories.{IsGiver}
 
@@ -13,3 +13,7 @@ pub record Notes {E : Type 0} (old : E → Option ℕ) (given : List E) (place :
 pub record AreGivers {E F : Type 0} (s : System E F) (log : List F) (at : E → Option ℕ) : Type 0 where
   pub giver : (x : E) (k : ℕ) → at x ≡ Some k → IsGiver s log x k
   pub none : (x : E) → at x ≡ None → (f : F) → Contains log f → Contains (s.gives f) x → ⊥
+
+-- all of these are firings of the system
+abbrev pub AreFirings : {E F : Type 0} → System E F → List F → Type 0
+AreFirings {E} {F} s fs = (f : F) → Contains fs f → IsTrue (s.is_firing f)

@@ -2,6 +2,9 @@ pub mod Causes
 pub mod Stories
 pub mod Answers
 pub mod Places
+pub mod TokenKeys
+pub mod Numbers
+pub mod Table
 pub mod Givers
 pub mod Marks
 pub mod Holding

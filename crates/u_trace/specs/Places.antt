@@ -17,6 +17,3 @@ pub record IsPut {K : Type 0} (eq : K → K → Bool) (old : Places K) (key : K)
 -- the derived test of two entries
 abbrev pub entry_eq : Entry → Entry → Bool
 entry_eq = (entry_partial.ghosts).eq
-
-abbrev pub place_in : Places Entry → Entry → Option ℕ
-place_in t = place_of entry_eq t

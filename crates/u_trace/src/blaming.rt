@@ -5,6 +5,7 @@ ghost use Rattle.u_rule.specs.Parts.{token, most_ports};
 ghost use Rattle.u_rule.specs.declared.entry.Entry.TheVariants as entries;
 ghost use Rattle.u_name.specs.Context.{IsBetween};
 ghost use Rattle.u_system.specs.Firing.{Held, Derivation};
+ghost use Rattle.u_trace.specs.Givers.{AreFirings};
 ghost use Rattle.u_trace.specs.Blames.{AreFirstTokens, AreLeastTokens, IsFoundAmong};
 ghost use Rattle.u_trace.specs.Blames.{BlameOf, BlameAnswer, BlamesByWrites};
 
@@ -59,7 +60,8 @@ fn two_least(
     activity: &Name,
     port: u8,
 ) -> Result<Option<(Entry, Entry)>, AllocError>
-    requires { IsBetween 1 port most_ports }
+    requires port { IsBetween 1 port most_ports }
+    requires firings { AreFirings (system_of job.now) log.now }
     ensures { IfOk result (AreLeastTokens job.now log.now activity.now port) }
 {
     let held = held_by(alloc, job, log)?;

@@ -6,8 +6,8 @@ ghost use Rattle.u_rule.specs.declared.entry.Entry.TheVariants as entries;
 ghost use Rattle.u_system.specs.Firing.{Held, Same};
 ghost use Rattle.u_history.specs.Outcomes.{PairIn, IsCellClash};
 ghost use Rattle.u_history.specs.Clashes.{cell_pairs};
-ghost use Rattle.u_trace.specs.Places.{place_in};
-ghost use Rattle.u_trace.specs.Givers.{AreGivers};
+ghost use Rattle.u_trace.specs.Table.{place_in};
+ghost use Rattle.u_trace.specs.Givers.{AreGivers, AreFirings};
 ghost use Rattle.u_trace.specs.Stories.{GivesFirst};
 ghost use Rattle.u_trace.specs.Holding.{GivenBy};
 ghost use Rattle.u_trace.specs.Blames.{IsWriteIn, HasWritesOf, BlameAmong};
@@ -15,7 +15,7 @@ ghost use Rattle.u_trace.specs.Blames.{IsWriteIn, HasWritesOf, BlameAmong};
 use crate::blamed::{Blame, BlamedWrite};
 use crate::givers::givers_of;
 use crate::holding::held_by;
-use crate::places::Places;
+use crate::table::Givers;
 use std::alloc::{AllocError, Global};
 use u_check::Job;
 use u_history::{CellClash, History};
@@ -40,7 +40,7 @@ struct Given<'a> {
     alloc: Global,
     job: &'a Job,
     firings: &'a [Firing],
-    givers: &'a Places<Entry>,
+    givers: &'a Givers,
 }
 
 impl Given<'_> {
@@ -60,7 +60,8 @@ impl Given<'_> {
         ensures { IfOk result
             (GivesFirst (system_of self.now.job.now) self.now.firings.now entry.now) }
     {
-        match self.givers.of(entry) {
+        let found = self.givers.of(entry)?;
+        match found {
             Some(place) => self.at(place),
             None => unreachable!(),
         }
@@ -111,7 +112,8 @@ fn blame_cell(
     firings: &[Firing],
     clash: &CellClash,
 ) -> Result<Blame, AllocError>
-    requires { IsCellClash (Held (system_of job.now) firings.now) (cell_pairs clash.now) }
+    requires firings { AreFirings (system_of job.now) firings.now }
+    requires clash { IsCellClash (Held (system_of job.now) firings.now) (cell_pairs clash.now) }
     ensures { IfOk result (HasWritesOf job.now firings.now clash.now.cell) }
 {
     let givers = givers_of(alloc, job, firings)?;
@@ -132,7 +134,8 @@ fn blame_held(
     firings: &[Firing],
     held: &History,
 ) -> Result<Option<Blame>, AllocError>
-    requires { Same (Contains held.now) (Held (system_of job.now) firings.now) }
+    requires firings { AreFirings (system_of job.now) firings.now }
+    requires held { Same (Contains held.now) (Held (system_of job.now) firings.now) }
     ensures { IfOk result (BlameAmong job.now firings.now) }
 {
     let outcome = held.outcome()?;
@@ -154,6 +157,7 @@ pub(crate) fn blame_among(
     job: &Job,
     firings: &[Firing],
 ) -> Result<Option<Blame>, AllocError>
+    requires { AreFirings (system_of job.now) firings.now }
     ensures { IfOk result (BlameAmong job.now firings.now) }
 {
     let held = held_by(alloc, job, firings)?;

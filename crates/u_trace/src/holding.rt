@@ -3,20 +3,20 @@ ghost use Rattle.std.specs.Prelude.{IfOk, OnOk, Contains};
 ghost use Rattle.u_rule.specs.Rule.{system_of};
 ghost use Rattle.u_sets.specs.Members.{IsUnion};
 ghost use Rattle.u_system.specs.Firing.{Held, Same};
+ghost use Rattle.u_trace.specs.Givers.{AreFirings};
 ghost use Rattle.u_trace.specs.Holding.{GainsGiven};
 
-use crate::givers::given_by;
 use std::alloc::{AllocError, Global};
 use u_check::Job;
 use u_history::History;
-use u_rule::{Entry, Firing, start};
+use u_rule::{Entry, Firing, given_by, start};
 
 /// Puts copies of the entries in.
 fn put_entries(held: &mut History, entries: &[Entry]) -> Result<(), AllocError>
     ensures { OnOk result (IsUnion held.old entries.now held.new) }
 {
     for entry in entries {
-        let _ = held.insert(entry.copy()?)?;
+        let _ = held.insert_copy(entry)?;
     }
     Ok(())
 }
@@ -28,6 +28,7 @@ fn put_given(
     firings: &[Firing],
     held: &mut History,
 ) -> Result<(), AllocError>
+    requires { AreFirings (system_of job.now) firings.now }
     ensures { OnOk result (GainsGiven (system_of job.now) held.old firings.now held.new) }
 {
     for firing in firings {
@@ -42,6 +43,7 @@ fn put_given(
 /// # Errors
 /// `AllocError` where there is no memory.
 pub(crate) fn held_by(alloc: Global, job: &Job, firings: &[Firing]) -> Result<History, AllocError>
+    requires { AreFirings (system_of job.now) firings.now }
     ensures { IfOk result (λ h. Same (Contains h) (Held (system_of job.now) firings.now)) }
 {
     let mut held = History::new(alloc);

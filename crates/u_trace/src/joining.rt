@@ -2,7 +2,7 @@
 ghost use Rattle.std.specs.Prelude.{IfOk};
 ghost use Rattle.u_rule.specs.Rule.{system_of};
 ghost use Rattle.u_system.specs.Firing.{Held, Derivation};
-ghost use Rattle.u_trace.specs.Places.{place_in};
+ghost use Rattle.u_trace.specs.Table.{place_in};
 ghost use Rattle.u_trace.specs.Givers.{AreGivers};
 ghost use Rattle.u_trace.specs.Stories.{IsStory};
 ghost use Rattle.u_trace.specs.Blames.{JoinsStories};

@@ -12,6 +12,7 @@ mod blame_error;
 mod blamed;
 mod blaming;
 mod causing;
+mod exact;
 mod finding;
 mod givers;
 mod holding;
@@ -19,7 +20,9 @@ mod joining;
 mod marks;
 mod picking;
 mod places;
+mod table;
 mod telling;
+mod token_key;
 mod trace_error;
 
 pub use blame_error::BlameError;

@@ -3,21 +3,26 @@
 //! The giver of the entry is marked. Then the list is gone over from its end: of each firing that is
 //! marked, the givers of its needs are marked too. They stand before it, since the list is a
 //! derivation, so one pass is enough.
-ghost use Rattle.std.specs.Prelude.{◌≡◌, ◌↔◌, ◌<◌, ℕ, IfOk, OnOk, IsTrue, length, false, replicate};
-ghost use Rattle.u_rule.specs.Rule.{system_of, start_of};
+ghost use Rattle.std.specs.Prelude.{◌≡◌, ◌↔◌, ◌<◌, ℕ, ◌≤◌, IfOk, OnOk, IsTrue, length, false, replicate};
+ghost use Rattle.u_rule.specs.Parts.{most_ports};
+ghost use Rattle.u_rule.specs.Rule.{system_of, start_of, needs_of, tokens_from};
+ghost use Rattle.u_rule.specs.declared.entry.Entry.TheVariants as entries;
 ghost use Rattle.u_sets.specs.Members.{SomeOf};
 ghost use Rattle.u_system.specs.Firing.{Derivation};
-ghost use Rattle.u_trace.specs.Places.{place_in};
+ghost use Rattle.u_trace.specs.Numbers.{number_in};
+ghost use Rattle.u_trace.specs.Table.{place_in};
 ghost use Rattle.u_trace.specs.Givers.{AreGivers};
 ghost use Rattle.u_trace.specs.Stories.{InStory};
 ghost use Rattle.u_trace.specs.Marks.{IsMarked, IsWanted, Marks, MarksBehind, LieBelow};
 
-use crate::places::Places;
+use crate::table::Givers;
 use std::alloc::{AllocError, Global};
 use u_check::Job;
-use u_rule::{Entry, Firing, needs, start};
+use u_name::Name;
+use u_rule::{Entry, Firing, NameRef, TokenRef, needs, start};
+use u_value::Value;
 
-/// The entries that a firing of the job needs. The caller's firing is one of the job, so want of
+/// The entries that a firing of the job needs, in a list. The caller's firing is one of the job, so want of
 /// memory is the one refusal that comes.
 fn needs_of(alloc: Global, job: &Job, firing: &Firing) -> Result<Vec<Entry>, AllocError>
     ensures { IfOk result (λ v. v.items ≡ (system_of job.now).needs firing.now) }
@@ -37,27 +42,52 @@ pub(crate) fn is_same(left: &Entry, right: &Entry) -> bool
 }
 
 /// Marks the giver of the entry, if it has one. Nobody is to give the start.
-fn mark(start: &Entry, givers: &Places<Entry>, entry: &Entry, marks: &mut [bool])
+fn mark(start: &Entry, givers: &Givers, entry: &Entry, marks: &mut [bool]) -> Result<(), AllocError>
     requires { LieBelow (place_in givers.now) (length marks.old) }
-    ensures { Marks marks.old (IsWanted start.now (place_in givers.now) entry.now) marks.new }
+    ensures { OnOk result
+        (Marks marks.old (IsWanted start.now (place_in givers.now) entry.now) marks.new) }
 {
     if is_same(entry, start) {
-        return;
+        return Ok(());
     }
-    if let Some(place) = givers.of(entry) {
+    if let Some(place) = givers.of(entry)? {
         marks[place] = true;
     }
+    Ok(())
 }
 
 /// Marks the givers of the entries.
-fn mark_all(start: &Entry, givers: &Places<Entry>, entries: &[Entry], marks: &mut [bool])
+fn mark_all(
+    start: &Entry,
+    givers: &Givers,
+    entries: &[Entry],
+    marks: &mut [bool],
+) -> Result<(), AllocError>
     requires { LieBelow (place_in givers.now) (length marks.old) }
-    ensures { Marks marks.old
-        (SomeOf entries.now (IsWanted start.now (place_in givers.now))) marks.new }
+    ensures { OnOk result
+        (Marks marks.old
+        (SomeOf entries.now (IsWanted start.now (place_in givers.now))) marks.new) }
 {
     for entry in entries {
-        mark(start, givers, entry, marks);
+        mark(start, givers, entry, marks)?;
     }
+    Ok(())
+}
+
+/// Whether a token stands where the start token does, at port 1 of an activity of a statement 1.
+fn is_at_start(token: &TokenRef<'_>) -> bool
+    ensures { IsTrue result
+        ↔ ((token.now.port ≡ 1) × (token.now.activity.statement ≡ 1)) }
+{
+    token.port() == 1 && token.activity().statement() == 1
+}
+
+/// The token, as an entry.
+fn entry_of(token: &TokenRef<'_>) -> Result<Entry, AllocError>
+    ensures { IfOk result (λ e. e ≡ entries.Token token.now) }
+{
+    let made = token.token()?;
+    Ok(Entry::Token(made))
 }
 
 /// Whether the place is marked.
@@ -76,12 +106,92 @@ struct Applied<'a> {
     job: &'a Job,
     start: &'a Entry,
     log: &'a [Firing],
-    givers: &'a Places<Entry>,
+    givers: &'a Givers,
 }
 
 impl Applied<'_> {
+    /// Marks the giver of the token, whose activity has that number, if it has a giver. Nobody is to
+    /// give the start.
+    fn mark_token(
+        &self,
+        number: usize,
+        token: &TokenRef<'_>,
+        marks: &mut [bool],
+    ) -> Result<(), AllocError>
+        requires start { self.now.start.now ≡ start_of self.now.job.now }
+        requires number { number ≡ number_in self.now.givers.now.names token.now.activity }
+        requires below { LieBelow (place_in self.now.givers.now) (length marks.old) }
+        ensures { OnOk result
+            (Marks marks.old
+            (IsWanted self.now.start.now (place_in self.now.givers.now)
+            (entries.Token token.now)) marks.new) }
+    {
+        if is_at_start(token) {
+            return mark(self.start, self.givers, &entry_of(token)?, marks);
+        }
+        let found = self.givers.at(number, token)?;
+        if let Some(place) = found {
+            marks[place] = true;
+        }
+        Ok(())
+    }
+
+    /// Marks the givers of the tokens that have these values at the activity's ports.
+    fn mark_tokens(
+        &self,
+        activity: &Name,
+        values: &[Value],
+        marks: &mut [bool],
+    ) -> Result<(), AllocError>
+        requires start { self.now.start.now ≡ start_of self.now.job.now }
+        requires few { length values.now ≤ most_ports }
+        requires below { LieBelow (place_in self.now.givers.now) (length marks.old) }
+        ensures { OnOk result
+            (Marks marks.old
+            (SomeOf (tokens_from activity.now 1 values.now)
+            (IsWanted self.now.start.now (place_in self.now.givers.now))) marks.new) }
+    {
+        let number = self.givers.number_for(activity);
+        let mut port = 1;
+        for value in values {
+            let token = TokenRef::new(NameRef::of(activity), port, value);
+            self.mark_token(number, &token, marks)?;
+            port += 1;
+        }
+        Ok(())
+    }
+
+    /// Marks the givers of what the firing needs, of which a list is made.
+    #[inline(never)]
+    fn mark_listed(&self, firing: &Firing, marks: &mut [bool]) -> Result<(), AllocError>
+        requires { LieBelow (place_in self.now.givers.now) (length marks.old) }
+        ensures { OnOk result
+            (Marks marks.old
+            (SomeOf (needs_of firing.now)
+            (IsWanted self.now.start.now (place_in self.now.givers.now))) marks.new) }
+    {
+        let needed = needs_of(self.alloc, self.job, firing)?;
+        mark_all(self.start, self.givers, &needed, marks)
+    }
+
+    /// Marks the givers of what the firing needs. Where it needs tokens alone, no list is made.
+    fn mark_needs(&self, firing: &Firing, marks: &mut [bool]) -> Result<(), AllocError>
+        requires start { self.now.start.now ≡ start_of self.now.job.now }
+        requires below { LieBelow (place_in self.now.givers.now) (length marks.old) }
+        ensures { OnOk result
+            (Marks marks.old
+            (SomeOf (needs_of firing.now)
+            (IsWanted self.now.start.now (place_in self.now.givers.now))) marks.new) }
+    {
+        if firing.write.is_some() {
+            return self.mark_listed(firing, marks);
+        }
+        self.mark_tokens(&firing.activity, firing.values.as_slice(), marks)
+    }
+
     /// Marks the givers of what the firing at that place needs, if it is marked.
     fn mark_behind(&self, place: usize, marks: &mut [bool]) -> Result<(), AllocError>
+        requires start { self.now.start.now ≡ start_of self.now.job.now }
         requires place { place < length self.now.log.now }
         requires count { length marks.old ≡ length self.now.log.now }
         requires below { LieBelow (place_in self.now.givers.now) (length self.now.log.now) }
@@ -92,9 +202,7 @@ impl Applied<'_> {
         if !is_marked(marks, place) {
             return Ok(());
         }
-        let needed = needs_of(self.alloc, self.job, &self.log[place])?;
-        mark_all(self.start, self.givers, &needed, marks);
-        Ok(())
+        self.mark_needs(&self.log[place], marks)
     }
 
     /// Marks all firings of the list that the entry's story has.
@@ -109,7 +217,7 @@ impl Applied<'_> {
             ((k : ℕ) → IsMarked marks.new k
             ↔ InStory (system_of self.now.job.now) self.now.log.now entry.now k) }
     {
-        mark(self.start, self.givers, entry, marks);
+        mark(self.start, self.givers, entry, marks)?;
         let mut left = self.log.len();
         while left > 0 {
             left -= 1;
@@ -138,7 +246,7 @@ pub(crate) fn marks_of(
     alloc: Global,
     job: &Job,
     log: &[Firing],
-    givers: &Places<Entry>,
+    givers: &Givers,
     entry: &Entry,
 ) -> Result<Vec<bool>, AllocError>
     requires derivation { Derivation (system_of job.now) log.now }

@@ -1,5 +1,5 @@
 //! The places of keys.
-ghost use Rattle.std.specs.Prelude.{◌≡◌, OnOk, None};
+ghost use Rattle.std.specs.Prelude.{◌≡◌, OnOk, OnErr, None};
 ghost use Rattle.u_trace.specs.Places.{place_of, IsPut};
 
 use std::alloc::{AllocError, Global};
@@ -35,10 +35,12 @@ impl<K: ExactOrd + Hash + Drop> Places<K> {
     /// Gives the key that place.
     ///
     /// # Errors
-    /// `AllocError` where there is no memory.
+    /// `AllocError` where there is no memory; all keys have the places that they had.
     #[tactic(auto, unfolding(crate::specs::Places::place_of))]
     pub(crate) fn put(&mut self, key: K, place: usize) -> Result<(), AllocError>
-        ensures { OnOk result (IsPut K.eq self.old key place self.new) }
+        ensures ok { OnOk result (IsPut K.eq self.old key place self.new) }
+        ensures err { OnErr result
+            ((q : K) → place_of K.eq self.new q ≡ place_of K.eq self.old q) }
     {
         self.map.insert(key, place)?;
         Ok(())

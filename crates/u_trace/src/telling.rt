@@ -2,7 +2,7 @@
 ghost use Rattle.std.specs.Prelude.{◌≡◌, ◌↔◌, ◌⊎◌, IfOk, IsTrue, IsSome};
 ghost use Rattle.u_rule.specs.Rule.{system_of, start_of};
 ghost use Rattle.u_system.specs.Firing.{Derivation};
-ghost use Rattle.u_trace.specs.Places.{place_in};
+ghost use Rattle.u_trace.specs.Table.{place_in};
 ghost use Rattle.u_trace.specs.Givers.{AreGivers};
 ghost use Rattle.u_trace.specs.Stories.{IsStory};
 ghost use Rattle.u_trace.specs.Answers.{StoryOf, StoryAnswer};
@@ -10,7 +10,7 @@ ghost use Rattle.u_trace.specs.Answers.{StoryOf, StoryAnswer};
 use crate::givers::givers_of;
 use crate::marks::{is_same, marks_of};
 use crate::picking::picked;
-use crate::places::Places;
+use crate::table::Givers;
 use crate::trace_error::TraceError;
 use std::alloc::{AllocError, Global};
 use u_check::Job;
@@ -18,15 +18,16 @@ use u_machine::Machine;
 use u_rule::{Entry, Firing, start};
 
 /// Whether the entry is the start token or has a giver.
-fn is_known(job: &Job, givers: &Places<Entry>, entry: &Entry) -> bool
-    ensures { IsTrue result
-        ↔ ((entry.now ≡ start_of job.now) ⊎ IsSome (place_in givers.now entry.now)) }
+fn is_known(job: &Job, givers: &Givers, entry: &Entry) -> Result<bool, AllocError>
+    ensures { IfOk result (λ b. IsTrue b
+        ↔ ((entry.now ≡ start_of job.now) ⊎ IsSome (place_in givers.now entry.now))) }
 {
     let first = start(job);
     if is_same(entry, &first) {
-        return true;
+        return Ok(true);
     }
-    givers.of(entry).is_some()
+    let place = givers.of(entry)?;
+    Ok(place.is_some())
 }
 
 /// The firings of the list that the entry's story has, in their order.
@@ -37,7 +38,7 @@ pub(crate) fn told(
     alloc: Global,
     job: &Job,
     log: &[Firing],
-    givers: &Places<Entry>,
+    givers: &Givers,
     entry: &Entry,
 ) -> Result<Vec<Firing>, AllocError>
     requires derivation { Derivation (system_of job.now) log.now }
@@ -63,7 +64,8 @@ fn story_of(
     ensures { StoryOf job.now log.now entry.now result }
 {
     let givers = givers_of(alloc, job, log)?;
-    if !is_known(job, &givers, entry) {
+    let known = is_known(job, &givers, entry)?;
+    if !known {
         return Err(TraceError::NotHeld);
     }
     let found = told(alloc, job, log, &givers, entry)?;

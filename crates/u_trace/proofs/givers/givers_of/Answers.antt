@@ -1,9 +1,9 @@
 use Rattle.std.proofs.Common.{ℕ, List, take, sym, subst, length, arith, length-take, ◌≡◌}
 use Rattle.std.proofs.lemmas.List.{take_all}
 use Rattle.u_rule.specs.Rule.{system_of}
-use Rattle.u_rule.specs.declared.entry.Entry.{Entry}
+use Rattle.u_rule.specs.HeldEntries.{entries_given}
 use Rattle.u_rule.specs.declared.firing.Firing.{Firing}
-use Rattle.u_trace.specs.Places.{place_in}
+use Rattle.u_trace.specs.Table.{place_in}
 use Rattle.u_trace.specs.Givers.{Notes, AreGivers}
 use Rattle.u_trace.proofs.Lists.{next_take}
 use Rattle.u_trace.proofs.GiverLaws.{givers_none, givers_more}
@@ -12,16 +12,18 @@ use Rattle.u_trace.proofs.givers.givers_of.Goals as goal
 pub loop-place-init : goal.loop-place-init
 loop-place-init c = givers_none (system_of c.args.job.now) (place_in c.new-givers.result) c.new-givers.ensures
 
+pub given-requires : goal.given-requires
+given-requires c = c.requires c.index-log-place.result (c.loop-place.place, c.loop-place-test.true, sym c.index-log-place.is)
+
 pub loop-place-preserved : goal.loop-place-preserved
 loop-place-preserved c =
     let i = c.loop-place.place in
     let f = c.index-log-place.result in
     let front = take i c.args.log.now in
     let n : i ≡ length front = (let h = length-take i c.args.log.now in let l = c.loop-place-test.true in omega (arith, h, l)) in
-    subst (λ (fs : List Firing). AreGivers (system_of c.args.job.now) fs (place_in c.note_all.new.givers)) (sym (next_take c.args.log.now i f c.loop-place-test.true c.index-log-place.is))
-    (givers_more (system_of c.args.job.now) front f c.in_ok-given.given.items (place_in c.loop-place.givers) (place_in c.note_all.new.givers) c.loop-place.invariant c.in_ok-given.ensures
-    (subst (λ (k : ℕ). Notes (place_in c.loop-place.givers) c.in_ok-given.given.items k (place_in c.note_all.new.givers)) n
-    (subst (λ (xs : List Entry). Notes (place_in c.loop-place.givers) xs i (place_in c.note_all.new.givers)) c.deref.ensures.value c.in_ok-note_all.ensures)))
+    subst (λ (fs : List Firing). AreGivers (system_of c.args.job.now) fs (place_in c.note_given.new.givers)) (sym (next_take c.args.log.now i f c.loop-place-test.true c.index-log-place.is))
+    (givers_more (system_of c.args.job.now) front f (entries_given c.in_ok-all.all) (place_in c.loop-place.givers) (place_in c.note_given.new.givers) c.loop-place.invariant c.in_ok-all.ensures.all
+    (subst (λ (k : ℕ). Notes (place_in c.loop-place.givers) (entries_given c.in_ok-all.all) k (place_in c.note_given.new.givers)) n c.in_ok-note_given.ensures))
 
 pub returns : goal.returns
 returns c = subst (λ (fs : List Firing). AreGivers (system_of c.args.job.now) fs (place_in c.loop-place.givers)) (take_all c.loop-place.place c.args.log.now c.loop-place-test.false) c.loop-place.invariant

@@ -1,6 +1,6 @@
 use Rattle.std.proofs.Common.{take}
 use Rattle.u_rule.specs.Rule.{system_of}
-use Rattle.u_trace.specs.Places.{place_in}
+use Rattle.u_trace.specs.Table.{place_in}
 use Rattle.u_trace.specs.Givers.{AreGivers}
 use Rattle.u_trace.proofs.givers.givers_of.Given as goal
 

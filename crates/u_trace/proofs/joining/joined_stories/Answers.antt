@@ -1,8 +1,12 @@
 use Rattle.u_rule.specs.Rule.{system_of}
-use Rattle.u_trace.specs.Places.{place_in}
+use Rattle.u_trace.specs.Table.{place_in}
 use Rattle.u_trace.proofs.Entries.{same_entries}
+use Rattle.u_trace.proofs.GiverLaws.{are_firings}
 use Rattle.u_trace.proofs.BlameLaws.{joins}
 use Rattle.u_trace.proofs.joining.joined_stories.Goals as goal
+
+pub givers_of-requires : goal.givers_of-requires
+givers_of-requires c = are_firings (system_of c.args.job.now) c.args.log.now c.requires.derivation
 
 pub returns : goal.returns
 returns c =

@@ -1,6 +1,6 @@
 use Rattle.std.proofs.Common.{take}
 use Rattle.u_sets.specs.Members.{SomeOf}
-use Rattle.u_trace.specs.Places.{place_in}
+use Rattle.u_trace.specs.Table.{place_in}
 use Rattle.u_trace.specs.Marks.{IsWanted, Marks}
 use Rattle.u_trace.proofs.marks.mark_all.Given as goal
 

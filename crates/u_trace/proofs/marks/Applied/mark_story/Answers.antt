@@ -2,7 +2,7 @@ use Rattle.std.proofs.Common.{◌≡◌, ℕ, ◌+◌, ◌-◌, ◌<◌, ◌∙�
 use Rattle.std.specs.Prelude.{◌↔◌}
 use Rattle.u_rule.specs.Rule.{system_of}
 use Rattle.u_rule.specs.declared.entry.Entry.{Entry}
-use Rattle.u_trace.specs.Places.{place_in}
+use Rattle.u_trace.specs.Table.{place_in}
 use Rattle.u_trace.specs.Marks.{IsMarked, IsWanted, Marks}
 use Rattle.u_trace.proofs.Entries.{same_entries}
 use Rattle.u_trace.proofs.MarkLaws.{Reached, lie_below, first_marks, marks_step, all_marks}
@@ -14,13 +14,14 @@ mark-requires c x k e = let l = lie_below (system_of c.args.self.now.job.now) c.
 pub loop-left-init : goal.loop-left-init
 loop-left-init c = record {
   low = omega arith;
-  count = c.mark.ensures.count ∙ c.requires.count;
+  count = c.in_ok-mark.ensures.count ∙ c.requires.count;
   all = first_marks (system_of c.args.self.now.job.now) c.args.self.now.log.now c.requires.derivation (place_in c.args.self.now.givers.now) c.requires.givers same_entries c.args.entry.now c.args.marks.now c.mark.new.marks c.requires.none
-      (subst (λ (x : Entry). Marks c.args.marks.now (IsWanted x (place_in c.args.self.now.givers.now) c.args.entry.now) c.mark.new.marks) c.requires.start c.mark.ensures) (length c.args.self.now.log.now) (omega arith);
+      (subst (λ (x : Entry). Marks c.args.marks.now (IsWanted x (place_in c.args.self.now.givers.now) c.args.entry.now) c.mark.new.marks) c.requires.start c.in_ok-mark.ensures) (length c.args.self.now.log.now) (omega arith);
 }
 
 pub mark_behind-requires : goal.mark_behind-requires
 mark_behind-requires c = record {
+  start = c.requires.start;
   place = (let low = c.loop-left.invariant.low in let some = c.loop-left-test.true in omega (arith, low, some));
   count = c.loop-left.invariant.count;
   below = lie_below (system_of c.args.self.now.job.now) c.args.self.now.log.now (place_in c.args.self.now.givers.now) c.requires.givers;

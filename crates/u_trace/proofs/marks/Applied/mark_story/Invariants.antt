@@ -1,7 +1,7 @@
 use Rattle.std.proofs.Common.{◌≡◌, ℕ, ◌≤◌, length}
 use Rattle.std.specs.Prelude.{◌↔◌}
 use Rattle.u_rule.specs.Rule.{system_of}
-use Rattle.u_trace.specs.Places.{place_in}
+use Rattle.u_trace.specs.Table.{place_in}
 use Rattle.u_trace.specs.Marks.{IsMarked}
 use Rattle.u_trace.proofs.MarkLaws.{Reached}
 use Rattle.u_trace.proofs.marks.Applied.mark_story.Given as goal

@@ -1,0 +1,7 @@
+use Rattle.std.proofs.Common.{take}
+use Rattle.u_trace.specs.Table.{place_in}
+use Rattle.u_trace.specs.Givers.{Notes}
+use Rattle.u_trace.proofs.givers.note_sent.Given as goal
+
+abbrev pub invariant-loop-at : goal.invariant-loop-at
+invariant-loop-at l = Notes (place_in l.initial.givers) (take l.at l.sent) l.place (place_in l.givers)

@@ -1,0 +1,174 @@
+//! The places of the givers of entries, where a token is found by its activity's number.
+ghost use Rattle.std.specs.Prelude.{length};
+ghost use Rattle.u_trace.specs.Numbers.{HaveOneNumber, LieUnder};
+
+use crate::places::Places;
+use crate::token_key::TokenKey;
+use std::alloc::{AllocError, Global};
+use u_name::Name;
+use u_names::Activities;
+use u_rule::{Entry, NameRef, TokenRef};
+
+/// A place for each of some entries. That of a token stands under the number of its activity, its port
+/// and its value, so that no name is hashed; that of another entry stands under the entry.
+#[derive(Drop)]
+pub(crate) struct Givers {
+    /// The activities that were asked for. The number of one is its place.
+    names: Activities,
+    tokens: Places<TokenKey>,
+    others: Places<Entry>,
+    ghost one_number: { HaveOneNumber names },
+    ghost numbered: { LieUnder (length names) tokens },
+}
+
+impl Givers {
+    ghost use Rattle.std.specs.Prelude.{◌≡◌, ◌<◌, ◌∷◌, [], IfOk, OnOk, None};
+    ghost use Rattle.u_rule.specs.Parts.{TokenParts};
+    ghost use Rattle.u_rule.specs.declared.entry.Entry.{Entry};
+    ghost use Rattle.u_rule.specs.declared.entry.Entry.TheVariants as entries;
+    ghost use Rattle.u_trace.specs.Numbers.{number_in};
+    ghost use Rattle.u_trace.specs.Table.{place_in};
+    ghost use Rattle.u_trace.specs.Givers.{Notes};
+
+    /// No entry has a place. It takes no memory.
+    pub(crate) fn new(alloc: Global) -> Givers
+        ensures { (e : Entry) → place_in result e ≡ None }
+    {
+        Givers {
+            names: Activities::new(alloc),
+            tokens: Places::new(alloc),
+            others: Places::new(alloc),
+        }
+    }
+
+    /// The number of the activity, or one that no activity has.
+    pub(crate) fn number_for(&self, activity: &Name) -> usize
+        ensures { result ≡ number_in self.now.names activity.now }
+    {
+        match self.names.find(activity) {
+            Some(number) => number,
+            None => self.names.len(),
+        }
+    }
+
+    /// The place of the token, whose activity has that number, if it has a place.
+    ///
+    /// # Errors
+    /// `AllocError` where there is no memory.
+    pub(crate) fn at(
+        &self,
+        number: usize,
+        token: &TokenRef<'_>,
+    ) -> Result<Option<usize>, AllocError>
+        requires { number ≡ number_in self.now.names token.now.activity }
+        ensures { IfOk result (λ o. o ≡ place_in self.now (entries.Token token.now)) }
+    {
+        let key = TokenKey {
+            activity: number,
+            port: token.port(),
+            value: token.value().copy()?,
+        };
+        Ok(self.tokens.of(&key))
+    }
+
+    /// The place of the entry, if it has one.
+    ///
+    /// # Errors
+    /// `AllocError` where there is no memory.
+    pub(crate) fn of(&self, entry: &Entry) -> Result<Option<usize>, AllocError>
+        ensures { IfOk result (λ o. o ≡ place_in self.now entry.now) }
+    {
+        match entry {
+            Entry::Token(token) => {
+                let number = self.number_for(token.activity());
+                self.at(number, &TokenRef::of(token))
+            }
+            Entry::Write(_) | Entry::Fault(_) | Entry::Answer(_) => Ok(self.others.of(entry)),
+        }
+    }
+
+    /// The number of the activity. If it has none, it gets one.
+    ///
+    /// # Errors
+    /// `AllocError` where there is no memory.
+    fn number_at(&mut self, activity: &NameRef<'_>) -> Result<usize, AllocError>
+        ensures number { IfOk result (λ n. n ≡ number_in self.new.names activity.now) }
+        ensures below { IfOk result (λ n. n < length self.new.names) }
+        ensures same { (e : Entry) → place_in self.new e ≡ place_in self.old e }
+    {
+        let (near, statement) = activity.parts();
+        let number = self.names.number_beside(near, statement)?;
+        Ok(number)
+    }
+
+    /// Gives the token, whose activity has that number, the place, unless it has one.
+    ///
+    /// # Errors
+    /// `AllocError` where there is no memory.
+    fn note_at(
+        &mut self,
+        number: usize,
+        token: &TokenRef<'_>,
+        place: usize,
+    ) -> Result<(), AllocError>
+        requires number { number ≡ number_in self.old.names token.now.activity }
+        requires below { number < length self.old.names }
+        ensures { OnOk result
+            (Notes (place_in self.old) (entries.Token token.now ∷ []) place (place_in self.new)) }
+    {
+        let key = TokenKey {
+            activity: number,
+            port: token.port(),
+            value: token.value().copy()?,
+        };
+        if let Some(_) = self.tokens.of(&key) {
+            return Ok(());
+        }
+        self.tokens.put(key, place)?;
+        Ok(())
+    }
+
+    /// Gives the token that place, unless it has one.
+    ///
+    /// # Errors
+    /// `AllocError` where there is no memory.
+    pub(crate) fn note_token(
+        &mut self,
+        token: &TokenRef<'_>,
+        place: usize,
+    ) -> Result<(), AllocError>
+        ensures { OnOk result
+            (Notes (place_in self.old) (entries.Token token.now ∷ []) place (place_in self.new)) }
+    {
+        let number = self.number_at(token.activity())?;
+        self.note_at(number, token, place)
+    }
+
+    /// Gives the entry, which is no token, that place, unless it has one.
+    fn note_other(&mut self, entry: &Entry, place: usize) -> Result<(), AllocError>
+        requires { (t : TokenParts) → entry.now ≡ entries.Token t → ⊥ }
+        ensures { OnOk result
+            (Notes (place_in self.old) (entry.now ∷ []) place (place_in self.new)) }
+    {
+        if let Some(_) = self.others.of(entry) {
+            return Ok(());
+        }
+        let copy = entry.copy()?;
+        self.others.put(copy, place)?;
+        Ok(())
+    }
+
+    /// Gives the entry that place, unless it has one.
+    ///
+    /// # Errors
+    /// `AllocError` where there is no memory.
+    pub(crate) fn note(&mut self, entry: &Entry, place: usize) -> Result<(), AllocError>
+        ensures { OnOk result
+            (Notes (place_in self.old) (entry.now ∷ []) place (place_in self.new)) }
+    {
+        if let Entry::Token(token) = entry {
+            return self.note_token(&TokenRef::of(token), place);
+        }
+        self.note_other(entry, place)
+    }
+}
