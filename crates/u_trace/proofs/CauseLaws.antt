@@ -1,5 +1,5 @@
 -- The firings that give an entry, gathered as the entries of a list enter a set.
-use Rattle.std.proofs.Common.{◌≡◌, ℕ, ◌+◌, ◌<◌, ◌≤◌, List, [], ◌∷◌, ◌++◌, ◌⊎◌, inl, inr, refl, subst, take, length, get_or}
+use Rattle.std.proofs.Common.{◌≡◌, ℕ, ◌+◌, ◌<◌, ◌≤◌, Bool, true, false, List, [], ◌∷◌, ◌++◌, ◌⊎◌, inl, inr, refl, subst, take, length, get_or}
 use Rattle.std.specs.Prelude.{Contains, ◌↔◌}
 use Rattle.std.proofs.lemmas.List.{take_more, take_all}
 use Rattle.std.proofs.lemmas.List.Elements.{Contains-append_left, Contains-push, Contains-push_cases}
@@ -36,16 +36,37 @@ module _ {E F : Type 0} (s : System E F) (e : E) where
     (λ c. (all f).1 (Enabled-mono s (Contains es) (Contains held) (λ y. (same y).1) f c.0, c.1)),
   )
 
--- one more entry of a list has entered
-pub entered_more : {E : Type 0} (es old new : List E) (i : ℕ) (x : E) → i < length es → x ≡ get_or es i x → Same (Contains old) (Contains (take i es)) → IsWith old x new → Same (Contains new) (Contains (take (i + 1) es))
-entered_more {E} es old new i x l at same w y = rw (take_more es i x l, ← at) ((λ m. to ((w y).0 m)), back)
-  where
-    to : Contains old y ⊎ (x ≡ y) → Contains (take i es ++ x ∷ []) y
-    to (inl m) = Contains-append_left (take i es) (x ∷ []) y ((same y).0 m)
-    to (inr q) = subst (Contains (take i es ++ x ∷ [])) q (Contains-push (take i es) x)
+-- Of the entries of a list those that pass have entered.
+abbrev pub HasPassing : {E : Type 0} → (E → Bool) → List E → List E → Type 0
+HasPassing {E} p es held = (x : E) → Contains held x ↔ (Contains es x × (p x ≡ true))
 
-    back : Contains (take i es ++ x ∷ []) y → Contains new y
-    back m = elim (Contains-push_cases (take i es) x y m) [ inl k ↦ (w y).1 (inl ((same y).1 k)) | inr q ↦ (w y).1 (inr q) ]
+module _ {E : Type 0} (p : E → Bool) (es old new : List E) (i : ℕ) (x : E) (l : i < length es) (at : x ≡ get_or es i x) (has : HasPassing p (take i es) old) where
+  -- one more, which passes
+  pub passing_more : p x ≡ true → IsWith old x new → HasPassing p (take (i + 1) es) new
+  passing_more h w y = rw (take_more es i x l, ← at) ((λ m. to ((w y).0 m)), λ q. back q.1 (Contains-push_cases (take i es) x y q.0))
+    where
+      to : Contains old y ⊎ (x ≡ y) → Contains (take i es ++ x ∷ []) y × (p y ≡ true)
+      to (inl m) = let q = (has y).0 m in (Contains-append_left (take i es) (x ∷ []) y q.0, q.1)
+      to (inr q) = (subst (Contains (take i es ++ x ∷ [])) q (Contains-push (take i es) x), subst (λ (z : E). p z ≡ true) q h)
 
-pub entered_all : {E : Type 0} (es held : List E) (i : ℕ) → length es ≤ i → Same (Contains held) (Contains (take i es)) → Same (Contains held) (Contains es)
-entered_all es held i l same y = rw (take_all i es l) at (same y)
+      back : p y ≡ true → Contains (take i es) y ⊎ (x ≡ y) → Contains new y
+      back q (inl k) = (w y).1 (inl ((has y).1 (k, q)))
+      back q (inr e) = (w y).1 (inr e)
+
+  -- one that does not
+  pub passing_still : p x ≡ false → HasPassing p (take (i + 1) es) old
+  passing_still h y = rw (take_more es i x l, ← at) ((λ m. (let q = (has y).0 m in (Contains-append_left (take i es) (x ∷ []) y q.0, q.1))), λ q. back q.1 (Contains-push_cases (take i es) x y q.0))
+    where
+      back : p y ≡ true → Contains (take i es) y ⊎ (x ≡ y) → Contains old y
+      back q (inl k) = (has y).1 (k, q)
+      back q (inr e) = let t = subst (λ (z : E). p z ≡ false) e h in absurd (cc)
+
+pub passing_all : {E : Type 0} (p : E → Bool) (es held : List E) (i : ℕ) → length es ≤ i → HasPassing p (take i es) held → HasPassing p es held
+passing_all p es held i l has y = rw (take_all i es l) at (has y)
+
+-- over the entries that pass the same firings give e, where each need of such a firing passes
+pub causes_passing : {E F : Type 0} (s : System E F) (e : E) (p : E → Bool) (es held : List E) (found : List F) → ((f : F) → Contains (s.gives f) e → (x : E) → Contains (s.needs f) x → p x ≡ true) → HasPassing p es held → AreThose (Causes s held e) found → (f : F) → Contains found f ↔ Causes s es e f
+causes_passing s e p es held found pass has all f = (
+  (λ m. (let c = (all f).0 m in (Enabled-mono s (Contains held) (Contains es) (λ y k. ((has y).0 k).0) f c.0, c.1))),
+  (λ c. (all f).1 ((c.0.0, λ y m. (has y).1 (c.0.1 y m, pass f c.1 y m)), c.1)),
+)

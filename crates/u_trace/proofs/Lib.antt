@@ -12,3 +12,4 @@ pub mod BlameLaws
 pub mod NumberLaws
 pub mod TableLaws
 pub mod NeedLaws
+pub mod SendLaws

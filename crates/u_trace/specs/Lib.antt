@@ -1,4 +1,5 @@
 pub mod Causes
+pub mod Sending
 pub mod Stories
 pub mod Answers
 pub mod Places

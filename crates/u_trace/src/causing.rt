@@ -1,8 +1,9 @@
 //! The firings that give an entry over a history.
 //!
-//! The entries of the history enter a matcher one after another. Each firing that is enabled over the
-//! history is woken by the last of its needs to enter, so the matcher's answers have each of them, and
-//! those that give the entry are kept. That is one pass over the history, for any kind of statement.
+//! The entries of the history enter a matcher one after another, but for those that no firing which
+//! gives the entry can need. Each firing that is enabled over them is woken by the last of its needs to
+//! enter, so the matcher's answers have each of them, and those that give the entry are kept. That is
+//! one pass over the history, for any kind of statement.
 ghost use Rattle.std.specs.Prelude.{◌≡◌, ◌↔◌, IfOk, OnOk, IsTrue, Contains, Err};
 ghost use Rattle.u_rule.specs.Rule.{system_of};
 ghost use Rattle.u_rule.specs.EntryOrder.{firing_cmp};
@@ -12,6 +13,7 @@ ghost use Rattle.u_sets.specs.Members.{Gains, SomeOf};
 ghost use Rattle.u_trace.specs.Causes.{IsCause, IsKept};
 ghost use Rattle.u_trace.specs.declared.trace_error.TraceError.TheVariants as errors;
 
+use crate::sending::matters;
 use crate::trace_error::TraceError;
 use std::alloc::{AllocError, Global};
 use u_check::Job;
@@ -94,6 +96,9 @@ fn causes_among(
     let mut matcher = Matcher::new(alloc);
     let mut found = Vec::new(alloc);
     for held in entries {
+        if !matters(job, entry, held) {
+            continue;
+        }
         let woken = matcher.enter(job, held)?;
         keep_all(alloc, job, entry, &woken, &mut found)?;
     }

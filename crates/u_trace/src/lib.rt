@@ -20,6 +20,7 @@ mod joining;
 mod marks;
 mod picking;
 mod places;
+mod sending;
 mod table;
 mod telling;
 mod token_key;
