@@ -4,11 +4,17 @@ ghost use Rattle.u_name.specs.Context.{IsBetween};
 ghost use Rattle.u_names.specs.Places.{place, IsPlace, place_of};
 ghost use Rattle.u_names.specs.Frames.{beside};
 
+use std::hash::{Hash, Hasher};
 use std::marker::Model;
 use u_name::Name;
 
-/// A name whose frame has a number: that number, the name's statement and its initiation.
-#[derive(PartialEq, Eq, PartialOrd, Ord, Hash, Drop)]
+/// How many initiations in a row have one hash.
+const RUN: u64 = 4;
+
+/// A name whose frame has a number: that number, the name's statement and its initiation. Initiations in a row
+/// have one hash, four by four, so a set that finds places by hashes has those of neighbouring turns of a loop
+/// side by side in memory.
+#[derive(PartialEq, Eq, PartialOrd, Ord, Drop)]
 pub(crate) struct Place {
     frame: u32,
     statement: u16,
@@ -27,6 +33,21 @@ impl Model for Place {
     ghost invariant = { λ p. IsPlace (place p.frame p.statement p.initiation) };
 
     ghost inverse = { λ p. record { frame = p.frame; statement = p.statement; initiation = p.initiation } };
+}
+
+impl Hash for Place {
+    ghost use Rattle.std.proofs.Common.{rules};
+    ghost use Rattle.std.specs.Cmp.Rules.{comparing, hashing};
+    ghost use Rattle.u_names.specs.Places.{place_writes};
+
+    ghost hash_input = { place_writes };
+
+    ghost respects_eq = { Prim.search (comparing, hashing, rules) };
+
+    fn hash<H: Hasher>(&self, state: &mut H) {
+        state.write_u64(u64::from(self.frame) * 65536 + u64::from(self.statement));
+        state.write_u64(self.initiation / RUN);
+    }
 }
 
 impl Place {
