@@ -1,8 +1,8 @@
 //! How ready firings are fired: the third of three things that a machine does with its parts, each of
 //! which has a file of its own.
-ghost use Rattle.std.specs.Prelude.{◌≡◌, ◌<◌, ◌%◌, [], IfOk, OnOk, OnErr, IsOk, IsTrue, IsFalse, length, slice_get, Some};
+ghost use Rattle.std.specs.Prelude.{◌≡◌, ◌<◌, ◌%◌, [], IfOk, OnOk, OnErr, IsOk, IfSome, IsTrue, IsFalse, length, slice_get, Some};
 ghost use Rattle.u_rule.specs.declared.firing.Firing.{Firing};
-ghost use Rattle.u_machine.specs.State.{IsSettled, NothingReady, IsReady, count_of};
+ghost use Rattle.u_machine.specs.State.{IsSettled, NothingReady, IsReady, IsPick, count_of};
 ghost use Rattle.u_machine.specs.Calls.{FireAnswer, RunAnswer};
 ghost use Rattle.u_machine.specs.Invariant.{state_of, Invariant, Begins, BeginsPicked};
 
@@ -86,6 +86,26 @@ impl<'a> Parts<'a> {
         self.begin_picked(pick)?;
         self.settle()?;
         Ok(Step::Fired(place))
+    }
+
+    /// The least ready firing, where all that was begun is applied and no late token's firing may stand
+    /// before it.
+    pub(crate) fn next_ready(&self) -> Option<&Firing>
+        requires { Invariant self.now }
+        ensures { IfSome result (λ f. IsPick (state_of self.now) 0 f.now) }
+    {
+        if !self.is_settled() {
+            return None;
+        }
+        if !self.knows_least() {
+            return None;
+        }
+        // Brings in that the ready firings rise.
+        let _none = self.ready.is_empty();
+        match self.ready.first() {
+            Some(firing) => Some(firing),
+            None => None,
+        }
     }
 
     /// Whether nothing is ready, made or not. All that was begun is applied.

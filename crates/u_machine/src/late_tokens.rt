@@ -167,7 +167,7 @@ impl<'a> Parts<'a> {
     }
 
     /// Whether no late token's firing may stand before the first ready one that was made.
-    fn knows_least(&self) -> bool
+    pub(crate) fn knows_least(&self) -> bool
         requires { Invariant self.now }
         ensures least { IsTrue result → KnowsLeast self.now }
         ensures some { IsTrue result → 0 < length self.now.late → 0 < length self.now.ready }

@@ -5,10 +5,10 @@
 //! token and what earlier firings of the log give. So the history is fixed by the set of taken
 //! firings, in whatever order they came, and once nothing is ready it is all that can be derived from
 //! the job.
-ghost use Rattle.std.specs.Prelude.{◌≡◌, ◌↔◌, ◌++◌, [], ◌∷◌, IfOk, IsFalse, IsOk, IsTrue, OnOk};
+ghost use Rattle.std.specs.Prelude.{◌≡◌, ◌↔◌, ◌++◌, [], ◌∷◌, IfOk, IfSome, IsFalse, IsOk, IsTrue, OnOk};
 ghost use Rattle.u_system.specs.Firing.{Distinct};
 ghost use Rattle.u_rule.specs.Rule.{system_of};
-ghost use Rattle.u_machine.specs.State.{state, IsMachine, IsSettled, NothingReady, Taken};
+ghost use Rattle.u_machine.specs.State.{state, IsMachine, IsPick, IsSettled, NothingReady, Taken};
 ghost use Rattle.u_machine.specs.Headline.{KeepsItsPromise, Agree};
 ghost use Rattle.u_machine.specs.Calls.{FireAnswer, FireInAnswer, RunAnswer, TakeAnswer, Applies, IsFresh, RunsPlainly};
 ghost use Rattle.u_machine.specs.Taking.{Fits, HasSoManyNew, IsTooLong, TakeAllAnswer};
@@ -167,6 +167,15 @@ impl<'a> Machine<'a> {
     {
         let fired = self.parts.fire(pick)?;
         Ok(fired)
+    }
+
+    /// The firing that `fire(0)` applies, if there is room: the least ready one. It takes no memory. There is
+    /// none where something that was begun is not yet applied, where nothing is ready, or where many firings
+    /// would have to be made to know which is the least.
+    pub fn next_ready(&self) -> Option<&Firing>
+        ensures { IfSome result (λ f. IsPick self.now 0 f.now) }
+    {
+        self.parts.next_ready()
     }
 
     /// Applies one ready firing whose bucket is in the mask, and then each parked one that is enabled by
