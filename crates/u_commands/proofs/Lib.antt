@@ -2,7 +2,6 @@ pub mod Counts
 pub mod Known
 pub mod InPieces
 pub mod Watched
-pub mod Takings
 pub mod RanLaws
 pub mod ArgumentLaws
 pub mod Saved

@@ -17,15 +17,15 @@ use Rattle.u_machine.proofs.States.{settled_is_Cl}
 use Rattle.u_history.specs.declared.report.Ending.TheVariants as states
 use Rattle.u_replica.specs.declared.checkpoint.Ending.{Ending}
 use Rattle.u_replica.specs.ReplicaState.{ReplicaState}
-use Rattle.u_replica.specs.Checkpoints.{IsCheckpointOf}
-use Rattle.u_replica.specs.Restoring.{blank, IsRestored}
+use Rattle.u_replica.specs.Restoring.{blank, IsRestored, IsRestoreError}
+use Rattle.u_replica.specs.declared.answer.RestoreError.{RestoreError}
+use Rattle.u_replica.specs.declared.answer.RestoreError.TheVariants as restores
 use Rattle.u_commands.specs.Runs.{ReportsMachine, RunsBehind, RunRefused, ending_of}
 use Rattle.u_commands.specs.declared.command_error.CommandError.{CommandError}
 use Rattle.u_commands.specs.declared.command_error.CommandError.TheVariants as faults
 use Rattle.std.specs.Prelude.{Option}
 use Rattle.u_commands.proofs.Known.{kept}
-use Rattle.u_commands.specs.Restores.{HasJob, RestoreTextAnswer, most_taken, SavedOrFired, GoesOn, ReportsOn, FillsUp, ending_line, RestoresJob, CheckpointRefused}
-use Rattle.u_commands.specs.Takings.{IsReplicaWith, HasNoReplica}
+use Rattle.u_commands.specs.Restores.{HasJob, RestoreTextAnswer, most_taken, SavedOrFired, GoesOn, ReportsOn, FillsUp, ending_line, RestoresJob, CheckpointRefused, fault_in}
 
 module _ {E F : Type 0} (s : System E F) (le : F → F → Type 0) (M N : F → Type 0) (same : Same M N) (done : List F) where
   there : (f : F) → M f ⊎ Contains done f → N f ⊎ Contains done f
@@ -147,37 +147,19 @@ module _ (job : JobParts) (number life firings : ℕ) (checkpoint : List ℕ) (e
   restored_refused faults.NotReadable r = r
   restored_refused faults.NotWritten r = r
 
--- what was read of a checkpoint was taken, or was not
-module _ (job : JobParts) (checkpoint : List ℕ) (ending : Ending) (fs gs : List Firing) (read : IsCheckpointOf job.program.version checkpoint ending fs) (same : gs ≡ fs) where
-  pub restored_with : (r : ReplicaState) → IsReplicaWith job gs r → IsRestored job most_taken 1 1 checkpoint ending r
-  restored_with r w =
-      let v = subst (λ (xs : List Firing). IsReplicaWith job xs r) same w in
-      record { firings = fs; read = read; of_job = v.taken.firings; takes = v.taken.takes; settled = v.taken.settled; beside = v.beside }
+-- a replica was restored of a checkpoint, or was not
+module _ (job : JobParts) (checkpoint : List ℕ) where
+  pub restored_as : (ending : Ending) (r : ReplicaState) → IsRestored job 1000000 1 1 checkpoint ending r → IsRestored job most_taken 1 1 checkpoint ending r
+  unfolding most_taken
+  restored_as ending r is = is
 
-  refused : (fault : CommandError) → HasNoReplica job fs fault → (n : ℕ) → CheckpointRefused job n checkpoint fault
-  refused (faults.LineNotAllowed k) h n = h
-  refused (faults.TooMany k) h n = h
-  refused faults.CutShort h n = h
-  refused (faults.Rule b) h n = h
-  refused faults.ArgumentNotAllowed h n = h
-  refused faults.InputTooLong h n = h
-  refused (faults.CheckpointLineNotAllowed k) h n = absurd h
-  refused (faults.CheckpointLineTooLong k) h n = absurd h
-  refused (faults.OtherFiring place) h n = record { firings = fs; ending = ending; read = read; so = h }
-  refused (faults.EntryNotAllowed k) h n = h
-  refused faults.EntryNotHeld h n = h
-  refused (faults.NameNotAllowed k) h n = h
-  refused faults.NameTooDeep h n = h
-  refused faults.PortNotClashed h n = h
-  refused faults.Full h n = record { firings = fs; ending = ending; read = read; so = (h.0, inl h.1) }
-  refused faults.NoMemory h n = tt
-  refused faults.NoThread h n = h
-  refused faults.NoReader h n = h
-  refused faults.NotReadable h n = h
-  refused faults.NotWritten h n = h
-
-  pub restored_not : (fault : CommandError) → HasNoReplica job gs fault → (n : ℕ) → CheckpointRefused job n checkpoint fault
-  restored_not fault h = refused fault (subst (λ (xs : List Firing). HasNoReplica job xs fault) same h)
+  pub restored_not : (e : RestoreError) → IsRestoreError job 1000000 checkpoint e → (n : ℕ) → CheckpointRefused job n checkpoint (fault_in e)
+  unfolding most_taken
+  restored_not (restores.BadLine k) h n = h
+  restored_not (restores.TooLong k) h n = h
+  restored_not (restores.NotAFiring place) h n = h
+  restored_not restores.Full h n = record { firings = h.firings; ending = h.ending; read = h.read; so = (h.so.0, inl h.so.1) }
+  restored_not restores.NoMemory h n = tt
 
 -- nothing is written where nothing is restored of a job
 module _ (bytes word checkpoint : List ℕ) (firings : ℕ) (old : Option (List ℕ)) where

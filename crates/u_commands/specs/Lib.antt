@@ -8,7 +8,6 @@ pub mod Explains
 pub mod Runs
 pub mod Saves
 pub mod Restores
-pub mod Takings
 pub mod Traces
 pub mod Blaming
 pub mod Waits

@@ -18,6 +18,8 @@ use Rattle.u_replica.specs.Restoring.{blank, WasRead}
 use Rattle.u_replica.specs.declared.checkpoint.Ending.{Ending as CheckpointEnding}
 use Rattle.u_replica.specs.declared.checkpoint.Ending.TheVariants as endings
 use Rattle.u_replica.specs.declared.checkpoint.CheckpointError.TheVariants as errors
+use Rattle.u_replica.specs.declared.answer.RestoreError.{RestoreError}
+use Rattle.u_replica.specs.declared.answer.RestoreError.TheVariants as restores
 use Rattle.u_commands.specs.Outputs.{WritesAll, WritesPrefix}
 use Rattle.u_commands.specs.Runs.{IsJobOf, JobRefused, ReportsMachine}
 use Rattle.u_commands.specs.declared.command_error.CommandError.{CommandError}
@@ -95,6 +97,14 @@ CheckpointRefused job firings checkpoint (faults.OtherFiring place) = WasRead jo
 CheckpointRefused job firings checkpoint faults.Full = WasRead job.program.version checkpoint (λ fs. HasNoRoom job firings fs)
 CheckpointRefused job firings checkpoint faults.NoMemory = Unit {0}
 CheckpointRefused job firings checkpoint fault = ⊥
+
+-- the fault that is told of a checkpoint from which no replica was restored
+abbrev pub fault_in : RestoreError → CommandError
+fault_in (restores.BadLine n) = faults.CheckpointLineNotAllowed n
+fault_in (restores.TooLong n) = faults.CheckpointLineTooLong n
+fault_in (restores.NotAFiring place) = faults.OtherFiring place
+fault_in restores.Full = faults.Full
+fault_in restores.NoMemory = faults.NoMemory
 
 -- the fault that is told of a run that was refused
 abbrev pub fault_of : Refusal → CommandError

@@ -14,7 +14,6 @@ mod restoring;
 mod run;
 mod running;
 mod saving;
-mod taking;
 mod tracing;
 mod waiting;
 mod watch;

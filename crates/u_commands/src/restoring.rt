@@ -1,33 +1,42 @@
 //! The command `restore`.
 ghost use Rattle.std.specs.Prelude.{◌≡◌, MatchResult, ℕ};
-ghost use Rattle.u_replica.specs.Checkpoints.{IsCheckpointOf};
 ghost use Rattle.u_replica.specs.Restoring.{IsRestored};
 ghost use Rattle.u_commands.specs.Runs.{RunsBehind, RunRefused};
-ghost use Rattle.u_commands.specs.Restores.{most_taken, fault_of, ending_line, RestoresJob, CheckpointRefused, RestoreTextAnswer};
+ghost use Rattle.u_commands.specs.Restores.{most_taken, fault_in, fault_of, ending_line, RestoresJob, CheckpointRefused, RestoreTextAnswer};
 
 use crate::command_error::CommandError;
 use crate::output::{joined, write_whole};
-use crate::run::{JobTexts, ending_of, job_of, report_of};
+use crate::run::{FIRING_LIMIT, JobTexts, ending_of, job_of, report_of};
 use crate::running::run_watched;
-use crate::taking::replica_with;
-use crate::watch::{Unwatched, Watch};
+use crate::watch::{Unwatched, Watch, show};
 use std::alloc::Global;
 use std::io::Write;
 use u_check::Job;
-use u_machine::Refusal;
-use u_replica::{Checkpoint, CheckpointError, Ending, Replica, read_checkpoint};
+use u_machine::{Machine, Refusal};
+use u_replica::{Ending, Onlooker, Replica, Restart, RestoreError};
 
-/// The checkpoint of the job that the bytes are.
-fn checkpoint_in(alloc: Global, job: &Job, bytes: &[u8]) -> Result<Checkpoint, CommandError>
-    ensures { MatchResult result
-        (λ c. IsCheckpointOf job.now.program.version bytes.now c.ending c.firings)
-        (λ fault. (n : ℕ) → CheckpointRefused job.now n bytes.now fault) }
+/// A watch that is shown machines.
+#[derive(Drop)]
+struct Shown<'a, V: Watch> {
+    watch: &'a mut V,
+}
+
+impl<V: Watch> Onlooker for Shown<'_, V> {
+    fn see(&mut self, machine: &Machine<'_>) {
+        show(machine, self.watch);
+    }
+}
+
+/// The fault that is told of a checkpoint from which no replica was restored.
+fn fault_in(error: RestoreError) -> CommandError
+    ensures { result ≡ fault_in error }
 {
-    match read_checkpoint(alloc, job.program().version(), bytes) {
-        Ok(checkpoint) => Ok(checkpoint),
-        Err(CheckpointError::BadLine(line)) => Err(CommandError::CheckpointLineNotAllowed(line)),
-        Err(CheckpointError::TooLong(line)) => Err(CommandError::CheckpointLineTooLong(line)),
-        Err(CheckpointError::NoMemory) => Err(CommandError::NoMemory),
+    match error {
+        RestoreError::BadLine(line) => CommandError::CheckpointLineNotAllowed(line),
+        RestoreError::TooLong(line) => CommandError::CheckpointLineTooLong(line),
+        RestoreError::NotAFiring(place) => CommandError::OtherFiring(place),
+        RestoreError::Full => CommandError::Full,
+        RestoreError::NoMemory => CommandError::NoMemory,
     }
 }
 
@@ -43,13 +52,15 @@ fn restored<'a, V: Watch>(
         (λ p. IsRestored job.now most_taken 1 1 checkpoint.now p.1 p.0)
         (λ fault. (n : ℕ) → CheckpointRefused job.now n checkpoint.now fault) }
 {
-    let read = match checkpoint_in(alloc, job, checkpoint) {
-        Ok(read) => read,
-        Err(fault) => return Err(fault),
+    let restart = Restart {
+        number: 1,
+        life: 1,
+        checkpoint,
     };
-    match replica_with(alloc, job, read.firings.as_slice(), watch) {
-        Ok(replica) => Ok((replica, read.ending)),
-        Err(fault) => Err(fault),
+    let mut shown = Shown { watch };
+    match Replica::restore_watched(alloc, job, FIRING_LIMIT, restart, &mut shown) {
+        Ok(found) => Ok(found),
+        Err(error) => Err(fault_in(error)),
     }
 }
 

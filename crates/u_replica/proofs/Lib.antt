@@ -9,3 +9,6 @@ pub mod CheckpointSame
 pub mod CheckpointCuts
 pub mod RestoreLaws
 pub mod ReplicaLaws
+pub mod SpelledTexts
+pub mod Takings
+pub mod FiredLaws

@@ -1,17 +1,17 @@
 -- What a replica takes that starts again from a checkpoint.
-use Rattle.std.proofs.Common.{arith, inl, inr, refl, sym, ◌∙◌, ap, subst, ◌≡◌, ◌<◌, ◌≤◌, ℕ, List, take, length}
+use Rattle.std.proofs.Common.{arith, inl, inr, refl, sym, ◌∙◌, ap, subst, ◌≡◌, ◌<◌, ◌≤◌, ◌^◌, ℕ, List, [], take, length}
 use Rattle.std.specs.Prelude.{Contains, Result, Ok, Err, MatchResult, IsTrue, true, false}
 use Rattle.std.specs.Result.{IsErrAnd}
 use Rattle.std.proofs.Common.{length-append}
 use Rattle.std.proofs.lemmas.List.{length-take}
 use Rattle.u_system.specs.Firing.{Same}
-use Rattle.u_system.proofs.Member.{Contains-nil}
+use Rattle.u_system.proofs.Member.{Contains-nil, Contains-cons_cases}
 use Rattle.u_check.specs.Jobs.{JobParts}
 use Rattle.u_rule.specs.Rule.{system_of}
 use Rattle.u_program.specs.declared.program.Version.{Version}
 use Rattle.u_rule.specs.declared.firing.Firing.{Firing}
-use Rattle.u_machine.specs.State.{State, Taken, count_of}
-use Rattle.u_machine.specs.Taking.{AreFirings, IsFirstOther, IsTooLong, TakesAll, TakeAllAnswer}
+use Rattle.u_machine.specs.State.{State, Taken, IsSettled, count_of}
+use Rattle.u_machine.specs.Taking.{AreFirings, IsTooLong, TakesAll}
 use Rattle.u_machine.specs.declared.answer.ListRefusal.{ListRefusal}
 use Rattle.u_machine.specs.declared.answer.ListRefusal.TheVariants as lists
 use Rattle.u_machine.proofs.Lists.{slice_get_Contains, Contains-taken}
@@ -30,6 +30,11 @@ use Rattle.u_replica.specs.CheckpointText.{checkpoint_text}
 use Rattle.u_replica.specs.Checkpoints as ranges
 use Rattle.u_replica.specs.Checkpoints.{MayRead, IsCheckpointOf, IsCheckpointErrorOf, IsFrontOf}
 use Rattle.u_replica.proofs.CheckpointLaws.{reads_own}
+use Rattle.u_replica.proofs.CheckpointSame.{read_back}
+use Rattle.u_replica.proofs.CheckpointCuts.{read_cut}
+use Rattle.u_replica.specs.CheckpointReading.{IsAnswer}
+use Rattle.u_replica.specs.Takings.{IsTaken, IsUntaken}
+use Rattle.u_text.specs.Pieces.{pieces}
 use Rattle.u_replica.specs.Restoring.{blank, IsRestored, IsRestoreError, RestoreAnswer, error_of_reading, error_of_taking, IsNoRoom, IsNoRoomFor, MaySave, MayWrite, RestoresWritten, RestoresWhole, RestoresFront}
 
 -- what reading a checkpoint says of a text that was written, and of a front of it
@@ -108,28 +113,27 @@ module _ (job : JobParts) (limit number life : ℕ) (bytes : List ℕ) where
 
   -- the firings that were read were not taken
 
-  module _ (c : Checkpoint) (fs : List Firing) (is : fs ≡ c.firings) (new : State) where
-    pub untaken_error : (r : ListRefusal) → IsCheckpointOf job.program.version bytes c.ending c.firings → TakeAllAnswer (blank job limit) fs (Err r) new → IsRestoreError job limit bytes (error_of_taking r)
-    untaken_error (lists.NotAFiring place) h t = record { firings = c.firings; ending = c.ending; read = h; so = subst (λ (fs : List Firing). IsFirstOther job fs place) is t.0 }
-    untaken_error lists.Full h t = record { firings = c.firings; ending = c.ending; read = h; so = subst (λ (fs : List Firing). AreFirings job fs × IsTooLong (blank job limit) fs) is (t.0, t.1) }
+  module _ (c : Checkpoint) where
+    pub untaken_error : (r : ListRefusal) → IsCheckpointOf job.program.version bytes c.ending c.firings → IsUntaken (blank job limit) c.firings r → IsRestoreError job limit bytes (error_of_taking r)
+    untaken_error (lists.NotAFiring place) h t = record { firings = c.firings; ending = c.ending; read = h; so = t }
+    untaken_error lists.Full h t = record { firings = c.firings; ending = c.ending; read = h; so = t }
     untaken_error lists.NoMemory h t = tt
 
     -- where all of them are firings of the job
-    no_room : (r : ListRefusal) → AreFirings job c.firings → TakeAllAnswer (blank job limit) fs (Err r) new → IsNoRoomFor job limit c.firings (error_of_taking r)
-    no_room (lists.NotAFiring place) own t =
-        let f : IsFirstOther job c.firings place = subst (λ (fs : List Firing). IsFirstOther job fs place) is t.0 in
+    no_room : (r : ListRefusal) → AreFirings job c.firings → IsUntaken (blank job limit) c.firings r → IsNoRoomFor job limit c.firings (error_of_taking r)
+    no_room (lists.NotAFiring place) own f =
         let there : IsTrue ((system_of job).is_firing f.other) = own f.other (slice_get_Contains c.firings place f.other f.at) in
         absurd (let n : true ≡ false = sym there ∙ f.none in cc)
-    no_room lists.Full own t = inr (refl, subst (λ (fs : List Firing). IsTooLong (blank job limit) fs) is t.1)
+    no_room lists.Full own t = inr (refl, t.1)
     no_room lists.NoMemory own t = inl refl
 
-    pub untaken_written : (r : ListRefusal) → ReadsWhole job.program.version bytes (Ok c) → TakeAllAnswer (blank job limit) fs (Err r) new → RestoresWritten job limit bytes (Err (error_of_taking r))
+    pub untaken_written : (r : ListRefusal) → ReadsWhole job.program.version bytes (Ok c) → IsUntaken (blank job limit) c.firings r → RestoresWritten job limit bytes (Err (error_of_taking r))
     untaken_written r h t head gs may m text =
         let e = (h head gs may m.0 text).1 in
         let own : AreFirings job c.firings = subst (λ (fs : List Firing). AreFirings job fs) (sym e) m.1 in
         subst (λ (fs : List Firing). IsNoRoomFor job limit fs (error_of_taking r)) e (no_room r own t)
 
-    pub untaken_front : (r : ListRefusal) → ReadsFront job.program.version bytes (Ok c) → TakeAllAnswer (blank job limit) fs (Err r) new → RestoresFront job limit bytes (Err (error_of_taking r))
+    pub untaken_front : (r : ListRefusal) → ReadsFront job.program.version bytes (Ok c) → IsUntaken (blank job limit) c.firings r → RestoresFront job limit bytes (Err (error_of_taking r))
     untaken_front r h t head saved k may m l text =
         let e = (h head (all_of saved) k may m.2 l text).1 in
         let own : AreFirings job c.firings = λ f k. (may_write job saved m).1 f (Contains-taken e.count (all_of saved) f (subst (λ (fs : List Firing). Contains fs f) e.first k)) in
@@ -138,23 +142,31 @@ module _ (job : JobParts) (limit number life : ℕ) (bytes : List ℕ) where
 
     -- they were taken
 
-    abbrev Restored : ReplicaState
-    Restored = replica new number life fresh_marks
+    module _ (new : State) (t : IsTaken (blank job limit) c.firings new) where
+      abbrev Restored : ReplicaState
+      Restored = replica new number life fresh_marks
 
-    taken_read : (u : Unit {0}) → TakeAllAnswer (blank job limit) fs (Ok u) new → TakesAll (blank job limit) c.firings new
-    taken_read u t = subst (λ (fs : List Firing). TakesAll (blank job limit) fs new) is t.2
+      pub restored : IsCheckpointOf job.program.version bytes c.ending c.firings → IsRestored job limit number life bytes c.ending Restored
+      restored h = record { firings = c.firings; read = h; of_job = t.firings; takes = t.takes; settled = t.settled; beside = refl }
 
-    pub restored : (u : Unit {0}) → IsCheckpointOf job.program.version bytes c.ending c.firings → TakeAllAnswer (blank job limit) fs (Ok u) new → IsRestored job limit number life bytes c.ending Restored
-    restored u h t =
-        let own = subst (λ (fs : List Firing). AreFirings job fs) is t.0 in
-        record { firings = c.firings; read = h; of_job = own; takes = taken_read u t; settled = t.3; beside = refl }
+      pub restored_written : ReadsWhole job.program.version bytes (Ok c) → RestoresWritten job limit bytes (Ok (Restored, c.ending))
+      restored_written h head gs may m text =
+          let e = h head gs may m.0 text in
+          (e.0, subst (λ (fs : List Firing). TakesAll (blank job limit) fs new) e.1 t.takes)
 
-    pub restored_written : (u : Unit {0}) → ReadsWhole job.program.version bytes (Ok c) → TakeAllAnswer (blank job limit) fs (Ok u) new → RestoresWritten job limit bytes (Ok (Restored, c.ending))
-    restored_written u h t head gs may m text =
-        let e = h head gs may m.0 text in
-        (e.0, subst (λ (fs : List Firing). TakesAll (blank job limit) fs new) e.1 (taken_read u t))
+      pub restored_front : ReadsFront job.program.version bytes (Ok c) → RestoresFront job limit bytes (Ok (Restored, c.ending))
+      restored_front h head saved k may m l text =
+          let e = h head (all_of saved) k may m.2 l text in
+          (e.0, record { firings = c.firings; front = e.1; taken = took job limit c.firings new t.takes })
 
-    pub restored_front : (u : Unit {0}) → ReadsFront job.program.version bytes (Ok c) → TakeAllAnswer (blank job limit) fs (Ok u) new → RestoresFront job limit bytes (Ok (Restored, c.ending))
-    restored_front u h t head saved k may m l text =
-        let e = h head (all_of saved) k may m.2 l text in
-        (e.0, record { firings = c.firings; front = e.1; taken = took job limit c.firings new (taken_read u t) })
+-- what reading says of a text, where it was cut into lines
+module _ (version : Version) (bytes : List ℕ) (l : length bytes < 2 ^ 64) (r : Result Checkpoint CheckpointError) (a : IsAnswer version (pieces 10 bytes) r) where
+  pub reads_whole : ReadsWhole version bytes r
+  reads_whole head fs may valid text = read_back version bytes l head fs r a may valid text
+
+  pub reads_front : ReadsFront version bytes r
+  reads_front head fs k may valid inside text = read_cut version head fs k bytes r l may valid inside text a
+
+-- nothing was taken yet, and so nothing is left to be applied
+pub blank_settled : (job : JobParts) (limit : ℕ) → IsSettled (blank job limit)
+blank_settled job limit = record { held = λ e k. elim (Contains-cons_cases (system_of job).start e [] k) [ inl p ↦ inl (sym p) | inr n ↦ absurd (Contains-nil e n) ]; none = λ f k. absurd (Contains-nil f k) }

@@ -7,3 +7,5 @@ pub mod Checkpoints
 pub mod CheckpointReading
 pub mod Restoring
 pub mod Obeying
+pub mod FiredLines
+pub mod Takings

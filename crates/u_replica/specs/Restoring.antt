@@ -1,5 +1,5 @@
 -- What restoring a replica from the bytes of a checkpoint answers.
-use Rattle.std.specs.Prelude.{◌≡◌, ℕ, ◌<◌, ◌⊎◌, List, [], ◌∷◌, Result, MatchResult, Contains, length, take}
+use Rattle.std.specs.Prelude.{◌≡◌, ℕ, ◌<◌, ◌+◌, ◌^◌, ◌⊎◌, List, [], ◌∷◌, Result, MatchResult, Contains, length, take}
 use Rattle.u_text.specs.Pieces.{pieces}
 use Rattle.u_system.specs.Firing.{Same}
 use Rattle.u_program.specs.declared.program.Version.{Version}
@@ -69,6 +69,18 @@ abbrev pub error_of_taking : ListRefusal → RestoreError
 error_of_taking (lists.NotAFiring place) = NotAFiring place
 error_of_taking lists.Full = Full
 error_of_taking lists.NoMemory = NoMemory
+
+-- the refusal of a list behind so many firings that were taken before
+abbrev pub refusal_behind : ℕ → ListRefusal → ListRefusal
+refusal_behind n (lists.NotAFiring place) = lists.NotAFiring (n + place)
+refusal_behind n lists.Full = lists.Full
+refusal_behind n lists.NoMemory = lists.NoMemory
+
+-- its place fits in 64 bits
+abbrev pub FitsBehind : ℕ → ListRefusal → Type 0
+FitsBehind n (lists.NotAFiring place) = n + place < 2 ^ 64
+FitsBehind n lists.Full = Unit {0}
+FitsBehind n lists.NoMemory = Unit {0}
 
 -- firings of the job, whose parts are in their ranges
 abbrev pub MayWrite : JobParts → List Firing → Type 0

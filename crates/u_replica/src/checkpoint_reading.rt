@@ -1,5 +1,5 @@
 //! The text of a checkpoint, read line by line.
-ghost use Rattle.std.specs.Prelude.{◌≡◌, ◌↔◌, ◌∷◌, [], ◌++◌, ℕ, ◌<◌, List, length, take, IsTrue, MatchOption, MatchResult};
+ghost use Rattle.std.specs.Prelude.{◌≡◌, ◌↔◌, ◌∷◌, [], ◌++◌, ℕ, ◌<◌, List, length, take, IsTrue, OnOk, MatchOption, MatchResult};
 ghost use Rattle.u_program.specs.declared.program.Version.{Version};
 ghost use Rattle.u_rule.specs.declared.firing.Firing.{Firing};
 ghost use Rattle.u_rule.specs.FiringReading.{line as ended_line, IsFiringOf};
@@ -12,10 +12,16 @@ ghost use Rattle.u_replica.specs.CheckpointText.{checkpoint_lines, checkpoint_te
 ghost use Rattle.u_replica.specs.Checkpoints.{AreFirings, MayRead, IsFrontOf};
 ghost use Rattle.u_replica.specs.Checkpoints.{IsCheckpointOf, IsCheckpointErrorOf};
 ghost use Rattle.u_replica.specs.CheckpointReading.{AreRead, IsNoFiring, IsAnswer, IsAnswerBehind};
+ghost use Rattle.u_replica.specs.FiredLines.{behind};
+ghost use Rattle.u_machine.specs.State.{IsSettled};
+ghost use Rattle.u_machine.specs.Calls.{IsFresh, Runs};
 
 use crate::checkpoint::{Checkpoint, CheckpointError, Ending};
-use std::alloc::Global;
+use crate::firing_lines::fire_lines;
+use crate::onlooker::Onlooker;
+use std::alloc::{AllocError, Global};
 use u_delta::{Ahead, Firings, look_ahead};
+use u_machine::Machine;
 use u_name::KeptContext;
 use u_program::Version;
 use u_rule::{Firing, TextError};
@@ -65,13 +71,20 @@ fn firing_in<'a>(
     }
 }
 
-/// The checkpoint of these firings, of which all lines were read. Nothing may stand behind them.
-fn closed(head: Version, firings: Vec<Firing>, bytes: &[u8]) -> Result<Checkpoint, CheckpointError>
-    requires { AreRead head firings.items }
+/// The checkpoint of these firings behind those `before` them, of which all lines were read. Nothing may stand
+/// behind them.
+fn closed(
+    head: Version,
+    before: &[Firing],
+    firings: Vec<Firing>,
+    bytes: &[u8],
+) -> Result<Checkpoint, CheckpointError>
+    requires { AreRead head (before.now ++ firings.items) }
     ensures { IsAnswerBehind head
-        (lines_behind (checkpoint_lines head firings.items) bytes.now) result }
+        (lines_behind (checkpoint_lines head (before.now ++ firings.items)) bytes.now)
+        (behind before.now result) }
 {
-    let number = firings.len() + 3;
+    let number = before.len() + firings.len() + 3;
     if bytes.is_empty() {
         return Ok(Checkpoint {
             firings: Firings::new(firings),
@@ -84,18 +97,26 @@ fn closed(head: Version, firings: Vec<Firing>, bytes: &[u8]) -> Result<Checkpoin
     }
 }
 
-/// The checkpoint that goes on with these bytes behind its first line.
-fn read_firings(alloc: Global, head: Version, bytes: &[u8]) -> Result<Checkpoint, CheckpointError>
-    ensures { IsAnswerBehind head (lines_behind (first_line head ∷ []) bytes.now) result }
+/// The checkpoint that goes on with these bytes behind the lines of the firings `before` them. It has the
+/// firings that were read of the bytes.
+fn read_firings(
+    alloc: Global,
+    head: Version,
+    before: &[Firing],
+    bytes: &[u8],
+) -> Result<Checkpoint, CheckpointError>
+    requires { AreRead head before.now }
+    ensures { IsAnswerBehind head (lines_behind (begun_lines head before.now) bytes.now)
+        (behind before.now result) }
 {
     let mut firings = Vec::new(alloc);
     let mut kept = KeptContext::root();
     let mut rest = bytes;
     loop {
-        let number = firings.len() + 2;
+        let count = before.len() + firings.len();
         let (line, others) = match look_ahead(rest) {
             Ahead::Line(line, others) => (line, others),
-            Ahead::TooLong => return Err(CheckpointError::TooLong(number)),
+            Ahead::TooLong => return Err(CheckpointError::TooLong(count + 2)),
             Ahead::Rest => {
                 return Ok(Checkpoint {
                     firings: Firings::new(firings),
@@ -103,11 +124,11 @@ fn read_firings(alloc: Global, head: Version, bytes: &[u8]) -> Result<Checkpoint
                 });
             }
         };
-        if is_count_line(line, firings.len() as u64) {
-            return closed(head, firings, others);
+        if is_count_line(line, count as u64) {
+            return closed(head, before, firings, others);
         }
         let ended = with_newline(rest, line, others);
-        match firing_in(alloc, line, ended, number, &mut kept) {
+        match firing_in(alloc, line, ended, count + 2, &mut kept) {
             Ok(firing) => firings.push(firing)?,
             Err(error) => return Err(error),
         }
@@ -130,20 +151,64 @@ fn head_of(version: Version, line: &[u8]) -> Option<Version>
     None
 }
 
+/// The head of the checkpoint and what stands behind its line, or what is answered where there is none.
+fn read_head(
+    alloc: Global,
+    version: Version,
+    bytes: &[u8],
+) -> Result<(Version, &[u8]), Result<Checkpoint, CheckpointError>>
+    ensures { MatchResult result
+        (λ found. MayRead version found.0
+        × (pieces 10 bytes.now ≡ lines_behind (first_line found.0 ∷ []) found.1.now))
+        (λ answer. IsAnswer version (pieces 10 bytes.now) answer) }
+{
+    match look_ahead(bytes) {
+        Ahead::Line(line, rest) => match head_of(version, line) {
+            Some(head) => Ok((head, rest)),
+            None => Err(Err(CheckpointError::BadLine(1))),
+        },
+        Ahead::TooLong => Err(Err(CheckpointError::TooLong(1))),
+        Ahead::Rest => Err(Ok(Checkpoint {
+            firings: Firings::new(Vec::new(alloc)),
+            ending: Ending::Torn,
+        })),
+    }
+}
+
 /// The checkpoint whose lines these are.
 fn read_lines(alloc: Global, version: Version, bytes: &[u8]) -> Result<Checkpoint, CheckpointError>
     ensures { IsAnswer version (pieces 10 bytes.now) result }
 {
-    match look_ahead(bytes) {
-        Ahead::Line(line, rest) => match head_of(version, line) {
-            Some(head) => read_firings(alloc, head, rest),
-            None => Err(CheckpointError::BadLine(1)),
+    match read_head(alloc, version, bytes) {
+        Ok((head, rest)) => read_firings(alloc, head, &[], rest),
+        Err(answer) => answer,
+    }
+}
+
+/// What `read_checkpoint` returns, but that a firing whose line comes next is fired where the machine fires
+/// just that one next: the checkpoint has the firings behind those. The onlooker is shown the machine.
+///
+/// # Errors
+/// As `read_checkpoint`.
+pub(crate) fn read_behind_fired<S: Onlooker>(
+    alloc: Global,
+    version: Version,
+    bytes: &[u8],
+    machine: &mut Machine<'_>,
+    onlooker: &mut S,
+) -> Result<Checkpoint, CheckpointError>
+    requires fresh { IsFresh machine.old }
+    requires settled { IsSettled machine.old }
+    ensures answer { IsAnswer version (pieces 10 bytes.now) (behind machine.new.log result) }
+    ensures runs { OnOk result (Runs machine.old machine.new.log machine.new) }
+    ensures settled { OnOk result (IsSettled machine.new) }
+{
+    match read_head(alloc, version, bytes) {
+        Ok((head, lines)) => match fire_lines(alloc, machine, lines, onlooker) {
+            Ok(rest) => read_firings(alloc, head, machine.applied(), rest),
+            Err(AllocError) => Err(CheckpointError::NoMemory),
         },
-        Ahead::TooLong => Err(CheckpointError::TooLong(1)),
-        Ahead::Rest => Ok(Checkpoint {
-            firings: Firings::new(Vec::new(alloc)),
-            ending: Ending::Torn,
-        }),
+        Err(answer) => answer,
     }
 }
 

@@ -21,10 +21,12 @@ ghost use Rattle.u_replica.specs.Restoring.{RestoreAnswer, RestoresWritten, Rest
 
 use crate::answer::{MergeRefusal, RestoreError};
 use crate::checkpoint::{Ending, write_checkpoint};
-use crate::checkpoint_reading::read_checkpoint;
+use crate::checkpoint_reading::read_behind_fired;
 use crate::marks::Marks;
 use crate::merging::merge;
-use crate::restoring::{unread, untaken};
+use crate::onlooker::{Nobody, Onlooker};
+use crate::restoring::{Restart, unread, untaken};
+use crate::taking::take_behind;
 use std::alloc::{AllocError, Global};
 use std::marker::Model;
 use u_check::Job;
@@ -334,21 +336,52 @@ impl<'a> Replica<'a> {
         ensures whole { RestoresWhole job.now limit bytes.now result }
         ensures front { RestoresFront job.now limit bytes.now result }
     {
+        let restart = Restart {
+            number,
+            life,
+            checkpoint: bytes,
+        };
+        Replica::restore_watched(alloc, job, limit, restart, &mut Nobody)
+    }
+
+    /// What `restore` returns. The onlooker is shown from time to time how far the machine has come.
+    ///
+    /// # Errors
+    /// As `restore`.
+    pub fn restore_watched<S: Onlooker>(
+        alloc: Global,
+        job: &'a Job,
+        limit: usize,
+        restart: Restart<'_>,
+        onlooker: &mut S,
+    ) -> Result<(Replica<'a>, Ending), RestoreError>
+        requires number { IsBetween 1 restart.number 8 }
+        requires born { 1 ≤ restart.life }
+        ensures answer { RestoreAnswer job.now limit restart.entry.number restart.entry.life
+            restart.entry.checkpoint.now result }
+        ensures written { RestoresWritten job.now limit restart.entry.checkpoint.now result }
+        ensures whole { RestoresWhole job.now limit restart.entry.checkpoint.now result }
+        ensures front { RestoresFront job.now limit restart.entry.checkpoint.now result }
+    {
         let version = job.program().version();
-        let checkpoint = match read_checkpoint(alloc, version, bytes) {
+        let bytes = restart.checkpoint;
+        let mut machine = Machine::new(alloc, job, limit)?;
+        let checkpoint = match read_behind_fired(alloc, version, bytes, &mut machine, onlooker) {
             Ok(checkpoint) => checkpoint,
             Err(error) => return Err(unread(error)),
         };
-        let mut machine = Machine::new(alloc, job, limit)?;
-        match machine.take_all(checkpoint.firings.as_slice()) {
+        let fired = machine.applied().len();
+        // Brings in that what was fired are firings of the job.
+        machine.holds();
+        match take_behind(&mut machine, checkpoint.firings.as_slice(), onlooker) {
             Ok(()) => {}
-            Err(refusal) => return Err(untaken(refusal)),
+            Err(refusal) => return Err(untaken(fired, refusal)),
         }
         let replica = Replica {
             alloc,
             machine,
-            number,
-            life,
+            number: restart.number,
+            life: restart.life,
             marks: Marks::new(),
         };
         Ok((replica, checkpoint.ending))

@@ -1,10 +1,21 @@
 //! Replicas that start again from a checkpoint.
 ghost use Rattle.std.specs.Prelude.{◌≡◌, ◌≤◌};
-ghost use Rattle.u_replica.specs.Restoring.{error_of_reading, error_of_taking};
+ghost use Rattle.u_replica.specs.Restoring.{error_of_reading, error_of_taking, refusal_behind, FitsBehind};
 
 use crate::answer::RestoreError;
 use crate::checkpoint::CheckpointError;
 use u_machine::ListRefusal;
+
+/// Which replica starts again, and from what.
+#[derive(Clone, Copy)]
+pub struct Restart<'a> {
+    /// Its number, 1 to 8.
+    pub number: u8,
+    /// Its life, at least 1: one that it did not live before.
+    pub life: u64,
+    /// The bytes of a checkpoint, or of a front of one.
+    pub checkpoint: &'a [u8],
+}
 
 /// Why the bytes are no checkpoint, as an error of restoring.
 pub(crate) fn unread(error: CheckpointError) -> RestoreError
@@ -17,12 +28,13 @@ pub(crate) fn unread(error: CheckpointError) -> RestoreError
     }
 }
 
-/// Why the firings were not taken, as an error of restoring.
-pub(crate) fn untaken(refusal: ListRefusal) -> RestoreError
-    ensures { result ≡ error_of_taking refusal }
+/// Why the firings behind so many that were fired were not taken, as an error of restoring.
+pub(crate) fn untaken(fired: usize, refusal: ListRefusal) -> RestoreError
+    requires { FitsBehind fired refusal }
+    ensures { result ≡ error_of_taking (refusal_behind fired refusal) }
 {
     match refusal {
-        ListRefusal::NotAFiring(place) => RestoreError::NotAFiring(place),
+        ListRefusal::NotAFiring(place) => RestoreError::NotAFiring(fired + place),
         ListRefusal::Full => RestoreError::Full,
         ListRefusal::NoMemory => RestoreError::NoMemory,
     }

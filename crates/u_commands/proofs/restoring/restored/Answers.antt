@@ -1,10 +1,8 @@
-use Rattle.u_commands.proofs.Restored.{restored_with, restored_not}
+use Rattle.u_commands.proofs.Restored.{restored_as, restored_not}
 use Rattle.u_commands.proofs.restoring.restored.Goals as goal
 
-pub returns-in-Ok-replica_with : goal.returns-in-Ok-replica_with
-returns-in-Ok-replica_with g c =
-    restored_with c.args.job.now c.args.checkpoint.now c.in-Ok.read.ending c.in-Ok.read.firings c.as_slice.result.now c.in-Ok.ensures c.as_slice.ensures c.in-Ok-replica_with.replica c.in-Ok-replica_with.ensures
+pub returns-in-Ok : goal.returns-in-Ok
+returns-in-Ok g c = restored_as c.args.job.now c.args.checkpoint.now c.in-Ok.found.1 c.in-Ok.found.0 c.in-Ok.ensures.answer
 
-pub returns : goal.returns
-returns g c =
-    restored_not c.args.job.now c.args.checkpoint.now c.in-Ok.read.ending c.in-Ok.read.firings c.as_slice.result.now c.in-Ok.ensures c.as_slice.ensures c.in-Err-replica_with.fault c.in-Err-replica_with.ensures
+pub returns-in-Err : goal.returns-in-Err
+returns-in-Err g c = rw c.fault_in.ensures (restored_not c.args.job.now c.args.checkpoint.now c.in-Err.error c.in-Err.ensures.answer)

@@ -1,4 +1,4 @@
-use Rattle.std.proofs.Common.{◌≡◌, ◌≤◌, arith, refl, Ok, Err}
+use Rattle.std.proofs.Common.{arith, refl, Ok, Err}
 use Rattle.u_machine.specs.declared.answer.Ran.TheVariants as ran
 use Rattle.u_commands.proofs.InPieces.{has_run_none, has_run_more, run_ends, alone_on}
 use Rattle.u_commands.proofs.running.run_pieces.Goals as goal

@@ -1,4 +1,3 @@
-use Rattle.std.proofs.Common.{ℕ}
 use Rattle.u_replica.specs.ReplicaState.{ChangesMachine}
 use Rattle.u_commands.proofs.InPieces.{HasRun}
 use Rattle.u_commands.proofs.running.run_pieces.Given as goal

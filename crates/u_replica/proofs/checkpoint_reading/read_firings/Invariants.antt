@@ -1,13 +1,13 @@
-use Rattle.std.proofs.Common.{◌≡◌, ◌∷◌, [], length}
+use Rattle.std.proofs.Common.{◌≡◌, ◌++◌, length}
 use Rattle.u_delta.specs.Lines.{lines_behind}
-use Rattle.u_replica.specs.CheckpointText.{first_line, begun_lines}
+use Rattle.u_replica.specs.CheckpointText.{begun_lines}
 use Rattle.u_replica.specs.CheckpointReading.{AreRead}
 use Rattle.u_replica.proofs.checkpoint_reading.read_firings.Given as goal
 
 abbrev pub invariant-loop-line : goal.invariant-loop-line
 invariant-loop-line l =
-    AreRead l.head l.firings.items
-    × (lines_behind (first_line l.head ∷ []) l.bytes ≡ lines_behind (begun_lines l.head l.firings.items) l.rest)
+    AreRead l.head (l.before ++ l.firings.items)
+    × (lines_behind (begun_lines l.head l.before) l.bytes ≡ lines_behind (begun_lines l.head (l.before ++ l.firings.items)) l.rest)
 
 abbrev pub decreases-loop-line : goal.decreases-loop-line
 decreases-loop-line l = length l.rest

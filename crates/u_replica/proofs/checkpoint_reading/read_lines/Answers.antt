@@ -1,15 +1,11 @@
-use Rattle.std.proofs.Common.{◌∙◌}
-use Rattle.u_replica.proofs.CheckpointSteps.{first_bad, first_long, first_read, first_rest}
+use Rattle.std.proofs.Common.{sym, subst, [], ◌∷◌}
+use Rattle.u_delta.specs.Lines.{lines_behind}
+use Rattle.u_replica.specs.CheckpointText.{first_line}
+use Rattle.u_replica.specs.CheckpointReading.{IsAnswer}
+use Rattle.u_replica.proofs.FiredLaws.{behind_none}
 use Rattle.u_replica.proofs.checkpoint_reading.read_lines.Goals as goal
 
-pub returns-in-Some : goal.returns-in-Some
-returns-in-Some c = first_read c.args.version c.in-Some.head c.args.bytes.now c.in-Line.line.now c.in-Line.rest.now c.read_firings.result c.in-Line.ensures.0 c.in-Some.ensures.0 c.in-Some.ensures.1 c.read_firings.ensures
-
-pub returns-in-None : goal.returns-in-None
-returns-in-None c = first_bad c.args.version c.args.bytes.now c.in-Line.line.now c.in-Line.rest.now c.in-Line.ensures.0 c.in-None.ensures
-
-pub returns-in-TooLong : goal.returns-in-TooLong
-returns-in-TooLong c = first_long c.args.version c.args.bytes.now c.in-TooLong.ensures
-
-pub returns-in-Rest : goal.returns-in-Rest
-returns-in-Rest c = first_rest c.args.version c.args.bytes.now c.new-in-Rest.result (c.new-in-Rest.ensures ∙ c.new.ensures.items) c.in-Rest.ensures
+pub returns-in-Ok : goal.returns-in-Ok
+returns-in-Ok c =
+    subst (λ t. IsAnswer c.args.version t c.read_firings.result) (sym c.in-Ok.ensures.1)
+    (subst (λ r. IsAnswer c.args.version (lines_behind (first_line c.in-Ok.head ∷ []) c.in-Ok.rest.now) r) (behind_none c.read_firings.result) (c.read_firings.ensures c.args.version c.in-Ok.ensures.0))

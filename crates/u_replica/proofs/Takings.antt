@@ -1,25 +1,23 @@
 -- Lists of firings that are taken in pieces.
-use Rattle.std.proofs.Common.{◌≡◌, ◌∙◌, sym, ap, subst, refl, inl, inr, ◌⊎◌, ℕ, ◌+◌, ◌-◌, ◌≤◌, ◌<◌, List, [], ◌∷◌, ◌++◌, length, take, drop, append_assoc, length-append, Ok, Err, arith}
-use Rattle.std.specs.Prelude.{Result, Contains, MatchResult}
+use Rattle.std.proofs.Common.{◌≡◌, ◌∙◌, sym, ap, subst, inl, inr, ◌⊎◌, ℕ, suc, ◌+◌, ◌-◌, ◌≤◌, List, [], ◌∷◌, ◌++◌, length, take, drop, length-append, Ok, Err, arith}
+use Rattle.std.specs.Prelude.{Result, Contains, MatchResult, Some, slice_get, false}
+use Rattle.std.proofs.Math.Seq.{take-append-add}
 use Rattle.std.proofs.lemmas.List.{take-append-drop, take_rest, drop-take, take-append-le, length-take-le}
 use Rattle.std.proofs.lemmas.List.Elements.{Contains-append_left, Contains-append_right, Contains-append_cases}
-use Rattle.u_system.specs.Firing.{Distinct}
 use Rattle.u_machine.proofs.Once.{Distinct-join}
 use Rattle.u_system.proofs.Member.{Contains-nil}
 use Rattle.u_check.specs.Jobs.{JobParts}
 use Rattle.u_rule.specs.Rule.{system_of}
 use Rattle.u_rule.specs.declared.firing.Firing.{Firing}
-use Rattle.u_machine.specs.State.{State, Taken, IsSettled, IsSound, IsMachine, count_of}
+use Rattle.u_machine.specs.State.{State, Taken, IsSound, IsMachine}
 use Rattle.u_machine.specs.Calls.{Applies, IsFresh}
-use Rattle.u_machine.specs.Taking.{AreFirings, IsFirstOther, IsTooLong, AreNew, TakesAll, TakeAllAnswer}
+use Rattle.u_machine.specs.Taking.{AreFirings, IsFirstOther, IsTooLong, TakesAll, TakeAllAnswer}
 use Rattle.u_machine.specs.declared.answer.ListRefusal.{ListRefusal}
 use Rattle.u_machine.specs.declared.answer.ListRefusal.TheVariants.{NotAFiring, Full, NoMemory}
 use Rattle.u_machine.proofs.States.{Applies-refl, grows_trans}
 use Rattle.u_machine.proofs.TakenLists.{takes_none, takes_applies}
-use Rattle.u_replica.specs.ReplicaState.{ReplicaState, replica, fresh, ChangesMachine}
-use Rattle.u_commands.specs.Restores.{most_taken}
-use Rattle.u_commands.specs.declared.command_error.CommandError.TheVariants as faults
-use Rattle.u_commands.specs.Takings.{TookFront, IsTaken, IsUntaken, IsReplicaWith, HasNoReplica}
+use Rattle.u_replica.specs.Restoring.{refusal_behind}
+use Rattle.u_replica.specs.Takings.{TookFront, IsTaken, IsUntaken}
 
 -- lists that are taken one after another
 takes_on : (old mid new : State) (fs gs : List Firing) → TakesAll old fs mid → TakesAll mid gs new → TakesAll old (fs ++ gs) new
@@ -163,15 +161,71 @@ module _ (old mid new : State) (fs : List Firing) (count : ℕ) (t : TookFront o
   took_whole fresh is (Err Full) a = (firings_of old mid fs same_job a.0, too_long fresh is.sound a.1)
   took_whole fresh is (Err NoMemory) a = tt
 
--- a new replica that took them all
-module _ (job : JobParts) (fs : List Firing) (old new : ReplicaState) (is : old ≡ fresh job 1000000 1) where
-  pub replica_taken : IsTaken old.machine fs new.machine → ChangesMachine old new → IsReplicaWith job fs new
-  unfolding most_taken
-  replica_taken t alone = record {
-    taken = subst (λ (r : ReplicaState). IsTaken r.machine fs new.machine) is t;
-    beside = alone ∙ ap (λ (r : ReplicaState). replica new.machine r.number r.life r.marks) is;
-  }
+drop_front : (xs ys : List Firing) (k : ℕ) → drop (length xs + k) (xs ++ ys) ≡ drop k ys
+drop_front [] ys k = let e : 0 + k ≡ k = omega arith in ap (λ (m : ℕ). drop m ys) e
+drop_front (x ∷ xs) ys k = let e : length (x ∷ xs) + k ≡ suc (length xs + k) = omega arith in ap (λ (m : ℕ). drop m (x ∷ (xs ++ ys))) e ∙ drop_front xs ys k
 
-  pub replica_full : IsUntaken old.machine fs Full → HasNoReplica job fs faults.Full
-  unfolding most_taken
-  replica_full h = subst (λ (r : ReplicaState). IsUntaken r.machine fs Full) is h
+get_behind : (xs ys : List Firing) (k : ℕ) (f : Firing) → slice_get ys k ≡ Some f → slice_get (xs ++ ys) (length xs + k) ≡ Some f
+get_behind [] ys k f h = let e : 0 + k ≡ k = omega arith in ap (λ (m : ℕ). slice_get ys m) e ∙ h
+get_behind (x ∷ xs) ys k f h = let e : length (x ∷ xs) + k ≡ suc (length xs + k) = omega arith in ap (λ (m : ℕ). slice_get (x ∷ (xs ++ ys)) m) e ∙ get_behind xs ys k f h
+
+-- a list behind those that were taken before it
+module _ (base mid new : State) (before fs : List Firing) (count : ℕ) (t : TookFront base (before ++ fs) (length before + count) mid) where
+  joined : length (before ++ fs) ≡ length before + length fs
+  joined = length-append before fs
+
+  in_front : (f : Firing) → Contains before f → Contains (take (length before + count) (before ++ fs)) f
+  in_front f c = subst (λ (xs : List Firing). Contains xs f) (sym (take-append-add before fs count)) (Contains-append_left before (take count fs) f c)
+
+  -- one piece more
+  pub piece_taken : (n m : ℕ) → m ≡ n → count + n ≤ length fs → (u : Unit {0}) → TakeAllAnswer mid (take m (drop count fs)) (Ok u) new → TookFront base (before ++ fs) (length before + (count + n)) new
+  piece_taken n m same few u answer =
+      let e : length before + count + n ≡ length before + (count + n) = omega arith in
+      subst (λ (k : ℕ). TookFront base (before ++ fs) k new) e
+      (took_more base mid new (before ++ fs) (length before + count) t n m same (omega (arith, joined, few)) u (subst (λ (xs : List Firing). TakeAllAnswer mid (take m xs) (Ok u) new) (sym (drop_front before fs count)) answer))
+
+  pub piece_refused : (m : ℕ) (e : ListRefusal) → TakeAllAnswer mid (take m (drop count fs)) (Err e) new → TookFront base (before ++ fs) (length before + count) new
+  piece_refused m e answer =
+      took_refused base mid new (before ++ fs) (length before + count) t m e (subst (λ (xs : List Firing). TakeAllAnswer mid (take m xs) (Err e) new) (sym (drop_front before fs count)) answer)
+
+  pub rest_taken : (u : Unit {0}) → TakeAllAnswer mid (take (length fs - count) (drop count fs)) (Ok u) new → IsTaken base (before ++ fs) new
+  rest_taken u answer =
+      took_rest base mid new (before ++ fs) (length before + count) t u
+      (subst (λ (xs : List Firing). TakeAllAnswer mid xs (Ok u) new) (take_rest fs count ∙ sym (drop_front before fs count) ∙ sym (take_rest (before ++ fs) (length before + count))) answer)
+
+  -- what is answered of the list is so of it with those before
+  pub all_answered : IsFresh base → IsMachine mid → (r : Result (Unit {0}) ListRefusal) → TakeAllAnswer mid fs r new → MatchResult r (λ u. IsTaken base (before ++ fs) new) (λ e. IsUntaken base (before ++ fs) (refusal_behind (length before) e))
+  all_answered fresh is (Ok u) a = record {
+    firings = λ f c. elim (Contains-append_cases before fs f c) [ inl b ↦ t.firings f (in_front f b) | inr q ↦ firings_of base mid fs (same_job base mid new (before ++ fs) (length before + count) t) a.0 f q ];
+    takes = takes_same base new (t.some ++ fs) (before ++ fs)
+        (λ f c. elim (Contains-append_cases t.some fs f c) [ inl s ↦ t.within f s | inr q ↦ Contains-append_right before fs f q ])
+        (λ f c. elim (Contains-append_cases before fs f c) [ inl b ↦ Contains-append_left t.some fs f (t.front f (in_front f b)) | inr q ↦ Contains-append_right t.some fs f q ])
+        (takes_on base mid new t.some fs t.takes a.2);
+    settled = a.3;
+  }
+  all_answered fresh is (Err (NotAFiring place)) a =
+      let o = a.0 in
+      let e = same_job base mid new (before ++ fs) (length before + count) t in
+      record {
+        other = o.other;
+        at = get_behind before fs place o.other o.at;
+        none = subst (λ (j : JobParts). (system_of j).is_firing o.other ≡ false) e o.none;
+        before = subst (AreFirings base.job) (sym (take-append-add before fs place))
+            (both_firings base.job before (take place fs) (λ f c. t.firings f (in_front f c)) (firings_of base mid (take place fs) e o.before));
+      }
+  all_answered fresh is (Err Full) (own, (news, are, many), settles) =
+      let e = same_job base mid new (before ++ fs) (length before + count) t in (
+        both_firings base.job before fs (λ f c. t.firings f (in_front f c)) (firings_of base mid fs e own),
+        too_long base mid new (before ++ fs) (length before + count) t fresh is.sound (
+          news,
+          record {
+            once = are.once;
+            found = record {
+              new = λ f c. (Contains-append_right before fs f (are.found.new f c).0, (are.found.new f c).1);
+              all = λ f c. elim (Contains-append_cases before fs f c) [ inl b ↦ inl ((t.takes.taken f).1 (inr (t.front f (in_front f b)))) | inr q ↦ are.found.all f q ];
+            };
+          },
+          many,
+        ),
+      )
+  all_answered fresh is (Err NoMemory) a = tt

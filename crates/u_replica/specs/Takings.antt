@@ -1,17 +1,10 @@
--- Lists of firings that a replica takes which has taken nothing.
-use Rattle.std.specs.Prelude.{◌≡◌, ℕ, ◌≤◌, List, Contains, length, take}
-use Rattle.u_check.specs.Jobs.{JobParts}
+-- Lists of firings that a machine takes in pieces.
+use Rattle.std.specs.Prelude.{ℕ, ◌≤◌, List, Contains, length, take}
 use Rattle.u_rule.specs.declared.firing.Firing.{Firing}
 use Rattle.u_machine.specs.State.{State, IsSettled}
 use Rattle.u_machine.specs.Taking.{AreFirings, IsFirstOther, IsTooLong, TakesAll}
 use Rattle.u_machine.specs.declared.answer.ListRefusal.{ListRefusal}
 use Rattle.u_machine.specs.declared.answer.ListRefusal.TheVariants.{NotAFiring, Full, NoMemory}
-use Rattle.u_replica.specs.Marking.{fresh_marks}
-use Rattle.u_replica.specs.Restoring.{blank}
-use Rattle.u_replica.specs.ReplicaState.{ReplicaState, replica}
-use Rattle.u_commands.specs.Restores.{most_taken}
-use Rattle.u_commands.specs.declared.command_error.CommandError.{CommandError}
-use Rattle.u_commands.specs.declared.command_error.CommandError.TheVariants as faults
 
 -- so many of the list, from its front, are firings of the job and were taken, and nothing that the list has not
 pub record TookFront (old : State) (fs : List Firing) (count : ℕ) (new : State) : Type 0 where
@@ -34,15 +27,3 @@ abbrev pub IsUntaken : State → List Firing → ListRefusal → Type 0
 IsUntaken old fs (NotAFiring place) = IsFirstOther old.job fs place
 IsUntaken old fs Full = AreFirings old.job fs × IsTooLong old fs
 IsUntaken old fs NoMemory = Unit {0}
-
--- a replica of the job in its first life that took all of the list and nothing else, and knows nothing of peers
-pub record IsReplicaWith (job : JobParts) (fs : List Firing) (r : ReplicaState) : Type 0 where
-  pub taken : IsTaken (blank job most_taken) fs r.machine
-  pub beside : r ≡ replica r.machine 1 1 fresh_marks
-
--- why there is none
-abbrev pub HasNoReplica : JobParts → List Firing → CommandError → Type 0
-HasNoReplica job fs (faults.OtherFiring place) = IsUntaken (blank job most_taken) fs (NotAFiring place)
-HasNoReplica job fs faults.Full = IsUntaken (blank job most_taken) fs Full
-HasNoReplica job fs faults.NoMemory = Unit {0}
-HasNoReplica job fs fault = ⊥
