@@ -10,6 +10,7 @@ pub mod Entries
 pub mod HoldingLaws
 pub mod BlameLaws
 pub mod NumberLaws
+pub mod PlacedLaws
 pub mod TableLaws
 pub mod NeedLaws
 pub mod SendLaws

@@ -7,6 +7,11 @@ use Rattle.u_system.proofs.Member.{Contains-nil, Contains-tail, Contains-cons_ca
 pub below_or_not : (j k : ℕ) → (j < k) ⊎ (k ≤ j)
 below_or_not j k = grind arith
 
+pub same_or_not : (j k : ℕ) → (j ≡ k) ⊎ (j ≡ k → ⊥)
+same_or_not j k =
+    elim (below_or_not j k)
+    [ inl l ↦ inr (λ e. omega (arith, l, e)) | inr h ↦ elim (below_or_not k j) [ inl l ↦ inr (λ e. omega (arith, l, e)) | inr g ↦ inl (omega (arith, h, g)) ] ]
+
 module _ {X : Type 0} where
   pub get_below : (xs : List X) (k : ℕ) (x : X) → slice_get xs k ≡ Some x → k < length xs
   get_below [] k x e = absurd (cc)

@@ -9,12 +9,14 @@ use Rattle.u_rule.specs.Parts.{TokenParts, token}
 use Rattle.u_rule.specs.declared.entry.Entry.{Entry}
 use Rattle.u_rule.specs.declared.entry.Entry.TheVariants as entries
 use Rattle.u_trace.specs.Places.{place_of, IsPut, entry_eq}
-use Rattle.u_trace.specs.TokenKeys.{token_key, key_eq, token_key_ties}
+use Rattle.u_trace.specs.TokenKeys.{token_key, token_key_ties}
+use Rattle.u_trace.specs.TokenPlaces.{place_under, IsPlaced}
 use Rattle.u_trace.specs.Numbers.{number_in, LieUnder, token_place}
 use Rattle.u_trace.specs.Table.{place_at}
 use Rattle.u_trace.specs.Givers.{Notes}
 use Rattle.u_trace.specs.declared.places.Places.{Places}
 use Rattle.u_trace.specs.declared.token_key.TokenKey.{TokenKey}
+use Rattle.u_trace.specs.declared.token_places.TokenPlaces.{TokenPlaces}
 use Rattle.u_trace.specs.contracts.token_key.TokenKeyOrd.TheImpl as key_ord
 use Rattle.u_trace.specs.contracts.token_key.TokenKeyOrd.TheImpl.Laws as key_laws
 use Rattle.u_trace.proofs.Entries.{same_entries}
@@ -33,32 +35,32 @@ same_keys x y = at ((key_ord.ghosts).cmp x y) refl
     at Less e = inr (λ q. let t = tied q in cc)
     at Greater e = inr (λ q. let t = tied q in cc)
 
-none_behind : (n : ℕ) (tokens : Places TokenKey) (k : TokenKey) → LieUnder n tokens → n ≤ k.activity → place_of key_eq tokens k ≡ None
-none_behind n tokens k under l = at (place_of key_eq tokens k) refl
+none_behind : (n : ℕ) (tokens : TokenPlaces) (k : TokenKey) → LieUnder n tokens → n ≤ k.activity → place_under tokens k ≡ None
+none_behind n tokens k under l = at (place_under tokens k) refl
   where
-    at : (o : Option ℕ) → place_of key_eq tokens k ≡ o → place_of key_eq tokens k ≡ None
+    at : (o : Option ℕ) → place_under tokens k ≡ o → place_under tokens k ≡ None
     at None e = e
     at (Some p) e = let b = under k p e in absurd (omega (arith, b, l))
 
 -- where more activities got numbers
-still_placed : (names rest : List Activity) (tokens : Places TokenKey) → LieUnder (length names) tokens → (t : TokenParts) → token_place (names ++ rest) tokens t ≡ token_place names tokens t
+still_placed : (names rest : List Activity) (tokens : TokenPlaces) → LieUnder (length names) tokens → (t : TokenParts) → token_place (names ++ rest) tokens t ≡ token_place names tokens t
 still_placed names rest tokens under t =
     elim (number_grown names rest t.activity) [
-      | inl e ↦ ap (λ (n : ℕ). place_of key_eq tokens (token_key n t.port t.value)) e
+      | inl e ↦ ap (λ (n : ℕ). place_under tokens (token_key n t.port t.value)) e
       | inr (l, m) ↦ none_behind (length names) tokens (token_key (number_in (names ++ rest) t.activity) t.port t.value) under l ∙ sym (none_behind (length names) tokens (token_key (number_in names t.activity) t.port t.value) under m)
     ]
 
-pub still_under : (names rest : List Activity) (tokens : Places TokenKey) → LieUnder (length names) tokens → LieUnder (length (names ++ rest)) tokens
+pub still_under : (names rest : List Activity) (tokens : TokenPlaces) → LieUnder (length names) tokens → LieUnder (length (names ++ rest)) tokens
 still_under names rest tokens under k p e = let b = under k p e in let h = length-append names rest in omega (arith, b, h)
 
-pub same_places : (names rest more : List Activity) (tokens : Places TokenKey) (others : Places Entry) → LieUnder (length names) tokens → more ≡ names ++ rest → (e : Entry) → place_at more tokens others e ≡ place_at names tokens others e
+pub same_places : (names rest more : List Activity) (tokens : TokenPlaces) (others : Places Entry) → LieUnder (length names) tokens → more ≡ names ++ rest → (e : Entry) → place_at more tokens others e ≡ place_at names tokens others e
 same_places names rest more tokens others under is (entries.Token t) = ap (λ (ns : List Activity). token_place ns tokens t) is ∙ still_placed names rest tokens under t
 same_places names rest more tokens others under is (entries.Write w) = refl
 same_places names rest more tokens others under is (entries.Fault f) = refl
 same_places names rest more tokens others under is (entries.Answer v) = refl
 
 -- where a token's place was put
-module _ (names : List Activity) (old new : Places TokenKey) (t : TokenParts) (p : ℕ) (below : number_in names t.activity < length names) (put : IsPut key_eq old (token_key (number_in names t.activity) t.port t.value) p new) where
+module _ (names : List Activity) (old new : TokenPlaces) (t : TokenParts) (p : ℕ) (below : number_in names t.activity < length names) (put : IsPlaced (place_under old) (token_key (number_in names t.activity) t.port t.value) p (place_under new)) where
   pub put_under : LieUnder (length names) old → LieUnder (length names) new
   put_under under k q e = over (same_keys (token_key (number_in names t.activity) t.port t.value) k)
     where
@@ -81,7 +83,7 @@ module _ (names : List Activity) (old new : Places TokenKey) (t : TokenParts) (p
   others_placed u n = put.others (token_key (number_in names u.activity) u.port u.value) (λ e. n (ap (λ (x : TokenParts). entries.Token x) (one_token u e)))
 
 -- a token that had no place
-pub notes_token : (names : List Activity) (old new : Places TokenKey) (rest : Places Entry) (t : TokenParts) (p : ℕ) → number_in names t.activity < length names → IsPut key_eq old (token_key (number_in names t.activity) t.port t.value) p new → token_place names old t ≡ None → Notes (place_at names old rest) (entries.Token t ∷ []) p (place_at names new rest)
+pub notes_token : (names : List Activity) (old new : TokenPlaces) (rest : Places Entry) (t : TokenParts) (p : ℕ) → number_in names t.activity < length names → IsPlaced (place_under old) (token_key (number_in names t.activity) t.port t.value) p (place_under new) → token_place names old t ≡ None → Notes (place_at names old rest) (entries.Token t ∷ []) p (place_at names new rest)
 notes_token names old new rest t p below put none = notes_new same_entries (place_at names old rest) (place_at names new rest) (entries.Token t) p none put.here apart
   where
     apart : (q : Entry) → (entries.Token t ≡ q → ⊥) → place_at names new rest q ≡ place_at names old rest q
@@ -90,11 +92,11 @@ notes_token names old new rest t p below put none = notes_new same_entries (plac
     apart (entries.Fault f) n = refl
     apart (entries.Answer v) n = refl
 
-pub token_still : (names : List Activity) (tokens : Places TokenKey) (rest : Places Entry) (t : TokenParts) (p k : ℕ) → token_place names tokens t ≡ Some k → Notes (place_at names tokens rest) (entries.Token t ∷ []) p (place_at names tokens rest)
+pub token_still : (names : List Activity) (tokens : TokenPlaces) (rest : Places Entry) (t : TokenParts) (p k : ℕ) → token_place names tokens t ≡ Some k → Notes (place_at names tokens rest) (entries.Token t ∷ []) p (place_at names tokens rest)
 token_still names tokens rest t p k e = notes_still same_entries (place_at names tokens rest) (place_at names tokens rest) (entries.Token t) p k e
 
 -- another entry
-module _ (names : List Activity) (tokens : Places TokenKey) (e : Entry) (apart : (t : TokenParts) → e ≡ entries.Token t → ⊥) where
+module _ (names : List Activity) (tokens : TokenPlaces) (e : Entry) (apart : (t : TokenParts) → e ≡ entries.Token t → ⊥) where
   pub other_place : (rest : Places Entry) → place_at names tokens rest e ≡ place_of entry_eq rest e
   other_place rest = over e apart
     where

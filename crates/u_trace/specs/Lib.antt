@@ -4,6 +4,8 @@ pub mod Stories
 pub mod Answers
 pub mod Places
 pub mod TokenKeys
+pub mod Firsts
+pub mod TokenPlaces
 pub mod Numbers
 pub mod Table
 pub mod Givers

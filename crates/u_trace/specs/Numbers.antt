@@ -5,10 +5,10 @@ use Rattle.u_sets.specs.Columns.{IsNumberOf}
 use Rattle.u_name.specs.Name.{Activity}
 use Rattle.u_name.specs.NameOrder.{name_cmp}
 use Rattle.u_rule.specs.Parts.{TokenParts}
-use Rattle.u_trace.specs.Places.{place_of}
-use Rattle.u_trace.specs.TokenKeys.{token_key, key_eq}
-use Rattle.u_trace.specs.declared.places.Places.{Places}
+use Rattle.u_trace.specs.TokenKeys.{token_key}
+use Rattle.u_trace.specs.TokenPlaces.{place_under}
 use Rattle.u_trace.specs.declared.token_key.TokenKey.{TokenKey}
+use Rattle.u_trace.specs.declared.token_places.TokenPlaces.{TokenPlaces}
 
 -- the number of the activity, its place in the list, or the list's length where it is not there
 abbrev pub number_in : List Activity → Activity → ℕ
@@ -20,9 +20,9 @@ abbrev pub HaveOneNumber : List Activity → Type 0
 HaveOneNumber names = (i j : ℕ) (a : Activity) → IsNumberOf names a i → IsNumberOf names a j → i ≡ j
 
 -- each token that has a place is of an activity whose number is below n
-abbrev pub LieUnder : ℕ → Places TokenKey → Type 0
-LieUnder n tokens = (k : TokenKey) (p : ℕ) → place_of key_eq tokens k ≡ Some p → k.activity < n
+abbrev pub LieUnder : ℕ → TokenPlaces → Type 0
+LieUnder n tokens = (k : TokenKey) (p : ℕ) → place_under tokens k ≡ Some p → k.activity < n
 
 -- the place of the token
-abbrev pub token_place : List Activity → Places TokenKey → TokenParts → Option ℕ
-token_place names tokens t = place_of key_eq tokens (token_key (number_in names t.activity) t.port t.value)
+abbrev pub token_place : List Activity → TokenPlaces → TokenParts → Option ℕ
+token_place names tokens t = place_under tokens (token_key (number_in names t.activity) t.port t.value)

@@ -6,11 +6,11 @@ use Rattle.u_rule.specs.declared.entry.Entry.TheVariants as entries
 use Rattle.u_trace.specs.Places.{place_of, entry_eq}
 use Rattle.u_trace.specs.Numbers.{token_place}
 use Rattle.u_trace.specs.declared.places.Places.{Places}
-use Rattle.u_trace.specs.declared.token_key.TokenKey.{TokenKey}
+use Rattle.u_trace.specs.declared.token_places.TokenPlaces.{TokenPlaces}
 use Rattle.u_trace.specs.declared.table.Givers.{Givers}
 
 -- the place of the entry: of a token by its activity's number
-abbrev pub place_at : List Activity → Places TokenKey → Places Entry → Entry → Option ℕ
+abbrev pub place_at : List Activity → TokenPlaces → Places Entry → Entry → Option ℕ
 place_at names tokens others (entries.Token t) = token_place names tokens t
 place_at names tokens others e = place_of entry_eq others e
 

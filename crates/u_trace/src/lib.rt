@@ -14,6 +14,7 @@ mod blaming;
 mod causing;
 mod exact;
 mod finding;
+mod firsts;
 mod givers;
 mod holding;
 mod joining;
@@ -24,6 +25,7 @@ mod sending;
 mod table;
 mod telling;
 mod token_key;
+mod token_places;
 mod trace_error;
 
 pub use blame_error::BlameError;

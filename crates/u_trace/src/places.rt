@@ -1,5 +1,5 @@
 //! The places of keys.
-ghost use Rattle.std.specs.Prelude.{◌≡◌, OnOk, OnErr, None};
+ghost use Rattle.std.specs.Prelude.{◌≡◌, OnOk, OnErr, IsTrue, None};
 ghost use Rattle.u_trace.specs.Places.{place_of, IsPut};
 
 use std::alloc::{AllocError, Global};
@@ -22,6 +22,14 @@ impl<K: ExactOrd + Hash + Drop> Places<K> {
         Places {
             map: HashMap::new(alloc),
         }
+    }
+
+    /// Whether the map is empty. Then no key has a place.
+    #[tactic(auto, unfolding(crate::specs::Places::place_of))]
+    pub(crate) fn is_empty(&self) -> bool
+        ensures { IsTrue result → (q : K) → place_of K.eq self.now q ≡ None }
+    {
+        self.map.is_empty()
     }
 
     /// The place of the key, if it has one.

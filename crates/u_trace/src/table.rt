@@ -1,9 +1,10 @@
 //! The places of the givers of entries, where a token is found by its activity's number.
 ghost use Rattle.std.specs.Prelude.{length};
 ghost use Rattle.u_trace.specs.Numbers.{HaveOneNumber, LieUnder};
+ghost use Rattle.u_trace.specs.TokenPlaces.{HaveColumns};
 
 use crate::places::Places;
-use crate::token_key::TokenKey;
+use crate::token_places::TokenPlaces;
 use std::alloc::{AllocError, Global};
 use u_name::Name;
 use u_names::Activities;
@@ -15,10 +16,11 @@ use u_rule::{Entry, NameRef, TokenRef};
 pub(crate) struct Givers {
     /// The activities that were asked for. The number of one is its place.
     names: Activities,
-    tokens: Places<TokenKey>,
+    tokens: TokenPlaces,
     others: Places<Entry>,
     ghost one_number: { HaveOneNumber names },
     ghost numbered: { LieUnder (length names) tokens },
+    ghost columns: { HaveColumns tokens },
 }
 
 impl Givers {
@@ -36,7 +38,7 @@ impl Givers {
     {
         Givers {
             names: Activities::new(alloc),
-            tokens: Places::new(alloc),
+            tokens: TokenPlaces::new(alloc),
             others: Places::new(alloc),
         }
     }
@@ -63,12 +65,7 @@ impl Givers {
         requires { number ≡ number_in self.now.names token.now.activity }
         ensures { IfOk result (λ o. o ≡ place_in self.now (entries.Token token.now)) }
     {
-        let key = TokenKey {
-            activity: number,
-            port: token.port(),
-            value: token.value().copy()?,
-        };
-        Ok(self.tokens.of(&key))
+        self.tokens.of(number, token.port(), token.value())
     }
 
     /// The place of the entry, if it has one.
@@ -116,15 +113,13 @@ impl Givers {
         ensures { OnOk result
             (Notes (place_in self.old) (entries.Token token.now ∷ []) place (place_in self.new)) }
     {
-        let key = TokenKey {
-            activity: number,
-            port: token.port(),
-            value: token.value().copy()?,
-        };
-        if let Some(_) = self.tokens.of(&key) {
+        let port = token.port();
+        let found = self.tokens.of(number, port, token.value())?;
+        if let Some(_) = found {
             return Ok(());
         }
-        self.tokens.put(key, place)?;
+        let value = token.value().copy()?;
+        self.tokens.put(number, port, value, place)?;
         Ok(())
     }
 

@@ -11,6 +11,7 @@ pub invariant_of-self : goal.invariant_of-self
 invariant_of-self c = record {
   one_number = have_one c.number_beside.new.self c.number_beside.ensures.distinct;
   numbered = subst (λ (ns : List Activity). LieUnder (length ns) c.args.self.now.tokens) (sym c.number_beside.ensures.grows.1) (still_under c.args.self.now.names c.number_beside.ensures.grows.0 c.args.self.now.tokens c.args.self.now.numbered);
+  columns = c.args.self.now.columns;
 }
 
 pub returns-in_err-number-clause-same : goal.returns-in_err-number-clause-same
