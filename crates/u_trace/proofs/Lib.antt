@@ -12,5 +12,6 @@ pub mod BlameLaws
 pub mod NumberLaws
 pub mod PlacedLaws
 pub mod TableLaws
+pub mod OwnerLaws
 pub mod NeedLaws
 pub mod SendLaws

@@ -10,7 +10,7 @@ ghost use Rattle.u_rule.specs.declared.entry.Entry.TheVariants as entries;
 ghost use Rattle.u_sets.specs.Members.{SomeOf};
 ghost use Rattle.u_system.specs.Firing.{Derivation};
 ghost use Rattle.u_trace.specs.Numbers.{number_in};
-ghost use Rattle.u_trace.specs.Table.{place_in};
+ghost use Rattle.u_trace.specs.Table.{place_in, Owns};
 ghost use Rattle.u_trace.specs.Givers.{AreGivers};
 ghost use Rattle.u_trace.specs.Stories.{InStory};
 ghost use Rattle.u_trace.specs.Marks.{IsMarked, IsWanted, Marks, MarksBehind, LieBelow};
@@ -136,14 +136,17 @@ impl Applied<'_> {
         Ok(())
     }
 
-    /// Marks the givers of the tokens that have these values at the activity's ports.
+    /// Marks the givers of the tokens that have these values at the ports of the activity, which has
+    /// that number.
     fn mark_tokens(
         &self,
+        number: usize,
         activity: &Name,
         values: &[Value],
         marks: &mut [bool],
     ) -> Result<(), AllocError>
         requires start { self.now.start.now ≡ start_of self.now.job.now }
+        requires number { number ≡ number_in self.now.givers.now.names activity.now }
         requires few { length values.now ≤ most_ports }
         requires below { LieBelow (place_in self.now.givers.now) (length marks.old) }
         ensures { OnOk result
@@ -151,7 +154,6 @@ impl Applied<'_> {
             (SomeOf (tokens_from activity.now 1 values.now)
             (IsWanted self.now.start.now (place_in self.now.givers.now))) marks.new) }
     {
-        let number = self.givers.number_for(activity);
         let mut port = 1;
         for value in values {
             let token = TokenRef::new(NameRef::of(activity), port, value);
@@ -174,9 +176,16 @@ impl Applied<'_> {
         mark_all(self.start, self.givers, &needed, marks)
     }
 
-    /// Marks the givers of what the firing needs. Where it needs tokens alone, no list is made.
-    fn mark_needs(&self, firing: &Firing, marks: &mut [bool]) -> Result<(), AllocError>
+    /// Marks the givers of what the firing needs, whose activity has that number. Where it needs tokens
+    /// alone, no list is made.
+    fn mark_needs(
+        &self,
+        number: usize,
+        firing: &Firing,
+        marks: &mut [bool],
+    ) -> Result<(), AllocError>
         requires start { self.now.start.now ≡ start_of self.now.job.now }
+        requires number { number ≡ number_in self.now.givers.now.names firing.now.activity }
         requires below { LieBelow (place_in self.now.givers.now) (length marks.old) }
         ensures { OnOk result
             (Marks marks.old
@@ -186,7 +195,7 @@ impl Applied<'_> {
         if firing.write.is_some() {
             return self.mark_listed(firing, marks);
         }
-        self.mark_tokens(&firing.activity, firing.values.as_slice(), marks)
+        self.mark_tokens(number, &firing.activity, firing.values.as_slice(), marks)
     }
 
     /// Marks the givers of what the firing at that place needs, if it is marked.
@@ -195,6 +204,7 @@ impl Applied<'_> {
         requires place { place < length self.now.log.now }
         requires count { length marks.old ≡ length self.now.log.now }
         requires below { LieBelow (place_in self.now.givers.now) (length self.now.log.now) }
+        requires owners { Owns self.now.givers.now self.now.log.now }
         ensures { OnOk result
             (MarksBehind (system_of self.now.job.now) self.now.start.now self.now.log.now
             (place_in self.now.givers.now) place marks.old marks.new) }
@@ -202,7 +212,8 @@ impl Applied<'_> {
         if !is_marked(marks, place) {
             return Ok(());
         }
-        self.mark_needs(&self.log[place], marks)
+        let number = self.givers.owner(place);
+        self.mark_needs(number, &self.log[place], marks)
     }
 
     /// Marks all firings of the list that the entry's story has.
@@ -211,6 +222,7 @@ impl Applied<'_> {
         requires derivation { Derivation (system_of self.now.job.now) self.now.log.now }
         requires givers { AreGivers (system_of self.now.job.now) self.now.log.now
             (place_in self.now.givers.now) }
+        requires owners { Owns self.now.givers.now self.now.log.now }
         requires count { length marks.old ≡ length self.now.log.now }
         requires none { (k : ℕ) → IsMarked marks.old k → ⊥ }
         ensures { OnOk result
@@ -251,6 +263,7 @@ pub(crate) fn marks_of(
 ) -> Result<Vec<bool>, AllocError>
     requires derivation { Derivation (system_of job.now) log.now }
     requires givers { AreGivers (system_of job.now) log.now (place_in givers.now) }
+    requires owners { Owns givers.now log.now }
     ensures count { IfOk result (λ v. length v.items ≡ length log.now) }
     ensures marked { IfOk result
         (λ v. (k : ℕ)

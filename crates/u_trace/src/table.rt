@@ -8,7 +8,7 @@ use crate::token_places::TokenPlaces;
 use std::alloc::{AllocError, Global};
 use u_name::Name;
 use u_names::Activities;
-use u_rule::{Entry, NameRef, TokenRef};
+use u_rule::{Entry, Firing, NameRef, TokenRef};
 
 /// A place for each of some entries. That of a token stands under the number of its activity, its port
 /// and its value, so that no name is hashed; that of another entry stands under the entry.
@@ -18,28 +18,32 @@ pub(crate) struct Givers {
     names: Activities,
     tokens: TokenPlaces,
     others: Places<Entry>,
+    /// The numbers of the activities of some firings.
+    owners: Vec<usize>,
     ghost one_number: { HaveOneNumber names },
     ghost numbered: { LieUnder (length names) tokens },
     ghost columns: { HaveColumns tokens },
 }
 
 impl Givers {
-    ghost use Rattle.std.specs.Prelude.{◌≡◌, ◌<◌, ◌∷◌, [], IfOk, OnOk, None};
+    ghost use Rattle.std.specs.Prelude.{◌≡◌, ◌<◌, ◌∷◌, [], IfOk, OnOk, Some, None, slice_get};
     ghost use Rattle.u_rule.specs.Parts.{TokenParts};
     ghost use Rattle.u_rule.specs.declared.entry.Entry.{Entry};
     ghost use Rattle.u_rule.specs.declared.entry.Entry.TheVariants as entries;
     ghost use Rattle.u_trace.specs.Numbers.{number_in};
-    ghost use Rattle.u_trace.specs.Table.{place_in};
+    ghost use Rattle.u_trace.specs.Table.{place_in, StillOwns, OwnsMore};
     ghost use Rattle.u_trace.specs.Givers.{Notes};
 
-    /// No entry has a place. It takes no memory.
+    /// No entry has a place, and no activity a number. It takes no memory.
     pub(crate) fn new(alloc: Global) -> Givers
-        ensures { (e : Entry) → place_in result e ≡ None }
+        ensures places { (e : Entry) → place_in result e ≡ None }
+        ensures owners { result.owners.items ≡ [] }
     {
         Givers {
             names: Activities::new(alloc),
             tokens: TokenPlaces::new(alloc),
             others: Places::new(alloc),
+            owners: Vec::new(alloc),
         }
     }
 
@@ -51,6 +55,14 @@ impl Givers {
             Some(number) => number,
             None => self.names.len(),
         }
+    }
+
+    /// The number of the activity of the firing at that place.
+    pub(crate) fn owner(&self, place: usize) -> usize
+        requires { place < length self.now.owners.items }
+        ensures { slice_get self.now.owners.items place ≡ Some result }
+    {
+        self.owners[place]
     }
 
     /// The place of the token, whose activity has that number, if it has a place.
@@ -92,10 +104,24 @@ impl Givers {
         ensures number { IfOk result (λ n. n ≡ number_in self.new.names activity.now) }
         ensures below { IfOk result (λ n. n < length self.new.names) }
         ensures same { (e : Entry) → place_in self.new e ≡ place_in self.old e }
+        ensures owns { StillOwns self.old self.new }
     {
         let (near, statement) = activity.parts();
         let number = self.names.number_beside(near, statement)?;
         Ok(number)
+    }
+
+    /// Notes the number of the firing's activity, behind those of other firings.
+    ///
+    /// # Errors
+    /// `AllocError` where there is no memory.
+    pub(crate) fn own(&mut self, firing: &Firing) -> Result<(), AllocError>
+        ensures more { OnOk result (OwnsMore self.old firing.now self.new) }
+        ensures same { (e : Entry) → place_in self.new e ≡ place_in self.old e }
+    {
+        let number = self.number_at(&NameRef::of(&firing.activity))?;
+        self.owners.push(number)?;
+        Ok(())
     }
 
     /// Gives the token, whose activity has that number, the place, unless it has one.
@@ -110,8 +136,10 @@ impl Givers {
     ) -> Result<(), AllocError>
         requires number { number ≡ number_in self.old.names token.now.activity }
         requires below { number < length self.old.names }
-        ensures { OnOk result
+        ensures notes { OnOk result
             (Notes (place_in self.old) (entries.Token token.now ∷ []) place (place_in self.new)) }
+        ensures names { self.new.names ≡ self.old.names }
+        ensures owners { self.new.owners.items ≡ self.old.owners.items }
     {
         let port = token.port();
         let found = self.tokens.of(number, port, token.value())?;
@@ -132,8 +160,9 @@ impl Givers {
         token: &TokenRef<'_>,
         place: usize,
     ) -> Result<(), AllocError>
-        ensures { OnOk result
+        ensures notes { OnOk result
             (Notes (place_in self.old) (entries.Token token.now ∷ []) place (place_in self.new)) }
+        ensures owns { StillOwns self.old self.new }
     {
         let number = self.number_at(token.activity())?;
         self.note_at(number, token, place)
@@ -142,8 +171,10 @@ impl Givers {
     /// Gives the entry, which is no token, that place, unless it has one.
     fn note_other(&mut self, entry: &Entry, place: usize) -> Result<(), AllocError>
         requires { (t : TokenParts) → entry.now ≡ entries.Token t → ⊥ }
-        ensures { OnOk result
+        ensures notes { OnOk result
             (Notes (place_in self.old) (entry.now ∷ []) place (place_in self.new)) }
+        ensures names { self.new.names ≡ self.old.names }
+        ensures owners { self.new.owners.items ≡ self.old.owners.items }
     {
         if let Some(_) = self.others.of(entry) {
             return Ok(());
@@ -158,8 +189,9 @@ impl Givers {
     /// # Errors
     /// `AllocError` where there is no memory.
     pub(crate) fn note(&mut self, entry: &Entry, place: usize) -> Result<(), AllocError>
-        ensures { OnOk result
+        ensures notes { OnOk result
             (Notes (place_in self.old) (entry.now ∷ []) place (place_in self.new)) }
+        ensures owns { StillOwns self.old self.new }
     {
         if let Entry::Token(token) = entry {
             return self.note_token(&TokenRef::of(token), place);

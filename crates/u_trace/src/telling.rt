@@ -2,7 +2,7 @@
 ghost use Rattle.std.specs.Prelude.{◌≡◌, ◌↔◌, ◌⊎◌, IfOk, IsTrue, IsSome};
 ghost use Rattle.u_rule.specs.Rule.{system_of, start_of};
 ghost use Rattle.u_system.specs.Firing.{Derivation};
-ghost use Rattle.u_trace.specs.Table.{place_in};
+ghost use Rattle.u_trace.specs.Table.{place_in, Owns};
 ghost use Rattle.u_trace.specs.Givers.{AreGivers};
 ghost use Rattle.u_trace.specs.Stories.{IsStory};
 ghost use Rattle.u_trace.specs.Answers.{StoryOf, StoryAnswer};
@@ -43,6 +43,7 @@ pub(crate) fn told(
 ) -> Result<Vec<Firing>, AllocError>
     requires derivation { Derivation (system_of job.now) log.now }
     requires givers { AreGivers (system_of job.now) log.now (place_in givers.now) }
+    requires owners { Owns givers.now log.now }
     ensures { IfOk result (λ v. IsStory (system_of job.now) log.now entry.now v.items) }
 {
     let marks = marks_of(alloc, job, log, givers, entry)?;

@@ -10,5 +10,5 @@ givers_of-requires c = are_firings (system_of c.args.job.now) c.args.log.now c.r
 
 pub returns : goal.returns
 returns c =
-    joins (system_of c.args.job.now) c.args.log.now c.requires.derivation (place_in c.in_ok-givers.givers) c.in_ok-givers.ensures same_entries c.args.one.now c.args.other.now c.in_ok-joined.joined.items c.in_ok-behind.behind.items c.append.new.self.items
+    joins (system_of c.args.job.now) c.args.log.now c.requires.derivation (place_in c.in_ok-givers.givers) c.in_ok-givers.ensures.givers same_entries c.args.one.now c.args.other.now c.in_ok-joined.joined.items c.in_ok-behind.behind.items c.append.new.self.items
     c.requires.one c.requires.other c.in_ok-joined.ensures c.in_ok-behind.ensures c.in_ok-append.ensures.items

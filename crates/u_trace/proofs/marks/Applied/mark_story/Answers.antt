@@ -25,6 +25,7 @@ mark_behind-requires c = record {
   place = (let low = c.loop-left.invariant.low in let some = c.loop-left-test.true in omega (arith, low, some));
   count = c.loop-left.invariant.count;
   below = lie_below (system_of c.args.self.now.job.now) c.args.self.now.log.now (place_in c.args.self.now.givers.now) c.requires.givers;
+  owners = c.requires.owners;
 }
 
 pub loop-left-preserved : goal.loop-left-preserved

@@ -7,8 +7,8 @@ use Rattle.u_trace.specs.declared.token_key.TokenKey.{TokenKey}
 use Rattle.u_trace.proofs.TableLaws.{notes_token}
 use Rattle.u_trace.proofs.table.Givers.note_at.Goals as goal
 
-pub returns : goal.returns
-returns c =
+pub returns-clause-notes : goal.returns-clause-notes
+returns-clause-notes c =
     let names = c.args.self.now.names in
     let tokens = c.args.self.now.tokens in
     let t = c.args.token.now in

@@ -1,4 +1,4 @@
-use Rattle.std.proofs.Common.{◌≡◌, List, length, Some, sym, subst}
+use Rattle.std.proofs.Common.{◌≡◌, List, length, Some, refl, sym, subst}
 use Rattle.std.specs.Prelude.{slice_get}
 use Rattle.u_name.specs.Name.{Activity}
 use Rattle.u_trace.specs.Numbers.{LieUnder}
@@ -28,3 +28,9 @@ returns-clause-below c = get_below c.number_beside.new.self c.in_ok-number.numbe
 
 pub returns-clause-same : goal.returns-clause-same
 returns-clause-same c = same_places c.args.self.now.names c.number_beside.ensures.grows.0 c.number_beside.new.self c.args.self.now.tokens c.args.self.now.others c.args.self.now.numbered c.number_beside.ensures.grows.1
+
+pub returns-in_err-number-clause-owns : goal.returns-in_err-number-clause-owns
+returns-in_err-number-clause-owns c = record { names = c.number_beside.ensures.grows; owners = refl }
+
+pub returns-clause-owns : goal.returns-clause-owns
+returns-clause-owns c = record { names = c.number_beside.ensures.grows; owners = refl }
