@@ -1,5 +1,5 @@
 -- Places: what a name is in a table, where frames have numbers.
-use Rattle.std.specs.Prelude.{ℕ, ◌<◌, ◌^◌, ◌+◌, ◌*◌, ◌/◌, ◌++◌, refl}
+use Rattle.std.specs.Prelude.{ℕ, ◌<◌, ◌^◌, ◌+◌, ◌*◌, ◌/◌, refl}
 use Rattle.std.specs.Hash.{HashWrites}
 use Rattle.std.specs.Hash as fed
 use Rattle.std.specs.Coded.{Coded, code_by, coded×, coded_ℕ}
@@ -28,6 +28,7 @@ abbrev pub place_code : Coded PlaceParts
 place_code =
     code_by (ℕ × (ℕ × ℕ)) (coded× coded_ℕ (coded× coded_ℕ coded_ℕ)) (λ p. (p.frame, (p.statement, p.initiation))) (λ t. place t.0 t.1.0 t.1.1) (λ _. refl)
 
--- what a hasher is given of a place: its frame and its statement in one number, and its initiation by fours
+-- what a hasher is given of a place: one number, in its upper word the frame and the statement, in its lower one
+-- the initiation by fours
 abbrev pub place_writes : PlaceParts → HashWrites
-place_writes p = fed.u64 (p.frame * 65536 + p.statement) ++ fed.u64 (p.initiation / 4)
+place_writes p = fed.u128 ((p.frame * 65536 + p.statement) * 2 ^ 64 + p.initiation / 4)

@@ -105,15 +105,15 @@ impl Contexts {
         ensures grows { Grows self.old self.new }
         ensures distinct { Distinct self.new }
     {
-        if let Some(place) = self.keys.place_of(&key) {
-            return Ok(place as u32 + 1);
-        }
         if self.others.len() >= MOST {
             return Err(AllocError);
         }
         let copy = context.copy()?;
         self.others.reserve(1)?;
-        let (place, _) = self.keys.insert(key)?;
+        let (place, is_new) = self.keys.insert(key)?;
+        if !is_new {
+            return Ok(place as u32 + 1);
+        }
         push_into_room(&mut self.others, copy);
         Ok(place as u32 + 1)
     }

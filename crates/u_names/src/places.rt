@@ -11,6 +11,9 @@ use u_name::Name;
 /// How many initiations in a row have one hash.
 const RUN: u64 = 4;
 
+/// How many numbers a word of 64 bits can be: what is hashed of a place is two words.
+const ROUND: u128 = 1 << 64;
+
 /// A name whose frame has a number: that number, the name's statement and its initiation. Initiations in a row
 /// have one hash, four by four, so a set that finds places by hashes has those of neighbouring turns of a loop
 /// side by side in memory.
@@ -45,8 +48,8 @@ impl Hash for Place {
     ghost respects_eq = { Prim.search (comparing, hashing, rules) };
 
     fn hash<H: Hasher>(&self, state: &mut H) {
-        state.write_u64(u64::from(self.frame) * 65536 + u64::from(self.statement));
-        state.write_u64(self.initiation / RUN);
+        let place = u64::from(self.frame) * 65536 + u64::from(self.statement);
+        state.write_u128(u128::from(place) * ROUND + u128::from(self.initiation / RUN));
     }
 }
 
