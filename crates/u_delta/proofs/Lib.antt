@@ -9,3 +9,4 @@ pub mod ReadingLaws
 pub mod FiringTextLaws
 pub mod OneError
 pub mod Same
+pub mod WrittenContexts

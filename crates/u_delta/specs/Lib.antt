@@ -5,3 +5,4 @@ pub mod Messages
 pub mod HeadReading
 pub mod Front
 pub mod Reading
+pub mod WrittenContexts

@@ -14,6 +14,7 @@ mod ranges;
 mod read_error;
 mod reading;
 mod writing;
+mod written_context;
 
 pub use firings::Firings;
 pub use lines::{Ahead, look_ahead};

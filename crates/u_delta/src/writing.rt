@@ -11,6 +11,7 @@ ghost use Rattle.u_delta.specs.MessageText.{ask_line, delta_line, delta_lines, m
 
 use crate::message::{Ask, Delta, Message};
 use crate::ranges::all_in_range;
+use crate::written_context::push_line;
 use std::alloc::AllocError;
 use u_rule::Firing;
 use u_text::{cut_back, push_behind, push_long};
@@ -82,9 +83,10 @@ fn push_firings(out: &mut Vec<u8>, firings: &[Firing]) -> Result<(), AllocError>
         (out.new.items ≡ out.old.items ++ ended (map firing_text firings.now)) }
     ensures err { OnErr result (Extends out.old.items out.new.items) }
 {
+    let mut near = None;
     for firing in firings {
-        firing.write_text(out)?;
-        out.push(b'\n')?;
+        let written = push_line(out, firing, near)?;
+        near = Some(written);
     }
     Ok(())
 }

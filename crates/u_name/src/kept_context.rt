@@ -46,9 +46,9 @@ impl<'a> KeptContext<'a> {
     }
 }
 
-/// What stands behind the text, where the bytes begin with it.
+/// What stands behind the text, if the bytes begin with it.
 #[tactic(auto, using(crate::proofs::Fronts::one_more, crate::proofs::Fronts::all_there))]
-fn behind_text<'a>(bytes: &'a [u8], text: &[u8]) -> Option<&'a [u8]>
+pub fn behind_text<'a>(bytes: &'a [u8], text: &[u8]) -> Option<&'a [u8]>
     ensures { IfSome result (λ rest. bytes.now ≡ text.now ++ rest.now) }
 {
     let many = text.len();

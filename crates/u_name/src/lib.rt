@@ -15,6 +15,6 @@ mod writing;
 pub use block_name::BlockName;
 pub use cell::Cell;
 pub use context::{Context, Node};
-pub use kept_context::{KeptContext, front_name_beside};
+pub use kept_context::{KeptContext, behind_text, front_name_beside};
 pub use name::{Name, NameError};
 pub use reading::{Front, NameTextError, front_block, front_name};

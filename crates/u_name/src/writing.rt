@@ -147,6 +147,21 @@ impl Name {
         let written = push_name(out, self);
         cut_back(out, len, written)
     }
+
+    /// Appends what stands behind the context in the text of the name: `.BLOCK.STATEMENT.INITIATION`.
+    ///
+    /// # Errors
+    /// `AllocError` where there is no memory. Then `out` is as it was.
+    #[tactic(auto, using(u_text::proofs::AppendingLaws::extends_cut))]
+    pub fn write_behind_context(&self, out: &mut Vec<u8>) -> Result<(), AllocError>
+        ensures ok { OnOk result (out.new.items ≡ out.old.items
+            ++ call_part self.now.block self.now.statement self.now.initiation) }
+        ensures err { OnErr result (out.new.items ≡ out.old.items) }
+    {
+        let len = out.len();
+        let written = push_call(out, self.block(), self.statement(), self.initiation());
+        cut_back(out, len, written)
+    }
 }
 
 impl Cell {

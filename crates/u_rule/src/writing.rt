@@ -6,7 +6,7 @@ ghost use Rattle.u_name.specs.Cell.{cell_text};
 ghost use Rattle.u_value.specs.Values.{value_text};
 ghost use Rattle.u_text.specs.Appending.{Extends};
 ghost use Rattle.u_rule.specs.EntryText.{token_text, write_text, fault_text, entry_text};
-ghost use Rattle.u_rule.specs.FiringText.{values_text, written_text, firing_text};
+ghost use Rattle.u_rule.specs.FiringText.{values_text, written_text, behind_context, firing_text};
 
 use crate::entry::Entry;
 use crate::firing::Firing;
@@ -104,16 +104,26 @@ fn push_written(out: &mut Vec<u8>, write: &Option<SharedWritten>) -> Result<(), 
     }
 }
 
+/// Appends what stands behind the context of the firing's activity. On an error a part of it may stand
+/// there.
+fn push_behind_context(out: &mut Vec<u8>, firing: &Firing) -> Result<(), AllocError>
+    ensures ok { OnOk result (out.new.items ≡ out.old.items ++ behind_context firing.now) }
+    ensures err { OnErr result (Extends out.old.items out.new.items) }
+{
+    firing.activity.write_behind_context(out)?;
+    push_values(out, firing.values.as_slice())?;
+    push_written(out, &firing.write)
+}
+
 /// Appends the text of the firing. On an error a part of it may stand there.
-#[tactic(auto, unfolding(crate::specs::FiringText::firing_text))]
+#[tactic(auto, unfolding(crate::specs::FiringText::firing_text, u_name::specs::NameText::name_text))]
 fn push_firing(out: &mut Vec<u8>, firing: &Firing) -> Result<(), AllocError>
     ensures ok { OnOk result (out.new.items ≡ out.old.items ++ firing_text firing.now) }
     ensures err { OnErr result (Extends out.old.items out.new.items) }
 {
     out.extend_from_slice(b"f ")?;
-    firing.activity.write_text(out)?;
-    push_values(out, firing.values.as_slice())?;
-    push_written(out, &firing.write)
+    firing.activity.context().write_text(out)?;
+    push_behind_context(out, firing)
 }
 
 impl Entry {
@@ -146,6 +156,21 @@ impl Firing {
     {
         let len = out.len();
         let written = push_firing(out, self);
+        cut_back(out, len, written)
+    }
+
+    /// Appends what stands behind the context of the activity in the text of the firing:
+    /// `.BLOCK.STATEMENT.INITIATION VALUE..`, and behind it ` by WRITER VALUE` where it reads a write.
+    ///
+    /// # Errors
+    /// `AllocError` where there is no memory. Then `out` is as it was.
+    #[tactic(auto, using(u_text::proofs::AppendingLaws::extends_cut))]
+    pub fn write_behind_context(&self, out: &mut Vec<u8>) -> Result<(), AllocError>
+        ensures ok { OnOk result (out.new.items ≡ out.old.items ++ behind_context self.now) }
+        ensures err { OnErr result (out.new.items ≡ out.old.items) }
+    {
+        let len = out.len();
+        let written = push_behind_context(out, self);
         cut_back(out, len, written)
     }
 }
