@@ -8,7 +8,7 @@
 ghost use Rattle.std.specs.Prelude.{◌≡◌, ◌↔◌, ◌++◌, [], ◌∷◌, IfOk, IfSome, IsFalse, IsOk, IsTrue, OnOk};
 ghost use Rattle.u_system.specs.Firing.{Distinct};
 ghost use Rattle.u_rule.specs.Rule.{system_of};
-ghost use Rattle.u_machine.specs.State.{state, IsMachine, IsPick, IsSettled, NothingReady, Taken};
+ghost use Rattle.u_machine.specs.State.{state, IsMachine, IsPick, IsSettled, IsQuiet, NothingReady, Taken};
 ghost use Rattle.u_machine.specs.Headline.{KeepsItsPromise, Agree};
 ghost use Rattle.u_machine.specs.Calls.{FireAnswer, FireInAnswer, RunAnswer, TakeAnswer, Applies, IsFresh, RunsPlainly};
 ghost use Rattle.u_machine.specs.Taking.{Fits, HasSoManyNew, IsTooLong, TakeAllAnswer};
@@ -152,6 +152,17 @@ impl<'a> Machine<'a> {
         ensures { IsTrue result ↔ IsSettled self.now }
     {
         self.parts.is_settled()
+    }
+
+    /// Whether nothing is ready, and all that was begun is applied: then the history is all that can be
+    /// derived from the job. It takes no memory.
+    pub fn is_quiet(&self) -> bool
+        ensures { IsTrue result ↔ IsQuiet self.now }
+    {
+        if !self.parts.is_settled() {
+            return false;
+        }
+        self.parts.is_quiet()
     }
 
     /// Applies one ready firing, and then each parked one that is enabled by it. The ready firings stand
