@@ -2,12 +2,19 @@
 use Rattle.std.proofs.Common.{◌≡◌, ℕ, ◌+◌, ◌<◌, ◌≤◌, Bool, true, false, List, [], ◌∷◌, ◌++◌, ◌⊎◌, inl, inr, refl, subst, take, length, get_or}
 use Rattle.std.specs.Prelude.{Contains, ◌↔◌}
 use Rattle.std.proofs.lemmas.List.{take_more, take_all}
-use Rattle.std.proofs.lemmas.List.Elements.{Contains-append_left, Contains-push, Contains-push_cases}
-use Rattle.u_system.specs.Firing.{System, Enabled, Same}
+use Rattle.std.proofs.lemmas.List.Elements.{Contains-append_cases, Contains-append_left, Contains-push, Contains-push_cases}
+use Rattle.u_system.specs.Firing.{System, Enabled, Held, Cl, Same}
 use Rattle.u_system.proofs.Held.{Enabled-mono}
 use Rattle.u_system.proofs.Member.{Contains-nil}
+use Rattle.u_system.proofs.Determinate.{Derivation-enabled}
 use Rattle.u_sets.specs.Members.{SomeOf, IsWith, Gains, AreThose}
+use Rattle.u_check.specs.Jobs.{JobParts}
+use Rattle.u_rule.specs.Rule.{system_of}
+use Rattle.u_rule.specs.declared.entry.Entry.{Entry}
+use Rattle.u_rule.specs.declared.firing.Firing.{Firing}
+use Rattle.u_machine.specs.State.{State, Taken, IsMachine, IsQuiet}
 use Rattle.u_machine.proofs.Once.{enabled_with}
+use Rattle.u_trace.specs.Causes.{IsCause, IsKept, IsGiverIn}
 
 -- f is enabled over the list, and gives e
 abbrev pub Causes : {E F : Type 0} → System E F → List E → E → F → Type 0
@@ -70,3 +77,24 @@ causes_passing s e p es held found pass has all f = (
   (λ m. (let c = (all f).0 m in (Enabled-mono s (Contains held) (Contains es) (λ y k. ((has y).0 k).0) f c.0, c.1))),
   (λ c. (all f).1 ((c.0.0, λ y m. (has y).1 (c.0.1 y m, pass f c.1 y m)), c.1)),
 )
+
+-- where nothing is ready, the applied firings that give e are all that are enabled over the history and give it
+module _ (m : State) (is : IsMachine m) (quiet : IsQuiet m) (e : Entry) where
+  applied : (f : Firing) → Enabled (system_of m.job) (Contains m.history) f → Contains m.log f
+  applied f en =
+      elim (Contains-append_cases m.log m.parked f (quiet.1 f (Enabled-mono (system_of m.job) (Contains m.history) (Cl (system_of m.job) (Taken m)) is.sound.lies f en)))
+      [ inl k ↦ k | inr k ↦ absurd (quiet.0.none f k en) ]
+
+  pub quiet_causes : (f : Firing) → IsGiverIn m.job m.log e f ↔ IsCause m.job m.history e f
+  quiet_causes f = (
+    (λ g. (Enabled-mono (system_of m.job) (Held (system_of m.job) m.log) (Contains m.history) is.sound.has f (Derivation-enabled (system_of m.job) m.log is.sound.derivation f g.0), g.1)),
+    (λ c. (applied f c.0, c.1)),
+  )
+
+-- those that are gathered of all firings of a list are those of the list that give e
+pub givers_gathered : (job : JobParts) (log : List Firing) (e : Entry) (found : List Firing) → Gains [] (SomeOf log (IsKept job e)) found → (f : Firing) → Contains found f ↔ IsGiverIn job log e f
+givers_gathered job log e found gains f = ((λ m. to ((gains f).0 m)), λ g. (gains f).1 (inr (f, g.0, (refl, g.1))))
+  where
+    to : Contains [] f ⊎ SomeOf log (IsKept job e) f → IsGiverIn job log e f
+    to (inl m) = absurd (Contains-nil f m)
+    to (inr (g, m, k)) = (subst (Contains log) k.0 m, k.1)

@@ -108,7 +108,7 @@ module _ (job : JobParts) (f : Firing) (s : StatementParts) where
   sends (entries.Fault x) m = refl
   sends (entries.Answer v) m = answer_sent v (is_apply s.kind) (is_end s.kind) (is_store s.kind) (is_leave s.kind) m
 
-gives_may : (job : JobParts) (f : Firing) (e : Entry) → Contains (gives_of job f) e → may_give job f.activity e ≡ true
+pub gives_may : (job : JobParts) (f : Firing) (e : Entry) → Contains (gives_of job f) e → may_give job f.activity e ≡ true
 unfolding gives_of
 gives_may job f e m = at (statement_of job.program.blocks f.activity.block f.activity.statement) m
   where

@@ -13,3 +13,7 @@ IsCause job history e f = Enabled (system_of job) (Contains history) f × Contai
 -- f is g, and gives e
 abbrev pub IsKept : JobParts → Entry → Firing → Firing → Type 0
 IsKept job e g f = (g ≡ f) × Contains ((system_of job).gives f) e
+
+-- f is one of the firings, and gives e
+abbrev pub IsGiverIn : JobParts → List Firing → Entry → Firing → Type 0
+IsGiverIn job log e f = Contains log f × Contains ((system_of job).gives f) e

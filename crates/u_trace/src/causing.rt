@@ -39,7 +39,7 @@ fn does_give(alloc: Global, job: &Job, firing: &Firing, entry: &Entry) -> Result
 }
 
 /// Puts a copy of the firing in its place, if it gives the entry.
-fn keep(
+pub(crate) fn keep(
     alloc: Global,
     job: &Job,
     entry: &Entry,

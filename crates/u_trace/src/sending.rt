@@ -47,7 +47,7 @@ fn may_send(statement: &Statement, entry: &Entry) -> bool
 }
 
 /// Whether a firing of the activity can give the entry.
-fn may_give(job: &Job, activity: &Name, entry: &Entry) -> bool
+pub(crate) fn may_give(job: &Job, activity: &Name, entry: &Entry) -> bool
     ensures { result ≡ may_give job.now activity.now entry.now }
 {
     match statement_at(job, &NameRef::of(activity)) {
