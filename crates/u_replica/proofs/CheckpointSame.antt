@@ -11,6 +11,7 @@ use Rattle.u_program.specs.declared.program.Version.{Version}
 use Rattle.u_program.specs.declared.program.Version.TheVariants as versions
 use Rattle.u_rule.specs.declared.firing.Firing.{Firing}
 use Rattle.u_rule.specs.FiringText.{firing_text}
+use Rattle.u_rule.specs.FiringReading.{IsFiring}
 use Rattle.u_rule.proofs.FiringReadingLaws.{firing_Reads}
 use Rattle.u_delta.specs.Lines.{IsShort}
 use Rattle.u_delta.proofs.MessageLaws.{heads_are, tails_are}
@@ -68,8 +69,11 @@ text_few head fs = omega (arith, lines_few (checkpoint_lines head fs), firings_f
 
 -- two lists with the same lines are one
 
+pub same_firing_text : (f g : Firing) → IsFiring f → IsFiring g → firing_text f ≡ firing_text g → f ≡ g
+same_firing_text f g v w e = firing_Reads.same f g v w (ap (λ t. t ++ (10 ∷ [])) e)
+
 one_more : (f g : Firing) (fs gs : List Firing) → AreFirings (f ∷ fs) → AreFirings (g ∷ gs) → firing_text f ≡ firing_text g → fs ≡ gs → f ∷ fs ≡ g ∷ gs
-one_more f g fs gs v w e r = let s : f ≡ g = firing_Reads.same f g v.0 w.0 (ap (λ t. t ++ (10 ∷ [])) e) in cc
+one_more f g fs gs v w e r = let s : f ≡ g = same_firing_text f g v.0 w.0 e in cc
 
 begun_same : (fs gs : List Firing) → AreFirings fs → AreFirings gs → map firing_text fs ≡ map firing_text gs → fs ≡ gs
 begun_same [] [] v w e = refl

@@ -1,19 +1,20 @@
 -- Lines whose firings a machine fires by itself, and what is read and taken behind them.
-use Rattle.std.specs.Prelude.{◌≡◌, ℕ, ◌+◌, ◌^◌, ◌<◌, ◌⊎◌, List, [], ◌∷◌, ◌++◌, Contains, length, take, Result, Ok, Err, refl, IsTrue}
-use Rattle.std.proofs.Common.{sym, ◌∙◌, ap, subst, inl, inr, arith, append-nil, length-append}
-use Rattle.std.proofs.Math.Seq.{take-append-add}
-use Rattle.std.proofs.lemmas.List.Elements.{Contains-append_left}
+use Rattle.std.specs.Prelude.{◌≡◌, ℕ, ◌+◌, ◌^◌, ◌<◌, ◌⊎◌, List, [], ◌∷◌, ◌++◌, length, map, Result, Ok, Err, refl}
+use Rattle.std.specs.List.{AllByRecursion}
+use Rattle.std.proofs.Common.{sym, ◌∙◌, ap, subst, inl, inr, arith, append-nil, append_assoc, length-append}
+use Rattle.std.proofs.lemmas.List.{map-append}
 use Rattle.u_text.specs.Pieces.{pieces}
 use Rattle.u_sets.proofs.Places.{irreflexive}
 use Rattle.u_program.specs.declared.program.Version.{Version}
 use Rattle.u_check.specs.Jobs.{JobParts}
-use Rattle.u_rule.specs.Rule.{system_of}
 use Rattle.u_rule.specs.EntryOrder.{firing_cmp}
 use Rattle.u_rule.specs.ExactOrders.{firing_cmp_total}
 use Rattle.u_rule.specs.declared.firing.Firing.{Firing}
-use Rattle.u_rule.specs.FiringReading.{IsFiringOf}
-use Rattle.u_delta.specs.Lines.{IsLineAhead, lines_behind}
-use Rattle.u_machine.specs.State.{State, Taken, IsPick, IsMachine}
+use Rattle.u_rule.specs.FiringReading.{IsFiring, IsFiringOf}
+use Rattle.u_rule.specs.FiringText.{firing_text}
+use Rattle.u_delta.specs.Lines.{IsShort, IsLineAhead, lines_behind}
+use Rattle.u_delta.proofs.LineLaws.{all_append, read_more}
+use Rattle.u_machine.specs.State.{State, Taken, IsPick}
 use Rattle.u_machine.specs.Calls.{FireAnswer, Runs, IsFresh, firing_le}
 use Rattle.u_machine.specs.declared.answer.Step.TheVariants as step
 use Rattle.u_machine.proofs.Lists.{slice_get_Contains}
@@ -22,9 +23,9 @@ use Rattle.u_machine.proofs.Runs.{picked_first, Runs-nil, Runs-push, takes_alone
 use Rattle.u_replica.specs.declared.checkpoint.Checkpoint.{Checkpoint}
 use Rattle.u_replica.specs.declared.checkpoint.CheckpointError.{CheckpointError}
 use Rattle.u_replica.specs.CheckpointText.{first_line, begun_lines}
-use Rattle.u_replica.specs.CheckpointReading.{IsAnswer, IsAnswerBehind}
-use Rattle.u_replica.specs.Checkpoints.{MayRead}
-use Rattle.u_replica.specs.FiredLines.{FiresLine, AreFired, behind}
+use Rattle.u_replica.specs.CheckpointReading.{AreRead, IsAnswer}
+use Rattle.u_replica.specs.declared.checkpoint_reading.ReadBehind.{ReadBehind}
+use Rattle.u_replica.specs.FiredLines.{FiresLine, AreLines, AreFired, behind, IsReadBehind}
 use Rattle.u_replica.specs.Takings.{TookFront, IsTaken, IsUntaken}
 use Rattle.u_machine.specs.declared.answer.ListRefusal.{ListRefusal}
 use Rattle.u_machine.specs.declared.answer.ListRefusal.TheVariants as lists
@@ -33,8 +34,7 @@ use Rattle.u_replica.specs.Checkpoints.{IsCheckpointOf}
 use Rattle.u_replica.specs.Marking.{fresh_marks}
 use Rattle.u_replica.specs.ReplicaState.{replica}
 use Rattle.u_replica.specs.Restoring.{blank, IsRestored, IsRestoreError, RestoresWritten, RestoresFront, refusal_behind, FitsBehind, error_of_reading, error_of_taking}
-use Rattle.u_replica.proofs.CheckpointSame.{read_whole}
-use Rattle.u_replica.proofs.CheckpointSteps.{none_read, one_read, text_read}
+use Rattle.u_replica.proofs.CheckpointSame.{read_whole, first_short}
 use Rattle.u_replica.proofs.RestoreLaws.{ReadsWhole, ReadsFront, reads_whole, reads_front, unread_written, unread_front, untaken_error, untaken_written, untaken_front, restored, restored_written, restored_front}
 
 -- one firing is the next
@@ -63,12 +63,50 @@ fires_line old new bytes line rest f place ahead said picked (g, may, takes, set
       settled = settled;
     }
 
+-- lines at the front of some bytes
+pub lines_none : (bytes : List ℕ) → AreLines bytes bytes []
+lines_none bytes = record { short = tt; text = λ before. ap (λ (ls : List (List ℕ)). lines_behind ls bytes) (sym (append-nil before)) }
+
+pub lines_more : (bytes rest line others : List ℕ) (ls : List (List ℕ)) → AreLines bytes rest ls → IsLineAhead rest line others → AreLines bytes others (ls ++ line ∷ [])
+lines_more bytes rest line others ls are ahead = record {
+  short = all_append IsShort ls line are.short ahead.1;
+  text = λ before. are.text before ∙ read_more (before ++ ls) rest line others ahead.0 ∙ ap (λ (xs : List (List ℕ)). lines_behind xs others) (append_assoc before ls (line ∷ []));
+}
+
+all_behind : {A : Type 0} (P : A → Type 0) (xs ys : List A) → AllByRecursion P xs → AllByRecursion P ys → AllByRecursion P (xs ++ ys)
+all_behind P [] ys v w = w
+all_behind P (x ∷ xs) ys v w = (v.0, all_behind P xs ys v.1 w)
+
+lines_both : (bytes rest others : List ℕ) (ls ks : List (List ℕ)) → AreLines bytes rest ls → AreLines rest others ks → AreLines bytes others (ls ++ ks)
+lines_both bytes rest others ls ks a b = record {
+  short = all_behind IsShort ls ks a.short b.short;
+  text = λ before. a.text before ∙ b.text (before ++ ls) ∙ ap (λ (xs : List (List ℕ)). lines_behind xs others) (append_assoc before ls ks);
+}
+
+-- lines of firings are read behind each head
+module _ (bytes rest : List ℕ) (fs : List Firing) (are : AreFired bytes rest fs) (head : Version) where
+  pub fired_read : AreRead head fs
+  fired_read = record { valid = are.valid; short = (first_short head, are.lines.short) }
+
+  pub fired_text : lines_behind (first_line head ∷ []) bytes ≡ lines_behind (begun_lines head fs) rest
+  fired_text = are.lines.text (first_line head ∷ [])
+
 -- where nothing was fired yet
+pub fired_none : (bytes : List ℕ) → AreFired bytes bytes []
+fired_none bytes = record { valid = tt; lines = lines_none bytes }
+
 pub none_fired : (m : State) (bytes : List ℕ) → IsFresh m → AreFired bytes bytes m.log
-none_fired m bytes fresh = subst (λ (fs : List Firing). AreFired bytes bytes fs) (sym fresh.0) (record { read = λ head. none_read head; text = λ head. refl })
+none_fired m bytes fresh = subst (λ (fs : List Firing). AreFired bytes bytes fs) (sym fresh.0) (fired_none bytes)
 
 pub none_ran : (m : State) → IsFresh m → Runs m m.log m
 none_ran m fresh = subst (λ (fs : List Firing). Runs m fs m) (sym fresh.0) (Runs-nil m m (Applies-refl m))
+
+-- those that were fired first, and others
+pub fired_both : (bytes rest others : List ℕ) (fs gs : List Firing) → AreFired bytes rest fs → AreFired rest others gs → AreFired bytes others (fs ++ gs)
+fired_both bytes rest others fs gs a b = record {
+  valid = all_behind IsFiring fs gs a.valid b.valid;
+  lines = subst (λ (xs : List (List ℕ)). AreLines bytes others xs) (sym (map-append firing_text fs gs)) (lines_both bytes rest others (map firing_text fs) (map firing_text gs) a.lines b.lines);
+}
 
 -- one more was fired
 module _ (old mid new : State) (rest others : List ℕ) (fresh : IsFresh old) (runs : Runs old mid.log mid) (l : FiresLine mid rest others new) where
@@ -82,32 +120,15 @@ module _ (old mid new : State) (rest others : List ℕ) (fresh : IsFresh old) (r
   one_fired bytes are =
       subst (λ (fs : List Firing). AreFired bytes others fs) (sym pushed)
       (record {
-        read = λ head. one_read head mid.log l.firing l.line (are.read head) l.ahead.1 l.said;
-        text = λ head. are.text head ∙ text_read head mid.log l.firing rest l.line others l.ahead l.said;
+        valid = all_append IsFiring mid.log l.firing are.valid l.said.0;
+        lines = subst (λ (xs : List (List ℕ)). AreLines bytes others xs) (sym (map-append firing_text mid.log (l.firing ∷ [])))
+            (subst (λ (x : List ℕ). AreLines bytes others (map firing_text mid.log ++ x ∷ [])) l.said.1 (lines_more bytes rest l.line others (map firing_text mid.log) are.lines l.ahead));
       })
 
 -- what is read behind none is what is read
 pub behind_none : (r : Result Checkpoint CheckpointError) → behind [] r ≡ r
 behind_none (Ok c) = refl
 behind_none (Err e) = refl
-
--- what is read behind the fired ones is what is read of all
-pub answered_all : (version head : Version) (bytes lines rest : List ℕ) (fs : List Firing) (r : Result Checkpoint CheckpointError) → MayRead version head → pieces 10 bytes ≡ lines_behind (first_line head ∷ []) lines → AreFired lines rest fs → IsAnswerBehind head (lines_behind (begun_lines head fs) rest) (behind fs r) → IsAnswer version (pieces 10 bytes) (behind fs r)
-answered_all version head bytes lines rest fs r may e are a = subst (λ t. IsAnswer version t (behind fs r)) (sym (e ∙ are.text head)) (a version may)
-
--- a machine took what it fired
-pub took_fired : (base mid : State) (fs : List Firing) → Runs base mid.log mid → IsMachine mid → TookFront base (mid.log ++ fs) (length mid.log) mid
-took_fired base mid fs runs is = record {
-  some = mid.log;
-  takes = record { grows = runs.fires.grows; taken = runs.fires.taken };
-  within = λ f c. Contains-append_left mid.log fs f c;
-  front = λ f c. subst (λ (xs : List Firing). Contains xs f) front c;
-  firings = λ f c. subst (λ (j : JobParts). IsTrue ((system_of j).is_firing f)) runs.fires.grows.job (is.sound.firings f (Contains-append_left mid.log mid.parked f (subst (λ (xs : List Firing). Contains xs f) front c)));
-  few = let l = length-append mid.log fs in omega arith;
-}
-  where
-    front : take (length mid.log) (mid.log ++ fs) ≡ mid.log
-    front = ap (λ k. take k (mid.log ++ fs)) (let e : length mid.log ≡ length mid.log + 0 = omega arith in e) ∙ take-append-add mid.log fs 0 ∙ append-nil mid.log
 
 -- the place of a refusal behind the fired ones fits
 pub fits_behind : (base : State) (before fs : List Firing) (r : ListRefusal) → length before + length fs < 2 ^ 64 → IsUntaken base (before ++ fs) (refusal_behind (length before) r) → FitsBehind (length before) r
@@ -128,14 +149,14 @@ module _ (job : JobParts) (limit number life : ℕ) (bytes : List ℕ) (version 
     pub nothing_front : RestoresFront job limit bytes (Err (error_of_reading error))
     nothing_front = unread_front job limit number life bytes error (reads_front job.program.version bytes short (Err error) answer)
 
-  module _ (mid : State) (c : Checkpoint) (fs : List Firing) (is : fs ≡ c.firings) (a : IsAnswer version (pieces 10 bytes) (behind mid.log (Ok c))) (runs : Runs (blank job limit) mid.log mid) (m : IsMachine mid) where
+  module _ (mid : State) (r : ReadBehind) (is : IsReadBehind (blank job limit) version (pieces 10 bytes) r mid) (fs : List Firing) (same : fs ≡ r.checkpoint.firings) where
     abbrev all : Checkpoint
-    all = record c { firings = mid.log ++ c.firings }
+    all = record r.checkpoint { firings = is.before ++ r.checkpoint.firings }
 
     all_answer : IsAnswer job.program.version (pieces 10 bytes) (Ok all)
-    all_answer = subst (λ v. IsAnswer v (pieces 10 bytes) (Ok all)) own a
+    all_answer = subst (λ v. IsAnswer v (pieces 10 bytes) (Ok all)) own is.read
 
-    all_read : IsCheckpointOf job.program.version bytes c.ending all.firings
+    all_read : IsCheckpointOf job.program.version bytes r.checkpoint.ending all.firings
     all_read = read_whole job.program.version bytes (Ok all) all_answer
 
     all_whole : ReadsWhole job.program.version bytes (Ok all)
@@ -144,36 +165,41 @@ module _ (job : JobParts) (limit number life : ℕ) (bytes : List ℕ) (version 
     all_front : ReadsFront job.program.version bytes (Ok all)
     all_front = reads_front job.program.version bytes short (Ok all) all_answer
 
-    fired : TookFront (blank job limit) (mid.log ++ fs) (length mid.log) mid
-    fired = took_fired (blank job limit) mid fs runs m
+    taken_before : TookFront (blank job limit) (is.before ++ fs) (length is.before) mid
+    taken_before = subst (λ (gs : List Firing). TookFront (blank job limit) (is.before ++ gs) (length is.before) mid) (sym same) is.took
 
     -- they were not taken
-    module _ (r : ListRefusal) (t : (base : State) (before : List Firing) → IsFresh base → TookFront base (before ++ fs) (length before) mid → IsUntaken base (before ++ fs) (refusal_behind (length before) r)) where
-      pub untaken_of : IsUntaken (blank job limit) (mid.log ++ fs) (refusal_behind (length mid.log) r)
-      untaken_of = t (blank job limit) mid.log (refl, refl) fired
+    module _ (e : ListRefusal) (t : (base : State) (before : List Firing) → IsFresh base → TookFront base (before ++ fs) (length before) mid → IsUntaken base (before ++ fs) (refusal_behind (length before) e)) where
+      untaken_all : IsUntaken (blank job limit) (is.before ++ fs) (refusal_behind (length is.before) e)
+      untaken_all = t (blank job limit) is.before (refl, refl) taken_before
 
-      refused : IsUntaken (blank job limit) all.firings (refusal_behind (length mid.log) r)
-      refused = subst (λ (gs : List Firing). IsUntaken (blank job limit) (mid.log ++ gs) (refusal_behind (length mid.log) r)) is untaken_of
+      pub refused_fits : r.fired + length fs < 2 ^ 64 → FitsBehind r.fired e
+      refused_fits few = subst (λ (n : ℕ). FitsBehind n e) (sym is.counted) (fits_behind (blank job limit) is.before fs e (omega (arith, few, is.counted)) untaken_all)
 
-      pub refused_error : IsRestoreError job limit bytes (error_of_taking (refusal_behind (length mid.log) r))
-      refused_error = untaken_error job limit number life bytes all (refusal_behind (length mid.log) r) all_read refused
+      refused : IsUntaken (blank job limit) all.firings (refusal_behind r.fired e)
+      refused =
+          subst (λ (n : ℕ). IsUntaken (blank job limit) all.firings (refusal_behind n e)) (sym is.counted)
+          (subst (λ (gs : List Firing). IsUntaken (blank job limit) (is.before ++ gs) (refusal_behind (length is.before) e)) same untaken_all)
 
-      pub refused_written : RestoresWritten job limit bytes (Err (error_of_taking (refusal_behind (length mid.log) r)))
-      refused_written = untaken_written job limit number life bytes all (refusal_behind (length mid.log) r) all_whole refused
+      pub refused_error : IsRestoreError job limit bytes (error_of_taking (refusal_behind r.fired e))
+      refused_error = untaken_error job limit number life bytes all (refusal_behind r.fired e) all_read refused
 
-      pub refused_front : RestoresFront job limit bytes (Err (error_of_taking (refusal_behind (length mid.log) r)))
-      refused_front = untaken_front job limit number life bytes all (refusal_behind (length mid.log) r) all_front refused
+      pub refused_written : RestoresWritten job limit bytes (Err (error_of_taking (refusal_behind r.fired e)))
+      refused_written = untaken_written job limit number life bytes all (refusal_behind r.fired e) all_whole refused
+
+      pub refused_front : RestoresFront job limit bytes (Err (error_of_taking (refusal_behind r.fired e)))
+      refused_front = untaken_front job limit number life bytes all (refusal_behind r.fired e) all_front refused
 
     -- they were taken
     module _ (new : State) (t : (base : State) (before : List Firing) → IsFresh base → TookFront base (before ++ fs) (length before) mid → IsTaken base (before ++ fs) new) where
       taken : IsTaken (blank job limit) all.firings new
-      taken = subst (λ (gs : List Firing). IsTaken (blank job limit) (mid.log ++ gs) new) is (t (blank job limit) mid.log (refl, refl) fired)
+      taken = subst (λ (gs : List Firing). IsTaken (blank job limit) (is.before ++ gs) new) same (t (blank job limit) is.before (refl, refl) taken_before)
 
-      pub all_restored : IsRestored job limit number life bytes c.ending (replica new number life fresh_marks)
+      pub all_restored : IsRestored job limit number life bytes r.checkpoint.ending (replica new number life fresh_marks)
       all_restored = restored job limit number life bytes all new taken all_read
 
-      pub all_written : RestoresWritten job limit bytes (Ok (replica new number life fresh_marks, c.ending))
+      pub all_written : RestoresWritten job limit bytes (Ok (replica new number life fresh_marks, r.checkpoint.ending))
       all_written = restored_written job limit number life bytes all new taken all_whole
 
-      pub all_fronted : RestoresFront job limit bytes (Ok (replica new number life fresh_marks, c.ending))
+      pub all_fronted : RestoresFront job limit bytes (Ok (replica new number life fresh_marks, r.checkpoint.ending))
       all_fronted = restored_front job limit number life bytes all new taken all_front

@@ -12,3 +12,4 @@ pub mod ReplicaLaws
 pub mod SpelledTexts
 pub mod Takings
 pub mod FiredLaws
+pub mod ListedLaws

@@ -20,7 +20,7 @@ use Rattle.u_replica.specs.Restoring.{refusal_behind}
 use Rattle.u_replica.specs.Takings.{TookFront, IsTaken, IsUntaken}
 
 -- lists that are taken one after another
-takes_on : (old mid new : State) (fs gs : List Firing) → TakesAll old fs mid → TakesAll mid gs new → TakesAll old (fs ++ gs) new
+pub takes_on : (old mid new : State) (fs gs : List Firing) → TakesAll old fs mid → TakesAll mid gs new → TakesAll old (fs ++ gs) new
 takes_on old mid new fs gs p q = record { grows = grows_trans old mid new p.grows q.grows; taken = λ g. (to g, back g) }
   where
     to : (g : Firing) → Taken new g → Taken old g ⊎ Contains (fs ++ gs) g

@@ -9,3 +9,4 @@ pub mod Restoring
 pub mod Obeying
 pub mod FiredLines
 pub mod Takings
+pub mod ListedLines

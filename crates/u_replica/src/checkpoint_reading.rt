@@ -1,9 +1,9 @@
 //! The text of a checkpoint, read line by line.
-ghost use Rattle.std.specs.Prelude.{◌≡◌, ◌↔◌, ◌∷◌, [], ◌++◌, ℕ, ◌<◌, List, length, take, IsTrue, OnOk, MatchOption, MatchResult};
+ghost use Rattle.std.specs.Prelude.{◌≡◌, ◌↔◌, ◌∷◌, [], ◌++◌, ℕ, ◌<◌, List, ◌^◌, length, take, IsTrue, MatchOption, MatchResult};
 ghost use Rattle.u_program.specs.declared.program.Version.{Version};
 ghost use Rattle.u_rule.specs.declared.firing.Firing.{Firing};
 ghost use Rattle.u_rule.specs.FiringReading.{line as ended_line, IsFiringOf};
-ghost use Rattle.u_text.specs.Pieces.{pieces, IsCutInto};
+ghost use Rattle.u_text.specs.Pieces.{PiecesAndRest, pieces, IsCutInto};
 ghost use Rattle.u_delta.specs.Lines.{lines_behind};
 ghost use Rattle.u_replica.specs.declared.checkpoint.Ending.TheVariants as endings;
 ghost use Rattle.u_replica.specs.declared.checkpoint.CheckpointError.TheVariants as errors;
@@ -12,14 +12,15 @@ ghost use Rattle.u_replica.specs.CheckpointText.{checkpoint_lines, checkpoint_te
 ghost use Rattle.u_replica.specs.Checkpoints.{AreFirings, MayRead, IsFrontOf};
 ghost use Rattle.u_replica.specs.Checkpoints.{IsCheckpointOf, IsCheckpointErrorOf};
 ghost use Rattle.u_replica.specs.CheckpointReading.{AreRead, IsNoFiring, IsAnswer, IsAnswerBehind};
-ghost use Rattle.u_replica.specs.FiredLines.{behind};
-ghost use Rattle.u_machine.specs.State.{IsSettled};
-ghost use Rattle.u_machine.specs.Calls.{IsFresh, Runs};
+ghost use Rattle.u_replica.specs.FiredLines.{behind, ReadsBehind};
+ghost use Rattle.u_machine.specs.State.{State, IsSettled};
+ghost use Rattle.u_machine.specs.Calls.{IsFresh};
 
 use crate::checkpoint::{Checkpoint, CheckpointError, Ending};
 use crate::firing_lines::fire_lines;
+use crate::listed_lines::fire_listed;
 use crate::onlooker::Onlooker;
-use std::alloc::{AllocError, Global};
+use std::alloc::Global;
 use u_delta::{Ahead, Firings, look_ahead};
 use u_machine::Machine;
 use u_name::KeptContext;
@@ -71,20 +72,16 @@ fn firing_in<'a>(
     }
 }
 
-/// The checkpoint of these firings behind those `before` them, of which all lines were read. Nothing may stand
+/// The checkpoint of these firings behind so many `before` them, of which all lines were read. Nothing may stand
 /// behind them.
-fn closed(
-    head: Version,
-    before: &[Firing],
-    firings: Vec<Firing>,
-    bytes: &[u8],
-) -> Result<Checkpoint, CheckpointError>
-    requires { AreRead head (before.now ++ firings.items) }
-    ensures { IsAnswerBehind head
-        (lines_behind (checkpoint_lines head (before.now ++ firings.items)) bytes.now)
-        (behind before.now result) }
+fn closed(before: usize, firings: Vec<Firing>, bytes: &[u8]) -> Result<Checkpoint, CheckpointError>
+    requires { before < 2 ^ 62 }
+    ensures { (head : Version) (fs : List Firing) → before ≡ length fs
+        → AreRead head (fs ++ firings.items)
+        → IsAnswerBehind head
+        (lines_behind (checkpoint_lines head (fs ++ firings.items)) bytes.now) (behind fs result) }
 {
-    let number = before.len() + firings.len() + 3;
+    let number = before + firings.len() + 3;
     if bytes.is_empty() {
         return Ok(Checkpoint {
             firings: Firings::new(firings),
@@ -97,23 +94,18 @@ fn closed(
     }
 }
 
-/// The checkpoint that goes on with these bytes behind the lines of the firings `before` them. It has the
+/// The checkpoint that goes on with these bytes behind the lines of so many firings `before` them. It has the
 /// firings that were read of the bytes.
-fn read_firings(
-    alloc: Global,
-    head: Version,
-    before: &[Firing],
-    bytes: &[u8],
-) -> Result<Checkpoint, CheckpointError>
-    requires { AreRead head before.now }
-    ensures { IsAnswerBehind head (lines_behind (begun_lines head before.now) bytes.now)
-        (behind before.now result) }
+fn read_firings(alloc: Global, before: usize, bytes: &[u8]) -> Result<Checkpoint, CheckpointError>
+    requires { before < 2 ^ 62 }
+    ensures { (head : Version) (fs : List Firing) → before ≡ length fs → AreRead head fs
+        → IsAnswerBehind head (lines_behind (begun_lines head fs) bytes.now) (behind fs result) }
 {
     let mut firings = Vec::new(alloc);
     let mut kept = KeptContext::root();
     let mut rest = bytes;
     loop {
-        let count = before.len() + firings.len();
+        let count = before + firings.len();
         let (line, others) = match look_ahead(rest) {
             Ahead::Line(line, others) => (line, others),
             Ahead::TooLong => return Err(CheckpointError::TooLong(count + 2)),
@@ -125,7 +117,7 @@ fn read_firings(
             }
         };
         if is_count_line(line, count as u64) {
-            return closed(head, before, firings, others);
+            return closed(before, firings, others);
         }
         let ended = with_newline(rest, line, others);
         match firing_in(alloc, line, ended, count + 2, &mut kept) {
@@ -180,13 +172,69 @@ fn read_lines(alloc: Global, version: Version, bytes: &[u8]) -> Result<Checkpoin
     ensures { IsAnswer version (pieces 10 bytes.now) result }
 {
     match read_head(alloc, version, bytes) {
-        Ok((head, rest)) => read_firings(alloc, head, &[], rest),
+        Ok((_, rest)) => read_firings(alloc, 0, rest),
         Err(answer) => answer,
     }
 }
 
-/// What `read_checkpoint` returns, but that a firing whose line comes next is fired where the machine fires
-/// just that one next: the checkpoint has the firings behind those. The onlooker is shown the machine.
+/// What is read of a checkpoint behind lines that a machine fired by itself.
+#[derive(Drop)]
+pub(crate) struct ReadBehind {
+    /// How many lines of firings were not read: the machine fired these firings.
+    pub(crate) fired: usize,
+    /// What was read behind them.
+    pub(crate) checkpoint: Checkpoint,
+}
+
+/// What was answered, as what is read behind no lines.
+fn behind_nothing(
+    answer: Result<Checkpoint, CheckpointError>,
+) -> Result<ReadBehind, CheckpointError>
+    ensures { (m : State) (version : Version) (text : PiecesAndRest)
+        → IsAnswer version text answer → ReadsBehind m version text result m }
+{
+    match answer {
+        Ok(checkpoint) => Ok(ReadBehind {
+            fired: 0,
+            checkpoint,
+        }),
+        Err(error) => Err(error),
+    }
+}
+
+/// What is read behind the lines that the machine fires by itself, where the head was read.
+fn read_fired<S: Onlooker>(
+    alloc: Global,
+    bytes: &[u8],
+    machine: &mut Machine<'_>,
+    onlooker: &mut S,
+) -> Result<ReadBehind, CheckpointError>
+    requires fresh { IsFresh machine.old }
+    requires settled { IsSettled machine.old }
+    ensures { (version head : Version) (text : PiecesAndRest) → MayRead version head
+        → text ≡ lines_behind (first_line head ∷ []) bytes.now
+        → ReadsBehind machine.old version text result machine.new }
+{
+    let Ok(rest) = fire_lines(alloc, machine, bytes, onlooker) else {
+        return Err(CheckpointError::NoMemory);
+    };
+    let fired = machine.applied().len();
+    let Ok((more, others)) = fire_listed(alloc, machine, rest, onlooker) else {
+        return Err(CheckpointError::NoMemory);
+    };
+    // Brings in that what was fired are firings of the job.
+    machine.holds();
+    match read_firings(alloc, fired + more, others) {
+        Ok(checkpoint) => Ok(ReadBehind {
+            fired: fired + more,
+            checkpoint,
+        }),
+        Err(error) => Err(error),
+    }
+}
+
+/// What `read_checkpoint` returns, but that lines at the front are not read where the machine fires just their
+/// firings: the checkpoint has the firings behind those. The onlooker is shown the machine.
 ///
 /// # Errors
 /// As `read_checkpoint`.
@@ -196,19 +244,14 @@ pub(crate) fn read_behind_fired<S: Onlooker>(
     bytes: &[u8],
     machine: &mut Machine<'_>,
     onlooker: &mut S,
-) -> Result<Checkpoint, CheckpointError>
+) -> Result<ReadBehind, CheckpointError>
     requires fresh { IsFresh machine.old }
     requires settled { IsSettled machine.old }
-    ensures answer { IsAnswer version (pieces 10 bytes.now) (behind machine.new.log result) }
-    ensures runs { OnOk result (Runs machine.old machine.new.log machine.new) }
-    ensures settled { OnOk result (IsSettled machine.new) }
+    ensures { ReadsBehind machine.old version (pieces 10 bytes.now) result machine.new }
 {
     match read_head(alloc, version, bytes) {
-        Ok((head, lines)) => match fire_lines(alloc, machine, lines, onlooker) {
-            Ok(rest) => read_firings(alloc, head, machine.applied(), rest),
-            Err(AllocError) => Err(CheckpointError::NoMemory),
-        },
-        Err(answer) => answer,
+        Ok((_, lines)) => read_fired(alloc, lines, machine, onlooker),
+        Err(answer) => behind_nothing(answer),
     }
 }
 

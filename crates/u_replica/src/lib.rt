@@ -7,6 +7,7 @@ mod calls;
 mod checkpoint;
 mod checkpoint_reading;
 mod firing_lines;
+mod listed_lines;
 mod marks;
 mod merging;
 mod onlooker;

@@ -366,16 +366,13 @@ impl<'a> Replica<'a> {
         let version = job.program().version();
         let bytes = restart.checkpoint;
         let mut machine = Machine::new(alloc, job, limit)?;
-        let checkpoint = match read_behind_fired(alloc, version, bytes, &mut machine, onlooker) {
-            Ok(checkpoint) => checkpoint,
+        let read = match read_behind_fired(alloc, version, bytes, &mut machine, onlooker) {
+            Ok(read) => read,
             Err(error) => return Err(unread(error)),
         };
-        let fired = machine.applied().len();
-        // Brings in that what was fired are firings of the job.
-        machine.holds();
-        match take_behind(&mut machine, checkpoint.firings.as_slice(), onlooker) {
+        match take_behind(&mut machine, read.checkpoint.firings.as_slice(), onlooker) {
             Ok(()) => {}
-            Err(refusal) => return Err(untaken(fired, refusal)),
+            Err(refusal) => return Err(untaken(read.fired, refusal)),
         }
         let replica = Replica {
             alloc,
@@ -384,7 +381,7 @@ impl<'a> Replica<'a> {
             life: restart.life,
             marks: Marks::new(),
         };
-        Ok((replica, checkpoint.ending))
+        Ok((replica, read.checkpoint.ending))
     }
 
     /// What holds of each replica, after all calls. It does nothing, and callers cite its clause.

@@ -1,13 +1,13 @@
 //! Lines that are compared, part by part, with the text of a firing that is there, so that no firing is made
 //! of them.
-ghost use Rattle.std.specs.Prelude.{◌≡◌, ◌↔◌, ◌≤◌, ◌++◌, IfOk, OnOk, IfSome, IsTrue, drop, length};
+ghost use Rattle.std.specs.Prelude.{◌≡◌, ◌↔◌, ◌++◌, IfOk, OnOk, IfSome, IsTrue};
 ghost use Rattle.std.specs.Fmt.{decimal, signed_decimal};
 ghost use Rattle.u_name.specs.NameText.{context_text, call_part, name_text};
 ghost use Rattle.u_value.specs.Values.{value_text};
 ghost use Rattle.u_rule.specs.FiringText.{values_text, firing_text};
 
 use std::alloc::{AllocError, Global};
-use u_name::{Context, Name};
+use u_name::{Context, Name, behind_text};
 use u_rule::Firing;
 use u_text::{long_number0_at, signed_at};
 use u_value::Value;
@@ -22,35 +22,8 @@ pub(crate) struct SpelledContext {
     ghost spelled: { text.items ≡ context_text context },
 }
 
-/// The bytes from the offset on.
-fn behind(bytes: &[u8], offset: usize) -> &[u8]
-    requires { offset ≤ length bytes.now }
-    ensures { drop offset bytes.now ≡ result.now }
-{
-    &bytes[offset..]
-}
-
-/// What stands behind the text, where the bytes begin with it.
-#[tactic(auto, using(u_name::proofs::Fronts::one_more, u_name::proofs::Fronts::all_there))]
-fn after_text<'a>(bytes: &'a [u8], text: &[u8]) -> Option<&'a [u8]>
-    ensures { IfSome result (λ rest. bytes.now ≡ text.now ++ rest.now) }
-{
-    let many = text.len();
-    if bytes.len() < many {
-        return None;
-    }
-    let mut place = 0;
-    while place < many {
-        if bytes[place] != text[place] {
-            return None;
-        }
-        place += 1;
-    }
-    Some(behind(bytes, many))
-}
-
 /// What stands behind the number, where the bytes begin with it and no digit comes then.
-fn after_number(bytes: &[u8], number: u64) -> Option<&[u8]>
+fn behind_number(bytes: &[u8], number: u64) -> Option<&[u8]>
     ensures { IfSome result (λ rest. bytes.now ≡ decimal number ++ rest.now) }
 {
     match long_number0_at(bytes, u64::MAX) {
@@ -60,7 +33,7 @@ fn after_number(bytes: &[u8], number: u64) -> Option<&[u8]>
 }
 
 /// What stands behind the signed number, where the bytes begin with it and no digit comes then.
-fn after_signed(bytes: &[u8], number: i64) -> Option<&[u8]>
+fn behind_signed(bytes: &[u8], number: i64) -> Option<&[u8]>
     ensures { IfSome result (λ rest. bytes.now ≡ signed_decimal number ++ rest.now) }
 {
     match signed_at(bytes) {
@@ -71,13 +44,13 @@ fn after_signed(bytes: &[u8], number: i64) -> Option<&[u8]>
 
 /// What stands behind the value, where it is a number or a truth value and the bytes begin with it.
 #[tactic(auto, unfolding(u_value::specs::Values::value_text))]
-fn after_value<'a>(bytes: &'a [u8], value: &Value) -> Option<&'a [u8]>
+fn behind_value<'a>(bytes: &'a [u8], value: &Value) -> Option<&'a [u8]>
     ensures { IfSome result (λ rest. bytes.now ≡ value_text value.now ++ rest.now) }
 {
     match value {
-        Value::Int(number) => after_signed(bytes, *number),
-        Value::Bool(true) => after_text(bytes, b"true"),
-        Value::Bool(false) => after_text(bytes, b"false"),
+        Value::Int(number) => behind_signed(bytes, *number),
+        Value::Bool(true) => behind_text(bytes, b"true"),
+        Value::Bool(false) => behind_text(bytes, b"false"),
         Value::Proc(_) | Value::Ref(_) => None,
     }
 }
@@ -89,10 +62,10 @@ fn are_values(bytes: &[u8], values: &[Value]) -> bool
     let [first, others @ ..] = values else {
         return bytes.is_empty();
     };
-    let Some(spaced) = after_text(bytes, b" ") else {
+    let Some(spaced) = behind_text(bytes, b" ") else {
         return false;
     };
-    match after_value(spaced, first) {
+    match behind_value(spaced, first) {
         Some(rest) => are_values(rest, others),
         None => false,
     }
@@ -100,16 +73,16 @@ fn are_values(bytes: &[u8], values: &[Value]) -> bool
 
 /// What stands behind the parts of the name that follow its context, where the bytes begin with them.
 #[tactic(auto, using(crate::proofs::SpelledTexts::parts_there))]
-fn after_parts<'a>(bytes: &'a [u8], name: &Name) -> Option<&'a [u8]>
+fn behind_parts<'a>(bytes: &'a [u8], name: &Name) -> Option<&'a [u8]>
     ensures { IfSome result (λ rest. bytes.now
         ≡ call_part name.now.block name.now.statement name.now.initiation ++ rest.now) }
 {
-    let block = after_text(bytes, b".")?;
-    let block_end = after_text(block, name.block().as_bytes())?;
-    let statement = after_text(block_end, b".")?;
-    let statement_end = after_number(statement, u64::from(name.statement()))?;
-    let initiation = after_text(statement_end, b".")?;
-    after_number(initiation, name.initiation())
+    let block = behind_text(bytes, b".")?;
+    let block_end = behind_text(block, name.block().as_bytes())?;
+    let statement = behind_text(block_end, b".")?;
+    let statement_end = behind_number(statement, u64::from(name.statement()))?;
+    let initiation = behind_text(statement_end, b".")?;
+    behind_number(initiation, name.initiation())
 }
 
 /// Whether the line is the text of the firing, which is written for that.
@@ -144,7 +117,10 @@ impl SpelledContext {
     }
 
     /// Takes this context in place of the one that was there.
-    fn spell(&mut self, context: &Context) -> Result<(), AllocError>
+    ///
+    /// # Errors
+    /// `AllocError` where there is no memory.
+    pub(crate) fn spell(&mut self, context: &Context) -> Result<(), AllocError>
         ensures { OnOk result (self.new.context ≡ context.now) }
     {
         if self.context == *context {
@@ -155,29 +131,29 @@ impl SpelledContext {
     }
 
     /// What stands behind the name, which is in this context, where the bytes begin with it.
-    fn after_name<'a>(&self, bytes: &'a [u8], name: &Name) -> Option<&'a [u8]>
+    fn behind_name<'a>(&self, bytes: &'a [u8], name: &Name) -> Option<&'a [u8]>
         requires { name.now.context ≡ self.now.context }
         ensures { IfSome result (λ rest. bytes.now ≡ name_text name.now ++ rest.now) }
     {
-        let parts = after_text(bytes, &self.text)?;
-        let rest = after_parts(parts, name)?;
+        let parts = behind_text(bytes, &self.text)?;
+        let rest = behind_parts(parts, name)?;
         Some(rest)
     }
 
     /// Whether the line is the text of the firing, which is in this context, and none of its values is longer
     /// than a word.
     #[tactic(auto, using(crate::proofs::SpelledTexts::firing_there))]
-    fn is_plain_text(&self, firing: &Firing, line: &[u8]) -> bool
+    pub(crate) fn is_plain_text(&self, firing: &Firing, line: &[u8]) -> bool
         requires { firing.now.activity.context ≡ self.now.context }
         ensures { IsTrue result → line.now ≡ firing_text firing.now }
     {
         if firing.write.is_some() {
             return false;
         }
-        let Some(name) = after_text(line, b"f ") else {
+        let Some(name) = behind_text(line, b"f ") else {
             return false;
         };
-        match self.after_name(name, &firing.activity) {
+        match self.behind_name(name, &firing.activity) {
             Some(values) => are_values(values, firing.values.as_slice()),
             None => false,
         }

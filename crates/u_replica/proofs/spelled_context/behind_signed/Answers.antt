@@ -2,7 +2,7 @@ use Rattle.std.proofs.Common.{sym, ◌∙◌, ap, w64, to_z}
 use Rattle.std.proofs.lemmas.Int.{to_z-of_z}
 use Rattle.u_text.proofs.SignedLaws.{signed_Reads}
 use Rattle.u_replica.proofs.SpelledTexts.{signed_there}
-use Rattle.u_replica.proofs.spelled_context.after_signed.Goals as goal
+use Rattle.u_replica.proofs.spelled_context.behind_signed.Goals as goal
 
 pub returns-in-Ok : goal.returns-in-Ok
 returns-in-Ok c =
