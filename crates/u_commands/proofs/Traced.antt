@@ -1,5 +1,5 @@
 -- What a machine that ran says of where an entry came from.
-use Rattle.std.proofs.Common.{◌≡◌, refl, sym, ap, subst, ℕ, List, [], Contains, inr}
+use Rattle.std.proofs.Common.{◌≡◌, refl, sym, subst, ℕ, List, Contains, inr}
 use Rattle.std.specs.Prelude.{Option, Err}
 use Rattle.u_check.specs.Jobs.{JobParts}
 use Rattle.u_system.specs.Firing.{Held}

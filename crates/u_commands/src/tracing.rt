@@ -15,7 +15,7 @@ use u_check::Job;
 use u_delta::write_firings;
 use u_machine::Machine;
 use u_rule::{Entry, Firing, TextError};
-use u_trace::{TraceError, causes, story};
+use u_trace::{TraceError, machine_causes, story};
 
 /// The entry with this text.
 pub fn entry_of(alloc: Global, word: &[u8]) -> Result<Entry, CommandError>
@@ -71,7 +71,7 @@ fn traced(alloc: Global, machine: &Machine<'_>, entry: &Entry) -> Result<Vec<u8>
         Ok(told) => told,
         Err(error) => return Err(trace_fault(error)),
     };
-    let found = match causes(alloc, machine.job(), machine.history(), entry) {
+    let found = match machine_causes(alloc, machine, entry) {
         Ok(found) => found,
         Err(error) => return Err(trace_fault(error)),
     };

@@ -3,7 +3,7 @@ use std::alloc::{AllocError, Global};
 use u_machine::Machine;
 use u_plain::worked::{entry_of, put_firings};
 use u_rule::{Entry, Firing};
-use u_trace::{TraceError, causes, story};
+use u_trace::{TraceError, causes, machine_causes, story};
 
 /// The lines of the firings that have to be answered, or why none are.
 pub type Wanted = Result<&'static str, TraceError>;
@@ -23,10 +23,12 @@ fn is_wanted(alloc: Global, answer: &Result<Vec<Firing>, TraceError>, wanted: Wa
     }
 }
 
-/// Whether these are the causes of the entry over the machine's history.
+/// Whether these are the causes of the entry over the machine's history, asked of the history and of the
+/// machine.
 fn has_causes(alloc: Global, machine: &Machine<'_>, entry: &Entry, wanted: Wanted) -> bool {
-    let answer = causes(alloc, machine.job(), machine.history(), entry);
-    is_wanted(alloc, &answer, wanted)
+    let of_history = causes(alloc, machine.job(), machine.history(), entry);
+    let of_machine = machine_causes(alloc, machine, entry);
+    is_wanted(alloc, &of_history, wanted) && is_wanted(alloc, &of_machine, wanted)
 }
 
 /// Whether that is the entry's story.

@@ -7,7 +7,7 @@ use u_check::Job;
 use u_machine::Machine;
 use u_plain::are_in;
 use u_rule::{Entry, Firing, gives};
-use u_trace::causes;
+use u_trace::{TraceError, causes, machine_causes};
 
 /// Whether the firing gives the entry. `None` where it is no firing, or there is no
 /// memory.
@@ -42,13 +42,28 @@ fn are_those(
     place == found.len()
 }
 
-/// Whether the causes of the entry are those of the scanned firings that give it.
-fn causes_hold(alloc: Global, machine: &Machine<'_>, scanned: &[Firing], entry: &Entry) -> bool {
-    let job = machine.job();
-    match causes(alloc, job, machine.history(), entry) {
-        Ok(found) => are_those(alloc, job, scanned, entry, &found),
+/// Whether the answer is the list of those of the scanned firings that give the entry.
+fn is_right(
+    alloc: Global,
+    job: &Job,
+    scanned: &[Firing],
+    entry: &Entry,
+    answer: &Result<Vec<Firing>, TraceError>,
+) -> bool {
+    match answer {
+        Ok(found) => are_those(alloc, job, scanned, entry, found),
         Err(_) => false,
     }
+}
+
+/// Whether the causes of the entry are those of the scanned firings that give it, asked of the history and
+/// of the machine.
+fn causes_hold(alloc: Global, machine: &Machine<'_>, scanned: &[Firing], entry: &Entry) -> bool {
+    let job = machine.job();
+    let of_history = causes(alloc, job, machine.history(), entry);
+    let of_machine = machine_causes(alloc, machine, entry);
+    is_right(alloc, job, scanned, entry, &of_history)
+        && is_right(alloc, job, scanned, entry, &of_machine)
 }
 
 /// Whether the causes and the story of each of the entries are right.
