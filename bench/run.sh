@@ -17,9 +17,9 @@
 # Checkpoints: the sums of 998 and of 9998 are run, saved after all their firings and restored from that,
 # the best of three each, also from the same lines with the last firing first, so that nearly all are
 # parked. Saving may take 13 times as long for ten times the bytes, restoring the longer one 1.7 times as
-# long as running it, and restoring it backwards three times as long.
+# long as running it, and restoring it backwards twice as long.
 #
-# Traces: the answer of the sum of 9998 is traced, which may take three and a half times as long as
+# Traces: the answer of the sum of 9998 is traced, which may take three times as long as
 # running it; the story has every firing that the answer rests on.
 #
 # Worlds: on the sum of 100, with 1,015 firings, 2, 4 and 8 replicas live through 1,000 and 10,000 random
@@ -209,8 +209,8 @@ timed_checkpoint() {
         echo "restoring the sum of $argument took more than 1.7 times as long as running it" >&2
         failed=1
     fi
-    if [ "$argument" = 9998 ] && [ "$spent" -gt $((running * 3)) ]; then
-        echo "restoring the sum of $argument backwards took more than three times as long as running it" >&2
+    if [ "$argument" = 9998 ] && [ "$spent" -gt $((running * 2)) ]; then
+        echo "restoring the sum of $argument backwards took more than twice as long as running it" >&2
         failed=1
     fi
     if [ "$saved_before" -gt 0 ] &&
@@ -229,8 +229,8 @@ timed_trace() {
     timed_command trace "$top/programs/sum.u" "$argument" "a $((argument * (argument + 1) / 2))"
     printf '%12s %10s %8s %8s\n' "$argument" "$(sed -n 's/^story //p' "$temp/out")" \
         "$(seconds "$running")" "$(seconds "$spent")"
-    if [ "$argument" = 9998 ] && [ "$spent" -gt $((running * 7 / 2)) ]; then
-        echo "tracing the sum of $argument took more than 3.5 times as long as running it" >&2
+    if [ "$argument" = 9998 ] && [ "$spent" -gt $((running * 3)) ]; then
+        echo "tracing the sum of $argument took more than three times as long as running it" >&2
         failed=1
     fi
 }
