@@ -17,9 +17,13 @@ long_line bytes line rest c h = inl (line, rest, c, h)
 pub long_rest : (bytes : List ℕ) → pieces 10 bytes ≡ ([], bytes) → 32768 < length bytes → IsLongAhead bytes
 long_rest bytes c h = inr (c, h)
 
+-- what is so of each of two lists is so of each of both
+pub all_behind : {A : Type 0} (P : A → Type 0) (xs ys : List A) → AllByRecursion P xs → AllByRecursion P ys → AllByRecursion P (xs ++ ys)
+all_behind P [] ys v w = w
+all_behind P (x ∷ xs) ys v w = (v.0, all_behind P xs ys v.1 w)
+
 pub all_append : {A : Type 0} (P : A → Type 0) (xs : List A) (x : A) → AllByRecursion P xs → P x → AllByRecursion P (xs ++ (x ∷ []))
-all_append P [] x v w = (w, tt)
-all_append P (y ∷ ys) x v w = (v.0, all_append P ys x v.1 w)
+all_append P xs x v w = all_behind P xs (x ∷ []) v (w, tt)
 
 -- one more line is read
 pub read_more : (ls : List (List ℕ)) (rest line others : List ℕ) → IsCutInto 10 rest line others → lines_behind ls rest ≡ lines_behind (ls ++ (line ∷ [])) others

@@ -23,6 +23,7 @@ use Rattle.u_delta.specs.Messages.{IsAsk, IsOpening, IsMessage, IsMessageLines}
 use Rattle.u_delta.specs.HeadReading.{ask, opening, opening_line, head_line, IsHead}
 use Rattle.u_delta.specs.Reading.{begun_lines, delta_of}
 use Rattle.u_delta.proofs.HeadLaws.{head_same}
+use Rattle.u_delta.proofs.LineLaws.{all_behind}
 
 pub heads_are : {A : Type 0} {a b : A} {x y : List A} → ◌≡◌ {A = List A} (a ∷ x) (b ∷ y) → a ≡ b
 heads_are h = cc
@@ -107,10 +108,6 @@ fill_length : (k : ℕ) → length (fill k) ≡ k
 unfolding fill
 fill_length zero = refl
 fill_length (suc k) = ap suc (fill_length k)
-
-all_behind : {A : Type 0} (P : A → Type 0) (xs ys : List A) → AllByRecursion P xs → AllByRecursion P ys → AllByRecursion P (xs ++ ys)
-all_behind P [] ys v w = w
-all_behind P (x ∷ xs) ys v w = (v.0, all_behind P xs ys v.1 w)
 
 -- where these are all firings
 pub whole_lines : (o : Opening) (fs : List Firing) → IsHead (heads.Delta o) → AllByRecursion IsFiring fs → length fs ≡ o.count → IsMessageLines (begun_lines o fs ++ (last_line ∷ []))

@@ -30,7 +30,7 @@ use Rattle.u_delta.proofs.HeadLaws.{head_free, head_same}
 use Rattle.u_delta.proofs.MessageLaws.{head_of, heads_are, tails_are, ask_not_delta}
 use Rattle.u_delta.proofs.FiringTextLaws.{firing_free, firing_short}
 use Rattle.u_delta.proofs.OneError.{one_bad, one_long, bad_not_long, bad_not_truncated, long_not_truncated}
-use Rattle.u_delta.proofs.LineLaws.{read_all, none_bad, none_long, not_truncated}
+use Rattle.u_delta.proofs.LineLaws.{all_behind, read_all, none_bad, none_long, not_truncated}
 
 -- the lines of a message have no newline
 
@@ -47,10 +47,6 @@ lines_free (messages.Delta d) v =
     (head_free 10 (omega arith) (head_of (messages.Delta d)) (λ e. omega arith) v.opening, all_free_append 10 (map firing_text d.firings) (last_line ∷ []) (firings_free d.firings v.firings) (last_free, tt))
 
 -- and are short
-
-all_behind : (P : List ℕ → Type 0) (xs ys : List (List ℕ)) → AllByRecursion P xs → AllByRecursion P ys → AllByRecursion P (xs ++ ys)
-all_behind P [] ys v w = w
-all_behind P (x ∷ xs) ys v w = (v.0, all_behind P xs ys v.1 w)
 
 pub firings_short : (fs : List Firing) → AllByRecursion IsFiring fs → AllByRecursion IsShort (map firing_text fs)
 firings_short [] v = tt
