@@ -13,7 +13,7 @@ ghost use Rattle.u_sets.specs.Members.{Gains, SomeOf};
 ghost use Rattle.u_trace.specs.Causes.{IsCause, IsKept};
 ghost use Rattle.u_trace.specs.declared.trace_error.TraceError.TheVariants as errors;
 
-use crate::sending::matters;
+use crate::sending::{matters, may_give};
 use crate::trace_error::TraceError;
 use std::alloc::{AllocError, Global};
 use u_check::Job;
@@ -22,15 +22,20 @@ use u_match::Matcher;
 use u_rule::{Entry, Firing, RuleError, gives};
 use u_sets::{has, place_in};
 
-/// Whether the firing of the job gives the entry.
+/// Whether the firing of the job gives the entry. What it gives is made only where its statement can give
+/// the entry.
 ///
 /// # Errors
 /// `AllocError` where there is no memory.
+#[tactic(auto, using(crate::proofs::SendLaws::gives_may))]
 fn does_give(alloc: Global, job: &Job, firing: &Firing, entry: &Entry) -> Result<bool, AllocError>
     requires { IsTrue ((system_of job.now).is_firing firing.now) }
     ensures { IfOk result
         (λ b. IsTrue b ↔ Contains ((system_of job.now).gives firing.now) entry.now) }
 {
+    if !may_give(job, &firing.activity, entry) {
+        return Ok(false);
+    }
     match gives(alloc, job, firing) {
         Ok(given) => Ok(has(&given, entry)),
         Err(RuleError::NotAFiring) => unreachable!(),
@@ -39,7 +44,7 @@ fn does_give(alloc: Global, job: &Job, firing: &Firing, entry: &Entry) -> Result
 }
 
 /// Puts a copy of the firing in its place, if it gives the entry.
-pub(crate) fn keep(
+fn keep(
     alloc: Global,
     job: &Job,
     entry: &Entry,
@@ -62,7 +67,7 @@ pub(crate) fn keep(
 }
 
 /// Puts copies of those firings in their places that give the entry.
-fn keep_all(
+pub(crate) fn keep_all(
     alloc: Global,
     job: &Job,
     entry: &Entry,

@@ -2,43 +2,20 @@
 //!
 //! Where nothing is ready, the machine applied each firing that is enabled over its history. So those
 //! that give the entry are found among the applied ones, and no entry has to enter a matcher.
-ghost use Rattle.std.specs.Prelude.{◌≡◌, ◌↔◌, IfOk, OnOk, IsTrue, Contains, Err};
+ghost use Rattle.std.specs.Prelude.{◌≡◌, ◌↔◌, IfOk, Contains, Err};
 ghost use Rattle.u_rule.specs.Rule.{system_of};
 ghost use Rattle.u_rule.specs.EntryOrder.{firing_cmp};
-ghost use Rattle.u_sets.specs.Rising.{Rises, IsListOf};
-ghost use Rattle.u_sets.specs.Members.{Gains};
-ghost use Rattle.u_trace.specs.Causes.{IsCause, IsKept, IsGiverIn};
+ghost use Rattle.u_sets.specs.Rising.{IsListOf};
+ghost use Rattle.u_trace.specs.Causes.{IsCause, IsGiverIn};
 ghost use Rattle.u_trace.specs.Givers.{AreFirings};
 ghost use Rattle.u_trace.specs.declared.trace_error.TraceError.TheVariants as errors;
 
-use crate::causing::{causes, keep};
-use crate::sending::may_give;
+use crate::causing::{causes, keep_all};
 use crate::trace_error::TraceError;
 use std::alloc::{AllocError, Global};
 use u_check::Job;
 use u_machine::Machine;
 use u_rule::{Entry, Firing};
-
-/// Puts a copy of the firing in its place, if it gives the entry. What it gives is made only where its
-/// statement can give the entry.
-fn keep_giver(
-    alloc: Global,
-    job: &Job,
-    entry: &Entry,
-    firing: &Firing,
-    found: &mut Vec<Firing>,
-) -> Result<(), AllocError>
-    requires rises { Rises firing_cmp found.old.items }
-    requires firing { IsTrue ((system_of job.now).is_firing firing.now) }
-    ensures rises { Rises firing_cmp found.new.items }
-    ensures ok { OnOk result
-        (Gains found.old.items (IsKept job.now entry.now firing.now) found.new.items) }
-{
-    if !may_give(job, &firing.activity, entry) {
-        return Ok(());
-    }
-    keep(alloc, job, entry, firing, found)
-}
 
 /// Copies of the firings of the list that give the entry, in order and each once.
 ///
@@ -55,9 +32,7 @@ fn givers_among(
         (λ v. IsListOf firing_cmp (IsGiverIn job.now log.now entry.now) v.items) }
 {
     let mut found = Vec::new(alloc);
-    for firing in log {
-        keep_giver(alloc, job, entry, firing, &mut found)?;
-    }
+    keep_all(alloc, job, entry, log, &mut found)?;
     Ok(found)
 }
 

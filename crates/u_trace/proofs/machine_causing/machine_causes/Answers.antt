@@ -1,5 +1,5 @@
-use Rattle.std.proofs.Common.{◌≡◌, List, subst, sym, ◌∙◌}
-use Rattle.std.specs.Prelude.{◌↔◌, Contains, IfOk}
+use Rattle.std.proofs.Common.{◌≡◌, List, subst}
+use Rattle.std.specs.Prelude.{IfOk}
 use Rattle.std.proofs.lemmas.List.Elements.{Contains-append_left}
 use Rattle.u_check.specs.Jobs.{JobParts}
 use Rattle.u_rule.specs.EntryOrder.{firing_cmp}
