@@ -11,6 +11,7 @@ use Rattle.u_program.specs.declared.program.Version.{Version}
 use Rattle.u_rule.specs.declared.firing.Firing.{Firing}
 use Rattle.u_rule.specs.FiringText.{firing_text}
 use Rattle.u_rule.specs.FiringReading.{IsFiring}
+use Rattle.u_delta.proofs.LineLaws as lines
 use Rattle.u_replica.specs.CheckpointText.{first_line, count_line, checkpoint_lines}
 use Rattle.u_replica.specs.Checkpoints.{AreFirings}
 
@@ -41,8 +42,7 @@ pub count_written : (o n1 n2 n3 : List ℕ) (count : ℕ) → n1 ≡ o ++ codes 
 count_written o n1 n2 n3 count p q r = rw (r, q, p) (simp append_assoc)
 
 pub all_behind : (fs gs : List Firing) → AreFirings fs → AreFirings gs → AreFirings (fs ++ gs)
-all_behind [] gs v w = w
-all_behind (f ∷ fs) gs v w = (v.0, all_behind fs gs v.1 w)
+all_behind = lines.all_behind IsFiring
 
 -- each line has a byte at least, its newline
 ended_few : (fs : List Firing) → length fs ≤ length (ended (map firing_text fs))

@@ -1,9 +1,9 @@
 -- Lines whose firings a machine fires by itself, and what is read and taken behind them.
 use Rattle.std.specs.Prelude.{◌≡◌, ℕ, ◌+◌, ◌^◌, ◌<◌, ◌⊎◌, List, [], ◌∷◌, ◌++◌, length, map, Result, Ok, Err, refl}
-use Rattle.std.specs.List.{AllByRecursion}
 use Rattle.std.proofs.Common.{sym, ◌∙◌, ap, subst, inl, inr, arith, append-nil, append_assoc, length-append}
 use Rattle.std.proofs.lemmas.List.{map-append}
 use Rattle.u_text.specs.Pieces.{pieces}
+use Rattle.u_program.specs.Parts.{ProgramParts}
 use Rattle.u_sets.proofs.Places.{irreflexive}
 use Rattle.u_program.specs.declared.program.Version.{Version}
 use Rattle.u_check.specs.Jobs.{JobParts}
@@ -13,7 +13,7 @@ use Rattle.u_rule.specs.declared.firing.Firing.{Firing}
 use Rattle.u_rule.specs.FiringReading.{IsFiring, IsFiringOf}
 use Rattle.u_rule.specs.FiringText.{firing_text}
 use Rattle.u_delta.specs.Lines.{IsShort, IsLineAhead, lines_behind}
-use Rattle.u_delta.proofs.LineLaws.{all_append, read_more}
+use Rattle.u_delta.proofs.LineLaws.{all_append, all_behind, read_more}
 use Rattle.u_machine.specs.State.{State, Taken, IsPick}
 use Rattle.u_machine.specs.Calls.{FireAnswer, Runs, IsFresh, firing_le}
 use Rattle.u_machine.specs.declared.answer.Step.TheVariants as step
@@ -72,10 +72,6 @@ lines_more bytes rest line others ls are ahead = record {
   short = all_append IsShort ls line are.short ahead.1;
   text = λ before. are.text before ∙ read_more (before ++ ls) rest line others ahead.0 ∙ ap (λ (xs : List (List ℕ)). lines_behind xs others) (append_assoc before ls (line ∷ []));
 }
-
-all_behind : {A : Type 0} (P : A → Type 0) (xs ys : List A) → AllByRecursion P xs → AllByRecursion P ys → AllByRecursion P (xs ++ ys)
-all_behind P [] ys v w = w
-all_behind P (x ∷ xs) ys v w = (v.0, all_behind P xs ys v.1 w)
 
 lines_both : (bytes rest others : List ℕ) (ls ks : List (List ℕ)) → AreLines bytes rest ls → AreLines rest others ks → AreLines bytes others (ls ++ ks)
 lines_both bytes rest others ls ks a b = record {
@@ -136,70 +132,86 @@ fits_behind base before fs (lists.NotAFiring place) l u = let w = slice_get_with
 fits_behind base before fs lists.Full l u = tt
 fits_behind base before fs lists.NoMemory l u = tt
 
+-- a version that was asked for is that of the job's own program
+pub own_version : {version : Version} {p q : ProgramParts} → version ≡ p.version → p ≡ q → version ≡ q.version
+own_version e f = e ∙ ap (λ (r : ProgramParts). r.version) f
+
+-- nothing was read
+module _ (job : JobParts) (limit : ℕ) (bytes : List ℕ) (error : CheckpointError) {version : Version} (own : version ≡ job.program.version) (short : length bytes < 2 ^ 64) (a : IsAnswer version (pieces 10 bytes) (Err error)) where
+  nothing : IsAnswer job.program.version (pieces 10 bytes) (Err error)
+  nothing = subst (λ v. IsAnswer v (pieces 10 bytes) (Err error)) own a
+
+  pub nothing_written : RestoresWritten job limit bytes (Err (error_of_reading error))
+  nothing_written = unread_written job limit 0 0 bytes error (reads_whole job.program.version bytes short (Err error) nothing)
+
+  pub nothing_front : RestoresFront job limit bytes (Err (error_of_reading error))
+  nothing_front = unread_front job limit 0 0 bytes error (reads_front job.program.version bytes short (Err error) nothing)
+
 -- a machine fired some of the firings that were read, and was to take those behind them
-module _ (job : JobParts) (limit number life : ℕ) (bytes : List ℕ) (version : Version) (own : version ≡ job.program.version) (short : length bytes < 2 ^ 64) where
-  -- nothing was read
-  module _ (error : CheckpointError) (a : IsAnswer version (pieces 10 bytes) (Err error)) where
-    answer : IsAnswer job.program.version (pieces 10 bytes) (Err error)
-    answer = subst (λ v. IsAnswer v (pieces 10 bytes) (Err error)) own a
+pub record ReadRestart (job : JobParts) (limit : ℕ) (bytes : List ℕ) (mid : State) (r : ReadBehind) (fs : List Firing) : Type 0 where
+  pub short : length bytes < 2 ^ 64
+  pub is : IsReadBehind (blank job limit) job.program.version (pieces 10 bytes) r mid
+  pub same : fs ≡ r.checkpoint.firings
 
-    pub nothing_written : RestoresWritten job limit bytes (Err (error_of_reading error))
-    nothing_written = unread_written job limit number life bytes error (reads_whole job.program.version bytes short (Err error) answer)
+module _ {job : JobParts} {limit : ℕ} {bytes : List ℕ} {base mid : State} {r : ReadBehind} {fs : List Firing} {version : Version} where
+  pub read_restart : version ≡ job.program.version → base ≡ blank job limit → length bytes < 2 ^ 64 → IsReadBehind base version (pieces 10 bytes) r mid → fs ≡ r.checkpoint.firings → ReadRestart job limit bytes mid r fs
+  read_restart own new short is same = record {
+    short = short;
+    is = subst (λ (v : Version). IsReadBehind (blank job limit) v (pieces 10 bytes) r mid) own (subst (λ (m : State). IsReadBehind m version (pieces 10 bytes) r mid) new is);
+    same = same;
+  }
 
-    pub nothing_front : RestoresFront job limit bytes (Err (error_of_reading error))
-    nothing_front = unread_front job limit number life bytes error (reads_front job.program.version bytes short (Err error) answer)
+module _ {job : JobParts} {limit : ℕ} {bytes : List ℕ} {mid : State} {r : ReadBehind} {fs : List Firing} (read : ReadRestart job limit bytes mid r fs) where
+  abbrev before : List Firing
+  before = read.is.before
 
-  module _ (mid : State) (r : ReadBehind) (is : IsReadBehind (blank job limit) version (pieces 10 bytes) r mid) (fs : List Firing) (same : fs ≡ r.checkpoint.firings) where
-    abbrev all : Checkpoint
-    all = record r.checkpoint { firings = is.before ++ r.checkpoint.firings }
+  abbrev all : Checkpoint
+  all = record r.checkpoint { firings = before ++ r.checkpoint.firings }
 
-    all_answer : IsAnswer job.program.version (pieces 10 bytes) (Ok all)
-    all_answer = subst (λ v. IsAnswer v (pieces 10 bytes) (Ok all)) own is.read
+  all_read : IsCheckpointOf job.program.version bytes r.checkpoint.ending all.firings
+  all_read = read_whole job.program.version bytes (Ok all) read.is.read
 
-    all_read : IsCheckpointOf job.program.version bytes r.checkpoint.ending all.firings
-    all_read = read_whole job.program.version bytes (Ok all) all_answer
+  all_whole : ReadsWhole job.program.version bytes (Ok all)
+  all_whole = reads_whole job.program.version bytes read.short (Ok all) read.is.read
 
-    all_whole : ReadsWhole job.program.version bytes (Ok all)
-    all_whole = reads_whole job.program.version bytes short (Ok all) all_answer
+  all_front : ReadsFront job.program.version bytes (Ok all)
+  all_front = reads_front job.program.version bytes read.short (Ok all) read.is.read
 
-    all_front : ReadsFront job.program.version bytes (Ok all)
-    all_front = reads_front job.program.version bytes short (Ok all) all_answer
+  taken_before : TookFront (blank job limit) (before ++ fs) (length before) mid
+  taken_before = subst (λ (gs : List Firing). TookFront (blank job limit) (before ++ gs) (length before) mid) (sym read.same) read.is.took
 
-    taken_before : TookFront (blank job limit) (is.before ++ fs) (length is.before) mid
-    taken_before = subst (λ (gs : List Firing). TookFront (blank job limit) (is.before ++ gs) (length is.before) mid) (sym same) is.took
+  -- they were not taken
+  module _ (e : ListRefusal) (t : (base : State) (before : List Firing) → IsFresh base → TookFront base (before ++ fs) (length before) mid → IsUntaken base (before ++ fs) (refusal_behind (length before) e)) where
+    untaken_all : IsUntaken (blank job limit) (before ++ fs) (refusal_behind (length before) e)
+    untaken_all = t (blank job limit) before (refl, refl) taken_before
 
-    -- they were not taken
-    module _ (e : ListRefusal) (t : (base : State) (before : List Firing) → IsFresh base → TookFront base (before ++ fs) (length before) mid → IsUntaken base (before ++ fs) (refusal_behind (length before) e)) where
-      untaken_all : IsUntaken (blank job limit) (is.before ++ fs) (refusal_behind (length is.before) e)
-      untaken_all = t (blank job limit) is.before (refl, refl) taken_before
+    pub refused_fits : r.fired + length fs < 2 ^ 64 → FitsBehind r.fired e
+    refused_fits few = subst (λ (n : ℕ). FitsBehind n e) (sym read.is.counted) (fits_behind (blank job limit) before fs e (omega (arith, few, read.is.counted)) untaken_all)
 
-      pub refused_fits : r.fired + length fs < 2 ^ 64 → FitsBehind r.fired e
-      refused_fits few = subst (λ (n : ℕ). FitsBehind n e) (sym is.counted) (fits_behind (blank job limit) is.before fs e (omega (arith, few, is.counted)) untaken_all)
+    refused : IsUntaken (blank job limit) all.firings (refusal_behind r.fired e)
+    refused =
+        subst (λ (n : ℕ). IsUntaken (blank job limit) all.firings (refusal_behind n e)) (sym read.is.counted)
+        (subst (λ (gs : List Firing). IsUntaken (blank job limit) (before ++ gs) (refusal_behind (length before) e)) read.same untaken_all)
 
-      refused : IsUntaken (blank job limit) all.firings (refusal_behind r.fired e)
-      refused =
-          subst (λ (n : ℕ). IsUntaken (blank job limit) all.firings (refusal_behind n e)) (sym is.counted)
-          (subst (λ (gs : List Firing). IsUntaken (blank job limit) (is.before ++ gs) (refusal_behind (length is.before) e)) same untaken_all)
+    pub refused_error : IsRestoreError job limit bytes (error_of_taking (refusal_behind r.fired e))
+    refused_error = untaken_error job limit 0 0 bytes all (refusal_behind r.fired e) all_read refused
 
-      pub refused_error : IsRestoreError job limit bytes (error_of_taking (refusal_behind r.fired e))
-      refused_error = untaken_error job limit number life bytes all (refusal_behind r.fired e) all_read refused
+    pub refused_written : RestoresWritten job limit bytes (Err (error_of_taking (refusal_behind r.fired e)))
+    refused_written = untaken_written job limit 0 0 bytes all (refusal_behind r.fired e) all_whole refused
 
-      pub refused_written : RestoresWritten job limit bytes (Err (error_of_taking (refusal_behind r.fired e)))
-      refused_written = untaken_written job limit number life bytes all (refusal_behind r.fired e) all_whole refused
+    pub refused_front : RestoresFront job limit bytes (Err (error_of_taking (refusal_behind r.fired e)))
+    refused_front = untaken_front job limit 0 0 bytes all (refusal_behind r.fired e) all_front refused
 
-      pub refused_front : RestoresFront job limit bytes (Err (error_of_taking (refusal_behind r.fired e)))
-      refused_front = untaken_front job limit number life bytes all (refusal_behind r.fired e) all_front refused
+  -- they were taken
+  module _ (number life : ℕ) (new : State) (t : (base : State) (before : List Firing) → IsFresh base → TookFront base (before ++ fs) (length before) mid → IsTaken base (before ++ fs) new) where
+    taken : IsTaken (blank job limit) all.firings new
+    taken = subst (λ (gs : List Firing). IsTaken (blank job limit) (before ++ gs) new) read.same (t (blank job limit) before (refl, refl) taken_before)
 
-    -- they were taken
-    module _ (new : State) (t : (base : State) (before : List Firing) → IsFresh base → TookFront base (before ++ fs) (length before) mid → IsTaken base (before ++ fs) new) where
-      taken : IsTaken (blank job limit) all.firings new
-      taken = subst (λ (gs : List Firing). IsTaken (blank job limit) (is.before ++ gs) new) same (t (blank job limit) is.before (refl, refl) taken_before)
+    pub all_restored : IsRestored job limit number life bytes r.checkpoint.ending (replica new number life fresh_marks)
+    all_restored = restored job limit number life bytes all new taken all_read
 
-      pub all_restored : IsRestored job limit number life bytes r.checkpoint.ending (replica new number life fresh_marks)
-      all_restored = restored job limit number life bytes all new taken all_read
+    pub all_written : RestoresWritten job limit bytes (Ok (replica new number life fresh_marks, r.checkpoint.ending))
+    all_written = restored_written job limit number life bytes all new taken all_whole
 
-      pub all_written : RestoresWritten job limit bytes (Ok (replica new number life fresh_marks, r.checkpoint.ending))
-      all_written = restored_written job limit number life bytes all new taken all_whole
-
-      pub all_fronted : RestoresFront job limit bytes (Ok (replica new number life fresh_marks, r.checkpoint.ending))
-      all_fronted = restored_front job limit number life bytes all new taken all_front
+    pub all_fronted : RestoresFront job limit bytes (Ok (replica new number life fresh_marks, r.checkpoint.ending))
+    all_fronted = restored_front job limit number life bytes all new taken all_front

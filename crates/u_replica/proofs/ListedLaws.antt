@@ -1,9 +1,12 @@
 -- Lines of a checkpoint that stand in any order, and the firings that a machine fires whose lines they are.
-use Rattle.std.specs.Prelude.{◌≡◌, ℕ, suc, ◌+◌, ◌^◌, ◌<◌, ◌≤◌, List, [], ◌∷◌, ◌++◌, Contains, IsTrue, Result, Ok, Err, length, map, take, refl}
+use Rattle.std.specs.Prelude.{◌≡◌, ℕ, suc, ◌+◌, ◌^◌, ◌<◌, ◌≤◌, Bool, true, MatchBool, List, [], ◌∷◌, ◌++◌, Contains, IsTrue, Option, Some, Result, Ok, Err, length, map, take, refl}
 use Rattle.std.specs.Borrow.{Bor}
+use Rattle.std.specs.List.{slice_get}
+use Rattle.std.specs.Option.{option_map}
 use Rattle.std.proofs.Common.{sym, ◌∙◌, ap, subst, arith, inl, inr, append-nil, length-append}
 use Rattle.std.proofs.Math.Seq.{take-append-add}
 use Rattle.std.proofs.lemmas.List.{map-append}
+use Rattle.std.proofs.lemmas.Option.{slice_get-map}
 use Rattle.std.proofs.lemmas.List.Elements.{Contains-append_left, Contains-append_right, Contains-append_cases, Contains-push_cases}
 use Rattle.u_text.specs.Pieces.{PiecesAndRest, lines}
 use Rattle.u_system.specs.Firing.{Distinct}
@@ -36,7 +39,7 @@ use Rattle.u_replica.specs.Checkpoints.{AreFirings, MayRead, IsCheckpointErrorIn
 use Rattle.u_replica.specs.CheckpointReading.{AreRead, IsCheckpointIn, IsAnswer, IsAnswerBehind}
 use Rattle.u_replica.specs.FiredLines.{AreLines, AreFired, IsReadBehind, behind}
 use Rattle.u_replica.specs.Takings.{TookFront}
-use Rattle.u_replica.specs.ListedLines.{texts, FiresListedLine, FiresAmong, FiresListed}
+use Rattle.u_replica.specs.ListedLines.{texts, IsLineAt, FiresListedLine, FiresAmong, FiresListed}
 use Rattle.u_replica.proofs.CheckpointLaws.{firing_not_count}
 use Rattle.u_replica.proofs.CheckpointSame.{same_firing_text}
 use Rattle.u_replica.proofs.FiredLaws.{next_unique, lines_more, fired_none, fired_both, fired_read, fired_text}
@@ -53,13 +56,13 @@ texts_length (l ∷ ls) = ap suc (texts_length ls)
 pub listed_more : (bytes rest others : List ℕ) (ls : List (Bor (List ℕ))) (l : Bor (List ℕ)) → AreLines bytes rest (texts ls) → IsLineAhead rest l.now others → AreLines bytes others (texts (ls ++ l ∷ []))
 listed_more bytes rest others ls l are ahead = subst (λ (xs : List (List ℕ)). AreLines bytes others xs) (sym (texts_more ls l)) (lines_more bytes rest l.now others (texts ls) are ahead)
 
--- a line that is listed is one of the texts
-in_texts : (ls : List (Bor (List ℕ))) (l : Bor (List ℕ)) → Contains ls l → Contains (texts ls) l.now
-in_texts [] l c = absurd (Contains-nil l c)
-in_texts (m ∷ ls) l c = elim (Contains-cons_cases m l ls c) [ inl e ↦ subst (λ (n : Bor (List ℕ)). Contains (texts (m ∷ ls)) n.now) e (Contains-head m.now (texts ls)) | inr k ↦ Contains-tail m.now l.now (texts ls) (in_texts ls l k) ]
+-- what a line is that is listed at a place
+pub line_at : (ls : List (Bor (List ℕ))) (place : ℕ) (l : Bor (List ℕ)) (x : List ℕ) → slice_get ls place ≡ Some l → l.now ≡ x → IsLineAt ls place x
+line_at ls place l x e same =
+    slice_get-map (λ (b : Bor (List ℕ)). b.now) ls place ∙ ap (λ (o : Option (Bor (List ℕ))). option_map (λ (b : Bor (List ℕ)). b.now) o) e ∙ ap (λ (y : List ℕ). Some y) same
 
-pub line_there : (ls : List (Bor (List ℕ))) (l : Bor (List ℕ)) (x : List ℕ) → Contains ls l → l.now ≡ x → Contains (texts ls) x
-line_there ls l x c e = subst (λ (y : List ℕ). Contains (texts ls) y) e (in_texts ls l c)
+pub line_there : (ls : List (Bor (List ℕ))) (place : ℕ) (x : List ℕ) → IsLineAt ls place x → Contains (texts ls) x
+line_there ls place x = slice_get_Contains (texts ls) place x
 
 -- a line of the front is one of the bytes
 pub line_within : (bytes rest : List ℕ) (ls : List (List ℕ)) (x : List ℕ) → AreLines bytes rest ls → Contains ls x → Contains (lines bytes) x
@@ -97,6 +100,14 @@ among_more old mid new ls more a l = record {
   valid = λ f c. elim (Contains-push_cases more l.firing f c) [ inl k ↦ a.valid f k | inr e ↦ subst IsFiring e l.valid ];
   settled = l.settled;
 }
+
+-- one more was fired, if one was found among the lines, which are as they were
+module _ {old mid new : State} {now then : List (Bor (List ℕ))} {count : ℕ} {fired : Bool} where
+  pub among_found : now ≡ then → fired ≡ true → (more : List Firing) → count ≡ length more → FiresAmong old (texts then) more mid → MatchBool fired (FiresListedLine mid (texts now) new) (new ≡ mid) → (more : List Firing) × (count + 1 ≡ length more) × FiresAmong old (texts then) more new
+  among_found same was more counted among fires =
+      let found : FiresListedLine mid (texts now) new = rw was at fires in
+      let l : FiresListedLine mid (texts then) new = subst (λ (ls : List (Bor (List ℕ))). FiresListedLine mid (texts ls) new) same found in
+      (more ++ l.firing ∷ [], omega (arith, counted, length-append more (l.firing ∷ [])), among_more old mid new (texts then) more among l)
 
 among_within : (old new : State) (ls ks : List (List ℕ)) (more : List Firing) → ((x : List ℕ) → Contains ls x → Contains ks x) → FiresAmong old ls more new → FiresAmong old ks more new
 among_within old new ls ks more w a = record { runs = a.runs; there = λ f c. w (firing_text f) (a.there f c); valid = a.valid; settled = a.settled }

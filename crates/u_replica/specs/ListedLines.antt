@@ -1,5 +1,6 @@
 -- Lines of a checkpoint in any order, among which a machine finds those of the firings that it fires.
-use Rattle.std.specs.Prelude.{◌≡◌, ℕ, ◌<◌, ◌^◌, List, Contains, length, map}
+use Rattle.std.specs.Prelude.{◌≡◌, ℕ, ◌<◌, ◌^◌, List, Contains, Some, length, map}
+use Rattle.std.specs.List.{slice_get}
 use Rattle.std.specs.Borrow.{Bor}
 use Rattle.u_text.specs.Pieces.{lines}
 use Rattle.u_rule.specs.declared.firing.Firing.{Firing}
@@ -12,6 +13,10 @@ use Rattle.u_replica.specs.FiredLines.{AreFired}
 -- what the borrowed lines are
 abbrev pub texts : List (Bor (List ℕ)) → List (List ℕ)
 texts ls = map (λ (l : Bor (List ℕ)). l.now) ls
+
+-- the line at the place is the text
+abbrev pub IsLineAt : List (Bor (List ℕ)) → ℕ → List ℕ → Type 0
+IsLineAt ls place text = slice_get (texts ls) place ≡ Some text
 
 -- one of the lines is that of the firing which the machine fires next, and it was fired
 pub record FiresListedLine (old : State) (ls : List (List ℕ)) (new : State) : Type 0 where

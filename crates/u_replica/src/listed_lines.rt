@@ -10,7 +10,7 @@ ghost use Rattle.u_rule.specs.FiringText.{firing_text};
 ghost use Rattle.u_rule.specs.declared.firing.Firing.{Firing};
 ghost use Rattle.u_machine.specs.State.{IsSettled};
 ghost use Rattle.u_replica.specs.FiredLines.{AreLines};
-ghost use Rattle.u_replica.specs.ListedLines.{texts, FiresListedLine, FiresAmong, FiresListed};
+ghost use Rattle.u_replica.specs.ListedLines.{texts, IsLineAt, FiresListedLine, FiresAmong, FiresListed};
 
 use crate::onlooker::Onlooker;
 use crate::spelled_context::SpelledContext;
@@ -21,7 +21,8 @@ use u_delta::{Ahead, in_range, look_ahead};
 use u_machine::{Machine, Refusal, Step};
 use u_rule::{Firing, RuleError, TextError, needs};
 
-/// So many lines are read again, even where all their firings were fired: no log is as long.
+/// From so many lines on, all are read, even where all their firings were fired. A count of fewer stays within
+/// 64 bits where other counts are added to it.
 const TOO_MANY: usize = 1 << 32;
 
 /// Where each line stands.
@@ -86,7 +87,7 @@ impl<'a> ListedLines<'a> {
     fn is_at(&self, place: usize, firing: &Firing) -> bool
         requires { firing.now.activity.context ≡ self.now.spelled.context }
         ensures { IsTrue result
-            → Contains (texts self.now.lines.items) (firing_text firing.now) }
+            → IsLineAt self.now.lines.items place (firing_text firing.now) }
     {
         match self.lines.get(place) {
             Some(line) => self.spelled.is_plain_text(firing, line),
@@ -98,7 +99,7 @@ impl<'a> ListedLines<'a> {
     fn beside_last(&self, firing: &Firing) -> Option<usize>
         requires { firing.now.activity.context ≡ self.now.spelled.context }
         ensures { IfSome result (λ place.
-            Contains (texts self.now.lines.items) (firing_text firing.now)) }
+            IsLineAt self.now.lines.items place (firing_text firing.now)) }
     {
         let before = self.last.wrapping_sub(1);
         if self.is_at(before, firing) {
@@ -123,7 +124,7 @@ impl<'a> ListedLines<'a> {
 
     /// The place of a line with the text.
     fn place_of(&self, text: &[u8]) -> Option<usize>
-        ensures { IfSome result (λ place. Contains (texts self.now.lines.items) text.now) }
+        ensures { IfSome result (λ place. IsLineAt self.now.lines.items place text.now) }
     {
         let place = *self.places.get(text)?;
         match self.lines.get(place) {
@@ -133,6 +134,7 @@ impl<'a> ListedLines<'a> {
     }
 
     /// Looks for a line with the firing's text. Returns whether there is one.
+    #[tactic(auto, using(crate::proofs::ListedLaws::line_there))]
     fn find_text(&mut self, firing: &Firing) -> Result<bool, AllocError>
         ensures found { IfOk result (λ b. IsTrue b
             → Contains (texts self.old.lines.items) (firing_text firing.now)) }
@@ -152,6 +154,7 @@ impl<'a> ListedLines<'a> {
     ///
     /// # Errors
     /// `AllocError` where there is no memory.
+    #[tactic(auto, using(crate::proofs::ListedLaws::line_there))]
     fn find(&mut self, firing: &Firing) -> Result<bool, AllocError>
         ensures found { IfOk result (λ b. IsTrue b
             → Contains (texts self.old.lines.items) (firing_text firing.now)) }
