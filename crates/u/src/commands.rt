@@ -1,7 +1,7 @@
 //! What each command does: it reads FILE, or standard input at the word `stdin`, and writes to standard
 //! output. Each returns the exit status.
 ghost use Rattle.std.specs.Prelude.{◌≤◌};
-ghost use Rattle.u_words.specs.Numbers.{IsOneToEight, IsPort};
+ghost use Rattle.u_cli.specs.Numbers.{IsOneToEight, IsPort};
 
 use crate::fault::Fault;
 use crate::inputs::{
@@ -14,11 +14,11 @@ use std::thread::Threads;
 use std::{fs, io};
 use u_cli::{
     Asked, Bus, CommandError, Form, Plan, STORED_PROGRAM, WorldPlan, blame_placed_text, check_text,
-    compile_text, draw_world_text, explain_source_text, explain_text, fleet_text, is_source,
-    lift_text, restore_watched_text, run_text, run_watched_text, save_watched_text, share_text,
-    trace_placed_text, waits_placed_text, world_watched_text, write_placed,
+    compile_text, draw_run_text, draw_story_text, draw_text, draw_world_text, explain_source_text,
+    explain_text, fleet_text, is_source, lift_text, restore_watched_text, run_text,
+    run_watched_text, save_watched_text, share_text, trace_placed_text, waits_placed_text,
+    world_watched_text, write_placed,
 };
-use u_pictures::{draw_run_text, draw_story_text, draw_text};
 
 /// The argument of the stored run, and how often it may fire.
 const STORED_ARGUMENT: &[u8] = b"4";

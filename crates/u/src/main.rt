@@ -2,7 +2,7 @@
 //! a dataflow program what the words ask for.
 #![tactic(auto)]
 
-ghost use Rattle.u_words.specs.Requests.{IsInRange};
+ghost use Rattle.u_cli.specs.Requests.{IsInRange};
 
 mod commands;
 mod fault;
@@ -15,8 +15,7 @@ use std::io;
 use std::process::ExitCode;
 use std::sync::Wait;
 use std::thread::Threads;
-use u_cli::{Asked, CommandError, WorldPlan, member_plan};
-use u_words::{Request, below_zero, not_text, parse};
+use u_cli::{Asked, CommandError, Request, WorldPlan, below_zero, member_plan, not_text, parse};
 
 /// The exit status of a command line that is not allowed.
 const USAGE: u8 = 1;

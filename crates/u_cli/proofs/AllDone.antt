@@ -1,7 +1,7 @@
 -- A fleet whose gate lets each worker go on: none is stopped, so some worker is done, and the report is whole.
 use Rattle.std.specs.Prelude.{◌≡◌, ℕ, zero, suc, ◌≤◌, ◌<◌, ◌⊎◌, List, [], ◌∷◌, length, Contains, slice_index_or, Option, Err, refl}
 use Rattle.std.proofs.Common.{inl, inr, subst, sym, arith, ap, ◌∙◌}
-use Rattle.u_system.proofs.Member.{Contains-nil, Contains-head, Contains-tail, Contains-cons_cases}
+use Rattle.u_base.proofs.Member.{Contains-nil, Contains-head, Contains-tail, Contains-cons_cases}
 use Rattle.u_check.specs.Jobs.{JobParts}
 use Rattle.u_rule.specs.declared.firing.Firing.{Firing}
 use Rattle.u_machine.specs.State.{State, NothingReady}

@@ -1,3 +1,4 @@
+pub mod Spelling
 pub mod AllDone
 pub mod Appends
 pub mod Gathering
@@ -6,3 +7,5 @@ pub mod PlaceLaws
 pub mod RefusalLaws
 pub mod ToldLaws
 pub mod WorldLaws
+pub mod HeldLaws
+pub mod DrawnLaws

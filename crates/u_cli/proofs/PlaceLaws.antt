@@ -2,8 +2,8 @@
 use Rattle.std.specs.Prelude.{◌≡◌, ℕ, Bool, if◌then◌else◌, List, [], ◌∷◌, ◌++◌, map, nat_eq, codes}
 use Rattle.std.proofs.Common.{append_assoc, ap, ◌∙◌, sym}
 use Rattle.std.specs.List.{ends_with}
-use Rattle.u_text.specs.Pieces.{PiecesAndRest, pieces, IsCutInto}
-use Rattle.u_text.specs.Spaced.{ended}
+use Rattle.u_base.specs.Pieces.{PiecesAndRest, pieces, IsCutInto}
+use Rattle.u_base.specs.Spaced.{ended}
 use Rattle.u_compile.specs.declared.origins.BlockOrigins.{BlockOrigins}
 use Rattle.u_cli.specs.declared.placing.Form.{Form}
 use Rattle.u_cli.specs.Places.{tipped, quoted_each, placed_line, placed_text}

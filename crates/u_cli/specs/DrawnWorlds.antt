@@ -11,10 +11,10 @@ use Rattle.u_commands.specs.Runs.{JobRefused}
 use Rattle.u_commands.specs.Restores.{HasJob}
 use Rattle.u_commands.specs.declared.command_error.CommandError.{CommandError}
 use Rattle.u_commands.specs.declared.command_error.CommandError.TheVariants as faults
-use Rattle.u_draw_world.specs.declared.happening.Happening.{Happening}
-use Rattle.u_draw_world.specs.declared.living.Sent.{Sent}
-use Rattle.u_draw_world.specs.Living.{Lives}
-use Rattle.u_draw_world.specs.Picture.{picture_text}
+use Rattle.u_pictures.specs.declared.happening.Happening.{Happening}
+use Rattle.u_pictures.specs.declared.living.Sent.{Sent}
+use Rattle.u_pictures.specs.Living.{Lives}
+use Rattle.u_pictures.specs.WorldPicture.{picture_text}
 
 -- the picture of what the plan's events did, one after another, among new replicas of the job
 pub record ShowsEvents (job : JobParts) (plan : WorldPlan) (text : List ℕ) : Type 0 where

@@ -1,3 +1,5 @@
+pub mod Numbers
+pub mod Requests
 pub mod Compiles
 pub mod DrawnWorlds
 pub mod Fleets
@@ -6,3 +8,5 @@ pub mod Places
 pub mod Refusals
 pub mod Shares
 pub mod Worlds
+pub mod Draws
+pub mod DrawnRuns

@@ -3,10 +3,10 @@ use Rattle.std.specs.Prelude.{ℕ, ◌-◌, ◌==◌, if◌then◌else◌, Bool,
 use Rattle.std.specs.List.{ends_with}
 use Rattle.std.specs.Option.{option_map, option_or}
 use lib.Pointwise.{pointwise}
-use Rattle.u_text.specs.Parts.{after_byte}
-use Rattle.u_text.specs.WholeWords.{number_word}
-use Rattle.u_text.specs.Pieces.{pieces, lines, words}
-use Rattle.u_text.specs.Spaced.{ended}
+use Rattle.u_base.specs.Parts.{after_byte}
+use Rattle.u_base.specs.WholeWords.{number_word}
+use Rattle.u_base.specs.Pieces.{pieces, lines, words}
+use Rattle.u_base.specs.Spaced.{ended}
 use Rattle.u_name.specs.BlockText.{block_at}
 use Rattle.u_name.specs.Name.{Activity}
 use Rattle.u_name.specs.NameReader.{name_steps}

@@ -4,7 +4,7 @@ use Rattle.std.specs.Io.KnownBytes.{Keeps}
 use Rattle.u_source.specs.declared.place.Place.{Place}
 use Rattle.u_source.specs.declared.source_error.SourceError.TheVariants as source_errors
 use Rattle.u_scope.specs.declared.check_error.CheckError.TheVariants as check_errors
-use Rattle.u_kinds.specs.declared.kind_error.KindError.TheVariants as kind_errors
+use Rattle.u_scope.specs.declared.kind_error.KindError.TheVariants as kind_errors
 use Rattle.u_compile.specs.declared.compile_error.CompileError.{CompileError}
 use Rattle.u_compile.specs.declared.compile_error.CompileError.TheVariants as errors
 use Rattle.u_compile.specs.Compiled.{IsSomeAllowed, IsToldOf}

@@ -1,93 +1,71 @@
-//! The command `world` with its option `--draw`: the picture of the events.
-ghost use Rattle.std.specs.Prelude.{◌≡◌, [], MatchResult, List};
-ghost use Rattle.u_name.specs.Context.{IsBetween};
-ghost use Rattle.u_draw_world.specs.Living.{Lives};
-ghost use Rattle.u_draw_world.specs.declared.living.Sent.{Sent};
-ghost use Rattle.u_cli.specs.Worlds.{AreDoable, EventsRefused, WorldRefused};
-ghost use Rattle.u_cli.specs.DrawnWorlds.{ShowsEvents, DrawsWorldJob, DrawWorldAnswer};
+//! The command `draw`.
+ghost use Rattle.std.specs.Prelude.{◌≡◌, IfOk, MatchResult};
+ghost use Rattle.u_commands.specs.Checks.{IsCheckedOf, CheckRefused, error_of};
+ghost use Rattle.u_draw.specs.Dot.{picture_text};
+ghost use Rattle.u_draw.specs.Picture.{picture};
+ghost use Rattle.u_cli.specs.Draws.{DrawTextAnswer};
 
-use crate::worlds::{WorldPlan, world_job};
-use std::alloc::Global;
+use std::alloc::{AllocError, Global};
 use std::io::Write;
-use u_check::Job;
-use u_commands::{CommandError, Unwatched, job_of, write_whole};
-use u_draw_world::{Happening, live, write_world};
-use u_world::{Event, World, WorldError, random_events};
+use u_check::{Checked, check};
+use u_commands::{CommandError, write_whole};
+use u_draw::write_picture;
+use u_program::{Program, ReadError, read};
 
-/// Lets the events happen, and says what each of them did. None of them is one that cannot be done.
-fn lived(
-    alloc: Global,
-    world: &mut World<'_>,
-    events: &[Event],
-) -> Result<Vec<Happening>, CommandError>
-    requires silent { world.old.messages ≡ [] }
-    requires doable { AreDoable world.old events.now }
-    ensures { MatchResult result
-        (λ hs. (sent : List Sent) × Lives 1 [] world.old events.now hs.items sent world.new)
-        (λ fault. EventsRefused world.old events.now fault) }
+/// The fault that is told of a program's text.
+fn error_of(error: ReadError) -> CommandError
+    ensures { result ≡ error_of error }
 {
-    match live(alloc, world, events) {
-        Ok(happenings) => Ok(happenings),
-        Err(WorldError::Full(_)) => Err(CommandError::Full),
-        Err(WorldError::NoMemory(_)) => Err(CommandError::NoMemory),
-        Err(WorldError::BadEvent(_)) => unreachable!(),
+    match error {
+        ReadError::BadLine(line) => CommandError::LineNotAllowed(line),
+        ReadError::TooMany(line) => CommandError::TooMany(line),
+        ReadError::Truncated => CommandError::CutShort,
+        ReadError::NoMemory => CommandError::NoMemory,
     }
 }
 
-/// The picture of the random events of the plan, in a world of replicas of the job.
-fn pictured(alloc: Global, job: &Job, plan: WorldPlan) -> Result<Vec<u8>, CommandError>
-    requires { IsBetween 1 plan.replicas 8 }
-    ensures { MatchResult result (λ v. ShowsEvents job.now plan v.items)
-        (λ fault. WorldRefused job.now plan fault) }
+/// The program with this text, where it breaks no rule.
+fn checked_of(alloc: Global, bytes: &[u8]) -> Result<Checked, CommandError>
+    ensures { MatchResult result (λ p. IsCheckedOf bytes.now p)
+        (λ fault. CheckRefused bytes.now fault) }
 {
-    let mut world = World::new(alloc, job, plan.replicas, plan.firings)?;
-    let events = random_events(alloc, plan.seed, plan.replicas, plan.events)?;
-    match lived(alloc, &mut world, &events) {
-        Ok(happenings) => Ok(write_world(alloc, plan.replicas, &happenings)?),
-        Err(fault) => Err(fault),
-    }
-}
-
-/// The picture of the random events of the plan, and the exit status of `world`.
-fn drawn(alloc: Global, job: &Job, plan: WorldPlan) -> Result<(Vec<u8>, u8), CommandError>
-    requires { IsBetween 1 plan.replicas 8 }
-    ensures { MatchResult result (λ p. DrawsWorldJob job.now plan p.0.items p.1)
-        (λ fault. WorldRefused job.now plan fault) }
-{
-    let (_, status) = match world_job(alloc, job, plan, &mut Unwatched) {
-        Ok(told) => told,
-        Err(fault) => return Err(fault),
+    let program = match read(alloc, bytes) {
+        Ok(program) => program,
+        Err(error) => return Err(error_of(error)),
     };
-    match pictured(alloc, job, plan) {
-        Ok(text) => Ok((text, status)),
-        Err(fault) => Err(fault),
+    match check(program) {
+        Ok(checked) => Ok(checked),
+        Err(refused) => Err(CommandError::Rule(refused.breach)),
     }
 }
 
-/// Lets the random events of the plan happen in a world of replicas of the program with this text, on the
-/// argument that the word gives, and writes the space-time picture of the events, as a text of DOT, the
-/// language of Graphviz. They are the events of which `world_text` tells. Returns its exit status.
+/// The picture of the program.
+fn picture_of(alloc: Global, program: &Program) -> Result<Vec<u8>, AllocError>
+    ensures { IfOk result
+        (λ v. v.items ≡ picture_text (picture program.now.version program.now.blocks)) }
+{
+    let mut text = Vec::new(alloc);
+    write_picture(&mut text, program)?;
+    Ok(text)
+}
+
+/// Checks the program with this text and writes its picture, as a text of DOT, the language of Graphviz.
+/// Returns the exit status, 0.
 ///
 /// # Errors
-/// As `world_text`: nothing is written. `NotWritten`: a prefix of the picture is written.
-pub fn draw_world_text<W: Write>(
+/// A fault of the program's text or of the checker, in that order, or want of memory: nothing is
+/// written. `NotWritten`: a prefix of the picture is written.
+pub fn draw_text<W: Write>(
     alloc: Global,
     program: &[u8],
-    argument: &[u8],
-    plan: WorldPlan,
     writer: &mut W,
 ) -> Result<u8, CommandError>
-    requires { IsBetween 1 plan.replicas 8 }
-    ensures { DrawWorldAnswer program.now argument.now plan (W.contents writer.old) result
-        (W.contents writer.new) }
+    ensures { DrawTextAnswer program.now (W.contents writer.old) result (W.contents writer.new) }
 {
-    let job = job_of(alloc, program, argument)?;
-    let (text, status) = match drawn(alloc, &job, plan) {
-        Ok(drawn) => drawn,
-        Err(fault) => return Err(fault),
-    };
+    let checked = checked_of(alloc, program)?;
+    let text = picture_of(alloc, checked.program())?;
     match write_whole(writer, &text) {
-        Ok(()) => Ok(status),
+        Ok(()) => Ok(0),
         Err(_) => Err(CommandError::NotWritten),
     }
 }

@@ -1,7 +1,7 @@
 //! Places of a source, beside what speaks of the statements of its program.
 ghost use Rattle.std.specs.Prelude.{◌≡◌, ◌++◌, if◌then◌else◌, IfOk};
-ghost use Rattle.u_text.specs.Pieces.{words};
-ghost use Rattle.u_text.specs.Parts.{after_byte};
+ghost use Rattle.u_base.specs.Pieces.{words};
+ghost use Rattle.u_base.specs.Parts.{after_byte};
 ghost use Rattle.u_name.specs.BlockText.{block_at};
 ghost use Rattle.u_cli.specs.Places.{named, number_of, statement_of, is_whole_or_cell, origin_of};
 ghost use Rattle.u_cli.specs.Places.{found, first_found, unquoted, spoken_of, place_text, addition};
@@ -12,10 +12,10 @@ ghost use Rattle.u_cli.specs.declared.placing.Form.TheVariants as forms;
 
 use std::alloc::{AllocError, Global};
 use std::io::Write;
+use u_base::{Words, after, cut, number_word};
 use u_commands::{CommandError, push_numbered, write_whole};
 use u_compile::{BlockOrigins, Origin, push_name, push_statement};
 use u_name::{BlockName, front_block, front_name};
-use u_text::{Words, after, cut, number_word};
 
 /// What a text is to which places are added.
 #[derive(Clone, Copy, Debug, PartialEq, Eq)]

@@ -7,13 +7,12 @@ use crate::compiling::program_of;
 use std::alloc::{AllocError, Global};
 use std::io::Write;
 use thiserror::Error;
+use u_base::cut;
 use u_commands::{CommandError, explain_text, write_whole};
 use u_compile::CompileError;
 use u_explain::show_marked;
-use u_kinds::KindError;
-use u_scope::CheckError;
+use u_scope::{CheckError, KindError};
 use u_source::{Place, SourceError};
-use u_text::cut;
 
 /// Why a source gives no whole output.
 #[derive(Debug, Drop, PartialEq, Eq, Error)]

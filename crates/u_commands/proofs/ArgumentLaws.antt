@@ -4,10 +4,10 @@ use Rattle.std.proofs.Common.{sym, ◌∙◌, ap, subst, arith}
 use Rattle.std.specs.Fmt.{decimal}
 use Rattle.std.specs.Int.{w64}
 use lib.IntN.{ℤ, pos, negsuc}
-use Rattle.u_text.proofs.PartsLaws.{alike, unlike, same_or}
-use Rattle.u_text.proofs.NumberLaws.{AllDigit, decimal_digits}
-use Rattle.u_text.specs.WholeWords.{◌then◌, number_word, number0_word}
-use Rattle.u_text.proofs.WholeWordsLaws.{number_word_sound, number_word_complete, number0_word_sound, number0_word_complete, then_some}
+use Rattle.u_base.proofs.PartsLaws.{alike, unlike, same_or}
+use Rattle.u_base.proofs.NumberLaws.{AllDigit, decimal_digits}
+use Rattle.u_base.specs.WholeWords.{◌then◌, number_word, number0_word}
+use Rattle.u_base.proofs.WholeWordsLaws.{number_word_sound, number_word_complete, number0_word_sound, number0_word_complete, then_some}
 use Rattle.std.proofs.lemmas.Option.{same_Some, none-some}
 use Rattle.u_commands.specs.Arguments.{argument_text, IsArgumentOf, argument_word}
 

@@ -1,10 +1,10 @@
 -- What is told of an allowed program.
 use Rattle.std.proofs.Common.{◌≡◌, refl, ℕ, List, [], ◌++◌}
 use Rattle.u_program.specs.Parts.{BlockParts}
-use Rattle.u_strict.specs.Breaches as breaches
-use Rattle.u_strict.specs.declared.answer.Strictness.{Strictness}
-use Rattle.u_guards.specs.Meetings as meetings
-use Rattle.u_guards.specs.declared.verdict.Determinacy.{Determinacy}
+use Rattle.u_determinate.specs.Breaches as breaches
+use Rattle.u_determinate.specs.declared.answer.Strictness.{Strictness}
+use Rattle.u_determinate.specs.Meetings as meetings
+use Rattle.u_determinate.specs.declared.verdict.Determinacy.{Determinacy}
 use Rattle.u_commands.specs.Explains.{TellsBehind, SaysStrictness, SaysDeterminacy, ExplainsStrictness, ExplainsDeterminacy}
 
 -- a line, and then why

@@ -2,10 +2,10 @@
 use Rattle.std.proofs.Common.{◌≡◌, ◌∙◌, sym, ap, subst, refl, inl, inr, ◌⊎◌, ℕ, suc, ◌+◌, ◌-◌, ◌≤◌, List, [], ◌∷◌, ◌++◌, length, take, append-nil, append_assoc, length-append, Some, Ok, Err, arith}
 use Rattle.std.specs.Prelude.{Result, Contains, slice_get}
 use Rattle.std.proofs.lemmas.List.Elements.{Contains-append_left, Contains-append_right, Contains-append_cases}
-use Rattle.u_system.specs.Firing.{System, Cl, EachPlace, IsNextFrom}
-use Rattle.u_system.proofs.Held.{Enabled-mono}
-use Rattle.u_system.proofs.Closure.{Cl-mono}
-use Rattle.u_system.proofs.Plain.{EachPlace-push}
+use Rattle.u_base.specs.Firing.{System, Cl, EachPlace, IsNextFrom}
+use Rattle.u_base.proofs.Held.{Enabled-mono}
+use Rattle.u_base.proofs.Closure.{Cl-mono}
+use Rattle.u_base.proofs.Plain.{EachPlace-push}
 use Rattle.u_rule.specs.Rule.{system_of}
 use Rattle.u_rule.specs.declared.firing.Firing.{Firing}
 use Rattle.u_machine.specs.State.{State, Taken}

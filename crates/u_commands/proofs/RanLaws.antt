@@ -3,10 +3,10 @@ use Rattle.std.proofs.Common.{◌≡◌, ◌∙◌, sym, ap, refl, subst, inl, i
 use Rattle.std.specs.Prelude.{IfErr}
 use Rattle.std.specs.Result.{IsErrAnd}
 use Rattle.u_check.specs.Jobs.{JobParts}
-use Rattle.u_system.specs.Firing.{Held, Same, Enabled, Cl}
-use Rattle.u_system.proofs.Held.{Enabled-mono}
-use Rattle.u_system.proofs.Plain.{Plain-derivation}
-use Rattle.u_strict.specs.Strict.{IsStrict}
+use Rattle.u_base.specs.Firing.{Held, Same, Enabled, Cl}
+use Rattle.u_base.proofs.Held.{Enabled-mono}
+use Rattle.u_base.proofs.Plain.{Plain-derivation}
+use Rattle.u_determinate.specs.Strict.{IsStrict}
 use Rattle.u_determinate.specs.Determinate.{IsDeterminate}
 use Rattle.u_determinate.specs.Theorem.{IsDeterminateJob}
 use Rattle.u_rule.specs.Rule.{system_of}

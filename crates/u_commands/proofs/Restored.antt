@@ -1,10 +1,10 @@
 -- How a replica goes on from a checkpoint.
 use Rattle.std.proofs.Common.{◌≡◌, ◌∙◌, subst, refl, ℕ, List, ◌⊎◌, inl, inr, take, Contains, Ok, Err, arith}
 use Rattle.u_check.specs.Jobs.{JobParts}
-use Rattle.u_system.specs.Firing.{System, Cl, IsNextFrom, Same}
-use Rattle.u_system.proofs.Member.{Contains-nil}
-use Rattle.u_system.proofs.Held.{Enabled-mono}
-use Rattle.u_system.proofs.Closure.{Cl-mono}
+use Rattle.u_base.specs.Firing.{System, Cl, IsNextFrom, Same}
+use Rattle.u_base.proofs.Member.{Contains-nil}
+use Rattle.u_base.proofs.Held.{Enabled-mono}
+use Rattle.u_base.proofs.Closure.{Cl-mono}
 use Rattle.u_rule.specs.Rule.{system_of}
 use Rattle.u_rule.specs.declared.firing.Firing.{Firing}
 use Rattle.u_machine.specs.State.{State, Taken, IsMachine, IsSettled}

@@ -2,8 +2,8 @@
 use Rattle.std.proofs.Common.{◌≡◌, refl, sym, subst, ℕ, List, Contains, inr}
 use Rattle.std.specs.Prelude.{Option, Err}
 use Rattle.u_check.specs.Jobs.{JobParts}
-use Rattle.u_system.specs.Firing.{Held}
-use Rattle.u_system.proofs.Held.{Enabled-mono}
+use Rattle.u_base.specs.Firing.{Held}
+use Rattle.u_base.proofs.Held.{Enabled-mono}
 use Rattle.u_sets.specs.Rising.{IsListOf}
 use Rattle.u_rule.specs.Rule.{system_of}
 use Rattle.u_rule.specs.EntryOrder.{firing_cmp}

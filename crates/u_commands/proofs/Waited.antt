@@ -9,9 +9,9 @@ use Rattle.u_history.specs.Clashes.{cell_pairs, port_values}
 use Rattle.u_history.specs.OutcomeParts.{IsOutcomeOf, judged_of}
 use Rattle.u_history.specs.Report.{state_line, verdict_line}
 use Rattle.u_history.specs.Verdicts.{Judgement}
-use Rattle.u_waits.specs.Answers.{AreWaits}
-use Rattle.u_waits.specs.Text.{waits_text}
-use Rattle.u_waits.specs.declared.answer.Waiting.{Waiting}
+use Rattle.u_trace.specs.Waits.{AreWaits}
+use Rattle.u_trace.specs.Text.{waits_text}
+use Rattle.u_trace.specs.declared.answer.Waiting.{Waiting}
 use Rattle.u_commands.specs.Statuses.{status_of}
 use Rattle.u_commands.specs.Runs.{RanTo}
 use Rattle.u_commands.specs.Waits.{TellsWaits, WaitsAfterRun}

@@ -3,7 +3,7 @@ use Rattle.std.specs.Prelude.{◌≡◌, ℕ, suc, ◌-◌, ◌^◌, cond, ◌==
 use Rattle.std.specs.Fmt.{decimal}
 use Rattle.std.specs.Int.{w64}
 use lib.IntN.{ℤ, pos, negsuc}
-use Rattle.u_text.specs.WholeWords.{◌then◌, number0_word, negative_word}
+use Rattle.u_base.specs.WholeWords.{◌then◌, number0_word, negative_word}
 
 -- the one spelling of a number
 abbrev pub argument_text : ℤ → List ℕ

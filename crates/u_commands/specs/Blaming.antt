@@ -6,7 +6,7 @@ use Rattle.u_name.specs.Cell.{CellOf}
 use Rattle.u_name.specs.NameReading.{IsNameOf, IsNameErrorOf}
 use Rattle.u_name.specs.declared.reading.NameTextError.TheVariants as name_errors
 use Rattle.u_check.specs.Jobs.{JobParts}
-use Rattle.u_system.specs.Firing.{Held, Plain}
+use Rattle.u_base.specs.Firing.{Held, Plain}
 use Rattle.u_rule.specs.Rule.{system_of}
 use Rattle.u_rule.specs.FiringText.{firing_text}
 use Rattle.u_rule.specs.declared.firing.Firing.{Firing}

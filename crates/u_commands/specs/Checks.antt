@@ -8,14 +8,14 @@ use Rattle.u_program.specs.Answer.{IsTextOf}
 use Rattle.u_program.specs.FirstBad.{IsBadLine, IsTooMany, IsTruncated}
 use Rattle.u_check.specs.Rules.{IsChecked, IsFirstBreach}
 use Rattle.u_check.specs.declared.rule.Breach.{Breach}
-use Rattle.u_strict.specs.Breaches.{number_of, IsAnswer}
-use Rattle.u_strict.specs.declared.answer.Strictness.{Strictness}
-use Rattle.u_strict.specs.declared.answer.Strictness.TheVariants.{Strict, Loose}
-use Rattle.u_guards.specs.Meetings as meetings
-use Rattle.u_guards.specs.declared.verdict.Determinacy.{Determinacy}
-use Rattle.u_guards.specs.declared.verdict.Determinacy.TheVariants.{Determinate, Meets}
-use Rattle.u_guards.specs.declared.verdict.Meeting.{Meeting}
-use Rattle.u_guards.specs.declared.verdict.Meeting.TheVariants.{Arcs, Ends, Calls, Turns}
+use Rattle.u_determinate.specs.Breaches.{number_of, IsAnswer}
+use Rattle.u_determinate.specs.declared.answer.Strictness.{Strictness}
+use Rattle.u_determinate.specs.declared.answer.Strictness.TheVariants.{Strict, Loose}
+use Rattle.u_determinate.specs.Meetings as meetings
+use Rattle.u_determinate.specs.declared.verdict.Determinacy.{Determinacy}
+use Rattle.u_determinate.specs.declared.verdict.Determinacy.TheVariants.{Determinate, Meets}
+use Rattle.u_determinate.specs.declared.verdict.Meeting.{Meeting}
+use Rattle.u_determinate.specs.declared.verdict.Meeting.TheVariants.{Arcs, Ends, Calls, Turns}
 use Rattle.u_commands.specs.Outputs.{WritesAll, WritesPrefix, numbered}
 use Rattle.u_commands.specs.declared.checking.Asked.{Asked}
 use Rattle.u_commands.specs.declared.command_error.CommandError.{CommandError}

@@ -2,12 +2,12 @@
 use Rattle.std.specs.Prelude.{◌≡◌, ℕ, ◌⊎◌, Bool, true, false, List, ◌++◌, Option, Result, Ok, Err, codes}
 use Rattle.std.specs.Io.KnownBytes.{Keeps}
 use Rattle.u_program.specs.Parts.{BlockParts, ProgramParts}
-use Rattle.u_strict.specs.Breaches as breaches
-use Rattle.u_strict.specs.declared.answer.Strictness.{Strictness}
-use Rattle.u_strict.specs.declared.answer.Strictness.TheVariants.{Strict, Loose}
-use Rattle.u_guards.specs.Meetings as meetings
-use Rattle.u_guards.specs.declared.verdict.Determinacy.{Determinacy}
-use Rattle.u_guards.specs.declared.verdict.Determinacy.TheVariants.{Determinate, Meets}
+use Rattle.u_determinate.specs.Breaches as breaches
+use Rattle.u_determinate.specs.declared.answer.Strictness.{Strictness}
+use Rattle.u_determinate.specs.declared.answer.Strictness.TheVariants.{Strict, Loose}
+use Rattle.u_determinate.specs.Meetings as meetings
+use Rattle.u_determinate.specs.declared.verdict.Determinacy.{Determinacy}
+use Rattle.u_determinate.specs.declared.verdict.Determinacy.TheVariants.{Determinate, Meets}
 use Rattle.u_commands.specs.Outputs.{WritesAll, WritesPrefix}
 use Rattle.u_commands.specs.Statuses.{status_of_error}
 use Rattle.u_commands.specs.Checks.{IsCheckedOf, CheckRefused, strictness_line, determinacy_line}

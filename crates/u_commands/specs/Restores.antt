@@ -3,7 +3,7 @@
 use Rattle.std.specs.Prelude.{◌≡◌, ℕ, ◌≤◌, ◌<◌, ◌↔◌, ◌⊎◌, List, ◌++◌, Option, Result, Ok, Err, Contains, codes, length}
 use Rattle.std.specs.Io.KnownBytes.{Keeps}
 use Rattle.u_check.specs.Jobs.{JobParts}
-use Rattle.u_system.specs.Firing.{Cl, EachPlace, IsNextFrom, Same, Whole}
+use Rattle.u_base.specs.Firing.{Cl, EachPlace, IsNextFrom, Same, Whole}
 use Rattle.u_rule.specs.Rule.{system_of}
 use Rattle.u_rule.specs.declared.firing.Firing.{Firing}
 use Rattle.u_machine.specs.State.{State, Taken, IsMachine, IsSettled, IsReady, NothingReady, count_of}

@@ -6,7 +6,7 @@ use Rattle.u_program.specs.Answer.{IsTextOf}
 use Rattle.u_program.specs.FirstBad.{IsBadLine, IsTooMany, IsTruncated}
 use Rattle.u_check.specs.Rules.{IsChecked}
 use Rattle.u_check.specs.Jobs.{JobParts}
-use Rattle.u_system.specs.Firing.{Held, Whole, Same, Enabled, Plain}
+use Rattle.u_base.specs.Firing.{Held, Whole, Same, Enabled, Plain}
 use Rattle.u_value.specs.declared.value.Value.{Value}
 use Rattle.u_rule.specs.Rule.{system_of}
 use Rattle.u_rule.specs.declared.parts.Fault.{Fault}
@@ -17,7 +17,7 @@ use Rattle.u_machine.specs.Calls.{firing_le, RunAnswer}
 use Rattle.u_machine.specs.declared.answer.Ran.{Ran}
 use Rattle.u_machine.specs.declared.answer.Ran.TheVariants as ran
 use Rattle.u_machine.specs.declared.answer.Refusal.TheVariants as refusals
-use Rattle.u_strict.specs.Strict.{IsStrict}
+use Rattle.u_determinate.specs.Strict.{IsStrict}
 use Rattle.u_determinate.specs.Determinate.{IsDeterminate}
 use Rattle.u_determinate.specs.Theorem.{OnlyWritesClash}
 use Rattle.u_history.specs.declared.report.Ending.{Ending}

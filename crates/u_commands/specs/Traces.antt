@@ -3,8 +3,8 @@
 use Rattle.std.specs.Prelude.{◌≡◌, ℕ, ◌⊎◌, List, ◌∷◌, ◌++◌, Option, Result, Ok, Err, Contains, codes, length, map}
 use Rattle.std.specs.Io.KnownBytes.{Keeps}
 use Rattle.u_check.specs.Jobs.{JobParts}
-use Rattle.u_system.specs.Firing.{Enabled, Held, Plain, Same}
-use Rattle.u_text.specs.Spaced.{ended}
+use Rattle.u_base.specs.Firing.{Enabled, Held, Plain, Same}
+use Rattle.u_base.specs.Spaced.{ended}
 use Rattle.u_rule.specs.Rule.{system_of}
 use Rattle.u_rule.specs.EntryOrder.{firing_cmp}
 use Rattle.u_rule.specs.EntryReading.{IsEntryOf, IsEntryErrorOf}

@@ -2,7 +2,7 @@
 use Rattle.std.specs.Prelude.{◌≡◌, ℕ, List, ◌++◌, Option, Result, Ok, Err, Contains}
 use Rattle.std.specs.Io.KnownBytes.{Keeps}
 use Rattle.u_check.specs.Jobs.{JobParts}
-use Rattle.u_system.specs.Firing.{Held, Same}
+use Rattle.u_base.specs.Firing.{Held, Same}
 use Rattle.u_value.specs.declared.value.Value.{Value}
 use Rattle.u_rule.specs.Rule.{system_of}
 use Rattle.u_rule.specs.declared.parts.Fault.{Fault}
@@ -12,9 +12,9 @@ use Rattle.u_history.specs.declared.report.Ending.{Ending}
 use Rattle.u_history.specs.Outcomes.{IsOutcome, CellPairs, PortValues}
 use Rattle.u_history.specs.Verdicts.{Judgement, judged}
 use Rattle.u_history.specs.Report.{state_line, verdict_line}
-use Rattle.u_waits.specs.Answers.{AreWaits}
-use Rattle.u_waits.specs.Text.{waits_text}
-use Rattle.u_waits.specs.declared.answer.Waiting.{Waiting}
+use Rattle.u_trace.specs.Waits.{AreWaits}
+use Rattle.u_trace.specs.Text.{waits_text}
+use Rattle.u_trace.specs.declared.answer.Waiting.{Waiting}
 use Rattle.u_commands.specs.Outputs.{WritesAll, WritesPrefix}
 use Rattle.u_commands.specs.Statuses.{status_of}
 use Rattle.u_commands.specs.Runs.{JobRefused, RunsTo}

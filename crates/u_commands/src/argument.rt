@@ -2,7 +2,7 @@
 ghost use Rattle.std.specs.Prelude.{◌≡◌, Some, None, MatchOption, pos, ℤ};
 ghost use Rattle.u_commands.specs.Arguments.{argument_word, IsArgumentOf};
 
-use u_text::{long_word, negative_word};
+use u_base::{long_word, negative_word};
 
 /// The number that the word gives: decimal, without leading zeros, with `n` in place of a minus,
 /// so that no word begins with a hyphen. It is from -2^63 to 2^63 - 1, and 0 has no `n`.
@@ -17,7 +17,7 @@ pub fn argument_of(word: &[u8]) -> Option<i64>
     }
 }
 
-#[tactic(auto, unfolding(crate::specs::Arguments::argument_word), using(u_text::proofs::WholeWordsLaws::number0_bound, std::proofs::lemmas::Int::to_z_pos))]
+#[tactic(auto, unfolding(crate::specs::Arguments::argument_word), using(u_base::proofs::WholeWordsLaws::number0_bound, std::proofs::lemmas::Int::to_z_pos))]
 fn argument_word(word: &[u8]) -> Option<i64>
     ensures { MatchOption result (argument_word word.now ≡ None)
         (λ z. argument_word word.now ≡ Some z) }

@@ -1,7 +1,7 @@
 //! The command `check`.
 ghost use Rattle.std.specs.Prelude.{◌≡◌, ◌≤◌, ◌*◌, ◌+◌, ◌++◌, IfOk, IfErr, MatchResult, length};
 ghost use Rattle.u_program.specs.Limits.{IsProgram, the_limits};
-ghost use Rattle.u_strict.specs.Breaches.{IsAnswer};
+ghost use Rattle.u_determinate.specs.Breaches.{IsAnswer};
 ghost use Rattle.u_commands.specs.Checks.{statements_of, checked_line, IsCheckedOf, CheckRefused, CheckTextAnswer, error_of};
 ghost use Rattle.u_commands.specs.Checks.{strictness_line, TellsStrictness, ChecksProgram};
 ghost use Rattle.u_commands.specs.Checks.{meeting_words, determinacy_line, TellsDeterminacy};
@@ -10,11 +10,10 @@ use crate::command_error::CommandError;
 use crate::output::{push_numbered, write_whole};
 use std::alloc::{AllocError, Global};
 use std::io::Write;
+use u_base::push_long;
 use u_check::{Checked, check};
-use u_guards::{Determinacy, Meeting, determinacy};
+use u_determinate::{Determinacy, Meeting, Strictness, determinacy, strictness};
 use u_program::{Block, Program, ReadError, read};
-use u_strict::{Strictness, strictness};
-use u_text::push_long;
 
 /// What is asked of a program that breaks no rule of the checker.
 #[derive(Clone, Copy, Debug, PartialEq, Eq)]

@@ -11,9 +11,8 @@ use crate::output::write_whole;
 use std::alloc::{AllocError, Global};
 use std::io::Write;
 use u_check::Checked;
+use u_determinate::{Determinacy, Place, Strictness, determinacy, strictness};
 use u_explain::{explain, explain_loose, explain_meeting};
-use u_guards::{Determinacy, Place, determinacy};
-use u_strict::{Strictness, strictness};
 
 /// What is said of a program that is not refused and is determinate.
 const NOTHING: &[u8] = b"nothing to explain\n";

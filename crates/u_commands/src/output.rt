@@ -4,7 +4,7 @@ ghost use Rattle.u_commands.specs.Outputs.{WritesAll, WritesPrefix, numbered};
 
 use std::alloc::{AllocError, Global};
 use std::io::Write;
-use u_text::push_long;
+use u_base::push_long;
 
 /// The output could not be written.
 #[derive(Debug, Drop)]

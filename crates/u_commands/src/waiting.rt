@@ -13,7 +13,7 @@ use std::io::Write;
 use u_check::Job;
 use u_history::Ending;
 use u_machine::Machine;
-use u_waits::waits;
+use u_trace::waits;
 
 /// The line of a report that names its state.
 #[tactic(auto, unfolding(u_history::specs::Report::state_line))]

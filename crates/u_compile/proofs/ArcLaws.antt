@@ -6,8 +6,8 @@ use Rattle.u_program.specs.Parts.{StatementParts}
 use Rattle.u_program.specs.Limits.{Ascending, rank}
 use Rattle.u_check.specs.Rules.{statement_at, list_of, Arc, arc}
 use Rattle.u_check.proofs.Arcs.{numbered as numbered_statement, has_number}
-use Rattle.u_strict.specs.Arcs.{Leads, destination}
-use Rattle.u_strict.proofs.NumberFacts.{arc_stands, leads_by_parts}
+use Rattle.u_determinate.specs.Arcs.{Leads, destination}
+use Rattle.u_determinate.proofs.NumberFacts.{arc_stands, leads_by_parts}
 use Rattle.u_compile.specs.declared.graph.Link.{Link}
 use Rattle.u_compile.specs.declared.graph.Output.{Output}
 use Rattle.u_compile.specs.Drafts.{DraftParts}

@@ -7,7 +7,7 @@ use Rattle.u_program.specs.declared.program.Destination.{Destination}
 use Rattle.u_program.specs.Parts.{StatementParts}
 use Rattle.u_check.specs.Kinds.{comes_from_outside, back_named}
 use Rattle.u_check.specs.Rules.{Arc}
-use Rattle.u_strict.specs.Arcs.{Leads}
+use Rattle.u_determinate.specs.Arcs.{Leads}
 use Rattle.u_determinate.specs.Guards.{Stands, Applies, Rounds, ArcOf, StatementOf, HasGuard, ArcHasGuard}
 use Rattle.u_determinate.specs.Determinate.{ArcsExclude, Exclude, MayMeet, IsDeterminateBlock}
 use Rattle.u_compile.specs.declared.graph.Output.{Output}

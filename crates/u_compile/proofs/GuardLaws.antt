@@ -9,8 +9,8 @@ use Rattle.u_program.specs.declared.program.Destination.{Destination}
 use Rattle.u_program.specs.Parts.{StatementParts}
 use Rattle.u_check.specs.Kinds.{ports_of}
 use Rattle.u_check.specs.Rules.{Arc, arc}
-use Rattle.u_strict.specs.Arcs.{Leads, destination, OnlyArc}
-use Rattle.u_strict.proofs.NumberFacts.{same_arc}
+use Rattle.u_determinate.specs.Arcs.{Leads, destination, OnlyArc}
+use Rattle.u_determinate.proofs.NumberFacts.{same_arc}
 use Rattle.std.specs.Prelude.{slice_get}
 use Rattle.u_determinate.specs.Guards.{stays, Stands, Rounds, PassedOn, IsPassed, ArcOf}
 use Rattle.u_compile.specs.declared.graph.Output.{Output}

@@ -3,7 +3,7 @@ use Rattle.std.proofs.Common.{◌≡◌, ◌+◌, true, false, List, ◌∷◌, 
 use Rattle.u_program.specs.Parts.{BlockParts}
 use Rattle.u_source.specs.declared.form.Node.{Node}
 use Rattle.u_source.specs.Tokens.{TokenParts}
-use Rattle.u_kinds.specs.Clashes.{name_at}
+use Rattle.u_scope.specs.Clashes.{name_at}
 use Rattle.u_compile.specs.Procedures.{ends_procedure, AreProcedures}
 
 -- with a node with which no procedure ends

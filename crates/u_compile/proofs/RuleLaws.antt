@@ -14,8 +14,8 @@ use Rattle.u_check.specs.Kinds.{ports_of, comes_from_outside, crosses}
 use Rattle.u_check.specs.Rules.{statement_at, Arc, has_region, reaches, has_port as takes_port, takes_tokens, lies_in, list_of, arc, held_by, holds, sends_to, is_fed, is_whole}
 use Rattle.u_check.proofs.Arcs.{has_number}
 use Rattle.u_program.specs.Limits.{IsKind}
-use Rattle.u_strict.specs.Arcs.{Leads, destination}
-use Rattle.u_strict.proofs.NumberFacts.{arc_stands}
+use Rattle.u_determinate.specs.Arcs.{Leads, destination}
+use Rattle.u_determinate.proofs.NumberFacts.{arc_stands}
 use Rattle.u_compile.specs.declared.graph.Link.{Link}
 use Rattle.u_compile.specs.declared.graph.Output.{Output}
 use Rattle.u_compile.specs.Drafts.{DraftParts}

@@ -6,7 +6,7 @@ use Rattle.u_program.specs.declared.program.Kind.{Kind}
 use Rattle.u_program.specs.declared.program.Kind.TheVariants.{Pass, Switch, Enter, Next, Last, Leave, Back, End}
 use Rattle.u_program.specs.declared.program.Destination.{Destination}
 use Rattle.u_check.specs.Kinds.{comes_from_outside, back_named}
-use Rattle.u_strict.specs.Arcs.{destination}
+use Rattle.u_determinate.specs.Arcs.{destination}
 use Rattle.u_compile.specs.declared.graph.Link.{Link}
 use Rattle.u_compile.specs.declared.graph.Output.{Output}
 use Rattle.u_compile.specs.Drafts.{DraftParts}

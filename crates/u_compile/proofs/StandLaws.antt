@@ -13,7 +13,7 @@ use Rattle.u_program.specs.Parts.{StatementParts}
 use Rattle.u_check.specs.Kinds.{is_begin, is_back, is_last, is_leave, is_end, is_of_loop, back_named}
 use Rattle.u_check.specs.Rules.{statement_at, Arc, begins_well, names_back, is_back_in, applies_to, is_applied, leaves_after_last, lies_in, is_param_in, follows_params, comes_in_order}
 use Rattle.u_check.proofs.Arcs.{has_number}
-use Rattle.u_strict.specs.Arcs.{Leads}
+use Rattle.u_determinate.specs.Arcs.{Leads}
 use Rattle.u_compile.specs.declared.graph.Output.{Output}
 use Rattle.u_compile.specs.Drafts.{DraftParts}
 use Rattle.u_compile.specs.Graphs.{GraphParts, draft_at, enters, IsGraph}

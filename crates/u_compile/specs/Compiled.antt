@@ -8,9 +8,9 @@ use Rattle.u_scope.specs.Verdicts.{IsChecked, IsCheckError}
 use Rattle.u_scope.specs.declared.check_error.CheckError.{CheckError}
 use Rattle.u_scope.specs.declared.check_error.CheckError.TheVariants as check_error
 use Rattle.u_scope.specs.declared.checked.Meaning.{Meaning}
-use Rattle.u_kinds.specs.Verdicts.{HasNoClash, IsKindError}
-use Rattle.u_kinds.specs.declared.kind_error.KindError.{KindError}
-use Rattle.u_kinds.specs.declared.kind_error.KindError.TheVariants as kind_error
+use Rattle.u_scope.specs.KindVerdicts.{HasNoClash, IsKindError}
+use Rattle.u_scope.specs.declared.kind_error.KindError.{KindError}
+use Rattle.u_scope.specs.declared.kind_error.KindError.TheVariants as kind_error
 use Rattle.u_compile.specs.declared.compile_error.CompileError.{CompileError}
 use Rattle.u_compile.specs.declared.compile_error.CompileError.TheVariants.{Source, Check, Kinds, Refused, NoMemory}
 use Rattle.u_compile.specs.declared.origins.BlockOrigins.{BlockOrigins}

@@ -5,7 +5,7 @@ use Rattle.u_source.specs.declared.form.Form.{Form}
 use Rattle.u_source.specs.declared.form.Form.TheVariants.{AddProcedure}
 use Rattle.u_source.specs.declared.form.Node.{Node}
 use Rattle.u_source.specs.Tokens.{TokenParts}
-use Rattle.u_kinds.specs.Clashes.{name_at}
+use Rattle.u_scope.specs.Clashes.{name_at}
 
 -- a procedure ends with a node of that form
 abbrev pub ends_procedure : Form → Bool

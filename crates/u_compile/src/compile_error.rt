@@ -7,8 +7,7 @@ use crate::graph::Full;
 use std::alloc::AllocError;
 use std::fmt;
 use thiserror::Error;
-use u_kinds::KindError;
-use u_scope::CheckError;
+use u_scope::{CheckError, KindError};
 use u_source::{Place, SourceError};
 
 /// Why there is no program of a source that follows the grammar, and whose names and kinds are allowed.

@@ -23,9 +23,8 @@ use crate::procedures::are_procedures;
 use crate::tree::Tree;
 use std::alloc::Global;
 use u_check::check;
-use u_kinds::check_kinds;
 use u_program::Program;
-use u_scope::Checked;
+use u_scope::{Checked, check_kinds};
 use u_source::{Place, Source};
 
 /// Why there is no program, and the place that shows it.

@@ -4,8 +4,8 @@ ghost use Rattle.u_compile.specs.Maps.{name_part, statement_text, map_line, bloc
 
 use crate::origins::{BlockOrigins, Origin};
 use std::alloc::AllocError;
+use u_base::{push_long_behind, push_spaced};
 use u_name::BlockName;
-use u_text::{push_long_behind, push_spaced};
 
 /// Appends `BLOCK.STATEMENT`, the name of a block and the number of a statement.
 ///

@@ -1,11 +1,11 @@
 //! Whether the blocks of a program are the procedures of a source.
 ghost use Rattle.std.specs.Prelude.{◌≡◌, ◌+◌, ◌∷◌, Some, IfSome, IsTrue};
-ghost use Rattle.u_kinds.specs.Clashes.{name_at};
+ghost use Rattle.u_scope.specs.Clashes.{name_at};
 ghost use Rattle.u_program.specs.Parts.{BlockParts};
 ghost use Rattle.u_compile.specs.Procedures.{ends_procedure, AreProcedures};
 
-use u_kinds::name_at;
 use u_program::Block;
+use u_scope::name_at;
 use u_source::{Form, Node, Token};
 
 /// Whether a procedure ends with a node of that form.

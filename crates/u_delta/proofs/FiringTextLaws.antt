@@ -6,8 +6,8 @@ use Rattle.std.specs.List.{AllByRecursion}
 use Rattle.std.specs.Fmt.{decimal, signed_decimal}
 use Rattle.std.specs.Int.{w64}
 use lib.IntN.{ℤ, pos, negsuc}
-use Rattle.u_text.proofs.PiecesLaws.{Free}
-use Rattle.u_text.proofs.SpacedLaws.{free_append, free_decimal, free_signed}
+use Rattle.u_base.proofs.PiecesLaws.{Free}
+use Rattle.u_base.proofs.SpacedLaws.{free_append, free_decimal, free_signed}
 use Rattle.u_name.specs.Block.{IsBlock, is_block_byte}
 use Rattle.u_name.specs.Context.{Tree, Top, InLoop, InCall, depth, InRange}
 use Rattle.u_name.specs.Name.{Activity, IsName}

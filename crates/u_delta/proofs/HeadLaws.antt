@@ -6,13 +6,13 @@ use Rattle.std.proofs.lemmas.Option.{same_Some, none-some}
 use Rattle.std.specs.Cmp.Lexicographic.{same_text}
 use Rattle.std.specs.Fmt.{decimal}
 use Rattle.u_name.specs.Context.{IsBetween}
-use Rattle.u_text.specs.Pieces.{words}
-use Rattle.u_text.specs.Spaced.{spaced}
-use Rattle.u_text.proofs.PartsLaws.{alike, unlike, same_or}
-use Rattle.u_text.proofs.PiecesLaws.{Free}
-use Rattle.u_text.proofs.SpacedLaws.{AllFree, free_append, free_spaced, free_above, free_decimal, words_spaced, words_are}
-use Rattle.u_text.specs.WholeWords.{◌then◌, is, number_word, number0_word}
-use Rattle.u_text.proofs.WholeWordsLaws.{number_word_sound, number_word_complete, number0_word_sound, number0_word_complete, told, then_some}
+use Rattle.u_base.specs.Pieces.{words}
+use Rattle.u_base.specs.Spaced.{spaced}
+use Rattle.u_base.proofs.PartsLaws.{alike, unlike, same_or}
+use Rattle.u_base.proofs.PiecesLaws.{Free}
+use Rattle.u_base.proofs.SpacedLaws.{AllFree, free_append, free_spaced, free_above, free_decimal, words_spaced, words_are}
+use Rattle.u_base.specs.WholeWords.{◌then◌, is, number_word, number0_word}
+use Rattle.u_base.proofs.WholeWordsLaws.{number_word_sound, number_word_complete, number0_word_sound, number0_word_complete, told, then_some}
 use Rattle.u_delta.specs.declared.message.Ask.{Ask}
 use Rattle.u_delta.specs.declared.head.Opening.{Opening}
 use Rattle.u_delta.specs.declared.head.Head.{Head}

@@ -3,10 +3,10 @@ use Rattle.std.specs.Prelude.{◌≡◌, ℕ, suc, ◌<◌, ◌⊎◌, List, [],
 use Rattle.std.proofs.Common.{sym, ◌∙◌, ap, subst, arith, inl, inr, append_assoc}
 use Rattle.std.proofs.lemmas.List.{append-nil}
 use Rattle.std.specs.List.{AllByRecursion}
-use Rattle.u_text.specs.Pieces.{PiecesAndRest, pieces, IsCutInto}
-use Rattle.u_text.specs.Spaced.{ended}
-use Rattle.u_text.proofs.PiecesLaws.{glued, glued-pieces}
-use Rattle.u_text.proofs.SpacedLaws.{AllFree, pieces-ended, glued-ended}
+use Rattle.u_base.specs.Pieces.{PiecesAndRest, pieces, IsCutInto}
+use Rattle.u_base.specs.Spaced.{ended}
+use Rattle.u_base.proofs.PiecesLaws.{glued, glued-pieces}
+use Rattle.u_base.proofs.SpacedLaws.{AllFree, pieces-ended, glued-ended}
 use Rattle.u_delta.specs.Lines.{IsShort, lines_behind, IsLongAhead, StandsBehind, EndsWith, Begins, AreAllowed, IsRefused, IsBadLine, IsTooLong, IsTruncated}
 
 -- what stands ahead is long

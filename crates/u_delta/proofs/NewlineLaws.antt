@@ -3,8 +3,8 @@ use Rattle.std.specs.Prelude.{◌≡◌, ℕ, zero, suc, ◌+◌, ◌≤◌, ◌
 use Rattle.std.proofs.Common.{sym, ◌∙◌, ap, arith}
 use Rattle.std.proofs.lemmas.Bool.{eqb-true, eq-eqb}
 use Rattle.memchr.specs.Find.{IsFirstByte, is_byte}
-use Rattle.u_text.specs.Pieces.{pieces, IsCutInto}
-use Rattle.u_text.proofs.PiecesLaws.{Free, cut_here, cut_nowhere}
+use Rattle.u_base.specs.Pieces.{pieces, IsCutInto}
+use Rattle.u_base.proofs.PiecesLaws.{Free, cut_here, cut_nowhere}
 
 free_before : (c k : ℕ) (bs : List ℕ) → k ≤ length bs → ((j : ℕ) → j < k → slice_index bs j ≡ c → ⊥) → Free c (take k bs)
 free_before c zero bs l n = tt

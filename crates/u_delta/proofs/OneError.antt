@@ -2,7 +2,7 @@
 use Rattle.std.specs.Prelude.{◌≡◌, ℕ, ◌≤◌, ◌<◌, ◌⊎◌, List, [], ◌∷◌, ◌++◌, length, refl}
 use Rattle.std.proofs.Common.{sym, ◌∙◌, ap, subst, arith, inl, inr, append_assoc, length-append}
 use Rattle.std.specs.List.{AllByRecursion}
-use Rattle.u_text.specs.Pieces.{PiecesAndRest}
+use Rattle.u_base.specs.Pieces.{PiecesAndRest}
 use Rattle.u_delta.specs.Lines.{IsShort, IsLong, StandsBehind, EndsWith, Begins, AreAllowed, IsRefused, IsBadLine, IsTooLong, IsTruncated}
 use Rattle.u_delta.proofs.MessageLaws.{heads_are, tails_are}
 

@@ -3,8 +3,8 @@ use Rattle.std.specs.Prelude.{◌≡◌, ℕ, suc, ◌+◌, ◌<◌, ◌≤◌, 
 use Rattle.std.proofs.Common.{sym, ◌∙◌, ap, subst, arith, length-append}
 use Rattle.std.proofs.lemmas.List.{append-nil, map-append}
 use Rattle.std.specs.List.{AllByRecursion}
-use Rattle.u_text.specs.TextAt.{IsNoText}
-use Rattle.u_text.specs.Pieces.{PiecesAndRest, pieces, words}
+use Rattle.u_base.specs.TextAt.{IsNoText}
+use Rattle.u_base.specs.Pieces.{PiecesAndRest, pieces, words}
 use Rattle.u_rule.specs.declared.firing.Firing.{Firing}
 use Rattle.u_rule.specs.FiringText.{firing_text}
 use Rattle.u_rule.specs.FiringReading.{IsFiring, IsFiringOf}

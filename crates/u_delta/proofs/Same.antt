@@ -4,10 +4,10 @@ use Rattle.std.proofs.Common.{sym, ◌∙◌, ap, arith, length-append}
 use Rattle.std.proofs.lemmas.Fmt.{length-decimal-le}
 use Rattle.std.specs.List.{AllByRecursion}
 use Rattle.std.specs.Fmt.{decimal}
-use Rattle.u_text.specs.Pieces.{PiecesAndRest, pieces}
-use Rattle.u_text.specs.Spaced.{spaced}
-use Rattle.u_text.proofs.PiecesLaws.{Free}
-use Rattle.u_text.proofs.SpacedLaws.{AllFree, all_free_append, pieces-ended}
+use Rattle.u_base.specs.Pieces.{PiecesAndRest, pieces}
+use Rattle.u_base.specs.Spaced.{spaced}
+use Rattle.u_base.proofs.PiecesLaws.{Free}
+use Rattle.u_base.proofs.SpacedLaws.{AllFree, all_free_append, pieces-ended}
 use Rattle.u_rule.specs.declared.firing.Firing.{Firing}
 use Rattle.u_rule.specs.FiringText.{firing_text}
 use Rattle.u_rule.specs.FiringReading.{IsFiring}

@@ -3,8 +3,8 @@ use Rattle.std.specs.Prelude.{◌≡◌, ℕ, ◌+◌, ◌<◌, List, [], ◌∷
 use Rattle.std.proofs.Common.{sym, ◌∙◌, ap, append_assoc, get_or}
 use Rattle.std.proofs.lemmas.List.{take_more, map-append, append-nil}
 use Rattle.std.specs.Fmt.{decimal}
-use Rattle.u_text.specs.Spaced.{ended}
-use Rattle.u_text.proofs.SpacedLaws.{ended-append}
+use Rattle.u_base.specs.Spaced.{ended}
+use Rattle.u_base.proofs.SpacedLaws.{ended-append}
 use Rattle.u_rule.specs.declared.firing.Firing.{Firing}
 use Rattle.u_rule.specs.FiringText.{firing_text}
 use Rattle.u_delta.specs.declared.message.Ask.{Ask}

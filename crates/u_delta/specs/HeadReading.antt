@@ -1,6 +1,6 @@
 -- What is read of the words of a message's first line.
 use Rattle.std.specs.Prelude.{◌≡◌, ℕ, ◌-◌, ◌^◌, cond, ◌==◌, nat_le, List, [], ◌∷◌, codes, Option, Some, None}
-use Rattle.u_text.specs.WholeWords.{◌then◌, is, number_word, number0_word}
+use Rattle.u_base.specs.WholeWords.{◌then◌, is, number_word, number0_word}
 use Rattle.u_delta.specs.declared.message.Ask.{Ask}
 use Rattle.u_delta.specs.declared.head.Opening.{Opening}
 use Rattle.u_delta.specs.declared.head.Head.{Head}

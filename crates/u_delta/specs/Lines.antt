@@ -2,7 +2,7 @@
 -- A text is given by its pieces: its lines that end with a newline, and what stands behind them.
 use Rattle.std.specs.Prelude.{◌≡◌, ℕ, suc, ◌≤◌, ◌<◌, ◌⊎◌, List, [], ◌∷◌, ◌++◌, length}
 use Rattle.std.specs.List.{AllByRecursion}
-use Rattle.u_text.specs.Pieces.{PiecesAndRest, pieces, IsCutInto}
+use Rattle.u_base.specs.Pieces.{PiecesAndRest, pieces, IsCutInto}
 
 -- a line has at most 32768 bytes
 abbrev pub IsShort : List ℕ → Type 0

@@ -1,7 +1,7 @@
 -- The texts of messages.
 use Rattle.std.specs.Prelude.{ℕ, List, [], ◌∷◌, ◌++◌, length, map, codes}
 use Rattle.std.specs.Fmt.{decimal}
-use Rattle.u_text.specs.Spaced.{spaced, ended}
+use Rattle.u_base.specs.Spaced.{spaced, ended}
 use Rattle.u_rule.specs.FiringText.{firing_text}
 use Rattle.u_delta.specs.declared.message.Ask.{Ask}
 use Rattle.u_delta.specs.declared.message.Delta.{Delta}

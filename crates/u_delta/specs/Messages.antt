@@ -2,7 +2,7 @@
 use Rattle.std.specs.Prelude.{◌≡◌, ℕ, ◌^◌, ◌≤◌, ◌<◌, List, length}
 use Rattle.std.specs.List.{AllByRecursion}
 use Rattle.u_name.specs.Context.{IsBetween}
-use Rattle.u_text.specs.Pieces.{PiecesAndRest, pieces}
+use Rattle.u_base.specs.Pieces.{PiecesAndRest, pieces}
 use Rattle.u_rule.specs.FiringReading.{IsFiring}
 use Rattle.u_delta.specs.declared.message.Ask.{Ask}
 use Rattle.u_delta.specs.declared.message.Delta.{Delta}

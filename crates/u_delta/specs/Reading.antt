@@ -1,7 +1,7 @@
 -- What the steps of reading a message answer.
 use Rattle.std.specs.Prelude.{◌≡◌, ℕ, suc, ◌≤◌, List, [], ◌∷◌, ◌++◌, length, map, Result, MatchResult}
 use Rattle.std.specs.List.{AllByRecursion}
-use Rattle.u_text.specs.Pieces.{PiecesAndRest}
+use Rattle.u_base.specs.Pieces.{PiecesAndRest}
 use Rattle.u_rule.specs.declared.firing.Firing.{Firing}
 use Rattle.u_rule.specs.FiringText.{firing_text}
 use Rattle.u_rule.specs.FiringReading.{IsFiring}

@@ -2,10 +2,10 @@
 ghost use Rattle.std.specs.Prelude.{◌≡◌, Some, None, MatchResult};
 ghost use Rattle.u_delta.specs.HeadReading as reader;
 ghost use Rattle.u_delta.specs.HeadReading.{replica_word, peers_at, long_at, ask_at, part_at, delta_at, head_at};
-ghost use Rattle.u_text.specs.Pieces.{words};
+ghost use Rattle.u_base.specs.Pieces.{words};
 
 use crate::message::Ask;
-use u_text::{BadWord, Words, long_word, number_word, number0_word};
+use u_base::{BadWord, Words, long_word, number_word, number0_word};
 
 /// What the first line of a delta says.
 #[derive(Drop)]

@@ -1,6 +1,6 @@
 //! The first line of some bytes.
 ghost use Rattle.std.specs.Prelude.{◌≡◌, ◌≤◌, ◌<◌, [], MatchOption, drop, length};
-ghost use Rattle.u_text.specs.Pieces.{pieces, IsCutInto};
+ghost use Rattle.u_base.specs.Pieces.{pieces, IsCutInto};
 ghost use Rattle.u_delta.specs.Front.{IsAhead};
 
 use memchr::memchr;

@@ -1,7 +1,7 @@
 //! The text of a message, read line by line.
 ghost use Rattle.std.specs.Prelude.{◌≡◌, ◌∷◌, [], ◌<◌, length, MatchResult};
 ghost use Rattle.u_rule.specs.FiringReading.{IsFiringOf};
-ghost use Rattle.u_text.specs.Pieces.{pieces};
+ghost use Rattle.u_base.specs.Pieces.{pieces};
 ghost use Rattle.u_delta.specs.Lines.{IsShort, IsLineAhead, lines_behind};
 ghost use Rattle.u_delta.specs.Messages.{IsMessageOf, IsReadErrorOf};
 ghost use Rattle.u_delta.specs.HeadReading.{head_line, IsHead, opening_line};

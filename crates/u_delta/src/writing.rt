@@ -4,8 +4,8 @@ ghost use Rattle.std.specs.Fmt.{decimal};
 ghost use Rattle.std.specs.List.{AllByRecursion};
 ghost use Rattle.u_rule.specs.FiringReading.{IsFiring};
 ghost use Rattle.u_rule.specs.FiringText.{firing_text};
-ghost use Rattle.u_text.specs.Appending.{Extends};
-ghost use Rattle.u_text.specs.Spaced.{ended};
+ghost use Rattle.u_base.specs.Appending.{Extends};
+ghost use Rattle.u_base.specs.Spaced.{ended};
 ghost use Rattle.u_delta.specs.Messages.{BringsFirings};
 ghost use Rattle.u_delta.specs.MessageText.{ask_line, delta_line, delta_lines, message_text};
 
@@ -14,10 +14,10 @@ use crate::ranges::all_in_range;
 use crate::written_context::push_line;
 use std::alloc::AllocError;
 use u_rule::Firing;
-use u_text::{cut_back, push_behind, push_long};
+use u_base::{cut_back, push_behind, push_long};
 
 /// Appends a space and a number. On an error the space may stand there.
-#[tactic(auto, using(u_text::proofs::AppendingLaws::extends_same, u_text::proofs::AppendingLaws::extends_behind, std::proofs::Common::append_assoc))]
+#[tactic(auto, using(u_base::proofs::AppendingLaws::extends_same, u_base::proofs::AppendingLaws::extends_behind, std::proofs::Common::append_assoc))]
 fn push_word(out: &mut Vec<u8>, n: u64) -> Result<(), AllocError>
     ensures ok { OnOk result (out.new.items ≡ out.old.items ++ (32 ∷ decimal n)) }
     ensures err { OnErr result (Extends out.old.items out.new.items) }
@@ -27,7 +27,7 @@ fn push_word(out: &mut Vec<u8>, n: u64) -> Result<(), AllocError>
 }
 
 /// Appends two small numbers, each behind a space. On an error a part of them may stand there.
-#[tactic(auto, using(u_text::proofs::AppendingLaws::extends_same, u_text::proofs::AppendingLaws::extends_behind, std::proofs::Common::append_assoc))]
+#[tactic(auto, using(u_base::proofs::AppendingLaws::extends_same, u_base::proofs::AppendingLaws::extends_behind, std::proofs::Common::append_assoc))]
 fn push_pair(out: &mut Vec<u8>, first: u8, second: u8) -> Result<(), AllocError>
     ensures ok { OnOk result
         (out.new.items ≡ out.old.items ++ (32 ∷ (decimal first ++ (32 ∷ decimal second)))) }
@@ -39,7 +39,7 @@ fn push_pair(out: &mut Vec<u8>, first: u8, second: u8) -> Result<(), AllocError>
 
 /// Appends two numbers, each behind a space, and a newline. On an error a part of them may stand
 /// there.
-#[tactic(auto, using(u_text::proofs::AppendingLaws::extends_same, u_text::proofs::AppendingLaws::extends_behind, crate::proofs::Written::join3))]
+#[tactic(auto, using(u_base::proofs::AppendingLaws::extends_same, u_base::proofs::AppendingLaws::extends_behind, crate::proofs::Written::join3))]
 fn push_last(out: &mut Vec<u8>, first: u64, second: u64) -> Result<(), AllocError>
     ensures ok { OnOk result (out.new.items ≡ out.old.items
         ++ ((32 ∷ decimal first) ++ ((32 ∷ decimal second) ++ (10 ∷ [])))) }
@@ -52,7 +52,7 @@ fn push_last(out: &mut Vec<u8>, first: u64, second: u64) -> Result<(), AllocErro
 }
 
 /// Appends the line of the ask. On an error a part of it may stand there.
-#[tactic(auto, using(u_text::proofs::AppendingLaws::extends_same, u_text::proofs::AppendingLaws::extends_by, u_text::proofs::AppendingLaws::extends_behind, crate::proofs::Written::ask_written))]
+#[tactic(auto, using(u_base::proofs::AppendingLaws::extends_same, u_base::proofs::AppendingLaws::extends_by, u_base::proofs::AppendingLaws::extends_behind, crate::proofs::Written::ask_written))]
 fn push_ask(out: &mut Vec<u8>, ask: &Ask) -> Result<(), AllocError>
     ensures ok { OnOk result (out.new.items ≡ out.old.items ++ (ask_line ask.now ++ (10 ∷ []))) }
     ensures err { OnErr result (Extends out.old.items out.new.items) }
@@ -63,7 +63,7 @@ fn push_ask(out: &mut Vec<u8>, ask: &Ask) -> Result<(), AllocError>
 }
 
 /// Appends the first line of the delta. On an error a part of it may stand there.
-#[tactic(auto, using(u_text::proofs::AppendingLaws::extends_same, u_text::proofs::AppendingLaws::extends_by, u_text::proofs::AppendingLaws::extends_behind, crate::proofs::Written::delta_written))]
+#[tactic(auto, using(u_base::proofs::AppendingLaws::extends_same, u_base::proofs::AppendingLaws::extends_by, u_base::proofs::AppendingLaws::extends_behind, crate::proofs::Written::delta_written))]
 fn push_delta_line(out: &mut Vec<u8>, delta: &Delta) -> Result<(), AllocError>
     ensures ok { OnOk result (out.new.items ≡ out.old.items
         ++ (delta_line delta.now.sender delta.now.receiver delta.now.life delta.now.start
@@ -77,7 +77,7 @@ fn push_delta_line(out: &mut Vec<u8>, delta: &Delta) -> Result<(), AllocError>
 }
 
 /// Appends a line for each firing. On an error a part of them may stand there.
-#[tactic(auto, using(u_text::proofs::AppendingLaws::extends_same, u_text::proofs::AppendingLaws::extends_by, u_text::proofs::AppendingLaws::extends_behind, crate::proofs::Written::firings_more))]
+#[tactic(auto, using(u_base::proofs::AppendingLaws::extends_same, u_base::proofs::AppendingLaws::extends_by, u_base::proofs::AppendingLaws::extends_behind, crate::proofs::Written::firings_more))]
 fn push_firings(out: &mut Vec<u8>, firings: &[Firing]) -> Result<(), AllocError>
     ensures ok { OnOk result
         (out.new.items ≡ out.old.items ++ ended (map firing_text firings.now)) }
@@ -96,7 +96,7 @@ fn push_firings(out: &mut Vec<u8>, firings: &[Firing]) -> Result<(), AllocError>
 ///
 /// # Errors
 /// `AllocError` where there is no memory. Then `out` is as it was.
-#[tactic(auto, using(u_text::proofs::AppendingLaws::extends_cut))]
+#[tactic(auto, using(u_base::proofs::AppendingLaws::extends_cut))]
 pub fn write_firings(firings: &[Firing], out: &mut Vec<u8>) -> Result<(), AllocError>
     ensures ok { OnOk result
         (out.new.items ≡ out.old.items ++ ended (map firing_text firings.now)) }
@@ -110,7 +110,7 @@ pub fn write_firings(firings: &[Firing], out: &mut Vec<u8>) -> Result<(), AllocE
 }
 
 /// Appends the lines of the delta. On an error a part of them may stand there.
-#[tactic(auto, using(u_text::proofs::AppendingLaws::extends_same, u_text::proofs::AppendingLaws::extends_behind, crate::proofs::Written::lines_written))]
+#[tactic(auto, using(u_base::proofs::AppendingLaws::extends_same, u_base::proofs::AppendingLaws::extends_behind, crate::proofs::Written::lines_written))]
 fn push_delta(out: &mut Vec<u8>, delta: &Delta) -> Result<(), AllocError>
     ensures ok { OnOk result (out.new.items ≡ out.old.items ++ ended (delta_lines delta.now)) }
     ensures err { OnErr result (Extends out.old.items out.new.items) }
@@ -149,7 +149,7 @@ fn message_in_range(message: &Message)
 ///
 /// # Errors
 /// `AllocError` where there is no memory. Then `out` is as it was.
-#[tactic(auto, using(u_text::proofs::AppendingLaws::extends_cut))]
+#[tactic(auto, using(u_base::proofs::AppendingLaws::extends_cut))]
 pub fn write_message(message: &Message, out: &mut Vec<u8>) -> Result<(), AllocError>
     ensures ok { OnOk result (out.new.items ≡ out.old.items ++ message_text message.now) }
     ensures err { OnErr result (out.new.items ≡ out.old.items) }

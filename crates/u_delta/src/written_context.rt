@@ -3,7 +3,7 @@
 ghost use Rattle.std.specs.Prelude.{◌≡◌, ◌++◌, ◌∷◌, [], IfOk, IfSome, OnErr, OnOk, codes};
 ghost use Rattle.u_name.specs.NameText.{context_text};
 ghost use Rattle.u_rule.specs.FiringText.{firing_text};
-ghost use Rattle.u_text.specs.Appending.{Extends};
+ghost use Rattle.u_base.specs.Appending.{Extends};
 ghost use Rattle.u_delta.specs.WrittenContexts.{StandsAt};
 
 use std::alloc::AllocError;
@@ -21,7 +21,7 @@ pub(crate) struct WrittenContext<'a> {
 }
 
 /// Appends the text of the context. If it is the context whose text stands there, that is copied.
-#[tactic(auto, using(u_text::proofs::AppendingLaws::extends_same, crate::proofs::WrittenContexts::stands_same))]
+#[tactic(auto, using(u_base::proofs::AppendingLaws::extends_same, crate::proofs::WrittenContexts::stands_same))]
 fn push_context(
     out: &mut Vec<u8>,
     context: &Context,
@@ -42,7 +42,7 @@ fn push_context(
 
 /// Appends the text of the firing and a newline. Returns where the text of its context stands. On an
 /// error a part of it may stand there.
-#[tactic(auto, using(u_text::proofs::AppendingLaws::extends_same, u_text::proofs::AppendingLaws::extends_by, u_text::proofs::AppendingLaws::extends_behind, crate::proofs::WrittenContexts::line_written))]
+#[tactic(auto, using(u_base::proofs::AppendingLaws::extends_same, u_base::proofs::AppendingLaws::extends_by, u_base::proofs::AppendingLaws::extends_behind, crate::proofs::WrittenContexts::line_written))]
 pub(crate) fn push_line<'a>(
     out: &mut Vec<u8>,
     firing: &'a Firing,

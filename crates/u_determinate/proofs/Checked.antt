@@ -22,7 +22,7 @@ use Rattle.u_check.proofs.Arcs.{has_number}
 use Rattle.u_check.proofs.Blocks.{named_member}
 use Rattle.u_check.proofs.KindTests.{begin_kind}
 use Rattle.u_check.proofs.Facts.{begin_first, region_exists, lies_in_loop, end_outside, apply_returned, target_exists, target_takes, leave_from_last}
-use Rattle.u_strict.proofs.KindFacts.{named_apply}
+use Rattle.u_determinate.proofs.KindFacts.{named_apply}
 use Rattle.u_rule.specs.Fits.{statement_of, fits, fits_at}
 use Rattle.u_rule.specs.Structures.{has_its_write}
 use Rattle.u_rule.specs.Rule.{is_firing_of, is_firing_at}

@@ -3,9 +3,9 @@ use Rattle.std.proofs.Common.{◌≡◌, ℕ, zero, suc, ◌+◌, ◌-◌, ◌<�
 use Rattle.std.specs.Prelude.{Contains}
 use Rattle.std.proofs.lemmas.Bool.{false≢true}
 use Rattle.std.proofs.lemmas.List.Elements.{Contains-append_left}
-use Rattle.u_system.specs.Firing.{Held, Enabled, Derivation}
-use Rattle.u_system.proofs.Member.{Contains-head, Contains-tail}
-use Rattle.u_system.proofs.Determinate.{Derivation-enabled}
+use Rattle.u_base.specs.Firing.{Held, Enabled, Derivation}
+use Rattle.u_base.proofs.Member.{Contains-head, Contains-tail}
+use Rattle.u_base.proofs.Determinate.{Derivation-enabled}
 use Rattle.u_name.specs.Context.{Tree, Top, InLoop, InCall, IsBetween}
 use Rattle.u_name.specs.Name.{Activity, activity, left}
 use Rattle.u_value.specs.declared.value.Value.{Value}
@@ -23,7 +23,7 @@ use Rattle.u_rule.specs.Structures.{write_read}
 use Rattle.u_rule.specs.Rule.{is_firing_of, tokens_from, needs_of, first_of, result_of, beside, reached, system_of}
 use Rattle.u_rule.specs.declared.entry.Entry.TheVariants as entries
 use Rattle.u_rule.specs.declared.firing.Firing.{Firing}
-use Rattle.u_strict.specs.Arcs.{destination, Leads, OnlyArc}
+use Rattle.u_determinate.specs.Arcs.{destination, Leads, OnlyArc}
 use Rattle.u_determinate.specs.Guards.{Stands, Rounds, PassedOn, stays, FromBeside, FromSwitch, FromLeave, ArcOf, AtPort, AtBack, StatementOf, HasGuard, ArcHasGuard}
 use Rattle.u_determinate.proofs.Named.{named}
 use Rattle.u_determinate.proofs.Checked.{keeps, fires_of}

@@ -1,3 +1,12 @@
+pub mod Breaches
+pub mod CallTables
+pub mod EndFacts
+pub mod GuardTables
+pub mod KindFacts
+pub mod NumberFacts
+pub mod PortFacts
+pub mod SourceTables
+pub mod Tests
 pub mod Named
 pub mod Clash
 pub mod Checked
@@ -14,3 +23,11 @@ pub mod RootAnswers
 pub mod Stricter
 pub mod Rounds
 pub mod Theorem
+pub mod Links
+pub mod Sweeps
+pub mod Ports
+pub mod Pairs
+pub mod SidesLaws
+pub mod Marks
+pub mod Opposed
+pub mod FirstMeetings

@@ -1,6 +1,6 @@
 -- Where a `last` fires at two initiations of one context, there is trouble.
 use Rattle.std.proofs.Common.{◌≡◌, ℕ, zero, suc, ◌+◌, ◌-◌, ◌≤◌, ◌<◌, refl, ap, sym, ◌∙◌, arith, subst, Bool, true, not, List, Some, inl, inr}
-use Rattle.u_system.specs.Firing.{Held, Enabled, Derivation}
+use Rattle.u_base.specs.Firing.{Held, Enabled, Derivation}
 use Rattle.u_name.specs.Context.{Tree, InLoop}
 use Rattle.u_name.specs.Name.{activity}
 use Rattle.u_program.specs.declared.program.Kind.{Kind}

@@ -1,8 +1,8 @@
 -- Where a determinate job's derivation holds two values at one port, it holds two pairs of one cell.
 use Rattle.std.proofs.Common.{◌≡◌, ℕ, refl, ap, sym, ◌∙◌, subst, true, List, Some, inl, inr, ◌⊎◌}
 use Rattle.std.specs.Prelude.{Contains}
-use Rattle.u_system.specs.Firing.{Held, Enabled, Derivation, Both, Whole}
-use Rattle.u_system.proofs.Determinate.{Derivation-blames, Whole-blames}
+use Rattle.u_base.specs.Firing.{Held, Enabled, Derivation, Both, Whole}
+use Rattle.u_base.proofs.Determinate.{Derivation-blames, Whole-blames}
 use Rattle.u_name.specs.Context.{Top}
 use Rattle.u_name.specs.Name.{Activity, activity}
 use Rattle.u_check.specs.Rules.{main_name, statement_at, IsChecked}

@@ -2,11 +2,11 @@
 use Rattle.std.proofs.Common.{◌≡◌, ℕ, ◌+◌, length, refl, ap, sym, ◌∙◌, Bool, true, false, List, [], ◌∷◌, ◌++◌, Option, Some, None, Result, Ok, Err, cond, ◌==◌, inl, inr, ◌⊎◌, map}
 use Rattle.std.specs.Prelude.{Contains}
 use Rattle.std.proofs.lemmas.Bool.{false≢true}
-use Rattle.u_system.specs.Firing.{Held, Enabled, Derivation, Both, Whole}
-use Rattle.u_system.proofs.Member.{Contains-nil, Contains-cons_cases}
-use Rattle.u_system.proofs.Held.{Held-append_left, Held-append_right}
-use Rattle.u_system.proofs.Closure.{Derivation-append}
-use Rattle.u_system.proofs.Determinate.{Derivation-enabled}
+use Rattle.u_base.specs.Firing.{Held, Enabled, Derivation, Both, Whole}
+use Rattle.u_base.proofs.Member.{Contains-nil, Contains-cons_cases}
+use Rattle.u_base.proofs.Held.{Held-append_left, Held-append_right}
+use Rattle.u_base.proofs.Closure.{Derivation-append}
+use Rattle.u_base.proofs.Determinate.{Derivation-enabled}
 use Rattle.u_name.specs.Context.{Tree, Top, InLoop, InCall, depth}
 use Rattle.u_name.specs.Name.{Activity}
 use Rattle.u_name.specs.Cell.{CellOf}

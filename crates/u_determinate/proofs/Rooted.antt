@@ -2,9 +2,9 @@
 use Rattle.std.proofs.Common.{◌≡◌, ℕ, ◌+◌, ◌≤◌, refl, ap, arith, subst, List, [], ◌∷◌, ◌++◌, length, Some, inl, inr, ◌⊎◌}
 use Rattle.std.specs.Prelude.{Contains}
 use Rattle.std.proofs.lemmas.List.Elements.{Contains-append_left, Contains-push_cases}
-use Rattle.u_system.specs.Firing.{Held, Enabled, Derivation}
-use Rattle.u_system.proofs.Member.{Contains-nil, Contains-head}
-use Rattle.u_system.proofs.Determinate.{Derivation-along}
+use Rattle.u_base.specs.Firing.{Held, Enabled, Derivation}
+use Rattle.u_base.proofs.Member.{Contains-nil, Contains-head}
+use Rattle.u_base.proofs.Determinate.{Derivation-along}
 use Rattle.u_name.specs.Context.{Tree, Top, InLoop, InCall}
 use Rattle.u_name.specs.Name.{Activity, activity}
 use Rattle.u_value.specs.declared.value.Value.{Value}

@@ -3,8 +3,8 @@ use Rattle.std.proofs.Common.{◌≡◌, ℕ, ◌+◌, refl, ap, sym, ◌∙◌,
 use Rattle.std.specs.Prelude.{Contains, is_ok, is_some, is_none}
 use Rattle.std.proofs.lemmas.Bool.{false≢true}
 use Rattle.std.proofs.lemmas.List.Elements.{Contains-append_left, Contains-append_right}
-use Rattle.u_system.specs.Firing.{Enabled, Both}
-use Rattle.u_system.proofs.Member.{Contains-head, Contains-tail}
+use Rattle.u_base.specs.Firing.{Enabled, Both}
+use Rattle.u_base.proofs.Member.{Contains-head, Contains-tail}
 use Rattle.u_name.specs.Name.{Activity}
 use Rattle.u_name.specs.Cell.{CellOf}
 use Rattle.u_value.specs.declared.value.Value.{Value}

@@ -4,7 +4,7 @@ use Rattle.std.specs.Prelude.{slice_get, Contains}
 use Rattle.std.proofs.lemmas.Bool.{false≢true}
 use Rattle.std.proofs.lemmas.Option.{slice_get_read}
 use Rattle.std.proofs.lemmas.List.Elements.{Contains-append_left, Contains-append_right}
-use Rattle.u_system.specs.Firing.{Held}
+use Rattle.u_base.specs.Firing.{Held}
 use Rattle.u_name.specs.Context.{Tree, InLoop}
 use Rattle.u_name.specs.Name.{Activity, activity, left}
 use Rattle.u_program.specs.declared.program.Kind.{Kind}

@@ -1,7 +1,7 @@
 -- Two firings that give tokens for one port are of one activity, or there is trouble.
 use Rattle.std.proofs.Common.{◌≡◌, ℕ, zero, suc, ◌+◌, ◌<◌, refl, ap, sym, ◌∙◌, arith, subst, Bool, true, false, not, List, Some, inl, inr, ◌⊎◌}
 use Rattle.std.proofs.lemmas.Bool.{false≢true}
-use Rattle.u_system.specs.Firing.{Held, Enabled, Derivation}
+use Rattle.u_base.specs.Firing.{Held, Enabled, Derivation}
 use Rattle.u_name.specs.Context.{Tree, InLoop, InCall}
 use Rattle.u_name.specs.Name.{Activity, activity, call_context}
 use Rattle.u_program.specs.declared.program.Kind.{Kind}
@@ -15,7 +15,7 @@ use Rattle.u_rule.specs.Parts.{TokenParts}
 use Rattle.u_rule.specs.Fits.{statement_of}
 use Rattle.u_rule.specs.Rule.{is_firing_of, reached, system_of}
 use Rattle.u_rule.specs.declared.firing.Firing.{Firing}
-use Rattle.u_strict.specs.Arcs.{ArcFrom}
+use Rattle.u_determinate.specs.Arcs.{ArcFrom}
 use Rattle.u_determinate.specs.Determinate.{MayMeet, IsDeterminate}
 use Rattle.u_determinate.proofs.Named.{block_of}
 use Rattle.u_determinate.proofs.GuardsTell.{same_place, same_destination, last_kind, member_enabled, moved, arc_guard_gave, gave_both, same_reached}

@@ -9,10 +9,10 @@ use Rattle.u_check.specs.Rules.{statement_at, sends, Arc, list_of, destination_i
 use Rattle.u_check.proofs.Arcs.{has_number}
 use Rattle.u_check.proofs.Blocks.{member_at}
 use Rattle.u_check.proofs.Facts.{in_to, in_otherwise, target_exists, target_takes, apply_returned, lies_in_loop, region_exists}
-use Rattle.u_strict.specs.Arcs.{OnlyArc, ArcFrom}
-use Rattle.u_strict.specs.Strict.{IsGuarded, IsTested, IsStrictBlock, IsStrict}
-use Rattle.u_strict.specs.Strict as strict
-use Rattle.u_strict.proofs.KindFacts.{named_apply}
+use Rattle.u_determinate.specs.Arcs.{OnlyArc, ArcFrom}
+use Rattle.u_determinate.specs.Strict.{IsGuarded, IsTested, IsStrictBlock, IsStrict}
+use Rattle.u_determinate.specs.Strict as strict
+use Rattle.u_determinate.proofs.KindFacts.{named_apply}
 use Rattle.u_determinate.specs.Guards.{FromSwitch, HasGuard}
 use Rattle.u_determinate.specs.Determinate.{MayMeet, OneSource, OneApply, Exclude, TurnsOrEnds, IsDeterminate}
 

@@ -1,6 +1,6 @@
 -- Determinacy of strict and of determinate jobs.
 use Rattle.std.proofs.Common.{List, refl, inl, inr}
-use Rattle.u_system.specs.Firing.{Held, Derivation, Both, Whole}
+use Rattle.u_base.specs.Firing.{Held, Derivation, Both, Whole}
 use Rattle.u_check.specs.Rules.{IsChecked}
 use Rattle.u_check.specs.Jobs.{JobParts}
 use Rattle.u_rule.specs.Parts.{token}
@@ -8,7 +8,7 @@ use Rattle.u_rule.specs.Rule.{system_of}
 use Rattle.u_rule.specs.declared.entry.Entry.{Entry}
 use Rattle.u_rule.specs.declared.entry.Entry.TheVariants as entries
 use Rattle.u_rule.specs.declared.firing.Firing.{Firing}
-use Rattle.u_strict.specs.Strict.{IsStrict}
+use Rattle.u_determinate.specs.Strict.{IsStrict}
 use Rattle.u_determinate.specs.Determinate.{IsDeterminate}
 use Rattle.u_determinate.specs.Theorem.{TwoValues, TwoWrites, OneAnswer, IsDeterminateJob}
 use Rattle.u_determinate.proofs.Clash.{Clash, Cells}

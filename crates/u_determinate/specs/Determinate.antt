@@ -7,7 +7,7 @@ use Rattle.u_program.specs.declared.program.Kind.{Kind}
 use Rattle.u_program.specs.declared.program.Kind.TheVariants.{Enter, Next, Last, End}
 use Rattle.u_program.specs.Parts.{StatementParts, BlockParts}
 use Rattle.u_check.specs.Rules.{Arc}
-use Rattle.u_strict.specs.Arcs.{Leads, ArcFrom}
+use Rattle.u_determinate.specs.Arcs.{Leads, ArcFrom}
 use Rattle.u_determinate.specs.Guards.{Stands, Applies, HasGuard, ArcHasGuard}
 
 -- Both arcs have a guard of one control, and need the other truth value of it. Two arcs from one

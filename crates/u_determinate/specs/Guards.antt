@@ -12,7 +12,7 @@ use Rattle.u_program.specs.declared.program.Kind.TheVariants.{Pass, Switch, Ente
 use Rattle.u_program.specs.Parts.{StatementParts}
 use Rattle.u_check.specs.Kinds.{ports_of, comes_from_outside, back_named}
 use Rattle.u_check.specs.Rules.{statement_at, Arc}
-use Rattle.u_strict.specs.Arcs.{Leads, OnlyArc, ArcFrom}
+use Rattle.u_determinate.specs.Arcs.{Leads, OnlyArc, ArcFrom}
 
 -- statement n is of that kind
 pub record Stands (ss : List StatementParts) (n : ℕ) (k : Kind) : Type 0 where

@@ -1,3 +1,10 @@
+pub mod Arcs
+pub mod Breaches
+pub mod Strict
+pub mod Tables
 pub mod Guards
 pub mod Determinate
 pub mod Theorem
+pub mod Flow
+pub mod Meetings
+pub mod Findings

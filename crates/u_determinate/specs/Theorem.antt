@@ -3,7 +3,7 @@
 -- Two values at a port and two answers are clashes. In the runs of a strict or a determinate job there
 -- are none, unless some cell is written twice.
 use Rattle.std.specs.Prelude.{◌≡◌, ℕ, List, ◌⊎◌}
-use Rattle.u_system.specs.Firing.{Held, Derivation, Whole}
+use Rattle.u_base.specs.Firing.{Held, Derivation, Whole}
 use Rattle.u_name.specs.Name.{Activity}
 use Rattle.u_name.specs.Cell.{CellOf}
 use Rattle.u_value.specs.declared.value.Value.{Value}

@@ -1,5 +1,5 @@
 //! What holds of the runs of strict and of determinate jobs.
-ghost use Rattle.u_strict.specs.Strict.{IsStrict};
+ghost use Rattle.u_determinate.specs.Strict.{IsStrict};
 ghost use Rattle.u_determinate.specs.Determinate.{IsDeterminate};
 ghost use Rattle.u_determinate.specs.Theorem.{IsDeterminateJob};
 

@@ -1,7 +1,7 @@
 -- The names of nodes and clusters.
 use Rattle.std.specs.Prelude.{ℕ, List, ◌∷◌, ◌++◌, map, codes}
 use Rattle.std.specs.Fmt.{decimal}
-use Rattle.u_text.specs.Spaced.{spaced}
+use Rattle.u_base.specs.Spaced.{spaced}
 use Rattle.u_program.specs.declared.program.Destination.{Destination}
 use Rattle.u_program.specs.Text.{destination_word}
 

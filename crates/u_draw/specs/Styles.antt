@@ -1,7 +1,7 @@
 -- How statements and arcs look, by what they do.
 use Rattle.std.specs.Prelude.{ℕ, ◌==◌, if◌then◌else◌, List, [], ◌∷◌, ◌++◌, codes}
 use Rattle.std.specs.Fmt.{decimal}
-use Rattle.u_text.specs.Spaced.{spaced}
+use Rattle.u_base.specs.Spaced.{spaced}
 use Rattle.u_program.specs.Text.{kind_word, argument_words}
 use Rattle.u_program.specs.declared.program.Kind.{Kind}
 use Rattle.u_program.specs.declared.program.Kind.TheVariants.{Begin, Binary, Select, Switch, Enter, Next, Param}

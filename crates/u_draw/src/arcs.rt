@@ -1,6 +1,6 @@
 //! The arcs of a block, and the points of the lists that its statements share.
 ghost use Rattle.std.specs.Prelude.{◌≡◌, ◌+◌, ◌<◌, ◌^◌, ◌++◌, ◌∷◌, [], length, IfOk, OnOk, OnErr};
-ghost use Rattle.u_text.specs.Appending.{Extends};
+ghost use Rattle.u_base.specs.Appending.{Extends};
 ghost use Rattle.u_draw.specs.Dot.{attributes_text, shown_line, text};
 ghost use Rattle.u_draw.specs.Styles.{exit_attributes, entry};
 ghost use Rattle.u_draw.specs.Names.{point_name};
@@ -28,7 +28,7 @@ fn arc_attributes(alloc: Global, exit: Exit, port: u8) -> Result<Vec<u8>, AllocE
 }
 
 /// Appends the arc from the node `from` to the destination. On an error a part of it may stand there.
-#[tactic(auto, unfolding(crate::specs::Dot::shown_line), using(u_text::proofs::AppendingLaws::extends_same))]
+#[tactic(auto, unfolding(crate::specs::Dot::shown_line), using(u_base::proofs::AppendingLaws::extends_same))]
 fn push_arc_to(
     out: &mut Vec<u8>,
     block: &[u8],
@@ -48,7 +48,7 @@ fn push_arc_to(
 
 /// Appends the arcs from the node `from` to the destinations. On an error a part of them may stand
 /// there.
-#[tactic(auto, using(u_text::proofs::AppendingLaws::extends_by, u_text::proofs::AppendingLaws::extends_behind))]
+#[tactic(auto, using(u_base::proofs::AppendingLaws::extends_by, u_base::proofs::AppendingLaws::extends_behind))]
 fn push_arcs_to(
     out: &mut Vec<u8>,
     block: &[u8],
@@ -79,7 +79,7 @@ fn goes_to(loops: &[u8], region: usize, kind: &Kind) -> usize
 
 /// Appends a line for the point of the statement's list, whose name this is. On an error a part of it
 /// may stand there.
-#[tactic(auto, unfolding(crate::specs::Dot::shown_line), using(u_text::proofs::AppendingLaws::extends_behind, crate::proofs::Nests::framed))]
+#[tactic(auto, unfolding(crate::specs::Dot::shown_line), using(u_base::proofs::AppendingLaws::extends_behind, crate::proofs::Nests::framed))]
 fn push_point_node(
     out: &mut Vec<u8>,
     block: &Block,
@@ -100,7 +100,7 @@ fn push_point_node(
 
 /// Appends the point of the statement's list and the arcs out of it, if one of the statements behind it
 /// has the same list. On an error a part of them may stand there.
-#[tactic(auto, unfolding(crate::specs::Arcs::the_point), using(u_text::proofs::AppendingLaws::extends_same, u_text::proofs::AppendingLaws::extends_behind, crate::proofs::Texts::join2))]
+#[tactic(auto, unfolding(crate::specs::Arcs::the_point), using(u_base::proofs::AppendingLaws::extends_same, u_base::proofs::AppendingLaws::extends_behind, crate::proofs::Texts::join2))]
 fn push_point(
     out: &mut Vec<u8>,
     block: &Block,
@@ -123,7 +123,7 @@ fn push_point(
 
 /// Appends the arc from the node `from` of the statement to the point of its list. On an error a part of
 /// it may stand there.
-#[tactic(auto, unfolding(crate::specs::Dot::shown_line), using(u_text::proofs::AppendingLaws::extends_same))]
+#[tactic(auto, unfolding(crate::specs::Dot::shown_line), using(u_base::proofs::AppendingLaws::extends_same))]
 fn push_join(
     out: &mut Vec<u8>,
     block: &[u8],
@@ -139,7 +139,7 @@ fn push_join(
 }
 
 /// Appends the arcs of a statement that shares its list. On an error a part of them may stand there.
-#[tactic(auto, using(u_text::proofs::AppendingLaws::extends_behind, crate::proofs::Shows::text_more))]
+#[tactic(auto, using(u_base::proofs::AppendingLaws::extends_behind, crate::proofs::Shows::text_more))]
 fn push_shared(
     out: &mut Vec<u8>,
     block: &Block,
@@ -181,7 +181,7 @@ fn push_list_arcs(
 }
 
 /// Appends the arc from an `apply` to its `back`. On an error a part of it may stand there.
-#[tactic(auto, unfolding(crate::specs::Dot::shown_line, crate::specs::Arcs::result_arcs), using(u_text::proofs::AppendingLaws::extends_same, crate::proofs::Shows::text_one))]
+#[tactic(auto, unfolding(crate::specs::Dot::shown_line, crate::specs::Arcs::result_arcs), using(u_base::proofs::AppendingLaws::extends_same, crate::proofs::Shows::text_one))]
 fn push_result(out: &mut Vec<u8>, block: &[u8], from: &[u8], kind: &Kind) -> Result<(), AllocError>
     ensures ok { OnOk result
         (out.new.items ≡ out.old.items ++ text (result_arcs block.now from.now kind.now)) }
@@ -197,7 +197,7 @@ fn push_result(out: &mut Vec<u8>, block: &[u8], from: &[u8], kind: &Kind) -> Res
 }
 
 /// Appends all arcs of the statement. On an error a part of them may stand there.
-#[tactic(auto, unfolding(crate::specs::Arcs::statement_arcs), using(u_text::proofs::AppendingLaws::extends_same, u_text::proofs::AppendingLaws::extends_behind, crate::proofs::Shows::text_three))]
+#[tactic(auto, unfolding(crate::specs::Arcs::statement_arcs), using(u_base::proofs::AppendingLaws::extends_same, u_base::proofs::AppendingLaws::extends_behind, crate::proofs::Shows::text_three))]
 fn push_statement_arcs(
     out: &mut Vec<u8>,
     block: &Block,
@@ -218,7 +218,7 @@ fn push_statement_arcs(
 
 /// Appends the arcs of these statements of the block, the first of which has that number. On an error a
 /// part of them may stand there.
-#[tactic(auto, using(u_text::proofs::AppendingLaws::extends_same, u_text::proofs::AppendingLaws::extends_behind, crate::proofs::Shows::text_two))]
+#[tactic(auto, using(u_base::proofs::AppendingLaws::extends_same, u_base::proofs::AppendingLaws::extends_behind, crate::proofs::Shows::text_two))]
 fn push_arcs_from(
     out: &mut Vec<u8>,
     block: &Block,

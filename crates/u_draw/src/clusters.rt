@@ -1,7 +1,7 @@
 //! The clusters of a block: its own, and one for each of its loops, within one another as the loops
 //! are.
 ghost use Rattle.std.specs.Prelude.{◌≡◌, ◌++◌, ◌∷◌, [], map, IfOk, OnOk, OnErr, codes};
-ghost use Rattle.u_text.specs.Appending.{Extends};
+ghost use Rattle.u_base.specs.Appending.{Extends};
 ghost use Rattle.u_draw.specs.Dot.{all_opened, all_closed, attributes_text, within, bracketed, shown_line, text, numbered};
 ghost use Rattle.u_draw.specs.Names.{loop_cluster};
 ghost use Rattle.u_draw.specs.Clusters.{holder, nest, around, block_attributes, loop_attributes, the_block, the_loop};
@@ -32,7 +32,7 @@ pub fn holder(loops: &[u8], number: usize) -> usize
 
 /// Appends what begins the part within the loops around the region, outermost first, at most `depth`.
 /// On an error a part of it may stand there.
-#[tactic(auto, using(u_text::proofs::AppendingLaws::extends_same, u_text::proofs::AppendingLaws::extends_behind))]
+#[tactic(auto, using(u_base::proofs::AppendingLaws::extends_same, u_base::proofs::AppendingLaws::extends_behind))]
 fn push_nest(out: &mut Vec<u8>, block: &Block, region: usize, depth: u8) -> Result<(), AllocError>
     ensures ok { OnOk result (out.new.items ≡ out.old.items
         ++ all_opened (map (loop_cluster block.now.name) (nest depth block.now.loops region))) }
@@ -51,7 +51,7 @@ fn push_nest(out: &mut Vec<u8>, block: &Block, region: usize, depth: u8) -> Resu
 }
 
 /// Appends what ends the part within these loops. On an error a part of it may stand there.
-#[tactic(auto, using(u_text::proofs::AppendingLaws::extends_same, u_text::proofs::AppendingLaws::extends_behind))]
+#[tactic(auto, using(u_base::proofs::AppendingLaws::extends_same, u_base::proofs::AppendingLaws::extends_behind))]
 fn push_unnest(out: &mut Vec<u8>, block: &Block, region: usize, depth: u8) -> Result<(), AllocError>
     ensures ok { OnOk result (out.new.items ≡ out.old.items
         ++ all_closed (map (loop_cluster block.now.name) (nest depth block.now.loops region))) }
@@ -69,7 +69,7 @@ fn push_unnest(out: &mut Vec<u8>, block: &Block, region: usize, depth: u8) -> Re
 }
 
 /// Appends what begins a line within the region's clusters. On an error a part of it may stand there.
-#[tactic(auto, unfolding(crate::specs::Clusters::around), using(u_text::proofs::AppendingLaws::extends_same, u_text::proofs::AppendingLaws::extends_behind, crate::proofs::Texts::join3))]
+#[tactic(auto, unfolding(crate::specs::Clusters::around), using(u_base::proofs::AppendingLaws::extends_same, u_base::proofs::AppendingLaws::extends_behind, crate::proofs::Texts::join3))]
 pub fn push_within(out: &mut Vec<u8>, block: &Block, region: usize) -> Result<(), AllocError>
     ensures ok { OnOk result (out.new.items ≡ out.old.items
         ++ (codes "  " ++ all_opened (around block.now.name block.now.loops region))) }
@@ -82,7 +82,7 @@ pub fn push_within(out: &mut Vec<u8>, block: &Block, region: usize) -> Result<()
 }
 
 /// Appends what ends that line. On an error a part of it may stand there.
-#[tactic(auto, unfolding(crate::specs::Clusters::around), using(u_text::proofs::AppendingLaws::extends_same, u_text::proofs::AppendingLaws::extends_behind, crate::proofs::Texts::join3))]
+#[tactic(auto, unfolding(crate::specs::Clusters::around), using(u_base::proofs::AppendingLaws::extends_same, u_base::proofs::AppendingLaws::extends_behind, crate::proofs::Texts::join3))]
 pub fn push_ended(out: &mut Vec<u8>, block: &Block, region: usize) -> Result<(), AllocError>
     ensures ok { OnOk result (out.new.items ≡ out.old.items
         ++ (all_closed (around block.now.name block.now.loops region) ++ (10 ∷ []))) }
@@ -122,7 +122,7 @@ fn loop_attributes(alloc: Global, number: usize, held_by: u8) -> Result<Vec<u8>,
 }
 
 /// Appends a line for the cluster of the region. On an error a part of it may stand there.
-#[tactic(auto, using(u_text::proofs::AppendingLaws::extends_same, u_text::proofs::AppendingLaws::extends_behind, crate::proofs::Nests::framed))]
+#[tactic(auto, using(u_base::proofs::AppendingLaws::extends_same, u_base::proofs::AppendingLaws::extends_behind, crate::proofs::Nests::framed))]
 fn push_cluster_line(
     out: &mut Vec<u8>,
     block: &Block,
@@ -140,7 +140,7 @@ fn push_cluster_line(
 }
 
 /// Appends a line for the cluster of the block. On an error a part of it may stand there.
-#[tactic(auto, unfolding(crate::specs::Dot::shown_line), using(u_text::proofs::AppendingLaws::extends_same))]
+#[tactic(auto, unfolding(crate::specs::Dot::shown_line), using(u_base::proofs::AppendingLaws::extends_same))]
 fn push_block(out: &mut Vec<u8>, block: &Block) -> Result<(), AllocError>
     ensures ok { OnOk result (out.new.items ≡ out.old.items ++ shown_line (the_block block.now)) }
     ensures err { OnErr result (Extends out.old.items out.new.items) }
@@ -150,7 +150,7 @@ fn push_block(out: &mut Vec<u8>, block: &Block) -> Result<(), AllocError>
 }
 
 /// Appends a line for the cluster of the loop. On an error a part of it may stand there.
-#[tactic(auto, unfolding(crate::specs::Dot::shown_line), using(u_text::proofs::AppendingLaws::extends_same))]
+#[tactic(auto, unfolding(crate::specs::Dot::shown_line), using(u_base::proofs::AppendingLaws::extends_same))]
 fn push_loop(out: &mut Vec<u8>, block: &Block, number: usize, held_by: u8) -> Result<(), AllocError>
     ensures ok { OnOk result
         (out.new.items ≡ out.old.items ++ shown_line (the_loop block.now number held_by)) }
@@ -161,7 +161,7 @@ fn push_loop(out: &mut Vec<u8>, block: &Block, number: usize, held_by: u8) -> Re
 }
 
 /// Appends a line for each loop of the block. On an error a part of them may stand there.
-#[tactic(auto, using(u_text::proofs::AppendingLaws::extends_by, u_text::proofs::AppendingLaws::extends_behind))]
+#[tactic(auto, using(u_base::proofs::AppendingLaws::extends_by, u_base::proofs::AppendingLaws::extends_behind))]
 fn push_loops(out: &mut Vec<u8>, block: &Block) -> Result<(), AllocError>
     ensures ok { OnOk result
         (out.new.items ≡ out.old.items
@@ -175,7 +175,7 @@ fn push_loops(out: &mut Vec<u8>, block: &Block) -> Result<(), AllocError>
 }
 
 /// Appends a line for each cluster of the block. On an error a part of them may stand there.
-#[tactic(auto, using(u_text::proofs::AppendingLaws::extends_behind, crate::proofs::Texts::join2))]
+#[tactic(auto, using(u_base::proofs::AppendingLaws::extends_behind, crate::proofs::Texts::join2))]
 pub fn push_clusters(out: &mut Vec<u8>, block: &Block) -> Result<(), AllocError>
     ensures ok { OnOk result (out.new.items ≡ out.old.items
         ++ text (the_block block.now ∷ numbered (the_loop block.now) 1 block.now.loops)) }

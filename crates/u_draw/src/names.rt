@@ -5,7 +5,7 @@ ghost use Rattle.u_draw.specs.Names.{statement_name, point_name, block_cluster, 
 
 use std::alloc::{AllocError, Global};
 use u_program::{Destination, push_list};
-use u_text::push_long;
+use u_base::push_long;
 
 /// The name of a statement's node: `BLOCK.NUMBER`.
 #[tactic(auto, using(crate::proofs::Texts::join2))]

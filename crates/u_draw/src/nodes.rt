@@ -1,6 +1,6 @@
 //! The nodes of a block: one for each statement.
 ghost use Rattle.std.specs.Prelude.{◌≡◌, ◌++◌, IfOk, OnOk, OnErr};
-ghost use Rattle.u_text.specs.Appending.{Extends};
+ghost use Rattle.u_base.specs.Appending.{Extends};
 ghost use Rattle.u_draw.specs.Dot.{quoted, listed, attributes_text, shown_line, text, numbered};
 ghost use Rattle.u_draw.specs.Names.{statement_name};
 ghost use Rattle.u_draw.specs.Picture.{statement_attributes, the_node};
@@ -38,7 +38,7 @@ fn attributes_of(
 }
 
 /// Appends the statement's node. On an error a part of it may stand there.
-#[tactic(auto, using(u_text::proofs::AppendingLaws::extends_same))]
+#[tactic(auto, using(u_base::proofs::AppendingLaws::extends_same))]
 fn push_statement_node(
     out: &mut Vec<u8>,
     version: Version,
@@ -60,7 +60,7 @@ fn push_statement_node(
 
 /// Appends a line for the statement's node, within the clusters of its region. On an error a part of it
 /// may stand there.
-#[tactic(auto, unfolding(crate::specs::Dot::shown_line), using(u_text::proofs::AppendingLaws::extends_same, u_text::proofs::AppendingLaws::extends_behind, crate::proofs::Nests::framed))]
+#[tactic(auto, unfolding(crate::specs::Dot::shown_line), using(u_base::proofs::AppendingLaws::extends_same, u_base::proofs::AppendingLaws::extends_behind, crate::proofs::Nests::framed))]
 fn push_statement(
     out: &mut Vec<u8>,
     version: Version,
@@ -80,7 +80,7 @@ fn push_statement(
 }
 
 /// Appends a line for each statement of the block. On an error a part of them may stand there.
-#[tactic(auto, using(u_text::proofs::AppendingLaws::extends_by, u_text::proofs::AppendingLaws::extends_behind))]
+#[tactic(auto, using(u_base::proofs::AppendingLaws::extends_by, u_base::proofs::AppendingLaws::extends_behind))]
 pub fn push_nodes(out: &mut Vec<u8>, version: Version, block: &Block) -> Result<(), AllocError>
     ensures ok { OnOk result
         (out.new.items ≡ out.old.items

@@ -1,6 +1,6 @@
 //! The picture of a program.
 ghost use Rattle.std.specs.Prelude.{◌≡◌, ◌++◌, ◌∷◌, OnOk, OnErr};
-ghost use Rattle.u_text.specs.Appending.{Extends};
+ghost use Rattle.u_base.specs.Appending.{Extends};
 ghost use Rattle.u_draw.specs.Dot.{text, picture_text};
 ghost use Rattle.u_program.specs.Text.{header, program_lines};
 ghost use Rattle.u_draw.specs.Picture.{block_picture, picture};
@@ -13,7 +13,7 @@ use crate::clusters::push_clusters;
 use crate::nodes::push_nodes;
 use std::alloc::AllocError;
 use u_program::{Block, Program, Version};
-use u_text::cut_back;
+use u_base::cut_back;
 
 /// What begins the text: how a picture is laid out, and how nodes and arcs look that do not say so.
 const OPENING: &[u8] = b"digraph u {
@@ -23,7 +23,7 @@ const OPENING: &[u8] = b"digraph u {
 ";
 
 /// Appends the lines of the block. On an error a part of them may stand there.
-#[tactic(auto, unfolding(crate::specs::Picture::block_picture), using(u_text::proofs::AppendingLaws::extends_behind, crate::proofs::Shows::text_three))]
+#[tactic(auto, unfolding(crate::specs::Picture::block_picture), using(u_base::proofs::AppendingLaws::extends_behind, crate::proofs::Shows::text_three))]
 fn push_block(out: &mut Vec<u8>, version: Version, block: &Block) -> Result<(), AllocError>
     ensures ok { OnOk result
         (out.new.items ≡ out.old.items ++ text (block_picture version block.now)) }
@@ -36,7 +36,7 @@ fn push_block(out: &mut Vec<u8>, version: Version, block: &Block) -> Result<(), 
 }
 
 /// Appends the lines of the blocks. On an error a part of them may stand there.
-#[tactic(auto, using(u_text::proofs::AppendingLaws::extends_by, u_text::proofs::AppendingLaws::extends_behind))]
+#[tactic(auto, using(u_base::proofs::AppendingLaws::extends_by, u_base::proofs::AppendingLaws::extends_behind))]
 fn push_blocks(out: &mut Vec<u8>, version: Version, blocks: &[Block]) -> Result<(), AllocError>
     ensures ok { OnOk result (out.new.items ≡ out.old.items ++ text (picture version blocks.now)) }
     ensures err { OnErr result (Extends out.old.items out.new.items) }
@@ -48,7 +48,7 @@ fn push_blocks(out: &mut Vec<u8>, version: Version, blocks: &[Block]) -> Result<
 }
 
 /// Appends the picture's text. On an error a part of it may stand there.
-#[tactic(auto, unfolding(crate::specs::Dot::picture_text), using(u_text::proofs::AppendingLaws::extends_same, u_text::proofs::AppendingLaws::extends_behind, crate::proofs::Texts::join3))]
+#[tactic(auto, unfolding(crate::specs::Dot::picture_text), using(u_base::proofs::AppendingLaws::extends_same, u_base::proofs::AppendingLaws::extends_behind, crate::proofs::Texts::join3))]
 fn push_picture(out: &mut Vec<u8>, program: &Program) -> Result<(), AllocError>
     ensures ok { OnOk result
         (out.new.items
@@ -67,7 +67,7 @@ fn push_picture(out: &mut Vec<u8>, program: &Program) -> Result<(), AllocError>
 ///
 /// # Errors
 /// `AllocError` where there is no memory. Then `out` is as it was.
-#[tactic(auto, using(u_text::proofs::AppendingLaws::extends_cut, crate::proofs::TextLaws::lines_told, crate::proofs::DrawnLaws::draws_blocks))]
+#[tactic(auto, using(u_base::proofs::AppendingLaws::extends_cut, crate::proofs::TextLaws::lines_told, crate::proofs::DrawnLaws::draws_blocks))]
 pub fn write_picture(out: &mut Vec<u8>, program: &Program) -> Result<(), AllocError>
     ensures ok { OnOk result
         (out.new.items

@@ -2,9 +2,9 @@
 use Rattle.std.specs.Prelude.{◌≡◌, ℕ, suc, ◌+◌, ◌≤◌, ◌==◌, Bool, true, false, if◌then◌else◌, List, [], ◌∷◌, ◌++◌, length, refl}
 use Rattle.std.proofs.Common.{sym, ◌∙◌, ap, subst, arith, length-append}
 use Rattle.std.proofs.lemmas.Bool.Decides.{nat_tests}
-use Rattle.u_text.specs.Spaced.{spaced}
+use Rattle.u_base.specs.Spaced.{spaced}
 use Rattle.std.specs.Fmt.{decimal}
-use Rattle.u_text.proofs.NumberLaws.{decimal_first}
+use Rattle.u_base.proofs.NumberLaws.{decimal_first}
 use Rattle.u_program.specs.declared.program.Version.{Version}
 use Rattle.u_program.specs.Parts.{StatementParts, BlockParts, block}
 use Rattle.u_program.specs.Limits.{limits_of}

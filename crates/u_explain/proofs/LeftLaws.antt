@@ -3,10 +3,10 @@ use Rattle.std.specs.Prelude.{◌≡◌, ℕ, Bool, true, false, cond, ◌==◌,
 use Rattle.std.proofs.Common.{sym, ◌∙◌, ap, subst, arith, inl, inr, append_assoc, length-append}
 use Rattle.std.proofs.lemmas.List.{append-nil}
 use denote.Ref.{Bor}
-use Rattle.u_text.specs.Fixed.{fixed, IsUnit}
-use Rattle.u_text.specs.Reader.{◌>>=◌}
-use Rattle.u_text.proofs.ReaderLaws.{Reads, longer, equal, shorter, cut, heads}
-use Rattle.u_text.proofs.FixedLaws.{fixed_Reads}
+use Rattle.u_base.specs.Fixed.{fixed, IsUnit}
+use Rattle.u_base.specs.Reader.{◌>>=◌}
+use Rattle.u_base.proofs.ReaderLaws.{Reads, longer, equal, shorter, cut, heads}
+use Rattle.u_base.proofs.FixedLaws.{fixed_Reads}
 use Rattle.u_explain.specs.Left.{BeginsSome, IsLeft, Either, Behind, Read, Among}
 
 -- some text is of the language

@@ -8,12 +8,12 @@ use lib.IntN.{ℤ}
 use Rattle.u_name.specs.BlockText.{block_at}
 use Rattle.u_name.specs.Context.{IsBetween}
 use Rattle.u_name.proofs.BlockTextLaws.{IsBlockByte, block_Reads}
-use Rattle.u_text.specs.Fixed.{fixed}
-use Rattle.u_text.specs.Signed.{signed}
-use Rattle.u_text.specs.Spaced.{spaced}
-use Rattle.u_text.proofs.NumberLaws.{IsDigit}
-use Rattle.u_text.proofs.SignedLaws.{signed_Reads}
-use Rattle.u_text.proofs.SpacedLaws.{spaced-append}
+use Rattle.u_base.specs.Fixed.{fixed}
+use Rattle.u_base.specs.Signed.{signed}
+use Rattle.u_base.specs.Spaced.{spaced}
+use Rattle.u_base.proofs.NumberLaws.{IsDigit}
+use Rattle.u_base.proofs.SignedLaws.{signed_Reads}
+use Rattle.u_base.proofs.SpacedLaws.{spaced-append}
 use Rattle.u_program.specs.declared.program.Version.{Version}
 use Rattle.u_program.specs.declared.program.Version.TheVariants as versions
 use Rattle.u_program.specs.declared.program.Arguments.{Arguments}

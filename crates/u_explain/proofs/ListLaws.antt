@@ -3,8 +3,8 @@ use Rattle.std.specs.Prelude.{◌≡◌, ℕ, suc, Bool, true, false, ◌+◌, �
 use Rattle.std.proofs.Common.{sym, ◌∙◌, ap, subst, arith, inl, inr, append_assoc}
 use Rattle.std.specs.Fmt.{decimal}
 use Rattle.u_name.specs.Context.{IsBetween}
-use Rattle.u_text.specs.Fixed.{fixed}
-use Rattle.u_text.specs.Spaced.{spaced}
+use Rattle.u_base.specs.Fixed.{fixed}
+use Rattle.u_base.specs.Spaced.{spaced}
 use Rattle.u_program.specs.declared.program.Version.{Version}
 use Rattle.u_program.specs.declared.program.Version.TheVariants as versions
 use Rattle.u_program.specs.declared.program.Destination.{Destination}

@@ -3,7 +3,7 @@ use Rattle.std.specs.Prelude.{◌≡◌, ℕ, ◌+◌, ◌-◌, ◌≤◌, ◌<�
 use Rattle.std.proofs.Common.{sym, ◌∙◌, ap, subst, arith, inl, inr, append_assoc, length-append, length-drop}
 use Rattle.std.proofs.lemmas.List.{append-nil, take-append-drop}
 use Rattle.std.proofs.Math.Seq.{take-append_seam}
-use Rattle.u_text.specs.Pieces.{pieces, lines, IsCutInto}
+use Rattle.u_base.specs.Pieces.{pieces, lines, IsCutInto}
 use Rattle.u_program.specs.Limits.{limits_of}
 use Rattle.u_program.specs.Begun.{IsRead}
 use Rattle.u_program.specs.FirstBad.{Begins}

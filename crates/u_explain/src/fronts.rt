@@ -7,9 +7,9 @@ ghost use Rattle.u_program.specs.declared.program.Version.TheVariants as version
 ghost use Rattle.u_explain.specs.declared.fronts.Follows.TheVariants as variants;
 
 use crate::lists::{after_number, arrow_left, room_of, shorter};
+use u_base::{after, after_all, signed_at};
 use u_name::front_block;
 use u_program::{Kind, Version, has_otherwise, kind_word, plain_kinds};
-use u_text::{after, after_all, signed_at};
 
 /// What follows a number.
 #[derive(Clone, Copy)]

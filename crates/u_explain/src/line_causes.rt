@@ -7,8 +7,8 @@ use crate::telling_expected::{HEADERS, tell_kinds};
 use crate::text_place::TextPlace;
 use crate::words::{destination_of, dotted, word_around, word_of};
 use std::alloc::AllocError;
+use u_base::number_word;
 use u_program::Version;
-use u_text::number_word;
 
 /// The cause where a statement has no arrow.
 const MISSING_ARROW: &str =

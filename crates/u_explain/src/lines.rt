@@ -1,6 +1,6 @@
 //! What is told of a line that is refused.
 ghost use Rattle.std.specs.Prelude.{◌≡◌, ◌≤◌, ◌++◌, ◌∷◌, List, ℕ, suc, length};
-ghost use Rattle.u_text.specs.Pieces.{lines};
+ghost use Rattle.u_base.specs.Pieces.{lines};
 ghost use Rattle.u_program.specs.FirstBad.{Begins};
 ghost use Rattle.u_program.specs.Limits.{limits_of};
 ghost use Rattle.u_explain.specs.Left.{IsLongestFront};
@@ -14,8 +14,8 @@ use crate::telling::{Piece, say, tell};
 use crate::telling_expected::tell_expected;
 use crate::text_place::{TextPlace, line_left};
 use std::alloc::{AllocError, Global};
+use u_base::cut;
 use u_program::{ReadError, read};
-use u_text::cut;
 
 /// How many bytes of the line the longest front has that begins some line which may stand at the
 /// place. It is 0 where no line may stand there.

@@ -1,14 +1,14 @@
 //! What is left of a list of destinations from the byte on that no list has there.
 ghost use Rattle.std.specs.Prelude.{◌≡◌, ◌≤◌, ◌<◌, ◌⊎◌, ◌++◌, ◌∷◌, ◌*◌, ◌+◌, Ok, Err, MatchResult, length, codes};
 ghost use Rattle.std.specs.Fmt.{decimal};
-ghost use Rattle.u_text.specs.Fixed.{fixed};
+ghost use Rattle.u_base.specs.Fixed.{fixed};
 ghost use Rattle.u_program.specs.Limits.{greatest_port};
 ghost use Rattle.u_explain.specs.Left.{IsLeft};
 ghost use Rattle.u_explain.specs.Lines.{ListEnd, DestinationOn, ListOn, ArrowOn, port_text, room_of};
 
 use itoa::Buffer;
+use u_base::after_all;
 use u_program::{Kind, Version};
-use u_text::after_all;
 
 /// How many destinations a list of the kind has at most: 16, or 0 where the kind lists none.
 pub fn room_of(kind: &Kind) -> u32

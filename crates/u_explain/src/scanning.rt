@@ -1,12 +1,12 @@
 //! Places of a program's text, found by its lines.
 ghost use Rattle.std.specs.Prelude.{◌≡◌, ◌<◌, ◌++◌, List, ℕ, suc, length};
-ghost use Rattle.u_text.specs.Pieces.{lines, pieces};
+ghost use Rattle.u_base.specs.Pieces.{lines, pieces};
 ghost use Rattle.u_program.specs.FirstBad.{Begins};
 ghost use Rattle.u_program.specs.Limits.{limits_of};
 ghost use Rattle.u_explain.specs.Places.{IsPlace};
 
 use crate::text_place::TextPlace;
-use u_text::cut;
+use u_base::cut;
 
 /// What stands behind some lines.
 #[derive(Clone, Copy)]

@@ -1,6 +1,6 @@
 //! Sentences, made of words, numbers and bytes of a program's text.
 use std::alloc::AllocError;
-use u_text::push_long;
+use u_base::push_long;
 
 /// A piece of a sentence.
 #[derive(Clone, Copy)]

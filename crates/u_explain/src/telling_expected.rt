@@ -5,8 +5,8 @@ use crate::telling::{Piece, say, tell};
 use crate::text_place::TextPlace;
 use crate::words::dotted;
 use std::alloc::AllocError;
+use u_base::number_at;
 use u_program::{Version, kind_word, plain_kinds};
-use u_text::number_at;
 
 /// The first lines of programs.
 pub const HEADERS: &str = "`u-program 1` or `u-program 2`";

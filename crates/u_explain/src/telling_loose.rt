@@ -8,7 +8,7 @@ use crate::telling_sources::{Why, tell_ports};
 use crate::tests_of_loops::{Exit, exits_of, first_amiss, first_other, first_tested};
 use std::alloc::{AllocError, Global};
 use u_check::Checked;
-use u_strict::{StrictRule, Strictness};
+use u_determinate::{StrictRule, Strictness};
 
 /// What the rule of strict programs demands.
 fn sentence_of_strict_rule(rule: StrictRule) -> &'static str {
@@ -129,7 +129,7 @@ fn tell_broken(
 }
 
 /// Why a program is not strict, for people: some lines of text, each with its newline; nothing of a
-/// strict one. `bytes` are the text of the program, and `strictness` is what `u_strict` says of it.
+/// strict one. `bytes` are the text of the program, and `strictness` is what `strictness` says of it.
 ///
 /// It says the rule that is broken, in which block, the line of the statement or of the loop with a
 /// mark, and the cause; and it shows the other lines that are involved, four of them at most.

@@ -6,7 +6,7 @@ use crate::telling::{Piece, say, tell};
 use crate::telling_sources::{Why, tell_ports};
 use std::alloc::{AllocError, Global};
 use u_check::Checked;
-use u_guards::{Meeting, Place};
+use u_determinate::{Meeting, Place};
 use u_program::{Block, Kind, Statement};
 
 /// What a determinate program keeps, so that this meets nowhere.
@@ -120,7 +120,7 @@ fn tell_place(
 }
 
 /// Why a program is not determinate, for people: some lines of text, each with its newline. `bytes` are
-/// the text of the program, and `place` the first place where it is not (`u_guards`).
+/// the text of the program, and `place` the first place where it is not (`determinacy`).
 ///
 /// It says what a determinate program keeps, in which block it is not kept, the line of the statement
 /// with a mark under its kind, and the cause; and it shows the other lines that are involved, four of

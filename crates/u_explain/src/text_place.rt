@@ -7,8 +7,8 @@ ghost use Rattle.u_explain.specs.Places.{IsPlace, IsInside, IsAllowed, PlaceOn, 
 
 use crate::fronts::{block_left, loop_left, statement_left};
 use crate::lists::shorter;
+use u_base::after_all;
 use u_program::Version;
-use u_text::after_all;
 
 /// A place of a program's text: what stands before a line, as far as it decides which lines may
 /// stand there.

@@ -1,5 +1,5 @@
 //! The words of a line, and what a destination's word says.
-use u_text::{Words, after, number_at};
+use u_base::{Words, after, number_at};
 
 /// The word at that index, which counts from 0, if there is one. Words stand between single spaces.
 pub fn word_of(line: &[u8], index: usize) -> Option<&[u8]> {

@@ -3,11 +3,11 @@ use Rattle.std.proofs.Common.{IfErr, ◌≡◌, ℕ, List, [], ◌∷◌, ◌++�
 use Rattle.std.specs.Prelude.{Contains, slice_get, filter, IsTrue}
 use Rattle.std.proofs.Math.Nat.{zero-mod}
 use Rattle.std.proofs.lemmas.List.Elements.{Contains-append_left, Contains-push, Contains-push_cases}
-use Rattle.u_system.specs.Firing.{Enabled, Cl, Whole}
-use Rattle.u_system.proofs.Member.{Contains-nil, Contains-cons_cases}
-use Rattle.u_system.proofs.Held.{Enabled-mono}
-use Rattle.u_system.proofs.Closure.{Cl-mono, Cl-whole}
-use Rattle.u_system.proofs.Plain.{EachPlace-nil, EachPlace-push}
+use Rattle.u_base.specs.Firing.{Enabled, Cl, Whole}
+use Rattle.u_base.proofs.Member.{Contains-nil, Contains-cons_cases}
+use Rattle.u_base.proofs.Held.{Enabled-mono}
+use Rattle.u_base.proofs.Closure.{Cl-mono, Cl-whole}
+use Rattle.u_base.proofs.Plain.{EachPlace-nil, EachPlace-push}
 use Rattle.u_rule.specs.Rule.{system_of}
 use Rattle.u_rule.specs.EntryOrder.{firing_cmp}
 use Rattle.u_rule.specs.declared.firing.Firing.{Firing}

@@ -6,11 +6,11 @@ use Rattle.std.specs.Prelude.{Contains, drop, MatchResult}
 use Rattle.std.proofs.lemmas.List.{length-append, take-append-le, take_all, take-append-drop, append-nil}
 use Rattle.std.proofs.lemmas.List.Elements.{Contains-append_cases, Contains-append_left, Contains-append_right}
 use Rattle.std.proofs.lemmas.Option.{slice_get-get_or}
-use Rattle.u_system.specs.Firing.{Held, Enabled, Derivation, Cl, Same, Distinct}
-use Rattle.u_system.specs.Firing as systems
-use Rattle.u_system.proofs.Held.{Enabled-mono}
-use Rattle.u_system.proofs.Closure.{Derivation-append, Derivation-nil, Quiet-whole}
-use Rattle.u_system.proofs.Member.{Contains-nil}
+use Rattle.u_base.specs.Firing.{Held, Enabled, Derivation, Cl, Same, Distinct}
+use Rattle.u_base.specs.Firing as systems
+use Rattle.u_base.proofs.Held.{Enabled-mono}
+use Rattle.u_base.proofs.Closure.{Derivation-append, Derivation-nil, Quiet-whole}
+use Rattle.u_base.proofs.Member.{Contains-nil}
 use Rattle.u_check.specs.Jobs.{JobParts}
 use Rattle.u_rule.specs.Rule.{system_of}
 use Rattle.u_program.specs.declared.program.Version.{Version}

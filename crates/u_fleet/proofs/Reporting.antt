@@ -6,9 +6,9 @@ use Rattle.std.proofs.lemmas.List.{take-append-drop}
 use Rattle.std.proofs.Math.Seq.{take-suc}
 use Rattle.std.proofs.lemmas.List.Elements.{All-contains, Contains-append_cases, Contains-append_left, Contains-append_right}
 use Rattle.std.proofs.lemmas.Option.{slice_get-get_or}
-use Rattle.u_system.specs.Firing.{Held, Enabled, Derivation, Same}
-use Rattle.u_system.proofs.Held.{Enabled-mono}
-use Rattle.u_system.proofs.Member.{Contains-nil, Contains-head, Contains-cons_cases}
+use Rattle.u_base.specs.Firing.{Held, Enabled, Derivation, Same}
+use Rattle.u_base.proofs.Held.{Enabled-mono}
+use Rattle.u_base.proofs.Member.{Contains-nil, Contains-head, Contains-cons_cases}
 use Rattle.u_check.specs.Jobs.{JobParts}
 use Rattle.u_rule.specs.Rule.{system_of}
 use Rattle.u_rule.specs.declared.firing.Firing.{Firing}

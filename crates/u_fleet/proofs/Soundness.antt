@@ -4,9 +4,9 @@ use Rattle.std.specs.Prelude.{Contains, slice_get, slice_index_or, drop, false, 
 use Rattle.std.proofs.lemmas.List.{length-append, take-append-drop}
 use Rattle.std.proofs.lemmas.List.Elements.{All-contains, All-drop, All-take, Contains-append_cases, Contains-append_left}
 use Rattle.std.proofs.lemmas.Option.{slice_get-get_or}
-use Rattle.u_system.specs.Firing.{System, Held, Enabled, Derivation, Cl, Whole, Follows}
-use Rattle.u_system.proofs.Held.{Enabled-mono, Follows-from_Derivation, Derivation-from_Follows}
-use Rattle.u_system.proofs.Closure.{Cl-whole}
+use Rattle.u_base.specs.Firing.{System, Held, Enabled, Derivation, Cl, Whole, Follows}
+use Rattle.u_base.proofs.Held.{Enabled-mono, Follows-from_Derivation, Derivation-from_Follows}
+use Rattle.u_base.proofs.Closure.{Cl-whole}
 use Rattle.u_check.specs.Jobs.{JobParts}
 use Rattle.u_rule.specs.Rule.{system_of}
 use Rattle.u_rule.specs.declared.firing.Firing.{Firing}

@@ -1,6 +1,6 @@
 -- How a machine goes on that takes sound firings: those of its job that some run could make.
 use Rattle.std.specs.Prelude.{ℕ, ◌<◌, List, Contains, length}
-use Rattle.u_system.specs.Firing.{Distinct}
+use Rattle.u_base.specs.Firing.{Distinct}
 use Rattle.u_check.specs.Jobs.{JobParts}
 use Rattle.u_rule.specs.declared.firing.Firing.{Firing}
 use Rattle.u_machine.specs.State.{State, Taken}

@@ -5,7 +5,7 @@
 -- any of its rounds. No schedule of the threads and no such event changes what is reported: the report has the
 -- published lists, each of them one run of the job, and a machine that took what they have and nothing else.
 use Rattle.std.specs.Prelude.{◌≡◌, ℕ, ◌+◌, List, [], length, ◌<◌, Contains, All, slice_index_or}
-use Rattle.u_system.specs.Firing.{Derivation, Same}
+use Rattle.u_base.specs.Firing.{Derivation, Same}
 use Rattle.u_check.specs.Jobs.{JobParts}
 use Rattle.u_rule.specs.Rule.{system_of}
 use Rattle.u_rule.specs.declared.firing.Firing.{Firing}

@@ -1,7 +1,7 @@
 -- What holds of a worker from round to round, and how it ends.
 use Rattle.std.specs.Prelude.{◌≡◌, ℕ, ◌<◌, ◌≤◌, List, ◌++◌, length, take, Contains}
 use Rattle.u_name.specs.Context.{IsBetween}
-use Rattle.u_system.specs.Firing.{Derivation, Held, Whole, Same}
+use Rattle.u_base.specs.Firing.{Derivation, Held, Whole, Same}
 use Rattle.u_check.specs.Jobs.{JobParts}
 use Rattle.u_rule.specs.Rule.{system_of}
 use Rattle.u_rule.specs.declared.firing.Firing.{Firing}

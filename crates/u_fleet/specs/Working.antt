@@ -1,6 +1,6 @@
 -- What work is: ready firings in held buckets are fired, one after another.
 use Rattle.std.specs.Prelude.{◌≡◌, ℕ, ◌<◌, ◌≤◌, ◌+◌, List, ◌⊎◌, ◌↔◌, length, IsTrue, Contains}
-use Rattle.u_system.specs.Firing.{Enabled, Cl, EachPlace}
+use Rattle.u_base.specs.Firing.{Enabled, Cl, EachPlace}
 use Rattle.u_rule.specs.Rule.{system_of}
 use Rattle.u_rule.specs.declared.firing.Firing.{Firing}
 use Rattle.u_machine.specs.Masks.{is_in}

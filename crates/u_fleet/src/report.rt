@@ -1,6 +1,6 @@
 //! The report of a fleet, and the machine that takes what its workers published.
 ghost use Rattle.std.specs.Prelude.{◌≡◌, ◌<◌, ◌⊎◌, ℕ, [], IfOk, IfErr, OnOk, IfSome, IsNone, Contains, length, slice_index_or};
-ghost use Rattle.u_system.specs.Firing.{Derivation, Same};
+ghost use Rattle.u_base.specs.Firing.{Derivation, Same};
 ghost use Rattle.u_rule.specs.Rule.{system_of};
 ghost use Rattle.u_machine.specs.State.{Taken, NothingReady};
 ghost use Rattle.u_machine.specs.Headline.{IsWhole};

@@ -5,7 +5,7 @@ use Rattle.u_name.specs.Name.{Activity}
 use Rattle.u_name.specs.Cell.{CellOf, cell_cmp}
 use Rattle.u_sets.specs.Members.{SomeOf, IsWith}
 use Rattle.u_sets.specs.Rising.{Rises, IsListOf}
-use Rattle.u_system.proofs.Member.{Contains-nil}
+use Rattle.u_base.proofs.Member.{Contains-nil}
 use Rattle.u_value.specs.declared.value.Value.{Value}
 use Rattle.u_value.specs.contracts.value.ValueOrd.TheImpl.Laws as value_laws
 use Rattle.u_rule.specs.Parts.{TokenParts, token}

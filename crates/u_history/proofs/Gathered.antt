@@ -5,7 +5,7 @@ use Rattle.std.specs.Prelude.{Result, IfOk}
 use Rattle.std.specs.Borrow.{Bor}
 use Rattle.u_sets.specs.Members.{SomeOf, IsWith}
 use Rattle.u_sets.specs.Rising.{Rises, IsListOf}
-use Rattle.u_system.proofs.Member.{Contains-nil}
+use Rattle.u_base.proofs.Member.{Contains-nil}
 use Rattle.u_rule.specs.declared.entry.Entry.{Entry}
 use Rattle.u_history.specs.Outcomes.{lent}
 

@@ -1,6 +1,6 @@
 -- The lines of a history, one after the other.
 use Rattle.std.proofs.Common.{◌≡◌, ◌∙◌, sym, ap, refl, ℕ, List, [], ◌∷◌, ◌++◌, map, append_assoc}
-use Rattle.u_text.specs.Spaced.{ended}
+use Rattle.u_base.specs.Spaced.{ended}
 use Rattle.u_rule.specs.EntryText.{entry_text}
 use Rattle.u_rule.specs.declared.entry.Entry.{Entry}
 

@@ -12,7 +12,7 @@ use Rattle.u_name.specs.Name.{Activity}
 use Rattle.u_name.specs.NameOrder.{name_cmp, name_cmp_total, name_cmp_ties}
 use Rattle.u_name.specs.Cell.{CellOf, cell_of, cell_cmp}
 use Rattle.u_sets.specs.Rising.{Rises}
-use Rattle.u_order.specs.Exact.{IsExact}
+use Rattle.u_base.specs.Exact.{IsExact}
 use Rattle.u_sets.proofs.Places.{irreflexive}
 use Rattle.u_name.specs.ExactOrders.{cell_cmp_ties, cell_cmp_total}
 use Rattle.u_rule.specs.Parts.{TokenParts}

@@ -12,9 +12,9 @@ use Rattle.u_name.specs.Cell.{CellOf, cell_cmp}
 use Rattle.u_name.specs.ContextLaws.{both}
 use Rattle.u_sets.specs.Members.{SomeOf}
 use Rattle.u_sets.specs.Rising.{Rises, IsListOf}
-use Rattle.u_order.specs.Exact.{IsExact}
+use Rattle.u_base.specs.Exact.{IsExact}
 use Rattle.u_name.specs.ExactOrders.{cell_cmp_ties, cell_cmp_total}
-use Rattle.u_system.proofs.Member.{Contains-nil}
+use Rattle.u_base.proofs.Member.{Contains-nil}
 use Rattle.u_sets.proofs.Places.{irreflexive}
 use Rattle.u_rule.specs.Parts.{TokenParts}
 use Rattle.u_rule.specs.EntryOrder.{entry_cmp}

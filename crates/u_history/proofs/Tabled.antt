@@ -3,10 +3,10 @@ use Rattle.std.proofs.Common.{◌≡◌, ◌↔◌, ◌⊎◌, inl, inr, ℕ, ze
 use Rattle.std.specs.Prelude.{Bool, IsTrue, Result, Ok, Err, IfErr, IfOk, OnOk, set}
 use Rattle.std.proofs.lemmas.List.Elements.{Contains-append_left, Contains-append_right, Contains-append_cases, Contains-push_cases}
 use Rattle.std.proofs.lemmas.List.{take_more, take_all, length-take, map-append, length-set, get_or-set_same}
-use Rattle.u_system.specs.Firing.{Same, Distinct}
+use Rattle.u_base.specs.Firing.{Same, Distinct}
 use Rattle.u_sets.proofs.Keyed.{joined}
 use Rattle.u_sets.proofs.Places.{one_list, irreflexive}
-use Rattle.u_system.proofs.Member.{Contains-nil, Contains-head, Contains-tail, Contains-cons_cases}
+use Rattle.u_base.proofs.Member.{Contains-nil, Contains-head, Contains-tail, Contains-cons_cases}
 use Rattle.u_name.specs.Name.{Activity}
 use Rattle.u_name.specs.Cell.{CellOf}
 use Rattle.u_value.specs.declared.value.Value.{Value}

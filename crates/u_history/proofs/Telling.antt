@@ -2,14 +2,14 @@
 use Rattle.std.proofs.Common.{◌≡◌, ◌↔◌, ℕ, zero, suc, List, [], ◌∷◌, Contains, subst, sym, ◌∙◌, refl, Ordering}
 use Rattle.std.specs.Cmp.{IsTotalOrder, tied_itself}
 use Rattle.std.specs.declared.cmp.Ordering.TheVariants.{Less, Equal, Greater}
-use Rattle.u_system.specs.Firing.{Same}
-use Rattle.u_system.proofs.Member.{Contains-nil}
+use Rattle.u_base.specs.Firing.{Same}
+use Rattle.u_base.proofs.Member.{Contains-nil}
 use Rattle.u_name.specs.Name.{Activity}
 use Rattle.u_name.specs.Cell.{CellOf}
 use Rattle.u_value.specs.declared.value.Value.{Value}
 use Rattle.u_value.specs.ExactOrders.{derived_value_ties}
 use Rattle.u_value.specs.contracts.value.ValueOrd.TheImpl.Laws as value_laws
-use Rattle.u_order.specs.Exact.{IsExact}
+use Rattle.u_base.specs.Exact.{IsExact}
 use Rattle.u_sets.specs.Pairs.{HasAnother}
 use Rattle.u_sets.proofs.Places.{list_of_same}
 use Rattle.u_rule.specs.Parts.{token}

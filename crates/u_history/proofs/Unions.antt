@@ -1,8 +1,8 @@
 -- Sets that took in the entries of another.
 use Rattle.std.proofs.Common.{◌≡◌, inl, inr, List, [], Contains}
 use Rattle.std.specs.Prelude.{Result, Ok, Err, OnOk}
-use Rattle.u_system.specs.Firing.{Same}
-use Rattle.u_system.proofs.Member.{Contains-nil}
+use Rattle.u_base.specs.Firing.{Same}
+use Rattle.u_base.proofs.Member.{Contains-nil}
 use Rattle.u_sets.proofs.Places.{one_list}
 use Rattle.u_sets.specs.Rising.{Rises}
 use Rattle.u_sets.specs.Members.{IsUnion}

@@ -6,7 +6,7 @@ use Rattle.std.specs.FinMap.{nat_cmp-IsAntisymmetric}
 use Rattle.u_name.specs.ContextLaws.{both}
 use Rattle.u_name.specs.Name.{Activity}
 use Rattle.u_name.specs.NameOrder.{name_cmp_ties}
-use Rattle.u_order.specs.Exact.{IsExact}
+use Rattle.u_base.specs.Exact.{IsExact}
 use Rattle.u_history.specs.Clashes.{port_order, port_of}
 
 pub port_ties : IsExact port_order

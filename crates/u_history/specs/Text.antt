@@ -1,6 +1,6 @@
 -- The text of a history: a line for each entry.
 use Rattle.std.specs.Prelude.{ℕ, List, map}
-use Rattle.u_text.specs.Spaced.{ended}
+use Rattle.u_base.specs.Spaced.{ended}
 use Rattle.u_rule.specs.EntryText.{entry_text}
 use Rattle.u_rule.specs.declared.entry.Entry.{Entry}
 

@@ -2,7 +2,7 @@
 ghost use Rattle.u_history.specs.ExactPorts.{port_ties};
 
 use crate::clash::Port;
-use u_order::ExactOrd;
+use u_base::ExactOrd;
 
 impl ExactOrd for Port {
     ghost exact = { port_ties };

@@ -1,7 +1,7 @@
 //! Sets of entries.
 ghost use Rattle.std.specs.Prelude.{◌≡◌, ◌↔◌, ◌++◌, [], ◌∷◌, OnOk, OnErr, IfOk, IfErr, Contains, ◌⊎◌, IsTrue, length, map};
 ghost use Rattle.std.specs.Borrow.{sem};
-ghost use Rattle.u_system.specs.Firing.{Distinct, Same};
+ghost use Rattle.u_base.specs.Firing.{Distinct, Same};
 ghost use Rattle.u_value.specs.declared.value.Value.{Value};
 ghost use Rattle.u_rule.specs.declared.parts.Written.{Written};
 ghost use Rattle.u_sets.specs.Rising.{Rises, IsListOf};
@@ -9,7 +9,7 @@ ghost use Rattle.u_sets.specs.Members.{IsWith, IsUnion};
 ghost use Rattle.u_rule.specs.EntryOrder.{entry_cmp};
 ghost use Rattle.u_rule.specs.declared.entry.Entry.{Entry};
 ghost use Rattle.u_history.specs.Orders.{value_order, written_order};
-ghost use Rattle.u_text.specs.Appending.{Extends};
+ghost use Rattle.u_base.specs.Appending.{Extends};
 ghost use Rattle.u_rule.specs.EntryText.{entry_text};
 ghost use Rattle.u_history.specs.Text.{history_text};
 ghost use Rattle.u_history.specs.Outcomes.{PairIn, ValueAt, lent};
@@ -24,7 +24,7 @@ use std::alloc::{AllocError, AllocFailed, Global};
 use std::marker::Model;
 use u_name::{Cell, Name};
 use u_rule::{Entry, Written};
-use u_text::cut_back;
+use u_base::cut_back;
 use u_value::Value;
 
 /// A set of entries. Contracts see it as the list of its entries, in order.
@@ -192,7 +192,7 @@ impl History {
 
     /// Appends the text of each entry, in order, with a newline behind it. On an error a part of it
     /// may stand there.
-    #[tactic(auto, using(u_text::proofs::AppendingLaws::extends_same))]
+    #[tactic(auto, using(u_base::proofs::AppendingLaws::extends_same))]
     fn append(&self, out: &mut Vec<u8>) -> Result<(), AllocError>
         ensures ok { OnOk result (out.new.items ≡ out.old.items ++ history_text self.now) }
         ensures err { OnErr result (Extends out.old.items out.new.items) }
@@ -206,7 +206,7 @@ impl History {
     ///
     /// # Errors
     /// `AllocError` where there is no memory. Then `out` is as it was.
-    #[tactic(auto, using(u_text::proofs::AppendingLaws::extends_cut))]
+    #[tactic(auto, using(u_base::proofs::AppendingLaws::extends_cut))]
     pub fn write_text(&self, out: &mut Vec<u8>) -> Result<(), AllocError>
         ensures ok { OnOk result (out.new.items ≡ out.old.items ++ history_text self.now) }
         ensures err { OnErr result (out.new.items ≡ out.old.items) }
@@ -276,7 +276,7 @@ impl History {
 }
 
 /// Appends the text of the entry, with a newline behind it. On an error a part of it may stand there.
-#[tactic(auto, using(u_text::proofs::AppendingLaws::extends_by, u_text::proofs::AppendingLaws::extends_behind, u_text::proofs::AppendingLaws::extends_same))]
+#[tactic(auto, using(u_base::proofs::AppendingLaws::extends_by, u_base::proofs::AppendingLaws::extends_behind, u_base::proofs::AppendingLaws::extends_same))]
 fn push_line(out: &mut Vec<u8>, entry: &Entry) -> Result<(), AllocError>
     ensures ok { OnOk result
         (out.new.items ≡ out.old.items ++ (entry_text entry.now ++ (10 ∷ []))) }
@@ -288,7 +288,7 @@ fn push_line(out: &mut Vec<u8>, entry: &Entry) -> Result<(), AllocError>
 }
 
 /// Appends the text of each entry, with a newline behind it. On an error a part of it may stand there.
-#[tactic(auto, using(u_text::proofs::AppendingLaws::extends_behind))]
+#[tactic(auto, using(u_base::proofs::AppendingLaws::extends_behind))]
 fn push_lines(out: &mut Vec<u8>, entries: &[&Entry]) -> Result<(), AllocError>
     ensures ok { OnOk result (out.new.items ≡ out.old.items ++ history_text (lent entries.now)) }
     ensures err { OnErr result (Extends out.old.items out.new.items) }

@@ -1,7 +1,7 @@
 //! Histories whose activities have numbers: who has the number of an activity looks for nothing.
 ghost use Rattle.std.specs.Prelude.{◌≡◌, ◌↔◌, [], OnOk, OnErr, IfOk, IfErr, Contains, IsTrue, length, map};
 ghost use Rattle.std.specs.Map.Iter.{deref};
-ghost use Rattle.u_system.specs.Firing.{Distinct, Same};
+ghost use Rattle.u_base.specs.Firing.{Distinct, Same};
 ghost use Rattle.u_name.specs.Name.{Activity};
 ghost use Rattle.u_value.specs.declared.value.Value.{Value};
 ghost use Rattle.u_rule.specs.declared.parts.Written.{Written};

@@ -2,7 +2,7 @@
 ghost use Rattle.std.specs.Prelude.{◌≡◌, ◌↔◌, ◌<◌, [], length, OnOk, OnErr, IfOk, IfErr, Contains, IsTrue, ◌++◌, map};
 ghost use Rattle.std.specs.Map.Iter.{deref};
 ghost use Rattle.u_names.specs.CellPairs.{deref_at_cell};
-ghost use Rattle.u_system.specs.Firing.{Distinct};
+ghost use Rattle.u_base.specs.Firing.{Distinct};
 ghost use Rattle.u_name.specs.Context.{IsBetween};
 ghost use Rattle.u_name.specs.Name.{Activity};
 ghost use Rattle.u_value.specs.declared.value.Value.{Value};

@@ -9,11 +9,11 @@ use Rattle.u_rule.specs.declared.entry.Entry.{Entry}
 use Rattle.u_rule.specs.declared.firing.Firing.{Firing}
 use Rattle.u_sets.specs.Rising.{Rises}
 use Rattle.u_sets.specs.Members.{IsWith}
-use Rattle.u_system.specs.Firing.{Same, Held, Enabled, Cl}
-use Rattle.u_system.proofs.Member.{Contains-nil, Contains-head, Contains-cons_cases}
+use Rattle.u_base.specs.Firing.{Same, Held, Enabled, Cl}
+use Rattle.u_base.proofs.Member.{Contains-nil, Contains-head, Contains-cons_cases}
 use Rattle.u_sets.proofs.Places.{one_list}
-use Rattle.u_system.proofs.Held.{Held-start, Held-nil}
-use Rattle.u_system.proofs.Closure.{Derivation-nil, Cl-start}
+use Rattle.u_base.proofs.Held.{Held-start, Held-nil}
+use Rattle.u_base.proofs.Closure.{Derivation-nil, Cl-start}
 use Rattle.u_machine.specs.State.{state, IsSound}
 use Rattle.u_machine.specs.Invariant.{IsLogged, IsPartitioned}
 use Rattle.u_machine.proofs.Once.{enabled_with}

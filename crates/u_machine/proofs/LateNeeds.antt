@@ -5,7 +5,7 @@ use Rattle.std.specs.declared.cmp.Ordering.{Ordering}
 use Rattle.std.specs.declared.cmp.Ordering.TheVariants.{Less, Equal, Greater}
 use Rattle.std.specs.Ordering.{is_lt, ordering_then}
 use Rattle.std.proofs.lemmas.List.Elements.{Contains-append_left, Contains-append_cases}
-use Rattle.u_system.proofs.Member.{Contains-nil, Contains-cons_cases}
+use Rattle.u_base.proofs.Member.{Contains-nil, Contains-cons_cases}
 use Rattle.u_sets.specs.Rising.{Rises}
 use Rattle.u_name.specs.Name.{Activity}
 use Rattle.u_name.specs.Cell.{CellOf}

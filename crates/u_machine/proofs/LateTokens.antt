@@ -3,9 +3,9 @@ use Rattle.std.proofs.Common.{◌≡◌, ◌∙◌, ◌<◌, ◌+◌, ℕ, Bool,
 use Rattle.std.proofs.lemmas.List.{take_more}
 use Rattle.std.specs.Prelude.{Contains, ◌↔◌}
 use Rattle.std.proofs.lemmas.List.Elements.{Contains-append_left, Contains-append_right, Contains-append_cases, Contains-push, Contains-push_cases}
-use Rattle.u_system.specs.Firing.{Enabled, Distinct, Same}
-use Rattle.u_system.proofs.Held.{Enabled-mono}
-use Rattle.u_system.proofs.Member.{Contains-nil, Contains-head, Contains-cons_cases, Contains-tail}
+use Rattle.u_base.specs.Firing.{Enabled, Distinct, Same}
+use Rattle.u_base.proofs.Held.{Enabled-mono}
+use Rattle.u_base.proofs.Member.{Contains-nil, Contains-head, Contains-cons_cases, Contains-tail}
 use Rattle.u_sets.specs.Members.{IsWith, IsWithout, IsUnion, AreThose}
 use Rattle.u_check.specs.Jobs.{JobParts}
 use Rattle.u_rule.specs.declared.entry.Entry.{Entry}

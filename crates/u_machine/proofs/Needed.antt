@@ -13,7 +13,7 @@ use Rattle.u_rule.specs.Structures.{has_its_write, write_read}
 use Rattle.u_rule.specs.declared.entry.Entry.{Entry}
 use Rattle.u_rule.specs.declared.entry.Entry.TheVariants as entries
 use Rattle.u_rule.specs.declared.firing.Firing.{Firing}
-use Rattle.u_system.proofs.Member.{Contains-head}
+use Rattle.u_base.proofs.Member.{Contains-head}
 use Rattle.u_check.proofs.KindTests.{few_ports}
 use Rattle.u_rule.proofs.Firings.{at_statement}
 

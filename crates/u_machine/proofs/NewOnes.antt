@@ -7,9 +7,9 @@ use Rattle.std.specs.Ordering.{is_eq}
 use Rattle.std.proofs.lemmas.Bool.{false≢true}
 use Rattle.u_rule.specs.EntryOrder.{firing_cmp}
 use Rattle.u_rule.specs.declared.firing.Firing.{Firing}
-use Rattle.u_system.specs.Firing.{Distinct}
-use Rattle.u_system.proofs.Apart.{Distinct-left, Distinct-apart}
-use Rattle.u_system.proofs.Member.{Contains-nil, Contains-head, Contains-tail, Contains-cons_cases}
+use Rattle.u_base.specs.Firing.{Distinct}
+use Rattle.u_base.proofs.Apart.{Distinct-left, Distinct-apart}
+use Rattle.u_base.proofs.Member.{Contains-nil, Contains-head, Contains-tail, Contains-cons_cases}
 use Rattle.u_machine.specs.State.{State, Taken, count_of}
 use Rattle.u_machine.specs.Taking.{AreNew, HasSoManyNew, Fits, IsTooLong}
 use Rattle.u_machine.proofs.Once.{same_firing}

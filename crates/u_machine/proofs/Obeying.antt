@@ -7,9 +7,9 @@ use Rattle.u_rule.specs.declared.firing.Firing.{Firing}
 use Rattle.u_rule.specs.EntryOrder.{entry_cmp}
 use Rattle.u_rule.specs.ExactOrders.{entry_cmp_total}
 use Rattle.u_rule.specs.Rule.{system_of}
-use Rattle.u_system.specs.Firing.{Same, Cl}
+use Rattle.u_base.specs.Firing.{Same, Cl}
 use Rattle.u_sets.proofs.Places.{one_list}
-use Rattle.u_system.proofs.Closure.{Cl-mono, Cl-whole}
+use Rattle.u_base.proofs.Closure.{Cl-mono, Cl-whole}
 use Rattle.u_machine.specs.declared.commands.Command.{Command}
 use Rattle.u_machine.specs.declared.commands.Command.TheVariants as calls
 use Rattle.u_machine.specs.declared.commands.Reply.{Reply}

@@ -9,10 +9,10 @@ use Rattle.std.specs.declared.cmp.Ordering.TheVariants.{Equal}
 use Rattle.u_rule.specs.EntryOrder.{firing_cmp}
 use Rattle.u_rule.specs.ExactOrders.{firing_cmp_total, firing_cmp_ties}
 use Rattle.u_rule.specs.declared.firing.Firing.{Firing}
-use Rattle.u_system.specs.Firing.{System, Enabled, Distinct}
+use Rattle.u_base.specs.Firing.{System, Enabled, Distinct}
 use Rattle.u_sets.specs.Rising.{Rises}
 use Rattle.u_sets.proofs.Places.{irreflexive}
-use Rattle.u_system.proofs.Member.{Contains-nil, Contains-head, Contains-tail, Contains-cons_cases}
+use Rattle.u_base.proofs.Member.{Contains-nil, Contains-head, Contains-tail, Contains-cons_cases}
 
 pub Distinct-join : {X : Type 0} (xs ys : List X) → Distinct xs → Distinct ys → ((x : X) → Contains xs x → Contains ys x → ⊥) → Distinct (xs ++ ys)
 Distinct-join [] ys p q apart = q

@@ -4,7 +4,7 @@ use Rattle.std.specs.Prelude.{Contains, slice_get}
 use Rattle.std.specs.declared.cmp.Ordering.TheVariants.{Less}
 use Rattle.std.proofs.Math.Nat.{zero-mod}
 use Rattle.std.proofs.lemmas.Nat.{mod_below}
-use Rattle.u_system.proofs.Member.{Contains-nil, Contains-head, Contains-cons_cases}
+use Rattle.u_base.proofs.Member.{Contains-nil, Contains-head, Contains-cons_cases}
 use Rattle.u_sets.specs.Rising.{Rises, in_order}
 use Rattle.u_sets.proofs.Listed.{members}
 use Rattle.u_sets.proofs.Places.{irreflexive}

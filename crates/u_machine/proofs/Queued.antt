@@ -3,10 +3,10 @@ use Rattle.std.proofs.Common.{◌≡◌, inl, inr, ℕ, zero, suc, ◌-◌, ◌<
 use Rattle.std.specs.Prelude.{Contains}
 use Rattle.std.specs.Cmp.{IsTotalOrder}
 use Rattle.std.specs.List.{HoldsAt}
-use Rattle.u_order.specs.Exact.{IsExact}
+use Rattle.u_base.specs.Exact.{IsExact}
 use Rattle.std.specs.declared.cmp.Ordering.TheVariants.{Less, Equal}
 use Rattle.std.proofs.lemmas.List.Elements.{Contains-get_or, Contains-append_left, Contains-append_right, Contains-append_cases}
-use Rattle.u_system.proofs.Member.{Contains-nil, Contains-head, Contains-cons_cases}
+use Rattle.u_base.proofs.Member.{Contains-nil, Contains-head, Contains-cons_cases}
 use Rattle.u_sets.specs.Rising.{Rises}
 use Rattle.u_sets.specs.Members.{IsWith, IsWithout, TakesLast}
 use Rattle.u_sets.proofs.Places.{one_list}

@@ -4,12 +4,12 @@ use Rattle.std.proofs.Math.Nat.{zero-mod}
 use Rattle.std.specs.Result.{IsErrAnd}
 use Rattle.std.specs.Prelude.{Result, Contains, slice_get}
 use Rattle.std.proofs.lemmas.List.Elements.{Contains-append_left, Contains-append_cases, Contains-push, Contains-push_cases}
-use Rattle.u_system.specs.Firing.{Enabled, Cl, IsNextFrom, IsExhausted, Plain, Held, Whole, Same}
-use Rattle.u_system.proofs.Member.{Contains-nil, Contains-cons_cases}
-use Rattle.u_system.proofs.Held.{Enabled-mono}
-use Rattle.u_system.proofs.Closure.{Cl-mono}
-use Rattle.u_system.proofs.Plain.{EachPlace-nil, EachPlace-push}
-use Rattle.u_system.proofs.PlainFrom.{Plain-from_nothing}
+use Rattle.u_base.specs.Firing.{Enabled, Cl, IsNextFrom, IsExhausted, Plain, Held, Whole, Same}
+use Rattle.u_base.proofs.Member.{Contains-nil, Contains-cons_cases}
+use Rattle.u_base.proofs.Held.{Enabled-mono}
+use Rattle.u_base.proofs.Closure.{Cl-mono}
+use Rattle.u_base.proofs.Plain.{EachPlace-nil, EachPlace-push}
+use Rattle.u_base.proofs.PlainFrom.{Plain-from_nothing}
 use Rattle.u_sets.specs.Rising.{Rises}
 use Rattle.u_rule.specs.declared.firing.Firing.{Firing}
 use Rattle.u_machine.specs.declared.answer.Step.TheVariants as step

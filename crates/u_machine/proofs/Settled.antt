@@ -3,12 +3,12 @@ use Rattle.std.proofs.Common.{◌≡◌, ◌<◌, ◌≤◌, ◌+◌, ◌-◌, �
 use Rattle.std.specs.Prelude.{Contains, ◌↔◌}
 use Rattle.std.proofs.lemmas.List.{take_all, drop_more, length-drop, take-append-drop}
 use Rattle.std.proofs.lemmas.List.Elements.{Contains-get_or, Contains-append_left, Contains-append_right, Contains-append_cases}
-use Rattle.u_system.specs.Firing.{Distinct, Held, Enabled, Cl, Same}
+use Rattle.u_base.specs.Firing.{Distinct, Held, Enabled, Cl, Same}
 use Rattle.u_sets.specs.Rising.{Rises, in_order}
 use Rattle.u_sets.proofs.Listed.{members, rises}
-use Rattle.u_system.proofs.Apart.{Distinct-apart}
-use Rattle.u_system.proofs.Held.{Enabled-mono}
-use Rattle.u_system.proofs.Member.{Contains-nil, Contains-head, Contains-cons_cases}
+use Rattle.u_base.proofs.Apart.{Distinct-apart}
+use Rattle.u_base.proofs.Held.{Enabled-mono}
+use Rattle.u_base.proofs.Member.{Contains-nil, Contains-head, Contains-cons_cases}
 use Rattle.u_rule.specs.declared.entry.Entry.{Entry}
 use Rattle.u_rule.specs.declared.firing.Firing.{Firing}
 use Rattle.u_rule.specs.Rule.{system_of}

@@ -2,11 +2,11 @@
 use Rattle.std.proofs.Common.{◌≡◌, ◌++◌, [], ◌∷◌, ◌⊎◌, inl, inr, subst, sym}
 use Rattle.std.specs.Prelude.{Contains, ◌↔◌}
 use Rattle.std.proofs.lemmas.List.Elements.{Contains-append_left, Contains-push, Contains-push_cases}
-use Rattle.u_system.proofs.Member.{Contains-nil, Contains-head, Contains-cons_cases, Contains-tail}
-use Rattle.u_system.specs.Firing.{Enabled}
+use Rattle.u_base.proofs.Member.{Contains-nil, Contains-head, Contains-cons_cases, Contains-tail}
+use Rattle.u_base.specs.Firing.{Enabled}
 use Rattle.u_sets.specs.Rising.{Rises}
 use Rattle.u_sets.specs.Members.{IsWith, IsWithout}
-use Rattle.u_system.proofs.Held.{Enabled-mono}
+use Rattle.u_base.proofs.Held.{Enabled-mono}
 use Rattle.u_check.specs.Jobs.{JobParts}
 use Rattle.u_rule.specs.declared.entry.Entry.{Entry}
 use Rattle.u_rule.specs.declared.firing.Firing.{Firing}

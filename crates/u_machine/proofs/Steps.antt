@@ -3,13 +3,13 @@ use Rattle.std.proofs.Common.{◌≡◌, ℕ, ◌+◌, ◌<◌, [], ◌∷◌, �
 use Rattle.std.specs.Prelude.{Contains, ◌↔◌, IsTrue}
 use Rattle.std.proofs.lemmas.List.{take_more, drop_more, take-append-le, take-append-drop, drop-append-le, take_all, drop_all, length-take, length-drop}
 use Rattle.std.proofs.lemmas.List.Elements.{Contains-append_left, Contains-append_right, Contains-append_cases, Contains-push, Contains-push_cases}
-use Rattle.u_system.proofs.Apart.{Distinct-push, Distinct-left, Distinct-apart}
-use Rattle.u_system.proofs.Member.{Contains-nil, Contains-head, Contains-tail}
-use Rattle.u_system.specs.Firing.{Held, Enabled, Cl, Distinct}
+use Rattle.u_base.proofs.Apart.{Distinct-push, Distinct-left, Distinct-apart}
+use Rattle.u_base.proofs.Member.{Contains-nil, Contains-head, Contains-tail}
+use Rattle.u_base.specs.Firing.{Held, Enabled, Cl, Distinct}
 use Rattle.u_sets.specs.Rising.{Rises}
 use Rattle.u_sets.specs.Members.{IsWith, IsWithout}
-use Rattle.u_system.proofs.Held.{Held-push, Held-append_left, Enabled-mono}
-use Rattle.u_system.proofs.Closure.{Cl-held, Cl-mono, Derivation-push}
+use Rattle.u_base.proofs.Held.{Held-push, Held-append_left, Enabled-mono}
+use Rattle.u_base.proofs.Closure.{Cl-held, Cl-mono, Derivation-push}
 use Rattle.u_check.specs.Jobs.{JobParts}
 use Rattle.u_rule.specs.declared.entry.Entry.{Entry}
 use Rattle.u_rule.specs.declared.firing.Firing.{Firing}

@@ -7,8 +7,8 @@ use Rattle.std.proofs.lemmas.List.Elements.{Contains-get_or, Contains-append_lef
 use Rattle.u_rule.specs.declared.firing.Firing.{Firing}
 use Rattle.u_rule.specs.Rule.{system_of}
 use Rattle.u_sets.specs.Members.{GoesLast, IsWith}
-use Rattle.u_system.proofs.Apart.{Distinct-push}
-use Rattle.u_system.proofs.Member.{Contains-nil}
+use Rattle.u_base.proofs.Apart.{Distinct-push}
+use Rattle.u_base.proofs.Member.{Contains-nil}
 use Rattle.u_machine.specs.declared.answer.Took.{Took}
 use Rattle.u_machine.specs.declared.answer.Took.TheVariants as took
 use Rattle.u_machine.specs.declared.answer.ListRefusal.{ListRefusal}

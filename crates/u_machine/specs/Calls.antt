@@ -1,7 +1,7 @@
 -- What each call of a machine answers, and what it leaves.
 use Rattle.std.specs.Prelude.{◌≡◌, ℕ, ◌<◌, ◌≤◌, ◌+◌, List, [], ◌++◌, ◌⊎◌, ◌↔◌, length, IsTrue, false, Contains, Result, Ok, Err, slice_get, Some}
 use Rattle.std.specs.declared.cmp.Ordering.TheVariants.{Less}
-use Rattle.u_system.specs.Firing.{EachPlace, IsNextFrom, Plain, Held, Same}
+use Rattle.u_base.specs.Firing.{EachPlace, IsNextFrom, Plain, Held, Same}
 use Rattle.u_rule.specs.declared.entry.Entry.{Entry}
 use Rattle.u_rule.specs.declared.firing.Firing.{Firing}
 use Rattle.u_rule.specs.Rule.{system_of}

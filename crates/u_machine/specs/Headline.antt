@@ -1,10 +1,10 @@
 -- What one machine promises, in the words of those who use it.
 --
--- A job is a firing system (`u_system/specs/Firing.antt`): a start token, and firings, each with the
+-- A job is a firing system (`u_base/specs/Firing.antt`): a start token, and firings, each with the
 -- entries that it needs and those that it gives. A run of the job is a list of firings, each of which
 -- needs only the start and what earlier ones of the list give; there it is called a derivation.
 use Rattle.std.specs.Prelude.{◌≡◌, Contains}
-use Rattle.u_system.specs.Firing.{Derivation, Closed, Cl, Whole, Same}
+use Rattle.u_base.specs.Firing.{Derivation, Closed, Cl, Whole, Same}
 use Rattle.u_rule.specs.Rule.{system_of}
 use Rattle.u_rule.specs.declared.entry.Entry.{Entry}
 use Rattle.u_machine.specs.State.{State, Taken, IsSettled, NothingReady}

@@ -9,7 +9,7 @@ use Rattle.u_rule.specs.Parts.{TokenParts}
 use Rattle.u_rule.specs.declared.entry.Entry.{Entry}
 use Rattle.u_rule.specs.declared.entry.Entry.TheVariants.{Token as token_entry}
 use Rattle.u_rule.specs.declared.firing.Firing.{Firing}
-use Rattle.u_system.specs.Firing.{Held, Enabled, Derivation, Distinct}
+use Rattle.u_base.specs.Firing.{Held, Enabled, Derivation, Distinct}
 use Rattle.u_match.specs.Waking.{IsWokenBy}
 use Rattle.u_machine.specs.State.{State, state, IsSound, IsPick}
 use Rattle.u_machine.specs.Calls.{Takes}

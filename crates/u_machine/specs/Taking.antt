@@ -1,6 +1,6 @@
 -- Lists of firings that a machine takes.
 use Rattle.std.specs.Prelude.{◌≡◌, ℕ, ◌<◌, ◌≤◌, ◌+◌, List, ◌⊎◌, ◌↔◌, length, take, IsTrue, false, Contains, Result, Ok, Err, slice_get, Some}
-use Rattle.u_system.specs.Firing.{Distinct}
+use Rattle.u_base.specs.Firing.{Distinct}
 use Rattle.u_rule.specs.declared.firing.Firing.{Firing}
 use Rattle.u_check.specs.Jobs.{JobParts}
 use Rattle.u_rule.specs.Rule.{system_of}

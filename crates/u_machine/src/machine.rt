@@ -6,7 +6,7 @@
 //! firings, in whatever order they came, and once nothing is ready it is all that can be derived from
 //! the job.
 ghost use Rattle.std.specs.Prelude.{◌≡◌, ◌↔◌, ◌++◌, [], ◌∷◌, IfOk, IfSome, IsFalse, IsOk, IsTrue, OnOk};
-ghost use Rattle.u_system.specs.Firing.{Distinct};
+ghost use Rattle.u_base.specs.Firing.{Distinct};
 ghost use Rattle.u_rule.specs.Rule.{system_of};
 ghost use Rattle.u_machine.specs.State.{state, IsMachine, IsPick, IsSettled, IsQuiet, NothingReady, Taken};
 ghost use Rattle.u_machine.specs.Headline.{KeepsItsPromise, Agree};

@@ -6,7 +6,7 @@
 ghost use Rattle.std.specs.Prelude.{◌≡◌, ◌↔◌, [], ◌∷◌, IfOk, IsTrue, Contains, length};
 ghost use Rattle.u_rule.specs.Rule.{system_of};
 ghost use Rattle.u_machine.specs.State.{IsSettled, state};
-ghost use Rattle.u_system.specs.Firing.{Same};
+ghost use Rattle.u_base.specs.Firing.{Same};
 ghost use Rattle.u_machine.specs.Invariant.{state_of, Invariant, parked_of};
 
 use crate::parked::Parked;

@@ -11,7 +11,7 @@ use std::alloc::{AllocError, Global};
 use std::collections::VecDeque;
 use std::iter::Iterator;
 use std::marker::Model;
-use u_order::ExactOrd;
+use u_base::ExactOrd;
 use u_sets::{OrderedKeys, OrderedSet, has, push_into_room};
 
 /// Distinct items in ascending order. The greatest ones stand in a list, the run, to the end of which goes

@@ -9,7 +9,7 @@ use Rattle.u_rule.specs.declared.entry.Entry.{Entry}
 use Rattle.u_rule.specs.declared.firing.Firing.{Firing}
 use Rattle.u_sets.specs.Members.{SomeOf, Gains}
 use Rattle.u_sets.proofs.Steps.{from_nothing}
-use Rattle.u_system.proofs.Member.{Contains-nil}
+use Rattle.u_base.proofs.Member.{Contains-nil}
 use Rattle.u_match.specs.Keys.{IsMet, AreMetFrom}
 use Rattle.u_match.specs.Joins.{IsOne, JoinsSome, JoinsAll}
 use Rattle.u_match.proofs.Made.{Woken, TwoMet, two_woken, woken_of_two, place_of, counts, alls}

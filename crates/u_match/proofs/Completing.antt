@@ -4,7 +4,7 @@ use Rattle.u_value.specs.declared.value.Value.{Value}
 use Rattle.u_rule.specs.Parts.{TokenParts, token}
 use Rattle.u_rule.specs.declared.entry.Entry.{Entry}
 use Rattle.u_rule.specs.declared.entry.Entry.TheVariants as entries
-use Rattle.u_system.specs.Firing.{Within}
+use Rattle.u_base.specs.Firing.{Within}
 use Rattle.u_match.specs.Keys.{ReadTable, IsMet, Notes, IsComplete, IsCompleteWith}
 use Rattle.u_match.proofs.Noted.{notes_still}
 use Rattle.u_match.proofs.MetValues.{same_token, held_met}

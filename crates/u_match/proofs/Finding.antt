@@ -4,8 +4,8 @@ use Rattle.std.specs.Prelude.{◌==◌}
 use Rattle.std.proofs.lemmas.Bool.{and_parts, eqb-true}
 use Rattle.std.proofs.lemmas.List.{take_all}
 use Rattle.std.proofs.lemmas.List.Elements.{Contains-append_left, Contains-append_right, Contains-append_cases}
-use Rattle.u_system.specs.Firing.{Enabled, Within}
-use Rattle.u_system.proofs.Member.{Contains-head, Contains-tail, Contains-cons_cases}
+use Rattle.u_base.specs.Firing.{Enabled, Within}
+use Rattle.u_base.proofs.Member.{Contains-head, Contains-tail, Contains-cons_cases}
 use Rattle.u_name.specs.Name.{Activity}
 use Rattle.u_value.specs.declared.value.Value.{Value}
 use Rattle.u_value.specs.declared.value.Value.TheVariants as values

@@ -21,7 +21,7 @@ use Rattle.u_rule.specs.declared.parts.Write.{Write}
 use Rattle.u_rule.proofs.FiringShapes.{one_member}
 use Rattle.u_sets.specs.Members.{SomeOf, AreThose, Gains}
 use Rattle.u_sets.proofs.Rounds.{member_at}
-use Rattle.u_system.proofs.Member.{Contains-nil, Contains-head, Contains-tail, Contains-cons_cases}
+use Rattle.u_base.proofs.Member.{Contains-nil, Contains-head, Contains-tail, Contains-cons_cases}
 use Rattle.u_history.specs.Outcomes.{PairIn}
 use Rattle.u_match.specs.declared.halt.Halt.{Halt}
 use Rattle.u_match.specs.declared.halt.Halt.TheVariants.{TooMany}

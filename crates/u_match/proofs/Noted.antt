@@ -4,7 +4,7 @@ use Rattle.u_name.specs.Name.{Activity}
 use Rattle.u_name.specs.Cell.{CellOf}
 use Rattle.u_value.specs.declared.value.Value.{Value}
 use Rattle.u_rule.specs.Structures.{cell_named}
-use Rattle.u_system.specs.Firing.{Within}
+use Rattle.u_base.specs.Firing.{Within}
 use Rattle.u_sets.specs.Members.{IsWith}
 use Rattle.u_match.specs.declared.meeting.Read.{Read}
 use Rattle.u_match.specs.Keys.{ReadTable, read, Notes}

@@ -13,7 +13,7 @@ use Rattle.u_rule.specs.declared.firing.Firing.{Firing}
 use Rattle.u_rule.specs.declared.parts.Written.{Written}
 use Rattle.u_rule.specs.declared.parts.Write.{Write}
 use Rattle.u_sets.specs.Members.{SomeOf}
-use Rattle.u_system.proofs.Member.{Contains-nil}
+use Rattle.u_base.proofs.Member.{Contains-nil}
 use Rattle.u_match.specs.declared.meeting.Read.{Read}
 use Rattle.u_match.specs.Keys.{ReadTable, read, IsComplete}
 use Rattle.u_match.specs.Joins.{IsWoken}

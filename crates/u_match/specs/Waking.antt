@@ -8,7 +8,7 @@ use Rattle.u_rule.specs.EntryOrder.{firing_cmp}
 use Rattle.u_rule.specs.declared.entry.Entry.{Entry}
 use Rattle.u_rule.specs.declared.entry.Entry.TheVariants as entries
 use Rattle.u_rule.specs.declared.firing.Firing.{Firing}
-use Rattle.u_system.specs.Firing.{Enabled}
+use Rattle.u_base.specs.Firing.{Enabled}
 use Rattle.u_sets.specs.Members.{AreThose, IsWith, HasOr}
 use Rattle.u_sets.specs.Rising.{Rises}
 use Rattle.u_match.specs.declared.matcher.Entered.{Entered}

@@ -8,7 +8,7 @@ ghost use Rattle.u_rule.specs.declared.entry.Entry.TheVariants as entries;
 ghost use Rattle.u_rule.specs.Parts.{token, most_ports};
 ghost use Rattle.u_rule.specs.Rule.{system_of, tokens_from};
 ghost use Rattle.u_rule.specs.Structures.{cell_named, wrote, write_read};
-ghost use Rattle.u_system.specs.Firing.{Enabled, Within};
+ghost use Rattle.u_base.specs.Firing.{Enabled, Within};
 ghost use Rattle.u_match.specs.ReadCells.{HasCell, HasReadCell};
 
 use std::alloc::AllocError;

@@ -6,7 +6,7 @@ ghost use Rattle.u_rule.specs.declared.firing.Firing.{Firing};
 ghost use Rattle.u_rule.specs.EntryOrder.{firing_cmp};
 ghost use Rattle.u_rule.specs.Rule.{system_of};
 ghost use Rattle.u_rule.specs.Fits.{IsFitting};
-ghost use Rattle.u_system.specs.Firing.{Enabled};
+ghost use Rattle.u_base.specs.Firing.{Enabled};
 ghost use Rattle.u_sets.specs.Rising.{Rises};
 ghost use Rattle.u_sets.specs.Members.{IsWith, AreThose, HasOr};
 ghost use Rattle.u_sets.specs.Columns.{IsNumberOf, MayNumber};

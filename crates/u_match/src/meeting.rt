@@ -11,7 +11,7 @@ use std::slice;
 use u_history::NumberedHistory;
 use u_name::Name;
 use u_names::CellSet;
-use u_order::ExactOrd;
+use u_base::ExactOrd;
 use u_rule::TokenRef;
 use u_value::Value;
 

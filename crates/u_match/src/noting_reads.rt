@@ -2,7 +2,7 @@
 //! have more than before, and nothing is lost.
 ghost use Rattle.std.specs.Prelude.{◌<◌, ◌⊎◌, OnOk, IsFalse, Contains};
 ghost use Rattle.u_value.specs.declared.value.Value.{Value};
-ghost use Rattle.u_system.specs.Firing.{Within};
+ghost use Rattle.u_base.specs.Firing.{Within};
 ghost use Rattle.u_sets.specs.Columns.{MayNumber};
 ghost use Rattle.u_match.specs.Keys.{IsMet, Notes, NamesNone, IsCompleteWith};
 ghost use Rattle.u_match.specs.Numbers.{NumbersEntry};

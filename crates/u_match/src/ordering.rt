@@ -2,7 +2,7 @@
 ghost use Rattle.std.specs.Prelude.{Contains};
 ghost use Rattle.u_rule.specs.EntryOrder.{firing_cmp};
 ghost use Rattle.u_sets.specs.Rising.{Rises};
-ghost use Rattle.u_system.specs.Firing.{Same};
+ghost use Rattle.u_base.specs.Firing.{Same};
 
 use u_rule::Firing;
 

@@ -7,7 +7,7 @@ ghost use Rattle.u_rule.specs.declared.firing.Firing.{Firing};
 ghost use Rattle.u_rule.specs.EntryOrder.{firing_cmp, written};
 ghost use Rattle.u_sets.specs.Rising.{Rises};
 ghost use Rattle.u_match.specs.Waking.{IsWokenBy};
-ghost use Rattle.u_system.specs.Firing.{Within};
+ghost use Rattle.u_base.specs.Firing.{Within};
 ghost use Rattle.u_sets.specs.Members.{SomeOf, AreThose, Gains, HasOr, IsWith};
 ghost use Rattle.u_match.specs.Joins.{IsWoken};
 ghost use Rattle.u_match.specs.Keys.{IsComplete};

@@ -4,7 +4,7 @@ use Rattle.std.proofs.Common.{sym, ◌∙◌, ap, subst, arith, length-append}
 use Rattle.std.specs.List.{AllByRecursion}
 use Rattle.std.proofs.lemmas.List.{take-append-drop, length-take}
 use Rattle.std.proofs.lemmas.Bool.Decides.{nat_tests}
-use Rattle.u_text.proofs.ReaderLaws.{Reads, ok_same, ok_err, longer_than_itself}
+use Rattle.u_base.proofs.ReaderLaws.{Reads, ok_same, ok_err, longer_than_itself}
 use Rattle.u_name.specs.Block.{is_letter, is_block_byte, IsBlock, StartsWithLetter}
 use Rattle.u_name.specs.BlockText.{block_span, begins_with_letter, block_at}
 

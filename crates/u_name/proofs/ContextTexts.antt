@@ -3,13 +3,13 @@ use Rattle.std.specs.Prelude.{◌≡◌, ℕ, ◌+◌, ◌-◌, ◌≤◌, ◌<�
 use Rattle.std.proofs.Common.{sym, ◌∙◌, ap, subst, arith}
 use Rattle.std.proofs.Math.Seq.{take-append_seam}
 use Rattle.std.proofs.lemmas.List.{length-append}
-use Rattle.u_text.proofs.ReaderLaws.{Reads, Cut, longer, equal, shorter, cut}
-use Rattle.u_text.proofs.PartsLaws.{NoByte}
-use Rattle.u_text.proofs.ThenLaws.{both_Reads}
-use Rattle.u_text.proofs.ChoiceLaws.{mapped_Reads}
-use Rattle.u_text.specs.Then.{AreBoth, both}
-use Rattle.u_text.specs.Choice.{mapped}
-use Rattle.u_text.specs.Reader.{Reader, ◌>>=◌}
+use Rattle.u_base.proofs.ReaderLaws.{Reads, Cut, longer, equal, shorter, cut}
+use Rattle.u_base.proofs.PartsLaws.{NoByte}
+use Rattle.u_base.proofs.ThenLaws.{both_Reads}
+use Rattle.u_base.proofs.ChoiceLaws.{mapped_Reads}
+use Rattle.u_base.specs.Then.{AreBoth, both}
+use Rattle.u_base.specs.Choice.{mapped}
+use Rattle.u_base.specs.Reader.{Reader, ◌>>=◌}
 use Rattle.u_name.specs.Context.{Tree, Top, depth, IsContext}
 use Rattle.u_name.specs.Name.{Activity}
 use Rattle.u_name.specs.NameText.{context_text}

@@ -3,17 +3,17 @@ use Rattle.std.specs.Prelude.{◌≡◌, ℕ, zero, suc, ◌+◌, ◌≤◌, Lis
 use Rattle.std.proofs.Common.{sym, ◌∙◌, ap, subst, inl, inr, append_assoc, arith}
 use Rattle.std.proofs.lemmas.List.{append-nil}
 use Rattle.std.specs.Fmt.{decimal}
-use Rattle.u_text.proofs.ReaderLaws.{Reads, heads}
-use Rattle.u_text.specs.Reader.{Reader}
-use Rattle.u_text.proofs.PartsLaws.{NoByte, empty_Reads, lead_Reads}
-use Rattle.u_text.specs.Parts.{empty}
-use Rattle.u_text.proofs.ThenLaws.{after, both_Reads}
-use Rattle.u_text.specs.Then.{AreBoth, both}
-use Rattle.u_text.proofs.ChoiceLaws.{mapped_Reads, one_text, choice_Reads}
-use Rattle.u_text.specs.Choice.{IsOne, mapped}
-use Rattle.u_text.specs.Number.{number, IsUpTo}
-use Rattle.u_text.proofs.NumberLaws.{IsDigit, number_Reads, number_first}
-use Rattle.u_text.specs.Fixed.{IsUnit}
+use Rattle.u_base.proofs.ReaderLaws.{Reads, heads}
+use Rattle.u_base.specs.Reader.{Reader}
+use Rattle.u_base.proofs.PartsLaws.{NoByte, empty_Reads, lead_Reads}
+use Rattle.u_base.specs.Parts.{empty}
+use Rattle.u_base.proofs.ThenLaws.{after, both_Reads}
+use Rattle.u_base.specs.Then.{AreBoth, both}
+use Rattle.u_base.proofs.ChoiceLaws.{mapped_Reads, one_text, choice_Reads}
+use Rattle.u_base.specs.Choice.{IsOne, mapped}
+use Rattle.u_base.specs.Number.{number, IsUpTo}
+use Rattle.u_base.proofs.NumberLaws.{IsDigit, number_Reads, number_first}
+use Rattle.u_base.specs.Fixed.{IsUnit}
 use Rattle.u_name.specs.Block.{is_block_byte}
 use Rattle.u_name.specs.Context.{Tree, Top, InLoop, InCall, depth, InRange}
 use Rattle.u_name.specs.Name.{Activity, activity, IsName}

@@ -1,11 +1,11 @@
 -- The reader of names as the code goes is the one that is put together of parts, so it reads the longest text of a name.
 use Rattle.std.specs.Prelude.{◌≡◌, ℕ, zero, suc, ◌≤◌, List, [], ◌∷◌, ◌⊎◌, refl, true, Ok, ◌-◌, ◌<◌, Bool, false, cond, ◌==◌, drop, Result, Err}
 use Rattle.std.proofs.Common.{sym, ◌∙◌, ap, subst, inl, inr, arith}
-use Rattle.u_text.proofs.ReaderLaws.{Reads}
-use Rattle.u_text.specs.Reader.{Reader, ◌>>=◌}
-use Rattle.u_text.proofs.NumberLaws.{IsDigit}
-use Rattle.u_text.specs.Parts.{after_byte}
-use Rattle.u_text.specs.Choice.{mapped}
+use Rattle.u_base.proofs.ReaderLaws.{Reads}
+use Rattle.u_base.specs.Reader.{Reader, ◌>>=◌}
+use Rattle.u_base.proofs.NumberLaws.{IsDigit}
+use Rattle.u_base.specs.Parts.{after_byte}
+use Rattle.u_base.specs.Choice.{mapped}
 use Rattle.u_name.specs.Context.{Tree, Top}
 use Rattle.u_name.specs.Name.{Activity, activity, IsName}
 use Rattle.u_name.specs.NameReader.{Frame, Tail, byte, frame_at, tail_at, to_depth, opens_at, framed, paren_span, frames_from, rest_at, dash_at, name_steps}

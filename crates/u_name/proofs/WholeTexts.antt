@@ -1,10 +1,10 @@
 -- Names read whole, and at an offset.
 use Rattle.std.proofs.Common.{◌≡◌, ℕ, zero, suc, ◌-◌, ◌≤◌, ◌<◌, Bool, true, false, cond, List, [], ◌∷◌, length, drop, Result, Ok, Err, sym, ◌∙◌, ap, arith, inl, inr}
 use Rattle.std.specs.Prelude.{◌==◌, ◌⊎◌}
-use Rattle.u_text.specs.Reader.{◌>>=◌}
-use Rattle.u_text.specs.Choice.{mapped}
-use Rattle.u_text.proofs.PartsLaws.{alike, unlike, same_or}
-use Rattle.u_text.proofs.TextAtLaws.{read_within, refused_within, whole_read, refused_whole, left_over, found_at, missing_at, found_within, missing_within}
+use Rattle.u_base.specs.Reader.{◌>>=◌}
+use Rattle.u_base.specs.Choice.{mapped}
+use Rattle.u_base.proofs.PartsLaws.{alike, unlike, same_or}
+use Rattle.u_base.proofs.TextAtLaws.{read_within, refused_within, whole_read, refused_whole, left_over, found_at, missing_at, found_within, missing_within}
 use Rattle.u_name.specs.Name.{Activity}
 use Rattle.u_name.specs.NameReader.{byte, opens_at, to_depth, name_steps, paren_span, dash_at, rest_at}
 use Rattle.u_name.proofs.NameReaderLaws.{name_steps_Reads}

@@ -1,6 +1,6 @@
 -- The reader of the longest name of a block at the front of some bytes.
 use Rattle.std.specs.Prelude.{ℕ, zero, suc, Bool, false, cond, List, [], ◌∷◌, take, drop, Ok, Err}
-use Rattle.u_text.specs.Reader.{Reader}
+use Rattle.u_base.specs.Reader.{Reader}
 use Rattle.u_name.specs.Block.{is_letter, is_block_byte}
 
 -- how many bytes of a block's name stand at the front, up to a most

@@ -1,12 +1,12 @@
 -- The reader of names as the code goes: the `(`, the `-`, the frames one by one, the tail.
 use Rattle.std.specs.Prelude.{ℕ, zero, suc, List, [], ◌∷◌, ◌⊎◌, Ok, cond, ◌==◌}
 use Rattle.std.proofs.Common.{inl, inr}
-use Rattle.u_text.specs.Then.{AreBoth, both}
-use Rattle.u_text.specs.Choice.{IsOne, mapped, choice}
-use Rattle.u_text.specs.Number.{number, IsUpTo}
-use Rattle.u_text.specs.Reader.{Reader, ◌>>=◌}
-use Rattle.u_text.specs.Parts.{empty, lead}
-use Rattle.u_text.specs.Fixed.{IsUnit}
+use Rattle.u_base.specs.Then.{AreBoth, both}
+use Rattle.u_base.specs.Choice.{IsOne, mapped, choice}
+use Rattle.u_base.specs.Number.{number, IsUpTo}
+use Rattle.u_base.specs.Reader.{Reader, ◌>>=◌}
+use Rattle.u_base.specs.Parts.{empty, lead}
+use Rattle.u_base.specs.Fixed.{IsUnit}
 use Rattle.u_name.specs.Block.{IsBlock}
 use Rattle.u_name.specs.Context.{Tree, Top, InLoop, InCall}
 use Rattle.u_name.specs.Name.{Activity, activity}

@@ -3,7 +3,7 @@ use Rattle.std.specs.Prelude.{ℕ, ◌<◌, ◌≤◌, List, drop}
 use Rattle.u_name.specs.Name.{Activity, IsName}
 use Rattle.u_name.specs.NameText.{name_text}
 use Rattle.u_name.specs.NameReader.{paren_span}
-use Rattle.u_text.specs.TextAt.{IsTextOf, IsNoText, IsTextAt, IsNoTextAt}
+use Rattle.u_base.specs.TextAt.{IsTextOf, IsNoText, IsTextAt, IsNoTextAt}
 use Rattle.u_name.specs.declared.reading.NameTextError.{NameTextError}
 use Rattle.u_name.specs.declared.reading.NameTextError.TheVariants.{BadName, Deep, NoMemory}
 

@@ -4,7 +4,7 @@ ghost use Rattle.u_name.specs.ExactOrders.{cell_cmp_ties};
 
 use crate::cell::Cell;
 use crate::name::Name;
-use u_order::ExactOrd;
+use u_base::ExactOrd;
 
 impl ExactOrd for Name {
     ghost exact = { name_cmp_ties };

@@ -2,9 +2,9 @@
 ghost use Rattle.std.specs.Prelude.{◌≡◌, ◌≤◌, ◌<◌, ◌-◌, ◌^◌, Ok, Err, MatchResult, IfOk, length, ◌∷◌, drop};
 ghost use Rattle.u_name.specs.Context.{depth, IsContext, Top};
 ghost use Rattle.u_name.specs.Block.{IsBlock};
-ghost use Rattle.u_text.specs.Number.{number};
+ghost use Rattle.u_base.specs.Number.{number};
 ghost use Rattle.u_name.specs.BlockText.{block_at, begins_with_letter};
-ghost use Rattle.u_text.specs.Parts.{after_byte};
+ghost use Rattle.u_base.specs.Parts.{after_byte};
 ghost use Rattle.u_name.specs.NameReader as reader;
 ghost use Rattle.u_name.specs.CursorValues.{ReadsLinkage, frame_value, tail_value};
 ghost use Rattle.u_name.specs.NameReading.{IsNameAt, IsNameOf, IsNameErrorAt, IsNameErrorOf};
@@ -19,7 +19,7 @@ use crate::context::{Context, Linkage};
 use crate::name::Name;
 use std::alloc::{AllocError, AllocFailed, Global};
 use thiserror::Error;
-use u_text::long_number_at;
+use u_base::long_number_at;
 
 /// The part of a context's text behind the outer context's.
 #[derive(Clone, Copy)]
@@ -83,7 +83,7 @@ impl<'a> Cursor<'a> {
         }
     }
 
-    #[tactic(auto, using(u_text::proofs::NumberLaws::number_bound))]
+    #[tactic(auto, using(u_base::proofs::NumberLaws::number_bound))]
     fn linkage(&mut self) -> Result<Linkage, Stuck>
         ensures { MatchResult result
             (λ linkage. ReadsLinkage self.old.rest.now linkage self.new.rest.now)
@@ -160,7 +160,7 @@ impl<'a> Cursor<'a> {
     }
 
     /// How many `(` stand at the front, 65 at most.
-    #[tactic(auto, using(crate::proofs::Parens::paren_step, crate::proofs::Parens::paren_stop, crate::proofs::Parens::paren_full, crate::proofs::Parens::paren_empty, u_text::proofs::PiecesLaws::drop_step))]
+    #[tactic(auto, using(crate::proofs::Parens::paren_step, crate::proofs::Parens::paren_stop, crate::proofs::Parens::paren_full, crate::proofs::Parens::paren_empty, u_base::proofs::PiecesLaws::drop_step))]
     fn parens(&mut self) -> u32
         ensures value { result ≡ paren_span 65 self.old.rest.now }
         ensures rest { self.new.rest.now ≡ drop result self.old.rest.now }

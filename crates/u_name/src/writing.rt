@@ -2,7 +2,7 @@
 //! they were.
 ghost use Rattle.std.specs.Prelude.{◌≡◌, ◌≤◌, ◌<◌, ◌^◌, ◌++◌, [], ◌∷◌, OnOk, OnErr, vec_len};
 ghost use Rattle.std.specs.Fmt.{decimal};
-ghost use Rattle.u_text.specs.Appending.{Extends};
+ghost use Rattle.u_base.specs.Appending.{Extends};
 ghost use Rattle.u_name.specs.NameText.{context_text, name_text, loop_part, call_part};
 ghost use Rattle.u_name.specs.Cell.{cell_text};
 
@@ -11,10 +11,10 @@ use crate::cell::Cell;
 use crate::context::{Context, Node};
 use crate::name::Name;
 use std::alloc::AllocError;
-use u_text::{cut_back, push_behind, push_long_behind};
+use u_base::{cut_back, push_behind, push_long_behind};
 
 /// Appends a dot and the block's name. On an error a part of it may stand there.
-#[tactic(auto, using(u_text::proofs::AppendingLaws::extends_same, u_text::proofs::AppendingLaws::extends_by, u_text::proofs::AppendingLaws::extends_behind))]
+#[tactic(auto, using(u_base::proofs::AppendingLaws::extends_same, u_base::proofs::AppendingLaws::extends_by, u_base::proofs::AppendingLaws::extends_behind))]
 fn push_block(out: &mut Vec<u8>, block: &BlockName) -> Result<(), AllocError>
     ensures ok { OnOk result (out.new.items ≡ out.old.items ++ (46 ∷ block.now)) }
     ensures err { OnErr result (Extends out.old.items out.new.items) }
@@ -24,7 +24,7 @@ fn push_block(out: &mut Vec<u8>, block: &BlockName) -> Result<(), AllocError>
 }
 
 /// Appends a loop's part of a context's text. On an error a part of it may stand there.
-#[tactic(auto, using(u_text::proofs::AppendingLaws::extends_same, u_text::proofs::AppendingLaws::extends_by, u_text::proofs::AppendingLaws::extends_behind, crate::proofs::Written::loop_more))]
+#[tactic(auto, using(u_base::proofs::AppendingLaws::extends_same, u_base::proofs::AppendingLaws::extends_by, u_base::proofs::AppendingLaws::extends_behind, crate::proofs::Written::loop_more))]
 fn push_loop(
     out: &mut Vec<u8>,
     block: &BlockName,
@@ -42,7 +42,7 @@ fn push_loop(
 }
 
 /// Appends a call's part of a context's text. On an error a part of it may stand there.
-#[tactic(auto, using(u_text::proofs::AppendingLaws::extends_same, u_text::proofs::AppendingLaws::extends_by, u_text::proofs::AppendingLaws::extends_behind, crate::proofs::Written::call_more))]
+#[tactic(auto, using(u_base::proofs::AppendingLaws::extends_same, u_base::proofs::AppendingLaws::extends_by, u_base::proofs::AppendingLaws::extends_behind, crate::proofs::Written::call_more))]
 fn push_call(
     out: &mut Vec<u8>,
     block: &BlockName,
@@ -96,7 +96,7 @@ fn push_context(out: &mut Vec<u8>, context: &Context) -> Result<(), AllocError>
 }
 
 /// Appends the text of the name. On an error a part of it may stand there.
-#[tactic(auto, using(u_text::proofs::AppendingLaws::extends_same, u_text::proofs::AppendingLaws::extends_by, u_text::proofs::AppendingLaws::extends_behind, crate::proofs::Written::name_more))]
+#[tactic(auto, using(u_base::proofs::AppendingLaws::extends_same, u_base::proofs::AppendingLaws::extends_by, u_base::proofs::AppendingLaws::extends_behind, crate::proofs::Written::name_more))]
 fn push_name(out: &mut Vec<u8>, name: &Name) -> Result<(), AllocError>
     ensures ok { OnOk result (out.new.items ≡ out.old.items ++ name_text name.now) }
     ensures err { OnErr result (Extends out.old.items out.new.items) }
@@ -106,7 +106,7 @@ fn push_name(out: &mut Vec<u8>, name: &Name) -> Result<(), AllocError>
 }
 
 /// Appends the text of the cell. On an error a part of it may stand there.
-#[tactic(auto, using(u_text::proofs::AppendingLaws::extends_same, u_text::proofs::AppendingLaws::extends_by, u_text::proofs::AppendingLaws::extends_behind, crate::proofs::Written::cell_more))]
+#[tactic(auto, using(u_base::proofs::AppendingLaws::extends_same, u_base::proofs::AppendingLaws::extends_by, u_base::proofs::AppendingLaws::extends_behind, crate::proofs::Written::cell_more))]
 fn push_cell(out: &mut Vec<u8>, cell: &Cell) -> Result<(), AllocError>
     ensures ok { OnOk result (out.new.items ≡ out.old.items ++ cell_text cell.now) }
     ensures err { OnErr result (Extends out.old.items out.new.items) }
@@ -122,7 +122,7 @@ impl Context {
     ///
     /// # Errors
     /// `AllocError` where there is no memory. Then `out` is as it was.
-    #[tactic(auto, using(u_text::proofs::AppendingLaws::extends_cut))]
+    #[tactic(auto, using(u_base::proofs::AppendingLaws::extends_cut))]
     pub fn write_text(&self, out: &mut Vec<u8>) -> Result<(), AllocError>
         ensures ok { OnOk result (out.new.items ≡ out.old.items ++ context_text self.now) }
         ensures err { OnErr result (out.new.items ≡ out.old.items) }
@@ -138,7 +138,7 @@ impl Name {
     ///
     /// # Errors
     /// `AllocError` where there is no memory. Then `out` is as it was.
-    #[tactic(auto, using(u_text::proofs::AppendingLaws::extends_cut))]
+    #[tactic(auto, using(u_base::proofs::AppendingLaws::extends_cut))]
     pub fn write_text(&self, out: &mut Vec<u8>) -> Result<(), AllocError>
         ensures ok { OnOk result (out.new.items ≡ out.old.items ++ name_text self.now) }
         ensures err { OnErr result (out.new.items ≡ out.old.items) }
@@ -152,7 +152,7 @@ impl Name {
     ///
     /// # Errors
     /// `AllocError` where there is no memory. Then `out` is as it was.
-    #[tactic(auto, using(u_text::proofs::AppendingLaws::extends_cut))]
+    #[tactic(auto, using(u_base::proofs::AppendingLaws::extends_cut))]
     pub fn write_behind_context(&self, out: &mut Vec<u8>) -> Result<(), AllocError>
         ensures ok { OnOk result (out.new.items ≡ out.old.items
             ++ call_part self.now.block self.now.statement self.now.initiation) }
@@ -169,7 +169,7 @@ impl Cell {
     ///
     /// # Errors
     /// `AllocError` where there is no memory. Then `out` is as it was.
-    #[tactic(auto, using(u_text::proofs::AppendingLaws::extends_cut))]
+    #[tactic(auto, using(u_base::proofs::AppendingLaws::extends_cut))]
     pub fn write_text(&self, out: &mut Vec<u8>) -> Result<(), AllocError>
         ensures ok { OnOk result (out.new.items ≡ out.old.items ++ cell_text self.now) }
         ensures err { OnErr result (out.new.items ≡ out.old.items) }

@@ -4,8 +4,8 @@ use Rattle.std.specs.Prelude.{slice_get}
 use Rattle.std.specs.Borrow.{Bor}
 use Rattle.std.specs.Map.Iter.{deref_pair}
 use Rattle.std.proofs.lemmas.List.{take_more, take_all}
-use Rattle.u_system.specs.Firing.{Distinct}
-use Rattle.u_system.proofs.Member.{Contains-head, Contains-tail}
+use Rattle.u_base.specs.Firing.{Distinct}
+use Rattle.u_base.proofs.Member.{Contains-head, Contains-tail}
 use Rattle.u_name.specs.Name.{Activity}
 use Rattle.u_name.specs.Cell.{CellOf, cell_of}
 use Rattle.u_sets.specs.Members.{GoesLast, IsWith}

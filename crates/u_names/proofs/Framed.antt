@@ -1,8 +1,8 @@
 -- The names that frames and places give.
 use Rattle.std.proofs.Common.{◌≡◌, inl, inr, ℕ, ◌<◌, ◌≤◌, List, [], ◌∷◌, ◌++◌, Contains, length, get_or, Some, subst, sym, ap, ◌∙◌, refl, arith}
 use Rattle.std.specs.Prelude.{slice_get, ◌^◌}
-use Rattle.u_system.specs.Firing.{Distinct}
-use Rattle.u_system.proofs.Member.{Contains-head, Contains-tail}
+use Rattle.u_base.specs.Firing.{Distinct}
+use Rattle.u_base.proofs.Member.{Contains-head, Contains-tail}
 use Rattle.u_name.specs.Name.{Activity}
 use Rattle.u_name.specs.Context.{Tree}
 use Rattle.u_sets.specs.Members.{GoesLast}

@@ -1,8 +1,8 @@
 -- The contexts that keys give, and their numbers.
 use Rattle.std.proofs.Common.{◌≡◌, inl, inr, ℕ, suc, ◌+◌, ◌-◌, ◌<◌, Bool, true, false, List, [], ◌∷◌, ◌++◌, Contains, length, get_or, Some, subst, sym, ap, ◌∙◌, refl, arith}
 use Rattle.std.specs.Prelude.{slice_get, ◌^◌}
-use Rattle.u_system.specs.Firing.{Distinct}
-use Rattle.u_system.proofs.Member.{Contains-nil, Contains-head, Contains-tail, Contains-cons_cases}
+use Rattle.u_base.specs.Firing.{Distinct}
+use Rattle.u_base.proofs.Member.{Contains-nil, Contains-head, Contains-tail, Contains-cons_cases}
 use Rattle.u_name.specs.Context.{Tree, Top, InLoop, InCall}
 use Rattle.u_sets.specs.Members.{GoesLast}
 use Rattle.u_sets.proofs.Keyed.{joined}

@@ -4,8 +4,8 @@ use Rattle.std.specs.Prelude.{slice_get, not, ◌==◌, IsTrue}
 use Rattle.std.specs.Ordering.{eq_by_cmp}
 use Rattle.std.specs.Cmp.Lexicographic.{same_text}
 use lib.Pointwise.{pointwise}
-use Rattle.u_system.specs.Firing.{Distinct}
-use Rattle.u_system.proofs.Member.{Contains-head, Contains-tail}
+use Rattle.u_base.specs.Firing.{Distinct}
+use Rattle.u_base.proofs.Member.{Contains-head, Contains-tail}
 use Rattle.u_name.specs.Context.{Tree, Top}
 use Rattle.u_name.specs.ContextOrder.{context_cmp}
 use Rattle.u_name.specs.ContextHash.{same_context}

@@ -1,8 +1,8 @@
 -- Lists of what a function gives.
 use Rattle.std.proofs.Common.{◌≡◌, ◌⊎◌, inl, inr, ℕ, zero, suc, ◌<◌, ◌≤◌, List, [], ◌∷◌, ◌++◌, map, Contains, length, get_or, Some, subst, sym, ap, ◌∙◌, refl, arith}
 use Rattle.std.specs.Prelude.{Result, Ok, Err, OnErr, IfOk, Option, IfSome, IfNone, None, slice_get}
-use Rattle.u_system.specs.Firing.{Distinct}
-use Rattle.u_system.proofs.Member.{Contains-nil, Contains-head, Contains-tail, Contains-cons_cases}
+use Rattle.u_base.specs.Firing.{Distinct}
+use Rattle.u_base.proofs.Member.{Contains-nil, Contains-head, Contains-tail, Contains-cons_cases}
 use Rattle.u_sets.specs.Members.{GoesLast}
 
 module _ {X : Type 0} where

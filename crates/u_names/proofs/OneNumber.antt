@@ -1,7 +1,7 @@
 -- In a list of distinct members each has one place.
 use Rattle.std.proofs.Common.{◌≡◌, ℕ, zero, suc, List, [], ◌∷◌, Some, Contains, subst, sym, ap, refl, arith}
 use Rattle.std.specs.Prelude.{slice_get}
-use Rattle.u_system.specs.Firing.{Distinct}
+use Rattle.u_base.specs.Firing.{Distinct}
 use Rattle.u_name.specs.Name.{Activity}
 
 at_place : {X : Type 0} (xs : List X) (i : ℕ) (x : X) → slice_get xs i ≡ Some x → Contains xs x

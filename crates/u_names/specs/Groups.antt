@@ -1,6 +1,6 @@
 -- Groups of activities: three that lie side by side, of one block and context and at one initiation.
 use Rattle.std.specs.Prelude.{◌≡◌, ℕ, ◌+◌, ◌-◌, ◌%◌, ◌^◌, ◌≤◌, List, [], ◌∷◌, ◌++◌, length, Contains}
-use Rattle.u_system.specs.Firing.{Distinct}
+use Rattle.u_base.specs.Firing.{Distinct}
 use Rattle.u_name.specs.Name.{Activity}
 use Rattle.u_names.specs.Frames.{beside}
 

@@ -2,7 +2,7 @@
 use Rattle.std.specs.Prelude.{◌<◌, List, [], ◌∷◌, map, length, Contains}
 use Rattle.std.proofs.Common.{get_or}
 use Rattle.std.specs.Coded.{Coded, coded_list}
-use Rattle.u_system.specs.Firing.{Distinct}
+use Rattle.u_base.specs.Firing.{Distinct}
 use Rattle.u_name.specs.Context.{Top}
 use Rattle.u_name.specs.Name.{Activity, activity, activity_code}
 use Rattle.u_names.specs.Places.{PlaceParts, IsPlace}

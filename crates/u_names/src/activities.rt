@@ -1,6 +1,6 @@
 //! Numbers of activities.
 ghost use Rattle.std.specs.Prelude.{◌≡◌, ◌<◌, ◌-◌, [], IfOk, IfSome, IfNone, Contains, length, slice_get, Some};
-ghost use Rattle.u_system.specs.Firing.{Distinct};
+ghost use Rattle.u_base.specs.Firing.{Distinct};
 ghost use Rattle.u_name.specs.Context.{IsBetween};
 ghost use Rattle.u_names.specs.Frames.{beside};
 ghost use Rattle.u_names.specs.Groups.{behind, Grows};

@@ -1,7 +1,7 @@
 //! Sets of pairs of a cell and a value, by cell.
 ghost use Rattle.std.specs.Prelude.{◌≡◌, ◌↔◌, [], OnOk, OnErr, IfOk, IfErr, Contains, IsTrue, map};
 ghost use Rattle.std.specs.Mem.{FitsInMemory};
-ghost use Rattle.u_system.specs.Firing.{Distinct};
+ghost use Rattle.u_base.specs.Firing.{Distinct};
 ghost use Rattle.u_sets.specs.Members.{IsWith};
 ghost use Rattle.u_sets.specs.Pairs.{HasAnother};
 ghost use Rattle.u_name.specs.Cell.{CellOf};
@@ -12,7 +12,7 @@ use std::alloc::{AllocError, AllocFailed, Global};
 use std::hash::Hash;
 use std::marker::Model;
 use u_name::Cell;
-use u_order::ExactOrd;
+use u_base::ExactOrd;
 
 /// A set of pairs of a cell and a value, by cell: structures have numbers, and the pairs of a cell are
 /// found by its structure's number and its index. Contracts see the list of the pairs.

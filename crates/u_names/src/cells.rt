@@ -2,7 +2,7 @@
 ghost use Rattle.std.specs.Prelude.{◌≡◌, ◌↔◌, ◌<◌, [], OnOk, OnErr, IfOk, IfErr, IfSome, IfNone, Contains, IsTrue, map, length, slice_get, Some};
 ghost use Rattle.std.specs.Map.Iter.{deref_pair};
 ghost use Rattle.std.specs.Mem.{FitsInMemory};
-ghost use Rattle.u_system.specs.Firing.{Distinct};
+ghost use Rattle.u_base.specs.Firing.{Distinct};
 ghost use Rattle.u_sets.specs.Members.{IsWith};
 ghost use Rattle.u_sets.specs.Pairs.{HasAnother};
 ghost use Rattle.u_name.specs.Cell.{CellOf};
@@ -15,7 +15,7 @@ use std::alloc::{AllocError, AllocFailed, Global};
 use std::hash::Hash;
 use std::marker::Model;
 use u_name::Cell;
-use u_order::ExactOrd;
+use u_base::ExactOrd;
 use u_sets::KeyedSet;
 
 /// Pairs of a cell and a value: structures have numbers, and the pairs of a cell are found by its

@@ -1,7 +1,7 @@
 //! Contexts, each of which has a number.
 ghost use Rattle.std.specs.Prelude.{◌≡◌, ◌<◌, [], ◌∷◌, IfOk, IfSome, IfNone, IsTrue, Contains, length, slice_get, Some};
 ghost use Rattle.std.specs.Option.{option_copied};
-ghost use Rattle.u_system.specs.Firing.{Distinct};
+ghost use Rattle.u_base.specs.Firing.{Distinct};
 ghost use Rattle.u_name.specs.Context.{Top};
 ghost use Rattle.u_names.specs.Groups.{Grows};
 ghost use Rattle.u_names.specs.Contexts.{tree_at};

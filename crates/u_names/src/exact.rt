@@ -5,7 +5,7 @@ use crate::context_keys::ContextKey;
 use crate::frames::Frame;
 use crate::places::Place;
 use crate::spots::Spot;
-use u_order::ExactOrd;
+use u_base::ExactOrd;
 
 impl ExactOrd for ContextKey {
     ghost exact = { key_ties };

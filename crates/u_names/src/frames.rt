@@ -1,6 +1,6 @@
 //! Frames: what the names of one block have in common in one context.
 ghost use Rattle.std.specs.Prelude.{◌≡◌, ◌<◌, [], OnOk, OnErr, IfOk, IfSome, IfNone, Contains, length, slice_get, Some};
-ghost use Rattle.u_system.specs.Firing.{Distinct};
+ghost use Rattle.u_base.specs.Firing.{Distinct};
 ghost use Rattle.u_sets.specs.Members.{GoesLast};
 ghost use Rattle.u_name.specs.Context.{IsBetween};
 ghost use Rattle.u_names.specs.Frames.{frame_key, frame_of};

@@ -1,7 +1,7 @@
 //! Tables of names.
 ghost use Rattle.std.specs.Prelude.{◌≡◌, ℕ, [], OnOk, OnErr, IfOk, IfSome, IfNone, Contains, length, slice_get, Some};
 ghost use Rattle.u_sets.specs.Members.{GoesLast};
-ghost use Rattle.u_system.specs.Firing.{Distinct};
+ghost use Rattle.u_base.specs.Firing.{Distinct};
 ghost use Rattle.u_name.specs.Context.{IsBetween};
 ghost use Rattle.u_name.specs.Name.{Activity};
 ghost use Rattle.u_names.specs.Frames.{beside};

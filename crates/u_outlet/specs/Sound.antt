@@ -1,5 +1,5 @@
 -- Firings that some run of a job could make.
-use Rattle.u_system.specs.Firing.{Enabled, Whole}
+use Rattle.u_base.specs.Firing.{Enabled, Whole}
 use Rattle.u_check.specs.Jobs.{JobParts}
 use Rattle.u_rule.specs.Rule.{system_of}
 use Rattle.u_rule.specs.declared.firing.Firing.{Firing}

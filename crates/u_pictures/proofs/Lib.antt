@@ -1,2 +1,7 @@
-pub mod HeldLaws
-pub mod DrawnLaws
+pub mod Opening
+pub mod RunLaws
+pub mod Joined
+pub mod ToldLaws
+pub mod Noting
+pub mod Lives
+pub mod Going

@@ -1,2 +1,8 @@
-pub mod Draws
-pub mod DrawnRuns
+pub mod Names
+pub mod Places
+pub mod Looks
+pub mod Picture
+pub mod Words
+pub mod Living
+pub mod WorldLooks
+pub mod WorldPicture

@@ -1,10 +1,10 @@
 -- Rounds: all that is enabled fires, until nothing new does.
 use Rattle.std.proofs.Common.{◌≡◌, ◌↔◌, List, [], ◌∷◌, ◌++◌, sym, refl, length, Contains, IsTrue, append_assoc, append-nil, subst}
 use Rattle.std.proofs.lemmas.Option.{slice_get_read}
-use Rattle.u_system.specs.Firing.{System, Held, Enabled, Derivation, Whole, Within}
-use Rattle.u_system.proofs.Held.{Held-append_left, Enabled-mono}
-use Rattle.u_system.proofs.Member.{Contains-head, Contains-tail}
-use Rattle.u_system.proofs.Closure.{Derivation-push, Quiet-whole}
+use Rattle.u_base.specs.Firing.{System, Held, Enabled, Derivation, Whole, Within}
+use Rattle.u_base.proofs.Held.{Held-append_left, Enabled-mono}
+use Rattle.u_base.proofs.Member.{Contains-head, Contains-tail}
+use Rattle.u_base.proofs.Closure.{Derivation-push, Quiet-whole}
 
 module _ {E F : Type 0} (s : System E F) where
   -- all members of a derivation are firings

@@ -9,8 +9,8 @@ use Rattle.u_value.specs.declared.fault_kind.FaultKind.{FaultKind}
 use Rattle.u_program.specs.Parts.{StatementParts}
 use Rattle.u_check.specs.Kinds.{ports_of}
 use Rattle.u_check.specs.Jobs.{JobParts}
-use Rattle.u_system.specs.Firing.{Enabled}
-use Rattle.u_system.proofs.Member.{Contains-head, Contains-tail}
+use Rattle.u_base.specs.Firing.{Enabled}
+use Rattle.u_base.proofs.Member.{Contains-head, Contains-tail}
 use Rattle.u_sets.specs.Members.{SomeOf}
 use Rattle.u_rule.specs.Parts.{TokenParts, token, ValueList, most_ports}
 use Rattle.u_rule.specs.Fits.{statement_of, fits_at}

@@ -3,9 +3,9 @@
 use Rattle.std.proofs.Common.{◌≡◌, ◌↔◌, inl, inr, ℕ, ◌<◌, ◌≤◌, ◌+◌, List, [], ◌∷◌, ◌++◌, sym, subst, take, length, get_or, Contains, true, false}
 use Rattle.std.proofs.lemmas.List.{take_more, take_all}
 use Rattle.std.proofs.lemmas.List.Elements.{Contains-append_cases, Contains-append_left, Contains-append_right}
-use Rattle.u_system.specs.Firing.{System, Held}
-use Rattle.u_system.proofs.Held.{Held-push, Held-nil}
-use Rattle.u_system.proofs.Member.{Contains-nil, Contains-head, Contains-cons_cases}
+use Rattle.u_base.specs.Firing.{System, Held}
+use Rattle.u_base.proofs.Held.{Held-push, Held-nil}
+use Rattle.u_base.proofs.Member.{Contains-nil, Contains-head, Contains-cons_cases}
 
 pub each_all : {X : Type 0} (P : X → Type 0) (xs : List X) (i : ℕ) → length xs ≤ i → ((x : X) → Contains (take i xs) x → P x) → (x : X) → Contains xs x → P x
 each_all P xs i h all x m = all x (rw (take_all i xs h) m)

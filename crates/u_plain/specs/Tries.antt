@@ -9,7 +9,7 @@ use Rattle.u_rule.specs.declared.parts.Write.{Write}
 use Rattle.u_rule.specs.declared.entry.Entry.{Entry}
 use Rattle.u_rule.specs.declared.entry.Entry.TheVariants as entries
 use Rattle.u_rule.specs.declared.firing.Firing.{Firing}
-use Rattle.u_system.specs.Firing.{Enabled}
+use Rattle.u_base.specs.Firing.{Enabled}
 
 -- what is enabled over the list
 abbrev pub EnabledOver : JobParts → List Entry → Firing → Type 0

@@ -1,7 +1,7 @@
 //! Lists of firings.
 ghost use Rattle.std.specs.Prelude.{◌≡◌, ◌↔◌, ◌⊎◌, Contains, OnOk, IsTrue};
 ghost use Rattle.u_rule.specs.declared.firing.Firing.{Firing};
-ghost use Rattle.u_system.specs.Firing.{Within};
+ghost use Rattle.u_base.specs.Firing.{Within};
 
 use std::alloc::AllocError;
 use u_rule::Firing;

@@ -10,7 +10,7 @@ ghost use Rattle.u_rule.specs.declared.entry.Entry.TheVariants as entries;
 ghost use Rattle.u_rule.specs.declared.entry.Entry.{Entry};
 ghost use Rattle.u_rule.specs.declared.firing.Firing.{Firing};
 ghost use Rattle.u_sets.specs.Members.{SomeOf};
-ghost use Rattle.u_system.specs.Firing.{Enabled};
+ghost use Rattle.u_base.specs.Firing.{Enabled};
 ghost use Rattle.u_plain.specs.Tries.{EnabledOver, Extends, with_write, longer, FitsRead, FitsLonger, FitsFirst};
 
 use crate::among::add_new;

@@ -3,7 +3,7 @@ ghost use Rattle.std.specs.Prelude.{◌≡◌, ◌↔◌, ◌++◌, Contains, If
 ghost use Rattle.u_rule.specs.Rule.{system_of, is_firing_of};
 ghost use Rattle.u_rule.specs.declared.entry.Entry.{Entry};
 ghost use Rattle.u_rule.specs.declared.firing.Firing.{Firing};
-ghost use Rattle.u_system.specs.Firing.{Held, Within};
+ghost use Rattle.u_base.specs.Firing.{Held, Within};
 
 use std::alloc::{AllocError, Global};
 use u_check::Job;

@@ -3,7 +3,7 @@ ghost use Rattle.std.specs.Prelude.{◌≡◌, ◌⊎◌, IfOk, OnOk, Contains};
 ghost use Rattle.u_rule.specs.Rule.{system_of};
 ghost use Rattle.u_rule.specs.declared.firing.Firing.{Firing};
 ghost use Rattle.u_rule.specs.EntryOrder.{firing_cmp};
-ghost use Rattle.u_system.specs.Firing.{Enabled};
+ghost use Rattle.u_base.specs.Firing.{Enabled};
 ghost use Rattle.u_sets.specs.Rising.{Rises};
 
 use crate::enabling::enabled;

@@ -3,7 +3,7 @@ ghost use Rattle.std.specs.Prelude.{◌≡◌, ◌↔◌, ◌++◌, Contains, If
 ghost use Rattle.u_rule.specs.Rule.{system_of};
 ghost use Rattle.u_rule.specs.declared.entry.Entry.{Entry};
 ghost use Rattle.u_rule.specs.declared.firing.Firing.{Firing};
-ghost use Rattle.u_system.specs.Firing.{Whole, Within};
+ghost use Rattle.u_base.specs.Firing.{Whole, Within};
 
 use crate::among::are_among;
 use crate::enabling::enabled;

@@ -5,14 +5,14 @@ use Rattle.std.proofs.lemmas.Bool.{and_parts, leb-true}
 use Rattle.std.proofs.Common.{sym, ◌∙◌, ap, subst, arith, inl, inr}
 use Rattle.std.specs.Fmt.{decimal}
 use Rattle.u_name.specs.Block.{IsBlock, is_block_byte}
-use Rattle.u_text.specs.Number.{IsUpTo}
-use Rattle.u_text.proofs.NumberLaws.{AllDigit, decimal_digits}
-use Rattle.u_text.proofs.PiecesLaws.{Free}
-use Rattle.u_text.specs.Pieces.{words}
-use Rattle.u_text.specs.Spaced.{spaced}
-use Rattle.u_text.proofs.SpacedLaws.{AllFree, free_append, all_free_append, free_spaced, free_above, free_decimal, free_signed, words_spaced, words_are}
-use Rattle.u_text.specs.WholeWords.{◌then◌, is, number_word, number0_word}
-use Rattle.u_text.proofs.WholeWordsLaws.{number_word_sound, number_word_complete, number0_word_sound, number0_word_complete, told, then_some}
+use Rattle.u_base.specs.Number.{IsUpTo}
+use Rattle.u_base.proofs.NumberLaws.{AllDigit, decimal_digits}
+use Rattle.u_base.proofs.PiecesLaws.{Free}
+use Rattle.u_base.specs.Pieces.{words}
+use Rattle.u_base.specs.Spaced.{spaced}
+use Rattle.u_base.proofs.SpacedLaws.{AllFree, free_append, all_free_append, free_spaced, free_above, free_decimal, free_signed, words_spaced, words_are}
+use Rattle.u_base.specs.WholeWords.{◌then◌, is, number_word, number0_word}
+use Rattle.u_base.proofs.WholeWordsLaws.{number_word_sound, number_word_complete, number0_word_sound, number0_word_complete, told, then_some}
 use Rattle.std.proofs.lemmas.Option.{same_Some, none-some}
 use Rattle.u_program.specs.declared.reading.Line.{Line}
 use Rattle.u_program.specs.declared.reading.Line.TheVariants.{Block, Loop, Statement}

@@ -3,8 +3,8 @@ use Rattle.std.specs.Prelude.{◌≡◌, ℕ, ◌≤◌, ◌<◌, Bool, true, fa
 use Rattle.std.proofs.Common.{sym, ◌∙◌, ap, subst, arith, inl, inr, append_assoc}
 use Rattle.std.proofs.lemmas.List.{append-nil}
 use Rattle.std.specs.Fmt.{decimal}
-use Rattle.u_text.specs.WholeWords.{◌then◌, number0_word}
-use Rattle.u_text.proofs.WholeWordsLaws.{told, then_some, le_cases, number0_word_sound, number0_word_complete}
+use Rattle.u_base.specs.WholeWords.{◌then◌, number0_word}
+use Rattle.u_base.proofs.WholeWordsLaws.{told, then_some, le_cases, number0_word_sound, number0_word_complete}
 use Rattle.std.proofs.lemmas.Option.{same_Some, none-some}
 use Rattle.u_program.specs.declared.program.Kind.{Kind}
 use Rattle.u_program.specs.declared.program.Kind.TheVariants.{Switch, Apply, Store, End}

@@ -4,8 +4,8 @@ use Rattle.std.proofs.Common.{sym, ◌∙◌, ap, arith, append_assoc}
 use Rattle.std.specs.List.{AllByRecursion}
 use Rattle.std.specs.Fmt.{decimal}
 use Rattle.u_name.specs.Block.{IsBlock}
-use Rattle.u_text.proofs.NumberLaws.{number_first}
-use Rattle.u_text.specs.Spaced.{spaced}
+use Rattle.u_base.proofs.NumberLaws.{number_first}
+use Rattle.u_base.specs.Spaced.{spaced}
 use Rattle.u_program.specs.Parts.{StatementParts, BlockParts}
 use Rattle.u_program.specs.Limits.{Limits, AtMost, AreLoops, IsStatement, IsBlockOf}
 use Rattle.u_program.specs.Text.{block_line, loop_line, loop_lines, statement_line, statement_lines, inner_lines, block_lines, blocks_lines, statement_words}

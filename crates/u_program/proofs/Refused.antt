@@ -1,6 +1,6 @@
 -- Why a line is refused, said of the whole text.
 use Rattle.std.specs.Prelude.{◌≡◌, ℕ, suc, List, ◌∷◌, length}
-use Rattle.u_text.specs.Pieces.{pieces}
+use Rattle.u_base.specs.Pieces.{pieces}
 use Rattle.u_program.specs.Limits.{limits_of}
 use Rattle.u_program.specs.FirstBad.{Begins}
 use Rattle.u_program.specs.Begun.{IsRead}

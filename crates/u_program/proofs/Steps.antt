@@ -4,7 +4,7 @@ use Rattle.std.proofs.Common.{sym, ◌∙◌, ap, subst, arith, inl, inr, append
 use Rattle.std.proofs.lemmas.List.{append-nil}
 use Rattle.std.specs.List.{AllByRecursion}
 use Rattle.u_name.specs.Block.{IsBlock}
-use Rattle.u_text.specs.Pieces.{words}
+use Rattle.u_base.specs.Pieces.{words}
 use Rattle.u_program.specs.declared.program.Kind.TheVariants.{Begin}
 use Rattle.u_program.specs.declared.reading.Line.TheVariants.{Block, Loop, Statement}
 use Rattle.u_program.specs.Parts.{StatementParts, BlockParts, statement, block}

@@ -4,10 +4,10 @@ use Rattle.std.proofs.Common.{sym, ◌∙◌, ap, subst, arith, append_assoc, le
 use Rattle.std.proofs.lemmas.List.{append-nil}
 use Rattle.std.specs.List.{AllByRecursion}
 use Rattle.u_name.specs.Block.{IsBlock}
-use Rattle.u_text.specs.Pieces.{pieces, words}
-use Rattle.u_text.proofs.PiecesLaws.{Free, glued, glued-pieces}
-use Rattle.u_text.specs.Spaced.{ended}
-use Rattle.u_text.proofs.SpacedLaws.{AllFree, all_free_append, pieces-ended, glued-ended}
+use Rattle.u_base.specs.Pieces.{pieces, words}
+use Rattle.u_base.proofs.PiecesLaws.{Free, glued, glued-pieces}
+use Rattle.u_base.specs.Spaced.{ended}
+use Rattle.u_base.proofs.SpacedLaws.{AllFree, all_free_append, pieces-ended, glued-ended}
 use Rattle.u_program.specs.declared.reading.Line.TheVariants.{Block, Loop, Statement}
 use Rattle.u_program.specs.Parts.{StatementParts, BlockParts, ProgramParts, block}
 use Rattle.u_program.specs.Limits.{Limits, AtMost, AreLoops, IsStatement, IsBlockOf, IsProgram, limits_of, no_limits}

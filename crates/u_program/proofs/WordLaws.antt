@@ -6,14 +6,14 @@ use Rattle.std.specs.Fmt.{decimal}
 use lib.IntN.{ℤ, pos, negsuc}
 use Rattle.u_name.specs.Block.{IsBlock}
 use Rattle.u_name.proofs.BlockTextLaws.{block_Reads}
-use Rattle.u_text.proofs.ReaderLaws.{Reads}
-use Rattle.u_text.proofs.PartsLaws.{lead_Reads, alike, unlike, same_or}
-use Rattle.u_text.proofs.ThenLaws.{after, both_Reads}
-use Rattle.u_text.specs.Then.{AreBoth}
-use Rattle.u_text.specs.Number.{IsUpTo}
-use Rattle.u_text.proofs.NumberLaws.{IsDigit, AllDigit, number_Reads, decimal_digits}
-use Rattle.u_text.specs.WholeWords.{◌then◌, whole, is, number0_word, number_word, signed_word}
-use Rattle.u_text.proofs.WholeWordsLaws.{told, then_some, le_cases, whole_sound, whole_complete, number_word_sound, number_word_complete, number0_word_sound, signed_word_sound, signed_word_complete}
+use Rattle.u_base.proofs.ReaderLaws.{Reads}
+use Rattle.u_base.proofs.PartsLaws.{lead_Reads, alike, unlike, same_or}
+use Rattle.u_base.proofs.ThenLaws.{after, both_Reads}
+use Rattle.u_base.specs.Then.{AreBoth}
+use Rattle.u_base.specs.Number.{IsUpTo}
+use Rattle.u_base.proofs.NumberLaws.{IsDigit, AllDigit, number_Reads, decimal_digits}
+use Rattle.u_base.specs.WholeWords.{◌then◌, whole, is, number0_word, number_word, signed_word}
+use Rattle.u_base.proofs.WholeWordsLaws.{told, then_some, le_cases, whole_sound, whole_complete, number_word_sound, number_word_complete, number0_word_sound, signed_word_sound, signed_word_complete}
 use Rattle.std.proofs.lemmas.Option.{same_Some, none-some}
 use Rattle.u_program.specs.declared.program.Constant.{Constant}
 use Rattle.u_program.specs.declared.program.Constant.TheVariants as constants

@@ -3,8 +3,8 @@ use Rattle.std.specs.Prelude.{◌≡◌, ℕ, ◌+◌, ◌<◌, List, [], ◌∷
 use Rattle.std.proofs.Common.{sym, ◌∙◌, ap, arith, append_assoc, get_or}
 use Rattle.std.proofs.lemmas.List.{length-take-le, take_more, map-append, append-nil}
 use Rattle.std.specs.Fmt.{decimal}
-use Rattle.u_text.specs.Spaced.{spaced, ended}
-use Rattle.u_text.proofs.SpacedLaws.{spaced-append, ended-append}
+use Rattle.u_base.specs.Spaced.{spaced, ended}
+use Rattle.u_base.proofs.SpacedLaws.{spaced-append, ended-append}
 use Rattle.u_program.specs.declared.program.Kind.{Kind}
 use Rattle.u_program.specs.declared.program.Destination.{Destination}
 use Rattle.u_program.specs.Parts.{StatementParts, BlockParts}

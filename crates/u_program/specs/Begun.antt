@@ -2,8 +2,8 @@
 use Rattle.std.specs.Prelude.{◌≡◌, ℕ, ◌+◌, ◌≤◌, List, ◌++◌, length}
 use Rattle.std.specs.List.{AllByRecursion}
 use Rattle.u_name.specs.Block.{IsBlock}
-use Rattle.u_text.specs.Number.{IsUpTo}
-use Rattle.u_text.specs.Pieces.{pieces}
+use Rattle.u_base.specs.Number.{IsUpTo}
+use Rattle.u_base.specs.Pieces.{pieces}
 use Rattle.u_program.specs.declared.reading.Line.{Line}
 use Rattle.u_program.specs.declared.reading.Line.TheVariants.{Block, Loop, Statement}
 use Rattle.u_program.specs.declared.program.Version.{Version}

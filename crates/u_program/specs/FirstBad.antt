@@ -1,6 +1,6 @@
 -- Which line of a text is the first that is not allowed, and why.
 use Rattle.std.specs.Prelude.{◌≡◌, ℕ, suc, List, [], ◌∷◌, ◌++◌, length}
-use Rattle.u_text.specs.Pieces.{lines}
+use Rattle.u_base.specs.Pieces.{lines}
 use Rattle.u_program.specs.declared.program.Version.{Version}
 use Rattle.u_program.specs.Parts.{BlockParts, ProgramParts}
 use Rattle.u_program.specs.Limits.{Limits, IsProgram, limits_of, no_limits}

@@ -1,11 +1,11 @@
 -- What is read of the words of a line.
 use Rattle.std.specs.Prelude.{ℕ, Bool, true, false, ◌&&◌, cond, ◌==◌, nat_le, List, [], ◌∷◌, codes, Option, Some, None}
 use Rattle.u_name.specs.BlockText.{block_at}
-use Rattle.u_text.specs.Reader.{Reader}
-use Rattle.u_text.specs.Parts.{lead}
-use Rattle.u_text.specs.Then.{both}
-use Rattle.u_text.specs.Number.{number}
-use Rattle.u_text.specs.WholeWords.{◌then◌, whole, is, number_word, number0_word, signed_word}
+use Rattle.u_base.specs.Reader.{Reader}
+use Rattle.u_base.specs.Parts.{lead}
+use Rattle.u_base.specs.Then.{both}
+use Rattle.u_base.specs.Number.{number}
+use Rattle.u_base.specs.WholeWords.{◌then◌, whole, is, number_word, number0_word, signed_word}
 use Rattle.u_program.specs.declared.program.Constant.{Constant}
 use Rattle.u_program.specs.declared.program.Constant.TheVariants as constants
 use Rattle.u_program.specs.declared.program.Kind.{Kind}

@@ -19,7 +19,7 @@ use Rattle.u_program.specs.declared.program.Arguments.TheVariants as arguments
 use Rattle.u_program.specs.declared.program.Parameter.{Parameter}
 use Rattle.u_program.specs.declared.program.Parameter.TheVariants as parameters
 use Rattle.u_program.specs.Limits.{has_otherwise}
-use Rattle.u_text.specs.Spaced.{spaced, ended}
+use Rattle.u_base.specs.Spaced.{spaced, ended}
 
 -- `u-program 1`, `u-program 2`
 abbrev pub header : Version → List ℕ

@@ -3,13 +3,13 @@ ghost use Rattle.std.specs.Prelude.{◌≡◌, ◌≤◌, ◌&&◌, Some, None, 
 ghost use Rattle.u_program.specs.Reading.{plain_kinds, name_word, destination_at, is_slash, destinations_at, list_at, otherwise_at, constant_at, kind_among, arguments_at, parameter_at, count_at, param_at, kind_at, arrow_at, statement_at, numbers_at, line_at};
 ghost use Rattle.u_program.specs.Limits.{greatest_port};
 ghost use Rattle.u_program.specs.Refuses.{Refuses};
-ghost use Rattle.u_text.specs.Pieces.{words};
+ghost use Rattle.u_base.specs.Pieces.{words};
 
 use crate::kind_words::{has_list, has_otherwise, kind_word, plain_kinds};
 use crate::program::{Arguments, Constant, Destination, Kind, Parameter, Statement, Version};
 use std::alloc::{AllocFailed, Global};
 use u_name::BlockName;
-use u_text::{BadWord, Words, after, number_at, number_word, number0_word, signed_word};
+use u_base::{BadWord, Words, after, number_at, number_word, number0_word, signed_word};
 use u_value::{BinaryOperator, UnaryOperator};
 
 /// Why a line was not read: it is of no allowed form, or there is no memory.
@@ -216,7 +216,7 @@ fn greatest_port(version: Version) -> u32
     }
 }
 
-#[tactic(auto, unfolding(crate::specs::Reading::destination_at), using(u_text::proofs::NumberLaws::number_bound))]
+#[tactic(auto, unfolding(crate::specs::Reading::destination_at), using(u_base::proofs::NumberLaws::number_bound))]
 fn destination(version: Version, word: &[u8]) -> Result<Destination, BadWord>
     ensures { MatchResult result
         (λ d. destination_at version word.now ≡ Some d)

@@ -11,7 +11,7 @@ use crate::part::{LineFault, Part};
 use crate::program::{Program, Version};
 use crate::read_error::ReadError;
 use std::alloc::Global;
-use u_text::cut;
+use u_base::cut;
 
 /// The program whose text the bytes are. Each program has one text, which `Program::write_text`
 /// writes, so the two are inverse to each other.

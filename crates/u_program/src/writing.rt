@@ -1,7 +1,7 @@
 //! The text of a program, written.
 ghost use Rattle.std.specs.Prelude.{◌≡◌, ◌+◌, ◌<◌, ◌^◌, ◌++◌, ◌∷◌, [], map, OnOk, OnErr};
-ghost use Rattle.u_text.specs.Appending.{Extends};
-ghost use Rattle.u_text.specs.Spaced.{spaced, ended};
+ghost use Rattle.u_base.specs.Appending.{Extends};
+ghost use Rattle.u_base.specs.Spaced.{spaced, ended};
 ghost use Rattle.std.specs.Fmt.{decimal};
 ghost use Rattle.u_program.specs.Limits.{IsProgram, limits_of, has_otherwise};
 ghost use Rattle.u_program.specs.Text.{header, kind_word, constant_word, count_words, argument_words, destination_word, otherwise_words, tail_words, loop_line, loop_lines, statement_line, statement_lines, block_line, block_lines, blocks_lines, program_text};
@@ -9,9 +9,9 @@ ghost use Rattle.u_program.specs.Text.{header, kind_word, constant_word, count_w
 use crate::kind_words::{count_word, has_otherwise, kind_word, place_word};
 use crate::program::{Arguments, Block, Constant, Destination, Kind, Program, Statement, Version};
 use std::alloc::AllocError;
-use u_text::{cut_back, push_behind, push_long, push_number, push_signed, push_spaced};
+use u_base::{cut_back, push_behind, push_long, push_number, push_signed, push_spaced};
 
-#[tactic(auto, using(u_text::proofs::AppendingLaws::extends_same, u_text::proofs::AppendingLaws::extends_behind, std::proofs::Common::append_assoc))]
+#[tactic(auto, using(u_base::proofs::AppendingLaws::extends_same, u_base::proofs::AppendingLaws::extends_behind, std::proofs::Common::append_assoc))]
 fn push_constant(out: &mut Vec<u8>, constant: &Constant) -> Result<(), AllocError>
     ensures ok { OnOk result (out.new.items ≡ out.old.items ++ (32 ∷ constant_word constant.now)) }
     ensures err { OnErr result (Extends out.old.items out.new.items) }
@@ -31,7 +31,7 @@ fn push_constant(out: &mut Vec<u8>, constant: &Constant) -> Result<(), AllocErro
 }
 
 /// Appends the `back` of an `apply`, and in version 2 how many arguments it has.
-#[tactic(auto, using(u_text::proofs::AppendingLaws::extends_same, u_text::proofs::AppendingLaws::extends_behind, std::proofs::Common::append_assoc))]
+#[tactic(auto, using(u_base::proofs::AppendingLaws::extends_same, u_base::proofs::AppendingLaws::extends_behind, std::proofs::Common::append_assoc))]
 fn push_call(
     out: &mut Vec<u8>,
     version: Version,
@@ -53,7 +53,7 @@ fn push_call(
 ///
 /// # Errors
 /// An error is returned if there is no memory. Then a part of them may stand there.
-#[tactic(auto, using(u_text::proofs::AppendingLaws::extends_same, u_text::proofs::AppendingLaws::extends_behind, std::proofs::Common::append_assoc))]
+#[tactic(auto, using(u_base::proofs::AppendingLaws::extends_same, u_base::proofs::AppendingLaws::extends_behind, std::proofs::Common::append_assoc))]
 pub fn push_kind(out: &mut Vec<u8>, version: Version, kind: &Kind) -> Result<(), AllocError>
     ensures ok { OnOk result
         (out.new.items ≡ out.old.items
@@ -70,7 +70,7 @@ pub fn push_kind(out: &mut Vec<u8>, version: Version, kind: &Kind) -> Result<(),
     }
 }
 
-#[tactic(auto, using(u_text::proofs::AppendingLaws::extends_same, u_text::proofs::AppendingLaws::extends_behind, std::proofs::Common::append_assoc))]
+#[tactic(auto, using(u_base::proofs::AppendingLaws::extends_same, u_base::proofs::AppendingLaws::extends_behind, std::proofs::Common::append_assoc))]
 fn push_destination(out: &mut Vec<u8>, to: &Destination) -> Result<(), AllocError>
     ensures ok { OnOk result (out.new.items ≡ out.old.items ++ (32 ∷ destination_word to.now)) }
     ensures err { OnErr result (Extends out.old.items out.new.items) }
@@ -83,7 +83,7 @@ fn push_destination(out: &mut Vec<u8>, to: &Destination) -> Result<(), AllocErro
 ///
 /// # Errors
 /// An error is returned if there is no memory. Then a part of them may stand there.
-#[tactic(auto, using(u_text::proofs::AppendingLaws::extends_by, u_text::proofs::AppendingLaws::extends_behind, crate::proofs::Written::list_more))]
+#[tactic(auto, using(u_base::proofs::AppendingLaws::extends_by, u_base::proofs::AppendingLaws::extends_behind, crate::proofs::Written::list_more))]
 pub fn push_list(out: &mut Vec<u8>, to: &[Destination]) -> Result<(), AllocError>
     ensures ok { OnOk result
         (out.new.items ≡ out.old.items ++ spaced (map destination_word to.now)) }
@@ -96,7 +96,7 @@ pub fn push_list(out: &mut Vec<u8>, to: &[Destination]) -> Result<(), AllocError
 }
 
 /// Appends the list of a `switch` for false, behind its slash.
-#[tactic(auto, using(u_text::proofs::AppendingLaws::extends_same, u_text::proofs::AppendingLaws::extends_behind, std::proofs::Common::append_assoc))]
+#[tactic(auto, using(u_base::proofs::AppendingLaws::extends_same, u_base::proofs::AppendingLaws::extends_behind, std::proofs::Common::append_assoc))]
 fn push_otherwise(out: &mut Vec<u8>, kind: &Kind, to: &[Destination]) -> Result<(), AllocError>
     ensures ok { OnOk result
         (out.new.items ≡ out.old.items
@@ -115,7 +115,7 @@ fn push_otherwise(out: &mut Vec<u8>, kind: &Kind, to: &[Destination]) -> Result<
 ///
 /// # Errors
 /// An error is returned if there is no memory. Then a part of it may stand there.
-#[tactic(auto, using(u_text::proofs::AppendingLaws::extends_behind, crate::proofs::Written::tail_text))]
+#[tactic(auto, using(u_base::proofs::AppendingLaws::extends_behind, crate::proofs::Written::tail_text))]
 pub fn push_tail(
     out: &mut Vec<u8>,
     version: Version,
@@ -135,7 +135,7 @@ pub fn push_tail(
     Ok(())
 }
 
-#[tactic(auto, using(u_text::proofs::AppendingLaws::extends_same, u_text::proofs::AppendingLaws::extends_behind, crate::proofs::Written::statement_text))]
+#[tactic(auto, using(u_base::proofs::AppendingLaws::extends_same, u_base::proofs::AppendingLaws::extends_behind, crate::proofs::Written::statement_text))]
 fn push_statement(
     out: &mut Vec<u8>,
     version: Version,
@@ -160,7 +160,7 @@ fn push_statement(
     Ok(())
 }
 
-#[tactic(auto, using(u_text::proofs::AppendingLaws::extends_by, u_text::proofs::AppendingLaws::extends_behind, crate::proofs::Written::statements_more))]
+#[tactic(auto, using(u_base::proofs::AppendingLaws::extends_by, u_base::proofs::AppendingLaws::extends_behind, crate::proofs::Written::statements_more))]
 fn push_statements(
     out: &mut Vec<u8>,
     version: Version,
@@ -176,7 +176,7 @@ fn push_statements(
     Ok(())
 }
 
-#[tactic(auto, using(u_text::proofs::AppendingLaws::extends_same, u_text::proofs::AppendingLaws::extends_behind, crate::proofs::Written::loop_text))]
+#[tactic(auto, using(u_base::proofs::AppendingLaws::extends_same, u_base::proofs::AppendingLaws::extends_behind, crate::proofs::Written::loop_text))]
 fn push_loop(out: &mut Vec<u8>, number: u64, held_by: u8) -> Result<(), AllocError>
     ensures ok { OnOk result
         (out.new.items ≡ out.old.items ++ (loop_line number held_by ++ (10 ∷ []))) }
@@ -189,7 +189,7 @@ fn push_loop(out: &mut Vec<u8>, number: u64, held_by: u8) -> Result<(), AllocErr
     Ok(())
 }
 
-#[tactic(auto, using(u_text::proofs::AppendingLaws::extends_by, u_text::proofs::AppendingLaws::extends_behind, crate::proofs::Written::loops_more))]
+#[tactic(auto, using(u_base::proofs::AppendingLaws::extends_by, u_base::proofs::AppendingLaws::extends_behind, crate::proofs::Written::loops_more))]
 fn push_loops(out: &mut Vec<u8>, loops: &[u8]) -> Result<(), AllocError>
     ensures ok { OnOk result (out.new.items ≡ out.old.items ++ ended (loop_lines 1 loops.now)) }
     ensures err { OnErr result (Extends out.old.items out.new.items) }
@@ -200,7 +200,7 @@ fn push_loops(out: &mut Vec<u8>, loops: &[u8]) -> Result<(), AllocError>
     Ok(())
 }
 
-#[tactic(auto, using(u_text::proofs::AppendingLaws::extends_same, u_text::proofs::AppendingLaws::extends_behind, crate::proofs::Written::begun_text))]
+#[tactic(auto, using(u_base::proofs::AppendingLaws::extends_same, u_base::proofs::AppendingLaws::extends_behind, crate::proofs::Written::begun_text))]
 fn push_block_line(out: &mut Vec<u8>, name: &[u8]) -> Result<(), AllocError>
     ensures ok { OnOk result
         (out.new.items ≡ out.old.items ++ (block_line name.now ++ (10 ∷ []))) }
@@ -212,7 +212,7 @@ fn push_block_line(out: &mut Vec<u8>, name: &[u8]) -> Result<(), AllocError>
     Ok(())
 }
 
-#[tactic(auto, using(u_text::proofs::AppendingLaws::extends_behind, crate::proofs::Written::block_text))]
+#[tactic(auto, using(u_base::proofs::AppendingLaws::extends_behind, crate::proofs::Written::block_text))]
 fn push_block(out: &mut Vec<u8>, version: Version, block: &Block) -> Result<(), AllocError>
     ensures ok { OnOk result
         (out.new.items ≡ out.old.items ++ ended (block_lines version block.now)) }
@@ -224,7 +224,7 @@ fn push_block(out: &mut Vec<u8>, version: Version, block: &Block) -> Result<(), 
     Ok(())
 }
 
-#[tactic(auto, using(u_text::proofs::AppendingLaws::extends_by, u_text::proofs::AppendingLaws::extends_behind, crate::proofs::Written::blocks_more))]
+#[tactic(auto, using(u_base::proofs::AppendingLaws::extends_by, u_base::proofs::AppendingLaws::extends_behind, crate::proofs::Written::blocks_more))]
 fn push_blocks(out: &mut Vec<u8>, version: Version, blocks: &[Block]) -> Result<(), AllocError>
     ensures ok { OnOk result
         (out.new.items ≡ out.old.items ++ ended (blocks_lines version blocks.now)) }
@@ -248,7 +248,7 @@ fn push_header(out: &mut Vec<u8>, version: Version) -> Result<(), AllocError>
 
 impl Program {
     /// Appends the program's text. On an error a part of it may stand there.
-    #[tactic(auto, using(u_text::proofs::AppendingLaws::extends_same, u_text::proofs::AppendingLaws::extends_behind, crate::proofs::Written::whole_text))]
+    #[tactic(auto, using(u_base::proofs::AppendingLaws::extends_same, u_base::proofs::AppendingLaws::extends_behind, crate::proofs::Written::whole_text))]
     fn append(&self, out: &mut Vec<u8>) -> Result<(), AllocError>
         ensures ok { OnOk result
             (out.new.items ≡ out.old.items ++ program_text self.now.version self.now.blocks) }
@@ -266,7 +266,7 @@ impl Program {
     ///
     /// # Errors
     /// `AllocError` where there is no memory. Then `out` is as it was.
-    #[tactic(auto, using(u_text::proofs::AppendingLaws::extends_cut))]
+    #[tactic(auto, using(u_base::proofs::AppendingLaws::extends_cut))]
     pub fn write_text(&self, out: &mut Vec<u8>) -> Result<(), AllocError>
         ensures ok { OnOk result
             (out.new.items ≡ out.old.items ++ program_text self.now.version self.now.blocks) }

@@ -3,11 +3,11 @@ use Rattle.std.specs.Prelude.{◌≡◌, ℕ, zero, suc, ◌+◌, ◌-◌, ◌^�
 use Rattle.std.proofs.Common.{sym, ◌∙◌, ap, subst, arith, inl, inr, length-append}
 use Rattle.std.proofs.Math.Seq.{take-append-add}
 use Rattle.std.proofs.lemmas.List.{take-append-le, take-append-drop}
-use Rattle.u_text.specs.Pieces.{PiecesAndRest, pieces}
-use Rattle.u_text.specs.Spaced.{ended}
-use Rattle.u_text.proofs.PiecesLaws.{Free, glued, pieces_cut, pieces_free}
-use Rattle.u_text.proofs.SpacedLaws.{AllFree}
-use Rattle.u_text.proofs.WholeWordsLaws.{le_cases}
+use Rattle.u_base.specs.Pieces.{PiecesAndRest, pieces}
+use Rattle.u_base.specs.Spaced.{ended}
+use Rattle.u_base.proofs.PiecesLaws.{Free, glued, pieces_cut, pieces_free}
+use Rattle.u_base.proofs.SpacedLaws.{AllFree}
+use Rattle.u_base.proofs.WholeWordsLaws.{le_cases}
 use Rattle.u_program.specs.declared.program.Version.{Version}
 use Rattle.u_rule.specs.declared.firing.Firing.{Firing}
 use Rattle.u_rule.specs.FiringText.{firing_text}

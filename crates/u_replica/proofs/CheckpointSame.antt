@@ -3,10 +3,10 @@ use Rattle.std.specs.Prelude.{◌≡◌, ℕ, ◌^◌, ◌<◌, ◌≤◌, List,
 use Rattle.std.proofs.Common.{sym, ◌∙◌, ap, subst, arith, inl, inr, length-append}
 use Rattle.std.proofs.lemmas.Fmt.{length-decimal-le}
 use Rattle.std.specs.List.{AllByRecursion}
-use Rattle.u_text.specs.Pieces.{PiecesAndRest, pieces}
-use Rattle.u_text.specs.Spaced.{ended}
-use Rattle.u_text.proofs.PiecesLaws.{Free}
-use Rattle.u_text.proofs.SpacedLaws.{AllFree, all_free_append, free_decimal, pieces-ended}
+use Rattle.u_base.specs.Pieces.{PiecesAndRest, pieces}
+use Rattle.u_base.specs.Spaced.{ended}
+use Rattle.u_base.proofs.PiecesLaws.{Free}
+use Rattle.u_base.proofs.SpacedLaws.{AllFree, all_free_append, free_decimal, pieces-ended}
 use Rattle.u_program.specs.declared.program.Version.{Version}
 use Rattle.u_program.specs.declared.program.Version.TheVariants as versions
 use Rattle.u_rule.specs.declared.firing.Firing.{Firing}

@@ -3,8 +3,8 @@ use Rattle.std.specs.Prelude.{◌≡◌, ℕ, suc, ◌+◌, ◌^◌, ◌<◌, Li
 use Rattle.std.proofs.Common.{sym, ◌∙◌, ap, subst, arith, inl, inr, length-append}
 use Rattle.std.proofs.lemmas.List.{append-nil, map-append}
 use Rattle.std.specs.List.{AllByRecursion}
-use Rattle.u_text.specs.TextAt.{IsNoText}
-use Rattle.u_text.specs.Pieces.{PiecesAndRest, pieces}
+use Rattle.u_base.specs.TextAt.{IsNoText}
+use Rattle.u_base.specs.Pieces.{PiecesAndRest, pieces}
 use Rattle.u_program.specs.declared.program.Version.{Version}
 use Rattle.u_program.specs.declared.program.Version.TheVariants as versions
 use Rattle.u_rule.specs.declared.firing.Firing.{Firing}

@@ -5,8 +5,8 @@ use Rattle.std.proofs.lemmas.List.{map-append}
 use Rattle.std.specs.Borrow.{Bor}
 use Rattle.std.specs.Fmt.{decimal}
 use Rattle.std.specs.Map.Iter.{deref}
-use Rattle.u_text.specs.Spaced.{ended}
-use Rattle.u_text.proofs.SpacedLaws.{ended-append}
+use Rattle.u_base.specs.Spaced.{ended}
+use Rattle.u_base.proofs.SpacedLaws.{ended-append}
 use Rattle.u_program.specs.declared.program.Version.{Version}
 use Rattle.u_rule.specs.declared.firing.Firing.{Firing}
 use Rattle.u_rule.specs.FiringText.{firing_text}

@@ -3,10 +3,10 @@ use Rattle.std.specs.Prelude.{◌≡◌, ℕ, ◌-◌, ◌^◌, ◌<◌, List, �
 use Rattle.std.proofs.Common.{sym, ◌∙◌, ap, arith}
 use Rattle.std.proofs.lemmas.Option.{same_Some, none-some}
 use Rattle.std.specs.Fmt.{decimal}
-use Rattle.u_text.specs.Fixed.{fixed}
-use Rattle.u_text.specs.WholeWords.{number0_word}
-use Rattle.u_text.proofs.FixedLaws.{fixed_Reads}
-use Rattle.u_text.proofs.WholeWordsLaws.{number0_word_sound, number0_word_complete}
+use Rattle.u_base.specs.Fixed.{fixed}
+use Rattle.u_base.specs.WholeWords.{number0_word}
+use Rattle.u_base.proofs.FixedLaws.{fixed_Reads}
+use Rattle.u_base.proofs.WholeWordsLaws.{number0_word_sound, number0_word_complete}
 use Rattle.u_delta.proofs.MessageLaws.{tails_are}
 use Rattle.u_replica.specs.CheckpointText.{count_line}
 

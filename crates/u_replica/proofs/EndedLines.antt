@@ -3,8 +3,8 @@ use Rattle.std.specs.Prelude.{◌≡◌, ℕ, ◌+◌, ◌≤◌, List, [], ◌�
 use Rattle.std.proofs.Common.{sym, ◌∙◌, ap, arith}
 use Rattle.std.proofs.Math.Seq.{take-append-add}
 use Rattle.std.proofs.lemmas.List.{length-append}
-use Rattle.u_text.specs.Pieces.{PiecesAndRest, IsCutInto}
-use Rattle.u_text.proofs.PiecesLaws.{glued, glued-pieces}
+use Rattle.u_base.specs.Pieces.{PiecesAndRest, IsCutInto}
+use Rattle.u_base.proofs.PiecesLaws.{glued, glued-pieces}
 
 parts : (bs line rest : List ℕ) → IsCutInto 10 bs line rest → bs ≡ line ++ (10 ∷ rest)
 parts bs line rest c =

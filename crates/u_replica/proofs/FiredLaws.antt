@@ -2,7 +2,7 @@
 use Rattle.std.specs.Prelude.{◌≡◌, ℕ, ◌+◌, ◌^◌, ◌<◌, ◌⊎◌, List, [], ◌∷◌, ◌++◌, length, map, Result, Ok, Err, refl}
 use Rattle.std.proofs.Common.{sym, ◌∙◌, ap, subst, inl, inr, arith, append-nil, append_assoc, length-append}
 use Rattle.std.proofs.lemmas.List.{map-append}
-use Rattle.u_text.specs.Pieces.{pieces}
+use Rattle.u_base.specs.Pieces.{pieces}
 use Rattle.u_program.specs.Parts.{ProgramParts}
 use Rattle.u_sets.proofs.Places.{irreflexive}
 use Rattle.u_program.specs.declared.program.Version.{Version}

@@ -4,9 +4,9 @@ use Rattle.std.specs.Prelude.{Contains, Result, Ok, Err, IsTrue, true, false}
 use Rattle.u_rule.specs.declared.entry.Entry.{Entry}
 use Rattle.u_rule.specs.declared.firing.Firing.{Firing}
 use Rattle.u_rule.specs.Rule.{system_of}
-use Rattle.u_system.specs.Firing.{Same, Cl, Held, Derivation}
-use Rattle.u_system.proofs.Held.{Held-start, Enabled-mono}
-use Rattle.u_system.proofs.Closure.{Cl-mono, Cl-closed, Cl-least, Merge-union}
+use Rattle.u_base.specs.Firing.{Same, Cl, Held, Derivation}
+use Rattle.u_base.proofs.Held.{Held-start, Enabled-mono}
+use Rattle.u_base.proofs.Closure.{Cl-mono, Cl-closed, Cl-least, Merge-union}
 use Rattle.u_machine.specs.State.{State, Taken, IsSound, IsMachine}
 use Rattle.u_machine.specs.Headline.{IsClosure, KeepsItsPromise}
 use Rattle.u_machine.specs.Taking.{AreFirings, TakesAll, TakeAllAnswer, IsFirstOther}

@@ -4,8 +4,8 @@ use Rattle.std.specs.Prelude.{Contains, Result, Ok, Err, MatchResult, IsTrue, tr
 use Rattle.std.specs.Result.{IsErrAnd}
 use Rattle.std.proofs.Common.{length-append}
 use Rattle.std.proofs.lemmas.List.{length-take}
-use Rattle.u_system.specs.Firing.{Same}
-use Rattle.u_system.proofs.Member.{Contains-nil, Contains-cons_cases}
+use Rattle.u_base.specs.Firing.{Same}
+use Rattle.u_base.proofs.Member.{Contains-nil, Contains-cons_cases}
 use Rattle.u_check.specs.Jobs.{JobParts}
 use Rattle.u_rule.specs.Rule.{system_of}
 use Rattle.u_program.specs.declared.program.Version.{Version}
@@ -34,7 +34,7 @@ use Rattle.u_replica.proofs.CheckpointSame.{read_back}
 use Rattle.u_replica.proofs.CheckpointCuts.{read_cut}
 use Rattle.u_replica.specs.CheckpointReading.{IsAnswer}
 use Rattle.u_replica.specs.Takings.{IsTaken, IsUntaken}
-use Rattle.u_text.specs.Pieces.{pieces}
+use Rattle.u_base.specs.Pieces.{pieces}
 use Rattle.u_replica.specs.Restoring.{blank, IsRestored, IsRestoreError, RestoreAnswer, error_of_reading, error_of_taking, IsNoRoom, IsNoRoomFor, MaySave, MayWrite, RestoresWritten, RestoresWhole, RestoresFront}
 
 -- what reading a checkpoint says of a text that was written, and of a front of it

@@ -2,10 +2,10 @@
 use Rattle.std.specs.Prelude.{◌≡◌, ℕ, ℤ, ◌^◌, ◌-◌, List, ◌∷◌, ◌++◌, Ok, codes, None}
 use Rattle.std.specs.Fmt.{decimal, signed_decimal}
 use Rattle.std.proofs.Common.{sym, ◌∙◌, ap, arith, append_assoc, append-nil}
-use Rattle.u_text.specs.FromZero.{number0}
-use Rattle.u_text.specs.Signed.{signed}
-use Rattle.u_text.proofs.FromZeroLaws.{number0_Reads}
-use Rattle.u_text.proofs.SignedLaws.{signed_Reads}
+use Rattle.u_base.specs.FromZero.{number0}
+use Rattle.u_base.specs.Signed.{signed}
+use Rattle.u_base.proofs.FromZeroLaws.{number0_Reads}
+use Rattle.u_base.proofs.SignedLaws.{signed_Reads}
 use Rattle.u_name.specs.Name.{Activity}
 use Rattle.u_name.specs.NameText.{context_text, call_part, name_text}
 use Rattle.u_rule.specs.declared.firing.Firing.{Firing}

@@ -1,7 +1,7 @@
 -- What the steps of reading a checkpoint answer.
 use Rattle.std.specs.Prelude.{◌≡◌, ℕ, List, [], Result, MatchResult}
 use Rattle.std.specs.List.{AllByRecursion}
-use Rattle.u_text.specs.Pieces.{PiecesAndRest}
+use Rattle.u_base.specs.Pieces.{PiecesAndRest}
 use Rattle.u_program.specs.declared.program.Version.{Version}
 use Rattle.u_rule.specs.declared.firing.Firing.{Firing}
 use Rattle.u_rule.specs.FiringText.{firing_text}

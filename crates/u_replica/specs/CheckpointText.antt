@@ -1,7 +1,7 @@
 -- The texts of checkpoints.
 use Rattle.std.specs.Prelude.{ℕ, List, [], ◌∷◌, ◌++◌, length, map, codes}
 use Rattle.std.specs.Fmt.{decimal}
-use Rattle.u_text.specs.Spaced.{ended}
+use Rattle.u_base.specs.Spaced.{ended}
 use Rattle.u_program.specs.declared.program.Version.{Version}
 use Rattle.u_program.specs.declared.program.Version.TheVariants as versions
 use Rattle.u_rule.specs.declared.firing.Firing.{Firing}

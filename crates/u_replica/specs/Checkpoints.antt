@@ -1,7 +1,7 @@
 -- Which lists of lines are checkpoints, and what is answered for the bytes of one, whole or torn.
 use Rattle.std.specs.Prelude.{◌≡◌, ℕ, ◌⊎◌, List, [], take}
 use Rattle.std.specs.List.{AllByRecursion}
-use Rattle.u_text.specs.Pieces.{PiecesAndRest, pieces, lines}
+use Rattle.u_base.specs.Pieces.{PiecesAndRest, pieces, lines}
 use Rattle.u_program.specs.declared.program.Version.{Version}
 use Rattle.u_program.specs.declared.program.Version.TheVariants as versions
 use Rattle.u_rule.specs.declared.firing.Firing.{Firing}

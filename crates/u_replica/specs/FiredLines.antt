@@ -1,7 +1,7 @@
 -- The lines of a checkpoint whose firings a machine fires by itself, and what is read behind them.
 use Rattle.std.specs.Prelude.{◌≡◌, ◌<◌, ◌^◌, List, ℕ, ◌++◌, Contains, Result, Ok, Err, MatchResult, length, map}
 use Rattle.std.specs.List.{AllByRecursion}
-use Rattle.u_text.specs.Pieces.{PiecesAndRest}
+use Rattle.u_base.specs.Pieces.{PiecesAndRest}
 use Rattle.u_program.specs.declared.program.Version.{Version}
 use Rattle.u_rule.specs.declared.firing.Firing.{Firing}
 use Rattle.u_rule.specs.FiringReading.{IsFiringOf}

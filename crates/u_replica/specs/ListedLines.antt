@@ -2,7 +2,7 @@
 use Rattle.std.specs.Prelude.{◌≡◌, ℕ, ◌<◌, ◌^◌, List, Contains, Some, length, map}
 use Rattle.std.specs.List.{slice_get}
 use Rattle.std.specs.Borrow.{Bor}
-use Rattle.u_text.specs.Pieces.{lines}
+use Rattle.u_base.specs.Pieces.{lines}
 use Rattle.u_rule.specs.declared.firing.Firing.{Firing}
 use Rattle.u_rule.specs.FiringText.{firing_text}
 use Rattle.u_rule.specs.FiringReading.{IsFiring}

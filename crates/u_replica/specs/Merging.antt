@@ -1,6 +1,6 @@
 -- What merging a replica into another leaves: the least upper bound of the two.
 use Rattle.std.specs.Prelude.{◌≡◌, List, [], ◌++◌, ◌⊎◌, ◌↔◌, Contains, Result, Ok, Err}
-use Rattle.u_system.specs.Firing.{Enabled, Same}
+use Rattle.u_base.specs.Firing.{Enabled, Same}
 use Rattle.u_check.specs.Jobs.{JobParts}
 use Rattle.u_rule.specs.Rule.{system_of}
 use Rattle.u_rule.specs.declared.entry.Entry.{Entry}

@@ -1,7 +1,7 @@
 -- What restoring a replica from the bytes of a checkpoint answers.
 use Rattle.std.specs.Prelude.{◌≡◌, ℕ, ◌<◌, ◌+◌, ◌^◌, ◌⊎◌, List, [], ◌∷◌, Result, MatchResult, Contains, length, take}
-use Rattle.u_text.specs.Pieces.{pieces}
-use Rattle.u_system.specs.Firing.{Same}
+use Rattle.u_base.specs.Pieces.{pieces}
+use Rattle.u_base.specs.Firing.{Same}
 use Rattle.u_program.specs.declared.program.Version.{Version}
 use Rattle.u_check.specs.Jobs.{JobParts}
 use Rattle.u_rule.specs.Rule.{system_of}

@@ -1,8 +1,8 @@
 //! Checkpoints of a replica: the firings that it has taken, as a text.
 ghost use Rattle.std.specs.Prelude.{◌≡◌, ◌++◌, ◌∷◌, [], map, length, OnOk, OnErr};
 ghost use Rattle.u_rule.specs.FiringText.{firing_text};
-ghost use Rattle.u_text.specs.Appending.{Extends};
-ghost use Rattle.u_text.specs.Spaced.{ended};
+ghost use Rattle.u_base.specs.Appending.{Extends};
+ghost use Rattle.u_base.specs.Spaced.{ended};
 ghost use Rattle.u_replica.specs.CheckpointText.{first_line, count_line, checkpoint_lines, checkpoint_text};
 ghost use Rattle.u_replica.specs.Checkpoints.{AreFirings};
 
@@ -12,7 +12,7 @@ use u_delta::{Firings, all_in_range, in_range, write_firings};
 use u_machine::Parked;
 use u_program::Version;
 use u_rule::Firing;
-use u_text::{cut_back, push_long};
+use u_base::{cut_back, push_long};
 
 /// Whether all of a checkpoint was there.
 #[derive(Clone, Copy, Debug, PartialEq, Eq)]
@@ -66,7 +66,7 @@ fn set_in_range(firings: &Parked<'_>)
 }
 
 /// Appends a line for each firing of the set, in order. On an error a part of them may stand there.
-#[tactic(auto, using(u_text::proofs::AppendingLaws::extends_by, u_text::proofs::AppendingLaws::extends_behind))]
+#[tactic(auto, using(u_base::proofs::AppendingLaws::extends_by, u_base::proofs::AppendingLaws::extends_behind))]
 fn push_set(out: &mut Vec<u8>, firings: &Parked<'_>) -> Result<(), AllocError>
     ensures ok { OnOk result
         (out.new.items ≡ out.old.items ++ ended (map firing_text firings.now)) }
@@ -81,7 +81,7 @@ fn push_set(out: &mut Vec<u8>, firings: &Parked<'_>) -> Result<(), AllocError>
 
 /// Appends the last line of a checkpoint of so many firings. On an error a part of it may stand
 /// there.
-#[tactic(auto, using(u_text::proofs::AppendingLaws::extends_same, u_text::proofs::AppendingLaws::extends_by, u_text::proofs::AppendingLaws::extends_behind, crate::proofs::CheckpointWritten::count_written))]
+#[tactic(auto, using(u_base::proofs::AppendingLaws::extends_same, u_base::proofs::AppendingLaws::extends_by, u_base::proofs::AppendingLaws::extends_behind, crate::proofs::CheckpointWritten::count_written))]
 fn push_count(out: &mut Vec<u8>, count: u64) -> Result<(), AllocError>
     ensures ok { OnOk result (out.new.items ≡ out.old.items ++ (count_line count ++ (10 ∷ []))) }
     ensures err { OnErr result (Extends out.old.items out.new.items) }
@@ -105,7 +105,7 @@ fn push_head(out: &mut Vec<u8>, version: Version) -> Result<(), AllocError>
 }
 
 /// Appends the lines of a checkpoint. On an error a part of them may stand there.
-#[tactic(auto, using(u_text::proofs::AppendingLaws::extends_same, u_text::proofs::AppendingLaws::extends_by, u_text::proofs::AppendingLaws::extends_behind, crate::proofs::CheckpointWritten::all_written, crate::proofs::CheckpointWritten::counted))]
+#[tactic(auto, using(u_base::proofs::AppendingLaws::extends_same, u_base::proofs::AppendingLaws::extends_by, u_base::proofs::AppendingLaws::extends_behind, crate::proofs::CheckpointWritten::all_written, crate::proofs::CheckpointWritten::counted))]
 fn push_checkpoint(
     version: Version,
     applied: &[Firing],
@@ -131,7 +131,7 @@ fn push_checkpoint(
 ///
 /// # Errors
 /// `AllocError` where there is no memory. Then `out` is as it was.
-#[tactic(auto, unfolding(crate::specs::CheckpointText::checkpoint_text), using(u_text::proofs::AppendingLaws::extends_cut, crate::proofs::CheckpointWritten::all_behind))]
+#[tactic(auto, unfolding(crate::specs::CheckpointText::checkpoint_text), using(u_base::proofs::AppendingLaws::extends_cut, crate::proofs::CheckpointWritten::all_behind))]
 pub fn write_checkpoint(
     version: Version,
     applied: &[Firing],

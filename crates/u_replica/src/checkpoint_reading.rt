@@ -3,7 +3,7 @@ ghost use Rattle.std.specs.Prelude.{◌≡◌, ◌↔◌, ◌∷◌, [], ◌++�
 ghost use Rattle.u_program.specs.declared.program.Version.{Version};
 ghost use Rattle.u_rule.specs.declared.firing.Firing.{Firing};
 ghost use Rattle.u_rule.specs.FiringReading.{line as ended_line, IsFiringOf};
-ghost use Rattle.u_text.specs.Pieces.{PiecesAndRest, pieces, IsCutInto};
+ghost use Rattle.u_base.specs.Pieces.{PiecesAndRest, pieces, IsCutInto};
 ghost use Rattle.u_delta.specs.Lines.{lines_behind};
 ghost use Rattle.u_replica.specs.declared.checkpoint.Ending.TheVariants as endings;
 ghost use Rattle.u_replica.specs.declared.checkpoint.CheckpointError.TheVariants as errors;
@@ -26,7 +26,7 @@ use u_machine::Machine;
 use u_name::KeptContext;
 use u_program::Version;
 use u_rule::{Firing, TextError};
-use u_text::{after_all, long_word};
+use u_base::{after_all, long_word};
 
 /// Whether the line is the last one of a checkpoint of so many firings.
 fn is_count_line(line: &[u8], count: u64) -> bool

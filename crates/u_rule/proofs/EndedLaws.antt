@@ -3,10 +3,10 @@ use Rattle.std.specs.Prelude.{◌≡◌, ℕ, ◌-◌, ◌<◌, ◌≤◌, List,
 use Rattle.std.proofs.Common.{sym, ◌∙◌, ap, arith, length-append, append_assoc, take-take}
 use Rattle.std.proofs.Math.Seq.{take-append_seam}
 use Rattle.std.proofs.lemmas.List.{append-nil, take-append-le, take-append-drop, append_cancel_right, length-take}
-use Rattle.u_text.proofs.ReaderLaws.{Reads, longer, equal, shorter, cut}
-use Rattle.u_text.proofs.PartsLaws.{NoByte}
-use Rattle.u_text.proofs.LongestLaws.{is_refused_at}
-use Rattle.u_text.specs.TextAt.{IsTextOf, IsNoText}
+use Rattle.u_base.proofs.ReaderLaws.{Reads, longer, equal, shorter, cut}
+use Rattle.u_base.proofs.PartsLaws.{NoByte}
+use Rattle.u_base.proofs.LongestLaws.{is_refused_at}
+use Rattle.u_base.specs.TextAt.{IsTextOf, IsNoText}
 
 -- how a list with the byte behind it is cut: within the list, or at its end
 pub data EndCut (xs : List ℕ) (e : ℕ) (ys w : List ℕ) : Type 0 where

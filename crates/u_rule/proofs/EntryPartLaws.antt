@@ -1,10 +1,10 @@
 -- The readers of the parts of an entry, once the first byte is known.
 use Rattle.std.specs.Prelude.{◌≡◌, ℕ, ◌⊎◌, List, [], ◌∷◌, length, Result, Ok}
 use Rattle.std.proofs.Common.{sym, ◌∙◌, ap, inr, arith}
-use Rattle.u_text.specs.Reader.{Reader}
-use Rattle.u_text.specs.Then.{both}
-use Rattle.u_text.specs.Choice.{mapped, choice}
-use Rattle.u_text.specs.Fixed.{fixed}
+use Rattle.u_base.specs.Reader.{Reader}
+use Rattle.u_base.specs.Then.{both}
+use Rattle.u_base.specs.Choice.{mapped, choice}
+use Rattle.u_base.specs.Fixed.{fixed}
 use Rattle.u_name.specs.Name.{Activity}
 use Rattle.u_name.specs.Cell.{CellOf}
 use Rattle.u_value.specs.declared.value.Value.{Value}

@@ -2,18 +2,18 @@
 use Rattle.std.specs.Prelude.{◌≡◌, ℕ, ◌⊎◌, ◌-◌, ◌<◌, ◌≤◌, length, List, [], ◌∷◌, ◌++◌, Ok, Err, refl}
 use Rattle.std.proofs.Common.{inl, inr, arith}
 use Rattle.std.specs.Fmt.{decimal}
-use Rattle.u_text.specs.Reader.{Reader}
-use Rattle.u_text.proofs.ReaderLaws.{Reads}
-use Rattle.u_text.proofs.PartsLaws.{NoByte, lead_Reads, widened}
-use Rattle.u_text.proofs.ThenLaws.{after, both_Reads}
-use Rattle.u_text.specs.Then.{AreBoth}
-use Rattle.u_text.proofs.ChoiceLaws.{mapped_Reads, choice_Reads, one_text}
-use Rattle.u_text.specs.Choice.{choice, IsOne}
-use Rattle.u_text.proofs.NumberLaws.{IsDigit}
-use Rattle.u_text.proofs.FromZeroLaws.{number0_Reads}
-use Rattle.u_text.specs.Fixed.{fixed, IsUnit}
-use Rattle.u_text.proofs.FixedLaws.{fixed_Reads}
-use Rattle.u_text.proofs.TextAtLaws.{read_within, refused_within, whole_read, refused_whole, left_over}
+use Rattle.u_base.specs.Reader.{Reader}
+use Rattle.u_base.proofs.ReaderLaws.{Reads}
+use Rattle.u_base.proofs.PartsLaws.{NoByte, lead_Reads, widened}
+use Rattle.u_base.proofs.ThenLaws.{after, both_Reads}
+use Rattle.u_base.specs.Then.{AreBoth}
+use Rattle.u_base.proofs.ChoiceLaws.{mapped_Reads, choice_Reads, one_text}
+use Rattle.u_base.specs.Choice.{choice, IsOne}
+use Rattle.u_base.proofs.NumberLaws.{IsDigit}
+use Rattle.u_base.proofs.FromZeroLaws.{number0_Reads}
+use Rattle.u_base.specs.Fixed.{fixed, IsUnit}
+use Rattle.u_base.proofs.FixedLaws.{fixed_Reads}
+use Rattle.u_base.proofs.TextAtLaws.{read_within, refused_within, whole_read, refused_whole, left_over}
 use Rattle.u_name.specs.Context.{IsBetween}
 use Rattle.u_name.proofs.BlockTextLaws.{IsBlockByte}
 use Rattle.u_name.specs.Name.{Activity, IsName}

@@ -1,10 +1,10 @@
 -- The readers of the parts of a firing, once the first byte is known, and how the firing is put together of them.
 use Rattle.std.specs.Prelude.{◌≡◌, ℕ, suc, ◌-◌, ◌<◌, ◌⊎◌, List, [], ◌∷◌, ◌++◌, Option, Some, None, length, Ok, Err, refl}
 use Rattle.std.proofs.Common.{sym, ◌∙◌, ap, inl, inr, arith, append_assoc, append-nil, length-append}
-use Rattle.u_text.specs.Reader.{Reader, ◌>>=◌}
-use Rattle.u_text.specs.Parts.{empty, lead, after_byte}
-use Rattle.u_text.specs.Then.{both}
-use Rattle.u_text.specs.Choice.{mapped, choice}
+use Rattle.u_base.specs.Reader.{Reader, ◌>>=◌}
+use Rattle.u_base.specs.Parts.{empty, lead, after_byte}
+use Rattle.u_base.specs.Then.{both}
+use Rattle.u_base.specs.Choice.{mapped, choice}
 use Rattle.u_name.specs.Name.{Activity}
 use Rattle.u_name.specs.NameReader.{name_steps}
 use Rattle.u_value.specs.Reading.{value_at}

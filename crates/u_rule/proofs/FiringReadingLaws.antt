@@ -2,17 +2,17 @@
 use Rattle.std.specs.Prelude.{◌≡◌, ℕ, ◌-◌, ◌<◌, ◌≤◌, zero, suc, List, [], ◌∷◌, ◌++◌, Option, Some, None, length, false, Ok, Err, refl}
 use Rattle.std.proofs.Common.{sym, ◌∙◌, ap, subst, inl, inr, arith, append_assoc}
 use Rattle.std.proofs.lemmas.Bool.{false≢true}
-use Rattle.u_text.proofs.ReaderLaws.{Reads}
-use Rattle.u_text.proofs.PartsLaws.{NoByte, empty_Reads, lead_Reads}
-use Rattle.u_text.specs.Parts.{lead}
-use Rattle.u_text.proofs.ThenLaws.{after, both_Reads}
-use Rattle.u_text.specs.Then.{AreBoth, both}
-use Rattle.u_text.proofs.ChoiceLaws.{mapped_Reads, choice_Reads, one_text}
-use Rattle.u_text.specs.Choice.{IsOne}
-use Rattle.u_text.proofs.NumberLaws.{IsDigit}
-use Rattle.u_text.specs.Fixed.{IsUnit}
-use Rattle.u_text.proofs.FixedLaws.{fixed_Reads}
-use Rattle.u_text.proofs.TextAtLaws.{refused_within}
+use Rattle.u_base.proofs.ReaderLaws.{Reads}
+use Rattle.u_base.proofs.PartsLaws.{NoByte, empty_Reads, lead_Reads}
+use Rattle.u_base.specs.Parts.{lead}
+use Rattle.u_base.proofs.ThenLaws.{after, both_Reads}
+use Rattle.u_base.specs.Then.{AreBoth, both}
+use Rattle.u_base.proofs.ChoiceLaws.{mapped_Reads, choice_Reads, one_text}
+use Rattle.u_base.specs.Choice.{IsOne}
+use Rattle.u_base.proofs.NumberLaws.{IsDigit}
+use Rattle.u_base.specs.Fixed.{IsUnit}
+use Rattle.u_base.proofs.FixedLaws.{fixed_Reads}
+use Rattle.u_base.proofs.TextAtLaws.{refused_within}
 use Rattle.u_name.proofs.BlockTextLaws.{IsBlockByte}
 use Rattle.u_name.specs.Name.{Activity, IsName}
 use Rattle.u_name.specs.NameText.{name_text}

@@ -1,9 +1,9 @@
 -- A choice by the first byte, once that byte is known.
 use Rattle.std.specs.Prelude.{◌≡◌, ℕ, ◌⊎◌, cond, List, [], ◌∷◌, Result, Ok, Err, refl}
 use Rattle.std.proofs.Common.{◌∙◌, ap, inl, inr}
-use Rattle.u_text.specs.Reader.{Reader, ◌>>=◌}
-use Rattle.u_text.proofs.PartsLaws.{alike, unlike, same_or}
-use Rattle.u_text.specs.Choice.{mapped, choice}
+use Rattle.u_base.specs.Reader.{Reader, ◌>>=◌}
+use Rattle.u_base.proofs.PartsLaws.{alike, unlike, same_or}
+use Rattle.u_base.specs.Choice.{mapped, choice}
 
 -- an answer of a reader, and one of another value
 abbrev pub ReadOf : Type 0 → Type 0

@@ -22,7 +22,7 @@ use Rattle.u_program.specs.declared.program.Kind.TheVariants.{Enter, Next, Last,
 use Rattle.u_check.specs.Kinds.{back_named, is_apply, is_end, is_store}
 use Rattle.u_check.specs.Rules.{block_named}
 use Rattle.u_check.proofs.Blocks.{member_at}
-use Rattle.u_system.proofs.Member.{Contains-nil, Contains-cons_cases}
+use Rattle.u_base.proofs.Member.{Contains-nil, Contains-cons_cases}
 use Rattle.u_rule.specs.Parts.{token, ValueList}
 use Rattle.u_rule.specs.Fits.{statement_of}
 use Rattle.u_rule.specs.Rule.{reached, refusal_of, list_of, result_of, first_of, beside, delivered, handed_on, arguments_from, called_first, begun, called_on, called, back_of, brought_back, finished, ended, given, fault_of}

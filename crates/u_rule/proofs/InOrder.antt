@@ -24,7 +24,7 @@ use Rattle.u_check.specs.Rules.{block_named}
 use Rattle.std.proofs.lemmas.List.Elements.{Contains-append_cases}
 use Rattle.u_name.specs.Cell.{CellOf}
 use Rattle.u_sets.specs.Rising.{Rises}
-use Rattle.u_system.proofs.Member.{Contains-nil, Contains-cons_cases}
+use Rattle.u_base.proofs.Member.{Contains-nil, Contains-cons_cases}
 use Rattle.u_rule.specs.Parts.{token, ValueList}
 use Rattle.u_rule.specs.Fits.{statement_of}
 use Rattle.u_rule.specs.Parameters.{parameters_of}

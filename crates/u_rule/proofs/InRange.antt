@@ -21,10 +21,10 @@ use Rattle.u_program.specs.declared.program.Kind.TheVariants.{Binary, Select, Sw
 use Rattle.u_check.specs.Kinds.{ports_of}
 use Rattle.u_check.specs.Rules.{main_name}
 use Rattle.u_check.specs.Jobs.{JobParts}
-use Rattle.u_system.specs.Firing.{Held, Enabled, Derivation}
-use Rattle.u_system.proofs.Member.{Contains-nil, Contains-head, Contains-tail}
-use Rattle.u_system.proofs.Held.{Held-nil, Held-push}
-use Rattle.u_system.proofs.Determinate.{Derivation-along}
+use Rattle.u_base.specs.Firing.{Held, Enabled, Derivation}
+use Rattle.u_base.proofs.Member.{Contains-nil, Contains-head, Contains-tail}
+use Rattle.u_base.proofs.Held.{Held-nil, Held-push}
+use Rattle.u_base.proofs.Determinate.{Derivation-along}
 use Rattle.u_rule.specs.Parts.{most_ports, ValueList}
 use Rattle.u_rule.specs.Fits.{statement_of, fits_at}
 use Rattle.u_rule.specs.Rule.{has_its_values, is_firing_at, is_firing_of, tokens_from, needs_of, given_at, gives_of, start_of, system_of}

@@ -19,10 +19,10 @@ use Rattle.u_program.specs.declared.program.Version.{Version}
 use Rattle.u_program.specs.declared.program.Version.TheVariants as versions
 use Rattle.u_check.specs.Kinds.{is_apply, is_end, is_store}
 use Rattle.u_check.specs.Jobs.{JobParts}
-use Rattle.u_system.specs.Firing.{System, Held, Enabled, Derivation, Within, Cl, Same}
-use Rattle.u_system.proofs.Member.{Contains-head}
-use Rattle.u_system.proofs.Closure.{Derivation-nil, Derivation-push}
-use Rattle.u_system.proofs.Determinate.{Derivation-along}
+use Rattle.u_base.specs.Firing.{System, Held, Enabled, Derivation, Within, Cl, Same}
+use Rattle.u_base.proofs.Member.{Contains-head}
+use Rattle.u_base.proofs.Closure.{Derivation-nil, Derivation-push}
+use Rattle.u_base.proofs.Determinate.{Derivation-along}
 use Rattle.std.proofs.lemmas.List.Elements.{Contains-append_left, Contains-append_right}
 use Rattle.u_rule.specs.Parts.{ValueList}
 use Rattle.u_rule.specs.Fits.{statement_of}

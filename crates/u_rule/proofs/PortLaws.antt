@@ -3,8 +3,8 @@ use Rattle.std.specs.Prelude.{◌≡◌, ℕ, ◌+◌, ◌-◌, ◌≤◌, ◌�
 use Rattle.std.proofs.Common.{sym, ◌∙◌, ap, inl, inr, arith, length-append}
 use Rattle.std.proofs.lemmas.Bool.Decides.{nat_tests}
 use Rattle.std.proofs.lemmas.Fmt.{decimal_digit}
-use Rattle.u_text.proofs.ReaderLaws.{Reads, ok_same, ok_err}
-use Rattle.u_text.proofs.PartsLaws.{NoByte}
+use Rattle.u_base.proofs.ReaderLaws.{Reads, ok_same, ok_err}
+use Rattle.u_base.proofs.PartsLaws.{NoByte}
 use Rattle.u_name.specs.Context.{IsBetween}
 use Rattle.u_rule.specs.Parts.{most_ports}
 use Rattle.u_rule.specs.EntryReading.{is_port_digit, port_by, port_at}

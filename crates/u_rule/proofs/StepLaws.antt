@@ -1,10 +1,10 @@
 -- One reader after another, once the answer of the first is known.
 use Rattle.std.specs.Prelude.{◌≡◌, ℕ, List, Ok, Err, refl}
 use Rattle.std.proofs.Common.{◌∙◌, ap}
-use Rattle.u_text.specs.Reader.{Reader, ◌>>=◌}
-use Rattle.u_text.specs.Parts.{after_byte, lead}
-use Rattle.u_text.specs.Then.{both}
-use Rattle.u_text.specs.Choice.{mapped}
+use Rattle.u_base.specs.Reader.{Reader, ◌>>=◌}
+use Rattle.u_base.specs.Parts.{after_byte, lead}
+use Rattle.u_base.specs.Then.{both}
+use Rattle.u_base.specs.Choice.{mapped}
 use Rattle.u_rule.proofs.FirstByteLaws.{ReadOf, turned}
 
 abbrev goes_on : {X Y : Type 0} → (X → Reader Y) → ReadOf X → ReadOf (X × Y)

@@ -5,13 +5,13 @@ use Rattle.u_name.specs.Context.{IsBetween}
 use Rattle.u_name.specs.Name.{Activity, IsName}
 use Rattle.u_name.specs.Cell.{CellOf, cell_of, IsCell}
 use Rattle.u_name.specs.NameReader.{name_steps}
-use Rattle.u_text.specs.Reader.{Reader}
-use Rattle.u_text.specs.Parts.{lead}
-use Rattle.u_text.specs.Then.{both}
-use Rattle.u_text.specs.Choice.{mapped, choice}
-use Rattle.u_text.specs.FromZero.{number0}
-use Rattle.u_text.specs.Fixed.{fixed}
-use Rattle.u_text.specs.TextAt.{IsTextOf, IsNoText}
+use Rattle.u_base.specs.Reader.{Reader}
+use Rattle.u_base.specs.Parts.{lead}
+use Rattle.u_base.specs.Then.{both}
+use Rattle.u_base.specs.Choice.{mapped, choice}
+use Rattle.u_base.specs.FromZero.{number0}
+use Rattle.u_base.specs.Fixed.{fixed}
+use Rattle.u_base.specs.TextAt.{IsTextOf, IsNoText}
 use Rattle.u_value.specs.Reading.{IsValue, value_at}
 use Rattle.u_value.specs.declared.value.Value.{Value}
 use Rattle.u_value.specs.declared.fault_kind.FaultKind.{FaultKind}

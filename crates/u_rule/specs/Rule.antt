@@ -19,7 +19,7 @@ use Rattle.u_program.specs.Parts.{StatementParts, BlockParts}
 use Rattle.u_check.specs.Kinds.{ports_of, back_named, is_end, is_apply, is_store}
 use Rattle.u_check.specs.Rules.{main_name, block_named}
 use Rattle.u_check.specs.Jobs.{JobParts}
-use Rattle.u_system.specs.Firing.{System}
+use Rattle.u_base.specs.Firing.{System}
 use Rattle.u_rule.specs.Parts.{ValueList, token}
 use Rattle.u_rule.specs.Fits.{statement_of, fits_at}
 use Rattle.u_rule.specs.Initiations.{last_turn, fires_in_turns}

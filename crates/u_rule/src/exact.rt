@@ -5,7 +5,7 @@ ghost use Rattle.u_rule.specs.WrittenOrder.{written_order_ties};
 use crate::entry::Entry;
 use crate::firing::Firing;
 use crate::parts::{Fault, Written};
-use u_order::ExactOrd;
+use u_base::ExactOrd;
 
 impl ExactOrd for Fault {
     ghost exact = { fault_ties };

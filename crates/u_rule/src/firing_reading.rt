@@ -3,8 +3,8 @@
 //! Behind a value another may come, a write, or nothing. So that a byte says which, the text is read
 //! with a newline behind it.
 ghost use Rattle.std.specs.Prelude.{◌≡◌, [], ◌∷◌, Ok, Err, MatchResult, IfOk, length};
-ghost use Rattle.u_text.specs.Choice.{mapped};
-ghost use Rattle.u_text.specs.Parts.{lead};
+ghost use Rattle.u_base.specs.Choice.{mapped};
+ghost use Rattle.u_base.specs.Parts.{lead};
 ghost use Rattle.u_rule.specs.EntryReading.{spaced_name};
 ghost use Rattle.u_rule.specs.EntryOrder.{firing};
 ghost use Rattle.u_rule.specs.FiringReading as reader;
@@ -19,7 +19,7 @@ use crate::shared_written::SharedWritten;
 use crate::values::Values;
 use std::alloc::{AllocError, Global};
 use u_name::{Front, KeptContext, Name, front_name_beside};
-use u_text::{after, after_all};
+use u_base::{after, after_all};
 use u_value::{Value, front_value};
 
 /// What stands behind a value of a firing, where another may come: the end, with the write if there

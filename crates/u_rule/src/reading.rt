@@ -1,7 +1,7 @@
 //! Entries read from bytes.
 ghost use Rattle.std.specs.Prelude.{◌≡◌, Ok, Err, MatchResult, IfOk};
-ghost use Rattle.u_text.specs.Choice.{mapped};
-ghost use Rattle.u_text.specs.Fixed.{fixed};
+ghost use Rattle.u_base.specs.Choice.{mapped};
+ghost use Rattle.u_base.specs.Fixed.{fixed};
 ghost use Rattle.u_name.specs.Context.{IsBetween};
 ghost use Rattle.u_rule.specs.Parts.{most_ports};
 ghost use Rattle.u_rule.specs.EntryReading as reader;
@@ -17,7 +17,7 @@ use crate::parts::{Fault, MOST_PORTS, Token, Write};
 use std::alloc::{AllocError, Global};
 use thiserror::Error;
 use u_name::{Cell, Front, Name, front_name};
-use u_text::{after, after_all, number0_at};
+use u_base::{after, after_all, number0_at};
 use u_value::{FaultKind, Value, front_value};
 
 /// Why no entry, or no firing, is read.
@@ -109,7 +109,7 @@ pub(crate) fn spaced_name(alloc: Global, bytes: &[u8]) -> Result<Front<'_, Name>
 }
 
 /// `[`, an index from 0 to 999999 and `]`, behind a name.
-#[tactic(auto, using(u_text::proofs::FromZeroLaws::number0_at_bound))]
+#[tactic(auto, using(u_base::proofs::FromZeroLaws::number0_at_bound))]
 fn with_index(name: Name, bytes: &[u8]) -> Front<'_, Cell>
     ensures { MatchResult result
         (λ found. (found.0.name ≡ name)

@@ -4,7 +4,7 @@ ghost use Rattle.std.specs.Fmt.{decimal};
 ghost use Rattle.u_name.specs.NameText.{name_text};
 ghost use Rattle.u_name.specs.Cell.{cell_text};
 ghost use Rattle.u_value.specs.Values.{value_text};
-ghost use Rattle.u_text.specs.Appending.{Extends};
+ghost use Rattle.u_base.specs.Appending.{Extends};
 ghost use Rattle.u_rule.specs.EntryText.{token_text, write_text, fault_text, entry_text};
 ghost use Rattle.u_rule.specs.FiringText.{values_text, written_text, behind_context, firing_text};
 
@@ -13,7 +13,7 @@ use crate::firing::Firing;
 use crate::parts::{Fault, Token, Write};
 use crate::shared_written::SharedWritten;
 use std::alloc::AllocError;
-use u_text::{cut_back, push_behind, push_spaced};
+use u_base::{cut_back, push_behind, push_spaced};
 use u_value::Value;
 
 /// Appends a space and the text of the value. On an error a part of it may stand there.
@@ -76,7 +76,7 @@ fn push_entry(out: &mut Vec<u8>, entry: &Entry) -> Result<(), AllocError>
 }
 
 /// Appends each value behind a space. On an error a part of them may stand there.
-#[tactic(auto, using(u_text::proofs::AppendingLaws::extends_same, u_text::proofs::AppendingLaws::extends_by, u_text::proofs::AppendingLaws::extends_behind))]
+#[tactic(auto, using(u_base::proofs::AppendingLaws::extends_same, u_base::proofs::AppendingLaws::extends_by, u_base::proofs::AppendingLaws::extends_behind))]
 fn push_values(out: &mut Vec<u8>, values: &[Value]) -> Result<(), AllocError>
     ensures ok { OnOk result (out.new.items ≡ out.old.items ++ values_text values.now) }
     ensures err { OnErr result (Extends out.old.items out.new.items) }
@@ -132,7 +132,7 @@ impl Entry {
     ///
     /// # Errors
     /// `AllocError` where there is no memory. Then `out` is as it was.
-    #[tactic(auto, using(u_text::proofs::AppendingLaws::extends_cut))]
+    #[tactic(auto, using(u_base::proofs::AppendingLaws::extends_cut))]
     pub fn write_text(&self, out: &mut Vec<u8>) -> Result<(), AllocError>
         ensures ok { OnOk result (out.new.items ≡ out.old.items ++ entry_text self.now) }
         ensures err { OnErr result (out.new.items ≡ out.old.items) }
@@ -149,7 +149,7 @@ impl Firing {
     ///
     /// # Errors
     /// `AllocError` where there is no memory. Then `out` is as it was.
-    #[tactic(auto, using(u_text::proofs::AppendingLaws::extends_cut))]
+    #[tactic(auto, using(u_base::proofs::AppendingLaws::extends_cut))]
     pub fn write_text(&self, out: &mut Vec<u8>) -> Result<(), AllocError>
         ensures ok { OnOk result (out.new.items ≡ out.old.items ++ firing_text self.now) }
         ensures err { OnErr result (out.new.items ≡ out.old.items) }
@@ -164,7 +164,7 @@ impl Firing {
     ///
     /// # Errors
     /// `AllocError` where there is no memory. Then `out` is as it was.
-    #[tactic(auto, using(u_text::proofs::AppendingLaws::extends_cut))]
+    #[tactic(auto, using(u_base::proofs::AppendingLaws::extends_cut))]
     pub fn write_behind_context(&self, out: &mut Vec<u8>) -> Result<(), AllocError>
         ensures ok { OnOk result (out.new.items ≡ out.old.items ++ behind_context self.now) }
         ensures err { OnErr result (out.new.items ≡ out.old.items) }

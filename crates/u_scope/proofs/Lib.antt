@@ -5,3 +5,8 @@ pub mod CheckLaws
 pub mod KnownLaws
 pub mod MeaningLaws
 pub mod CountingLaws
+pub mod FirstLaws
+pub mod TreeLaws
+pub mod WalkLaws
+pub mod PartLaws
+pub mod OperatorLaws

@@ -1,6 +1,6 @@
 -- The nodes that give names a meaning.
 use Rattle.std.specs.Prelude.{ℕ, Bool, true, false, cond, List, [], ◌∷◌, Option, Some, None}
-use Rattle.u_text.specs.WholeWords.{is}
+use Rattle.u_base.specs.WholeWords.{is}
 use Rattle.u_source.specs.declared.form.Node.{Node}
 use Rattle.u_source.specs.Tokens.{TokenParts}
 use Rattle.u_scope.specs.declared.entry.Entry.{Entry}

@@ -6,3 +6,6 @@ pub mod Meanings
 pub mod Values
 pub mod Verdicts
 pub mod Scopes
+pub mod Kinds
+pub mod Clashes
+pub mod KindVerdicts

@@ -1,6 +1,6 @@
 -- What a name means where it stands, and why it is not allowed there.
 use Rattle.std.specs.Prelude.{ℕ, suc, ◌-◌, Bool, true, false, cond, not, ◌&&◌, ◌==◌, List, [], ◌∷◌, drop, reverse, Option, Some, None, Result, Ok, Err, codes}
-use Rattle.u_text.specs.WholeWords.{is}
+use Rattle.u_base.specs.WholeWords.{is}
 use Rattle.u_source.specs.declared.form.Node.{Node}
 use Rattle.u_source.specs.Tokens.{TokenParts}
 use Rattle.u_scope.specs.declared.entry.Entry.{Entry}

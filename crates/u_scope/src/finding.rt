@@ -1,6 +1,6 @@
 //! The nodes that give names a meaning.
 ghost use Rattle.std.specs.Prelude.{◌≡◌, false, reverse};
-ghost use Rattle.u_text.specs.WholeWords.{is};
+ghost use Rattle.u_base.specs.WholeWords.{is};
 ghost use Rattle.u_scope.specs.Entries.{declared};
 ghost use Rattle.u_scope.specs.Finding.{line_named, line_of, is_declared, matching, is_seen, seen_behind, known, named, is_declaration, earlier, later, variable, next_before};
 

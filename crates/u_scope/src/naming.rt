@@ -1,6 +1,6 @@
 //! Checked and signs that stand at a token.
 ghost use Rattle.std.specs.Prelude.{◌≡◌, drop};
-ghost use Rattle.u_text.specs.WholeWords.{is};
+ghost use Rattle.u_base.specs.WholeWords.{is};
 ghost use Rattle.u_scope.specs.Naming.{sign_of, sign_at, sign_behind, named_word, named_at, named_behind};
 
 use u_name::BlockName;

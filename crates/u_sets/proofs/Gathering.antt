@@ -4,7 +4,7 @@ use Rattle.std.specs.Prelude.{Contains, ◌↔◌}
 use Rattle.std.proofs.lemmas.List.{take_more, take_all}
 use Rattle.std.proofs.lemmas.List.Elements.{Contains-append_left, Contains-push, Contains-push_cases}
 use Rattle.u_sets.specs.Members.{SomeOf}
-use Rattle.u_system.proofs.Member.{Contains-nil}
+use Rattle.u_base.proofs.Member.{Contains-nil}
 
 module _ {Y F : Type 0} (P : Y → F → Type 0) (start : List F) where
   pub scan_none : (ys : List Y) (f : F) → Contains start f ↔ (Contains start f ⊎ SomeOf (take 0 ys) P f)

@@ -4,8 +4,8 @@ use Rattle.std.specs.Cmp.{IsEquivalence, Equal-is}
 use Rattle.std.specs.List.{list_any}
 use Rattle.std.proofs.lemmas.Bool.{or_cases, or_right}
 use Rattle.std.specs.Ordering.{is_eq}
-use Rattle.u_system.proofs.Member.{Contains-nil, Contains-head, Contains-tail, Contains-cons_cases}
-use Rattle.u_order.specs.Exact.{IsExact}
+use Rattle.u_base.proofs.Member.{Contains-nil, Contains-head, Contains-tail, Contains-cons_cases}
+use Rattle.u_base.specs.Exact.{IsExact}
 use Rattle.u_sets.specs.Members.{IsWith, IsWithout}
 
 -- where only a thing itself ties with it, only it is equal to it

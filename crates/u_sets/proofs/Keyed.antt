@@ -9,8 +9,8 @@ use Rattle.std.proofs.lemmas.List.Elements.{Contains-append_left, Contains-appen
 use Rattle.std.proofs.lemmas.List.{take_more, take_all, map-append}
 use Rattle.std.proofs.lemmas.Option.{get_or_from_slice_get}
 use Rattle.std.proofs.lemmas.Bool.{ltb-true, lt-ltb}
-use Rattle.u_system.specs.Firing.{Distinct}
-use Rattle.u_system.proofs.Member.{Contains-nil, Contains-head, Contains-tail, Contains-cons_cases}
+use Rattle.u_base.specs.Firing.{Distinct}
+use Rattle.u_base.proofs.Member.{Contains-nil, Contains-head, Contains-tail, Contains-cons_cases}
 use Rattle.u_sets.specs.Members.{IsWith}
 use Rattle.u_sets.specs.declared.few.Few.{Few}
 use Rattle.u_sets.specs.Pairs.{items_of, pairs_from, pairs_of, group_pairs, pairs_of_many, HasAnother, GroupsAreDistinct}

@@ -11,10 +11,10 @@ use Rattle.std.specs.List.{IsDistinct, AllByRecursion}
 use Rattle.std.specs.List.Sorted.{IsPermutation}
 use Rattle.std.proofs.lemmas.List.Sorted.{Contains-permutation, IsPermutation-sym, IsPermutation-map}
 use Rattle.std.proofs.lemmas.Map.Keys.{IsDistinct-IsPermutation}
-use Rattle.u_system.specs.Firing.{Same, Distinct}
-use Rattle.u_system.proofs.Member.{Contains-nil, Contains-head, Contains-tail, Contains-cons_cases}
+use Rattle.u_base.specs.Firing.{Same, Distinct}
+use Rattle.u_base.proofs.Member.{Contains-nil, Contains-head, Contains-tail, Contains-cons_cases}
 use Rattle.u_sets.specs.Rising.{Rises, in_order}
-use Rattle.u_order.specs.Exact.{IsExact}
+use Rattle.u_base.specs.Exact.{IsExact}
 use Rattle.u_sets.specs.Members.{IsWith, GoesLast}
 use Rattle.u_sets.proofs.Keys.{inserts, rises_still}
 use Rattle.u_sets.proofs.Placed.{distinct}

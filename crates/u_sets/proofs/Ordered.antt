@@ -1,9 +1,9 @@
 -- Two ascending lists with the same members are the same list.
 use Rattle.std.proofs.Common.{◌≡◌, List, [], ◌∷◌, inl, inr, refl, sym, subst, ◌∙◌}
 use Rattle.std.specs.Prelude.{Contains}
-use Rattle.u_system.specs.Firing.{Same}
+use Rattle.u_base.specs.Firing.{Same}
 use Rattle.u_sets.specs.Rising.{Ascending}
-use Rattle.u_system.proofs.Member.{Contains-nil, Contains-head, Contains-tail, Contains-cons_cases}
+use Rattle.u_base.proofs.Member.{Contains-nil, Contains-head, Contains-tail, Contains-cons_cases}
 
 module _ {X : Type 0} (lt : X → X → Type 0) (irreflexive : (x : X) → lt x x → ⊥) (transitive : (x y z : X) → lt x y → lt y z → lt x z) where
   same_head : (x y : X) (xs ys : List X) → Ascending lt (x ∷ xs) → Ascending lt (y ∷ ys) → Same (Contains (x ∷ xs)) (Contains (y ∷ ys)) → x ≡ y

@@ -6,8 +6,8 @@ use Rattle.std.proofs.lemmas.Option.{slice_get_read}
 use Rattle.std.proofs.lemmas.List.Quantifiers.{position-Some}
 use Rattle.std.specs.Cmp.{IsEquivalence}
 use Rattle.std.specs.List.{list_any, IsDistinct, AllByRecursion}
-use Rattle.u_system.specs.Firing.{Distinct}
-use Rattle.u_system.proofs.Member.{Contains-nil, Contains-cons_cases}
+use Rattle.u_base.specs.Firing.{Distinct}
+use Rattle.u_base.proofs.Member.{Contains-nil, Contains-cons_cases}
 use Rattle.u_sets.specs.Members.{GoesLast}
 use Rattle.u_sets.proofs.Hashed.{found, finds}
 

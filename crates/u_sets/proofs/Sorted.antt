@@ -9,7 +9,7 @@ use Rattle.std.proofs.lemmas.List.Sorted.{searchable_from_sorted}
 use Rattle.std.proofs.lemmas.List.Elements.{Contains-append_left, Contains-append_right, Contains-append_cases, Contains-get_or}
 use Rattle.std.proofs.lemmas.List.{take-append-drop}
 use Rattle.u_sets.specs.Rising.{Ascending}
-use Rattle.u_system.proofs.Member.{Contains-cons_cases}
+use Rattle.u_base.proofs.Member.{Contains-cons_cases}
 
 module _ {X : Type 0} (R : X → X → Ordering) (o : IsTotalOrder R) where
   pub turn_greater : (x y : X) → R y x ≡ Greater → R x y ≡ Less

@@ -1,7 +1,7 @@
 -- Lists that are gathered step by step.
 use Rattle.std.proofs.Common.{◌≡◌, inl, inr, subst, ℕ, ◌<◌, ◌+◌, List, [], take, length, get_or, Result, Ok, Err}
 use Rattle.std.specs.Prelude.{Contains, ◌↔◌, ◌⊎◌, OnOk}
-use Rattle.u_system.proofs.Member.{Contains-nil}
+use Rattle.u_base.proofs.Member.{Contains-nil}
 use Rattle.u_sets.specs.Members.{SomeOf, IsWith, Gains}
 use Rattle.u_sets.proofs.Gathering.{scan_more}
 

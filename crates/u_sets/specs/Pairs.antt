@@ -1,6 +1,6 @@
 -- Pairs of a key and a value, as the values stand under their keys.
 use Rattle.std.specs.Prelude.{◌≡◌, ℕ, List, [], ◌∷◌, ◌++◌, length, nat_lt, if◌then◌else◌, Contains}
-use Rattle.u_system.specs.Firing.{Distinct}
+use Rattle.u_base.specs.Firing.{Distinct}
 use Rattle.u_sets.specs.declared.few.Few.{Few}
 use Rattle.u_sets.specs.declared.few.Few.TheVariants.{Empty, One, Many}
 

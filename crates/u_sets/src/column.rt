@@ -1,7 +1,7 @@
 //! Values by number.
 ghost use Rattle.std.specs.Prelude.{◌≡◌, ◌↔◌, ◌<◌, ◌++◌, ℕ, [], OnOk, OnErr, IfOk, IfErr, Contains, IsTrue, map, length};
 ghost use Rattle.std.specs.Mem.{FitsInMemory};
-ghost use Rattle.u_system.specs.Firing.{Distinct};
+ghost use Rattle.u_base.specs.Firing.{Distinct};
 ghost use Rattle.u_sets.specs.Members.{IsWith};
 ghost use Rattle.u_sets.specs.Pairs.{items_of, group_pairs, pairs_of_many, GroupsAreDistinct, HasAnother};
 ghost use Rattle.u_sets.specs.Columns.{numbered_from, numbered_pairs, deref_value};
@@ -10,7 +10,7 @@ use crate::few::Few;
 use std::alloc::{AllocError, AllocFailed, Global};
 use std::hash::Hash;
 use std::marker::Model;
-use u_order::ExactOrd;
+use u_base::ExactOrd;
 
 /// A set of pairs of a number and a value. The values of a number stand at its place in a list, so that
 /// nothing is looked for; behind the list's end no number has any. Contracts see the list of the pairs.

@@ -7,7 +7,7 @@ ghost use Rattle.u_sets.specs.Members.{IsWith};
 
 use std::alloc::AllocFailed;
 use std::cmp::Ordering;
-use u_order::ExactOrd;
+use u_base::ExactOrd;
 
 /// The place of the item, or the place where it would go. An item above all of a list of three or more
 /// is compared with the greatest alone; else it is looked for from the least item on.

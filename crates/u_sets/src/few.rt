@@ -2,7 +2,7 @@
 ghost use Rattle.std.specs.Prelude.{◌≡◌, ◌↔◌, [], ◌∷◌, ◌<◌, OnOk, OnErr, IfOk, IfErr, Contains, IsTrue};
 ghost use Rattle.std.specs.Mem.{FitsInMemory};
 ghost use Rattle.indexmap.specs.IndexSet.{spare};
-ghost use Rattle.u_system.specs.Firing.{Distinct};
+ghost use Rattle.u_base.specs.Firing.{Distinct};
 ghost use Rattle.u_sets.specs.Members.{IsWith};
 ghost use Rattle.u_sets.specs.Pairs.{items_of, IsOne};
 
@@ -10,7 +10,7 @@ use indexmap::IndexSet;
 use std::alloc::{AllocFailed, Global};
 use std::hash::Hash;
 use std::{mem, slice};
-use u_order::ExactOrd;
+use u_base::ExactOrd;
 
 /// The values in one place: none, a single one, which stands in place, or several, which are found by
 /// their hashes.

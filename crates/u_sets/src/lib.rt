@@ -3,7 +3,7 @@
 //! `specs/` says when a list rises and what its members are after a key was put in or taken out;
 //! `proofs/` has the laws: one set has one list that rises, and how unions of such lists agree.
 //! Members are things that tie with nothing but themselves, so that a set never answers for a key
-//! that is merely alike: this is the fact of the trait `ExactOrd` of `u_order`.
+//! that is merely alike: this is the fact of the trait `ExactOrd` of `u_base`.
 #![tactic(auto)]
 
 mod column;

@@ -2,7 +2,7 @@
 ghost use Rattle.std.specs.Prelude.{◌≡◌, ◌↔◌, ◌+◌, [], OnOk, OnErr, IfOk, IfErr, Contains, IsTrue, length, map};
 ghost use Rattle.std.specs.Map.Iter.{deref};
 ghost use Rattle.indexmap.specs.IndexSet.{IsUnique};
-ghost use Rattle.u_system.specs.Firing.{Same};
+ghost use Rattle.u_base.specs.Firing.{Same};
 ghost use Rattle.u_sets.specs.Rising.{Rises};
 ghost use Rattle.u_sets.specs.Members.{IsWith};
 
@@ -10,7 +10,7 @@ use indexmap::IndexSet;
 use std::alloc::{AllocError, AllocFailed, Global};
 use std::hash::Hash;
 use std::marker::Model;
-use u_order::ExactOrd;
+use u_base::ExactOrd;
 
 /// A set of keys that are found by their hashes, and that are put in ascending order where they are
 /// listed. Contracts see the ascending list of its keys.

@@ -15,7 +15,7 @@ use std::alloc::{AllocError, AllocFailed, Global};
 use std::collections::btree_set::Iter;
 use std::iter::Iterator;
 use std::marker::Model;
-use u_order::ExactOrd;
+use u_base::ExactOrd;
 
 /// The most keys that stand in the list of the least ones.
 const MOST_IN_FRONT: usize = 8;

@@ -1,14 +1,14 @@
 //! Sets whose keys have places.
 ghost use Rattle.std.specs.Prelude.{◌≡◌, ◌↔◌, [], OnOk, OnErr, IfOk, IfErr, IfSome, IfNone, Contains, IsTrue, length, slice_get, Some};
 ghost use Rattle.std.specs.Option.{option_copied};
-ghost use Rattle.u_system.specs.Firing.{Distinct};
+ghost use Rattle.u_base.specs.Firing.{Distinct};
 ghost use Rattle.u_sets.specs.Members.{GoesLast};
 
 use indexmap::IndexSet;
 use std::alloc::{AllocFailed, Global};
 use std::hash::Hash;
 use std::marker::Model;
-use u_order::ExactOrd;
+use u_base::ExactOrd;
 
 /// A set of keys in the order in which they were put in, so that each has a place, counted from 0,
 /// which it keeps. Keys are found by their hashes. Contracts see the list of the keys.
@@ -19,7 +19,7 @@ pub struct PlacedSet<K: ExactOrd + Hash + Drop> {
 
 impl<K: ExactOrd + Hash + Drop> Model for PlacedSet<K> {
     ghost use Rattle.std.specs.Prelude.{List};
-    ghost use Rattle.u_system.specs.Firing.{Distinct};
+    ghost use Rattle.u_base.specs.Firing.{Distinct};
 
     ghost Value = { List K };
 

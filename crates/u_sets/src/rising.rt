@@ -1,11 +1,11 @@
 //! Lists that rise: what is in them, and how an item is put in its place.
 ghost use Rattle.std.specs.Prelude.{◌≡◌, ◌↔◌, ◌+◌, OnOk, OnErr, IfOk, IfErr, Contains, IsTrue, length};
-ghost use Rattle.u_system.specs.Firing.{Same, Distinct};
+ghost use Rattle.u_base.specs.Firing.{Same, Distinct};
 ghost use Rattle.u_sets.specs.Rising.{Rises};
 ghost use Rattle.u_sets.specs.Members.{IsWith};
 
 use std::alloc::AllocFailed;
-use u_order::ExactOrd;
+use u_base::ExactOrd;
 
 /// Whether the item is in the list, which rises.
 pub fn has<T: ExactOrd>(list: &[T], item: &T) -> bool

@@ -9,7 +9,7 @@ use std::alloc::{AllocFailed, Global};
 use std::collections::BTreeSet;
 use std::collections::btree_set::Iter;
 use std::marker::Model;
-use u_order::ExactOrd;
+use u_base::ExactOrd;
 
 /// A set of keys in ascending order, in a tree. Contracts see the ascending list of its keys.
 #[derive(Drop)]

@@ -2,11 +2,11 @@
 use Rattle.std.specs.Prelude.{◌≡◌, ℕ, ◌+◌, List, [], ◌∷◌, ◌++◌, ◌⊎◌, length, take, Contains, Ok, Err, Bool, Option, refl}
 use Rattle.std.proofs.Common.{sym, ◌∙◌, ap, subst, inl, inr, arith, append_assoc, append-nil}
 use Rattle.std.proofs.lemmas.List.{take_all, length-take}
-use Rattle.u_text.specs.Pieces.{pieces, lines}
-use Rattle.u_text.proofs.PiecesLaws.{Free, pieces_cut, pieces_free}
-use Rattle.u_system.specs.Firing.{EachPlace, IsNextFrom}
-use Rattle.u_system.proofs.Member.{Contains-nil, Contains-head, Contains-cons_cases}
-use Rattle.u_system.proofs.Plain.{EachPlace-nil}
+use Rattle.u_base.specs.Pieces.{pieces, lines}
+use Rattle.u_base.proofs.PiecesLaws.{Free, pieces_cut, pieces_free}
+use Rattle.u_base.specs.Firing.{EachPlace, IsNextFrom}
+use Rattle.u_base.proofs.Member.{Contains-nil, Contains-head, Contains-cons_cases}
+use Rattle.u_base.proofs.Plain.{EachPlace-nil}
 use Rattle.u_check.specs.Jobs.{JobParts}
 use Rattle.u_rule.specs.Rule.{system_of}
 use Rattle.u_rule.specs.declared.firing.Firing.{Firing}

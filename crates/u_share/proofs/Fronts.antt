@@ -2,8 +2,8 @@
 use Rattle.std.specs.Prelude.{◌≡◌, ℕ, zero, suc, ◌+◌, ◌-◌, ◌≤◌, ◌<◌, min, List, [], ◌∷◌, ◌++◌, take, length, map, refl}
 use Rattle.std.proofs.Common.{sym, ◌∙◌, ap, subst, arith, append-nil}
 use Rattle.std.proofs.lemmas.List.{take_all, length-take}
-use Rattle.u_text.specs.Pieces.{PiecesAndRest, pieces}
-use Rattle.u_text.proofs.PiecesLaws.{Free}
+use Rattle.u_base.specs.Pieces.{PiecesAndRest, pieces}
+use Rattle.u_base.proofs.PiecesLaws.{Free}
 use Rattle.u_share.proofs.Pieces.{before, pieces_before, pieces_join, pieces_are_free, free_take}
 
 -- the first bytes of two lists that begin alike

@@ -4,11 +4,11 @@ use Rattle.std.proofs.Common.{sym, ◌∙◌, ap, subst, inl, inr, arith, append
 use Rattle.std.proofs.lemmas.List.{take-append-le, take-map}
 use Rattle.std.proofs.Math.Seq.{take-append-add}
 use Rattle.std.proofs.lemmas.List.Elements.{Contains-append_left, Contains-append_right, Contains-append_cases}
-use Rattle.u_text.specs.Pieces.{pieces, lines}
-use Rattle.u_system.specs.Firing.{System, Cl, EachPlace, IsNextFrom}
-use Rattle.u_system.proofs.Held.{Enabled-mono}
-use Rattle.u_system.proofs.Closure.{Cl-mono}
-use Rattle.u_system.proofs.Plain.{EachPlace-push}
+use Rattle.u_base.specs.Pieces.{pieces, lines}
+use Rattle.u_base.specs.Firing.{System, Cl, EachPlace, IsNextFrom}
+use Rattle.u_base.proofs.Held.{Enabled-mono}
+use Rattle.u_base.proofs.Closure.{Cl-mono}
+use Rattle.u_base.proofs.Plain.{EachPlace-push}
 use Rattle.u_check.specs.Jobs.{JobParts}
 use Rattle.u_rule.specs.Rule.{system_of}
 use Rattle.u_rule.specs.declared.firing.Firing.{Firing}

@@ -2,8 +2,8 @@
 use Rattle.std.specs.Prelude.{◌≡◌, ℕ, ◌+◌, ◌≤◌, List, [], ◌∷◌, ◌++◌, length, Ok, Err, Bool, Option, refl}
 use Rattle.std.proofs.Common.{sym, ◌∙◌, ap, subst, inl, arith, append_assoc, append-nil, length-append}
 use Rattle.std.specs.Io.KnownBytes.{Appends}
-use Rattle.u_text.specs.Pieces.{pieces, IsCutInto}
-use Rattle.u_text.proofs.PiecesLaws.{pieces_free}
+use Rattle.u_base.specs.Pieces.{pieces, IsCutInto}
+use Rattle.u_base.proofs.PiecesLaws.{pieces_free}
 use Rattle.u_share.specs.Lines.{first_of, IsBegun}
 use Rattle.u_share.specs.Members.{Member, member, Goes}
 use Rattle.u_share.specs.Hearing.{Stops, HearAnswer}

@@ -2,9 +2,9 @@
 use Rattle.std.specs.Prelude.{◌≡◌, ℕ, zero, suc, List, [], ◌∷◌, ◌++◌, take, true, false, cond, ◌==◌, refl}
 use Rattle.std.proofs.Common.{sym, ◌∙◌, ap, subst}
 use Rattle.std.proofs.lemmas.Bool.{ne_eqb}
-use Rattle.u_text.proofs.PartsLaws.{alike, unlike, same_or}
-use Rattle.u_text.specs.Pieces.{PiecesAndRest, onto, pieces}
-use Rattle.u_text.proofs.PiecesLaws.{Free, glued, glued-pieces}
+use Rattle.u_base.proofs.PartsLaws.{alike, unlike, same_or}
+use Rattle.u_base.specs.Pieces.{PiecesAndRest, onto, pieces}
+use Rattle.u_base.proofs.PiecesLaws.{Free, glued, glued-pieces}
 
 same : (c b : ℕ) (bs : List ℕ) → (b == c) ≡ true → pieces c (b ∷ bs) ≡ ([] ∷ (pieces c bs).0, (pieces c bs).1)
 unfolding pieces

@@ -2,14 +2,14 @@
 use Rattle.std.specs.Prelude.{◌≡◌, ℕ, ◌≤◌, List, [], ◌∷◌, ◌++◌, ◌⊎◌, ◌↔◌, length, Option, Contains, refl}
 use Rattle.std.proofs.Common.{sym, ◌∙◌, ap, subst, inl, inr, arith}
 use Rattle.std.proofs.lemmas.List.Elements.{Contains-append_right, Contains-append_cases, Contains-push_cases}
-use Rattle.u_text.specs.Pieces.{pieces, lines}
+use Rattle.u_base.specs.Pieces.{pieces, lines}
 use Rattle.u_sets.proofs.Places.{one_list}
-use Rattle.u_system.specs.Firing.{System, Held, Enabled, Derivation, Distinct, Cl, Whole, Same}
-use Rattle.u_system.proofs.Member.{Contains-nil, Contains-head}
-use Rattle.u_system.proofs.Held.{Enabled-mono}
-use Rattle.u_system.proofs.Closure.{Derivation-nil, Derivation-push, Cl-whole}
-use Rattle.u_system.proofs.Plain.{EachPlace-along}
-use Rattle.u_system.proofs.Apart.{Distinct-push, Distinct-left}
+use Rattle.u_base.specs.Firing.{System, Held, Enabled, Derivation, Distinct, Cl, Whole, Same}
+use Rattle.u_base.proofs.Member.{Contains-nil, Contains-head}
+use Rattle.u_base.proofs.Held.{Enabled-mono}
+use Rattle.u_base.proofs.Closure.{Derivation-nil, Derivation-push, Cl-whole}
+use Rattle.u_base.proofs.Plain.{EachPlace-along}
+use Rattle.u_base.proofs.Apart.{Distinct-push, Distinct-left}
 use Rattle.u_check.specs.Jobs.{JobParts}
 use Rattle.u_rule.specs.Rule.{system_of}
 use Rattle.u_rule.specs.EntryOrder.{entry_cmp}

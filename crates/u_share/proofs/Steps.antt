@@ -2,7 +2,7 @@
 use Rattle.std.specs.Prelude.{◌≡◌, ℕ, List, [], ◌+◌, Ok, Err, Bool, true, false, Option, Some, None, refl}
 use Rattle.std.proofs.Common.{sym, subst, arith}
 use Rattle.std.specs.Io.KnownBytes.{Consumes}
-use Rattle.u_text.specs.Pieces.{pieces}
+use Rattle.u_base.specs.Pieces.{pieces}
 use Rattle.u_check.specs.Jobs.{JobParts}
 use Rattle.u_machine.specs.State.{State, IsMachine}
 use Rattle.u_machine.specs.declared.answer.Ran.{Ran}

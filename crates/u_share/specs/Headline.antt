@@ -2,8 +2,8 @@
 --
 -- Let the lines be those of all bytes that it read, cut at each newline, wherever the reads cut them.
 use Rattle.std.specs.Prelude.{◌≡◌, ℕ, List, [], ◌++◌, ◌∷◌, ◌⊎◌, ◌↔◌, Result, Ok, Err, Contains, length}
-use Rattle.u_text.specs.Pieces.{lines, pieces}
-use Rattle.u_system.specs.Firing.{Enabled, Whole, Distinct}
+use Rattle.u_base.specs.Pieces.{lines, pieces}
+use Rattle.u_base.specs.Firing.{Enabled, Whole, Distinct}
 use Rattle.u_check.specs.Jobs.{JobParts}
 use Rattle.u_rule.specs.Rule.{system_of}
 use Rattle.u_rule.specs.FiringReading.{IsFiringOf}

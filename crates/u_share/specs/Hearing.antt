@@ -1,7 +1,7 @@
 -- What the bytes of one read do.
 use Rattle.std.specs.Prelude.{◌≡◌, ℕ, ◌+◌, ◌++◌, List, [], ◌∷◌, ◌⊎◌, Option, Result, Ok, Err}
 use Rattle.std.specs.Io.KnownBytes.{Appends}
-use Rattle.u_text.specs.Pieces.{lines}
+use Rattle.u_base.specs.Pieces.{lines}
 use Rattle.u_rule.specs.declared.firing.Firing.{Firing}
 use Rattle.u_machine.specs.State.{IsReady}
 use Rattle.u_share.specs.Notices.{notice}

@@ -1,6 +1,6 @@
 -- The lines of a bus, and the firings among them.
 use Rattle.std.specs.Prelude.{◌≡◌, ℕ, ◌+◌, ◌≤◌, List, [], length, take, IsTrue, Contains}
-use Rattle.u_text.specs.Pieces.{pieces}
+use Rattle.u_base.specs.Pieces.{pieces}
 use Rattle.u_check.specs.Jobs.{JobParts}
 use Rattle.u_rule.specs.Rule.{system_of}
 use Rattle.u_rule.specs.FiringReading.{IsFiringOf}

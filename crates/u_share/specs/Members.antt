@@ -1,7 +1,7 @@
 -- How a member goes on.
 use Rattle.std.specs.Prelude.{◌≡◌, ℕ, ◌+◌, ◌≤◌, List, [], ◌∷◌, ◌++◌, ◌⊎◌, ◌↔◌, length, take, Contains}
-use Rattle.u_text.specs.Pieces.{pieces, lines}
-use Rattle.u_system.specs.Firing.{EachPlace, IsNextFrom}
+use Rattle.u_base.specs.Pieces.{pieces, lines}
+use Rattle.u_base.specs.Firing.{EachPlace, IsNextFrom}
 use Rattle.u_rule.specs.Rule.{system_of}
 use Rattle.u_rule.specs.FiringText.{firing_text}
 use Rattle.u_rule.specs.declared.firing.Firing.{Firing}

@@ -1,6 +1,6 @@
 //! What the bytes of one read do.
 ghost use Rattle.std.specs.Prelude.{◌≡◌, ◌≤◌, ◌<◌, ◌+◌, ◌-◌, ◌^◌, ◌++◌, ◌∷◌, [], OnOk, length};
-ghost use Rattle.u_text.specs.Pieces.{pieces};
+ghost use Rattle.u_base.specs.Pieces.{pieces};
 ghost use Rattle.u_share.specs.Lines.{IsBegun};
 ghost use Rattle.u_share.specs.Members.{member};
 ghost use Rattle.u_share.specs.Hearing.{HearAnswer};
@@ -11,7 +11,7 @@ use crate::taking::take_line;
 use std::alloc::Global;
 use std::io::Write;
 use u_machine::Machine;
-use u_text::cut;
+use u_base::cut;
 
 /// The open line ends with these bytes. Answers whether it is empty.
 fn end_line<N: Write>(

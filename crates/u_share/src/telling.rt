@@ -8,7 +8,7 @@ use crate::line_fault::LineFault;
 use crate::output::write_out;
 use std::alloc::{AllocError, Global};
 use std::io::Write;
-use u_text::push_long;
+use u_base::push_long;
 
 /// The notice of the line with that number.
 fn notice_of(alloc: Global, number: u64, fault: LineFault) -> Result<Vec<u8>, AllocError>

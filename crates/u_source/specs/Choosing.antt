@@ -1,6 +1,6 @@
 -- What is done with the symbol that stands first, by the kind of the token that stands next.
 use Rattle.std.specs.Prelude.{ℕ, Bool, true, false, cond, ◌&&◌, ◌==◌, List, [], ◌∷◌, Option, Some, None, Result, Ok, Err}
-use Rattle.u_text.specs.WholeWords.{is}
+use Rattle.u_base.specs.WholeWords.{is}
 use Rattle.u_source.specs.declared.choosing.Placed.{Placed}
 use Rattle.u_source.specs.declared.choosing.Step.{Step}
 use Rattle.u_source.specs.declared.mark.Mark.{Mark}

@@ -1,7 +1,7 @@
 -- The keywords and signs of the notation, and which of them stands at the front of some bytes.
 use Rattle.std.specs.Prelude.{ℕ, cond, ◌==◌, List, [], ◌∷◌, Option, Some, None, codes}
 use Rattle.std.specs.List.{starts_with}
-use Rattle.u_text.specs.WholeWords.{is}
+use Rattle.u_base.specs.WholeWords.{is}
 use Rattle.u_source.specs.declared.mark.Mark.{Mark}
 use Rattle.u_source.specs.declared.mark.Mark.TheVariants.{Def, If, Else, Loop, While, For, In, Next, Give, Array, Length, And, Or, Not, True, False}
 use Rattle.u_source.specs.declared.mark.Mark.TheVariants.{Dots, AtMost, AtLeast, Equal, Unequal, OpenParenthesis, CloseParenthesis, OpenBrace, CloseBrace, OpenBracket, CloseBracket, Comma, Semicolon, Becomes, Plus, Minus, Times, Divide, Remainder, Less, Greater}

@@ -1,7 +1,7 @@
 -- One token at the front of some bytes, and the blanks and comments before it.
 use Rattle.std.specs.Prelude.{ℕ, suc, ◌^◌, Bool, true, false, cond, not, ◌&&◌, ◌||◌, ◌==◌, nat_le, List, [], ◌∷◌, length, take, Some, None, Result, Ok, Err}
-use Rattle.u_text.specs.Number.{is_digit}
-use Rattle.u_text.specs.WholeWords.{number0_word}
+use Rattle.u_base.specs.Number.{is_digit}
+use Rattle.u_base.specs.WholeWords.{number0_word}
 use Rattle.u_name.specs.Block.{is_letter, is_block_byte}
 use Rattle.u_source.specs.declared.source_error.Problem.{Problem}
 use Rattle.u_source.specs.declared.source_error.Problem.TheVariants.{BadByte, BadNumber, NumberRange, LongName}

@@ -13,7 +13,7 @@ use crate::source_error::{Problem, SourceError};
 use crate::token::{Token, Word};
 use std::alloc::Global;
 use u_name::BlockName;
-use u_text::long_word;
+use u_base::long_word;
 
 /// How many bytes of blanks and comments stand at the front.
 fn gap_len(bytes: &[u8]) -> usize

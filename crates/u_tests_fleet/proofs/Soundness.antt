@@ -3,8 +3,8 @@ use Rattle.std.proofs.Common.{◌≡◌, ℕ, zero, suc, List, [], ◌∷◌, �
 use Rattle.std.specs.Prelude.{slice_get, slice_index_or}
 use Rattle.std.proofs.lemmas.List.Elements.{All-take}
 use Rattle.std.proofs.lemmas.Option.{slice_get-get_or}
-use Rattle.u_system.specs.Firing.{System, Held, Enabled, Derivation, Whole, Follows}
-use Rattle.u_system.proofs.Held.{Enabled-mono, Follows-from_Derivation, Derivation-from_Follows}
+use Rattle.u_base.specs.Firing.{System, Held, Enabled, Derivation, Whole, Follows}
+use Rattle.u_base.proofs.Held.{Enabled-mono, Follows-from_Derivation, Derivation-from_Follows}
 use Rattle.u_check.specs.Jobs.{JobParts}
 use Rattle.u_rule.specs.Rule.{system_of}
 use Rattle.u_rule.specs.declared.firing.Firing.{Firing}

@@ -4,12 +4,8 @@ use crate::torn::Torn;
 use std::alloc::Global;
 use std::io;
 use std::io::Read;
-use u_cli::{
-    Asked, CommandError, FIRING_LIMIT, INPUT_LIMIT, STORED_PROGRAM, WorldPlan, argument_of,
-    check_text, read_input, run_text, trace_text, world_text, write_whole,
-};
+use u_cli::{Asked, CommandError, FIRING_LIMIT, INPUT_LIMIT, STORED_PROGRAM, WorldPlan, argument_of, check_text, firings_of, number_of, read_input, run_text, trace_text, world_text, write_whole};
 use u_plain::examples::DOUBLE;
-use u_words::{firings_of, number_of};
 
 /// Two writers of one cell that write the same value, and a reader.
 const EQUAL_WRITERS: &[u8] =

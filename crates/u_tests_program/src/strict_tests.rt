@@ -10,7 +10,7 @@ use std::alloc::{AllocError, Global};
 use std::test::Fail;
 use u_check::{Checked, Job, check};
 use u_program::{ReadError, read};
-use u_strict::{strictness, strictness_of_job};
+use u_determinate::{strictness, strictness_of_job};
 
 /// What is said of a program that breaks no rule.
 const STRICT: &str = "strict";

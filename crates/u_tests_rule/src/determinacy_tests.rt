@@ -2,7 +2,7 @@
 use std::alloc::{AllocError, Global};
 use std::test::Fail;
 use u_check::{Checked, check};
-use u_guards::{Determinacy, Meeting, determinacy};
+use u_determinate::{Determinacy, Meeting, determinacy};
 use u_plain::examples::EXAMPLES;
 use u_program::{ReadError, read};
 

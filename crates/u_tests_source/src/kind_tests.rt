@@ -1,8 +1,7 @@
 //! The texts whose kinds clash, and those whose do not.
 use std::alloc::{AllocError, Global};
 use std::test::Fail;
-use u_kinds::check_kinds;
-use u_scope::Checked;
+use u_scope::{Checked, check_kinds};
 use u_source::Source;
 
 /// What stands around the block of `main`: a procedure of two parameters, and `main`.

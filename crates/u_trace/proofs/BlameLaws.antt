@@ -3,10 +3,10 @@ use Rattle.std.proofs.Common.{◌≡◌, ◌∙◌, ℕ, ◌<◌, ◌≤◌, Lis
 use Rattle.std.specs.Prelude.{Contains, slice_get, Option, IsSome, Result, Ok, Err, IfOk}
 use Rattle.std.specs.Cmp.{IsTotalOrder, tied_itself}
 use Rattle.std.specs.declared.cmp.Ordering.TheVariants.{Less, Equal, Greater}
-use Rattle.u_system.specs.Firing.{System, Held, Same, Derivation}
-use Rattle.u_system.proofs.Member.{Contains-nil, Contains-head, Contains-tail, Contains-cons_cases}
-use Rattle.u_system.proofs.Held.{Held-append_left, Held-append_right}
-use Rattle.u_system.proofs.Closure.{Derivation-append}
+use Rattle.u_base.specs.Firing.{System, Held, Same, Derivation}
+use Rattle.u_base.proofs.Member.{Contains-nil, Contains-head, Contains-tail, Contains-cons_cases}
+use Rattle.u_base.proofs.Held.{Held-append_left, Held-append_right}
+use Rattle.u_base.proofs.Closure.{Derivation-append}
 use Rattle.u_sets.specs.Rising.{IsListOf, in_order}
 use Rattle.u_sets.proofs.Listed.{rises, members}
 use Rattle.u_sets.proofs.Places.{irreflexive}
@@ -34,7 +34,7 @@ use Rattle.u_history.specs.declared.outcome.Outcome.{Outcome}
 use Rattle.u_history.specs.declared.clash.CellClash.{CellClash}
 use Rattle.u_history.proofs.OneValue.{one_pair}
 use Rattle.u_history.proofs.Reports.{outcome_same}
-use Rattle.u_strict.specs.Strict.{IsStrict}
+use Rattle.u_determinate.specs.Strict.{IsStrict}
 use Rattle.u_determinate.specs.Determinate.{IsDeterminate}
 use Rattle.u_trace.specs.declared.blame_error.BlameError.{BlameError}
 use Rattle.u_determinate.specs.Theorem.{IsDeterminateJob, TwoWrites, TwoValues}

@@ -3,10 +3,10 @@ use Rattle.std.proofs.Common.{◌≡◌, ℕ, ◌+◌, ◌<◌, ◌≤◌, Bool,
 use Rattle.std.specs.Prelude.{Contains, ◌↔◌}
 use Rattle.std.proofs.lemmas.List.{take_more, take_all}
 use Rattle.std.proofs.lemmas.List.Elements.{Contains-append_cases, Contains-append_left, Contains-push, Contains-push_cases}
-use Rattle.u_system.specs.Firing.{System, Enabled, Held, Cl, Same}
-use Rattle.u_system.proofs.Held.{Enabled-mono}
-use Rattle.u_system.proofs.Member.{Contains-nil}
-use Rattle.u_system.proofs.Determinate.{Derivation-enabled}
+use Rattle.u_base.specs.Firing.{System, Enabled, Held, Cl, Same}
+use Rattle.u_base.proofs.Held.{Enabled-mono}
+use Rattle.u_base.proofs.Member.{Contains-nil}
+use Rattle.u_base.proofs.Determinate.{Derivation-enabled}
 use Rattle.u_sets.specs.Members.{SomeOf, IsWith, Gains, AreThose}
 use Rattle.u_check.specs.Jobs.{JobParts}
 use Rattle.u_rule.specs.Rule.{system_of}

@@ -3,8 +3,8 @@ use Rattle.std.proofs.Common.{◌≡◌, ℕ, ◌<◌, ◌≤◌, List, [], ◌�
 use Rattle.std.specs.Prelude.{Contains, slice_get}
 use Rattle.std.proofs.lemmas.List.{take-append-le}
 use Rattle.std.proofs.lemmas.List.Elements.{Contains-append_left, Contains-push, Contains-push_cases}
-use Rattle.u_system.specs.Firing.{System, Derivation}
-use Rattle.u_system.proofs.Member.{Contains-nil}
+use Rattle.u_base.specs.Firing.{System, Derivation}
+use Rattle.u_base.proofs.Member.{Contains-nil}
 use Rattle.u_trace.specs.Stories.{IsGiver}
 use Rattle.u_trace.specs.Givers.{Notes, AreGivers, AreFirings}
 use Rattle.u_trace.proofs.Lists.{below_or_not, get_below, get_longer, get_push_cases, get_push_end, in_take, of_take, of_list, in_list}

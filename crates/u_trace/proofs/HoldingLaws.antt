@@ -3,8 +3,8 @@ use Rattle.std.proofs.Common.{◌≡◌, ℕ, ◌+◌, ◌<◌, ◌≤◌, List,
 use Rattle.std.specs.Prelude.{Contains}
 use Rattle.std.proofs.lemmas.List.{take_all}
 use Rattle.std.proofs.lemmas.List.Elements.{Contains-append_left, Contains-push, Contains-push_cases}
-use Rattle.u_system.specs.Firing.{System, Held, Same}
-use Rattle.u_system.proofs.Member.{Contains-nil}
+use Rattle.u_base.specs.Firing.{System, Held, Same}
+use Rattle.u_base.proofs.Member.{Contains-nil}
 use Rattle.u_sets.specs.Members.{IsWith, IsUnion}
 use Rattle.u_trace.specs.Holding.{GivenBy, GainsGiven}
 use Rattle.u_trace.proofs.Lists.{next_take}

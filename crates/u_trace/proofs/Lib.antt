@@ -1,3 +1,10 @@
+pub mod Texts
+pub mod PortLaws
+pub mod Stored
+pub mod WaitingLaws
+pub mod Gathered
+pub mod ReadLaws
+pub mod StillLaws
 pub mod Lists
 pub mod PlaceLaws
 pub mod GiverLaws

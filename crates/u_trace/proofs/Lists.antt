@@ -2,7 +2,7 @@
 use Rattle.std.proofs.Common.{◌≡◌, ℕ, zero, suc, ◌+◌, ◌<◌, ◌≤◌, List, [], ◌∷◌, ◌++◌, ◌⊎◌, inl, inr, refl, sym, ◌∙◌, ap, take, length, get_or, Some, arith}
 use Rattle.std.specs.Prelude.{Contains, slice_get}
 use Rattle.std.proofs.lemmas.List.{take_more}
-use Rattle.u_system.proofs.Member.{Contains-nil, Contains-tail, Contains-cons_cases}
+use Rattle.u_base.proofs.Member.{Contains-nil, Contains-tail, Contains-cons_cases}
 
 pub below_or_not : (j k : ℕ) → (j < k) ⊎ (k ≤ j)
 below_or_not j k = grind arith

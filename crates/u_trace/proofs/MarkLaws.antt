@@ -3,7 +3,7 @@ use Rattle.std.proofs.Common.{◌≡◌, ℕ, zero, suc, ◌+◌, ◌<◌, ◌�
 use Rattle.std.specs.Prelude.{Contains, slice_get, ◌↔◌}
 use Rattle.std.proofs.Math.ListN.{set, replicate, length-set}
 use Rattle.std.proofs.lemmas.List.Elements.{Contains-append_left, Contains-push, Contains-push_cases}
-use Rattle.u_system.specs.Firing.{System, Derivation}
+use Rattle.u_base.specs.Firing.{System, Derivation}
 use Rattle.u_sets.specs.Members.{SomeOf}
 use Rattle.u_machine.proofs.Lists.{some_at}
 use Rattle.u_trace.specs.Stories.{IsGiver, IsSought, itself, need, InStory}

@@ -2,7 +2,7 @@
 use Rattle.std.proofs.Common.{◌≡◌, ℕ, [], ◌∷◌, Bool, true, false, cond, ◌⊎◌, inl, inr, refl, sym, subst, ◌∙◌, ap, Option, Some, None}
 use Rattle.std.specs.Prelude.{Contains}
 use Rattle.std.specs.Cmp.{IsEquivalence}
-use Rattle.u_system.proofs.Member.{Contains-nil, Contains-head, Contains-cons_cases}
+use Rattle.u_base.proofs.Member.{Contains-nil, Contains-head, Contains-cons_cases}
 use Rattle.u_trace.specs.Givers.{Notes}
 
 module _ {K : Type 0} (eq : K → K → Bool) (o : IsEquivalence eq) (f g : K → Option ℕ) (key : K) (place : ℕ) (puts : (q : K) → g q ≡ cond (eq key q) (Some place) (f q)) where

@@ -3,8 +3,8 @@ use Rattle.std.proofs.Common.{◌≡◌, ℕ, ◌<◌, ◌≤◌, List, [], ◌�
 use Rattle.std.specs.Prelude.{Contains, slice_get, ◌↔◌, IsSome}
 use Rattle.std.specs.List.{AllZip}
 use Rattle.std.proofs.lemmas.List.Elements.{Contains-push}
-use Rattle.u_system.specs.Firing.{System, Held, Enabled, Derivation}
-use Rattle.u_system.proofs.Member.{Contains-nil, Contains-head}
+use Rattle.u_base.specs.Firing.{System, Held, Enabled, Derivation}
+use Rattle.u_base.proofs.Member.{Contains-nil, Contains-head}
 use Rattle.u_trace.specs.Stories.{IsGiver, IsSought, itself, need, InStory, IsStory, GivesFirst, HasGivers, Tells}
 use Rattle.u_trace.specs.Givers.{AreGivers}
 use Rattle.u_trace.proofs.Lists.{below_or_not, in_take, of_take, in_list, same_at}

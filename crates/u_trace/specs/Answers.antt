@@ -1,7 +1,7 @@
 -- What is answered of the story of an entry.
 use Rattle.std.specs.Prelude.{List, Result, Ok, Err}
 use Rattle.std.specs.Global.{Vec}
-use Rattle.u_system.specs.Firing.{Held}
+use Rattle.u_base.specs.Firing.{Held}
 use Rattle.u_check.specs.Jobs.{JobParts}
 use Rattle.u_rule.specs.Rule.{system_of}
 use Rattle.u_rule.specs.declared.entry.Entry.{Entry}

@@ -6,13 +6,13 @@
 use Rattle.std.specs.Prelude.{◌≡◌, ℕ, ◌<◌, length, List, ◌∷◌, ◌++◌, ◌⊎◌, Option, Some, None, IsSome, Result, Ok, Err}
 use Rattle.std.specs.declared.cmp.Ordering.{Ordering}
 use Rattle.std.specs.declared.cmp.Ordering.TheVariants.{Less}
-use Rattle.u_system.specs.Firing.{System, Held, Derivation}
+use Rattle.u_base.specs.Firing.{System, Held, Derivation}
 use Rattle.u_sets.specs.Rising.{IsListOf}
 use Rattle.u_name.specs.Name.{Activity}
 use Rattle.u_name.specs.Cell.{CellOf, cell_cmp}
 use Rattle.u_value.specs.declared.value.Value.{Value}
 use Rattle.u_check.specs.Jobs.{JobParts}
-use Rattle.u_strict.specs.Strict.{IsStrict}
+use Rattle.u_determinate.specs.Strict.{IsStrict}
 use Rattle.u_determinate.specs.Determinate.{IsDeterminate}
 use Rattle.u_rule.specs.Parts.{token}
 use Rattle.u_rule.specs.Rule.{system_of}

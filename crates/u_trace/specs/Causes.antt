@@ -4,7 +4,7 @@ use Rattle.u_check.specs.Jobs.{JobParts}
 use Rattle.u_rule.specs.Rule.{system_of}
 use Rattle.u_rule.specs.declared.entry.Entry.{Entry}
 use Rattle.u_rule.specs.declared.firing.Firing.{Firing}
-use Rattle.u_system.specs.Firing.{Enabled}
+use Rattle.u_base.specs.Firing.{Enabled}
 
 -- f is a firing of the job whose needs all lie in the history, and it gives e
 abbrev pub IsCause : JobParts → List Entry → Entry → Firing → Type 0

@@ -1,6 +1,6 @@
 -- The places of the givers of entries.
 use Rattle.std.specs.Prelude.{◌≡◌, ℕ, ◌⊎◌, List, Contains, Option, Some, None, IsTrue}
-use Rattle.u_system.specs.Firing.{System}
+use Rattle.u_base.specs.Firing.{System}
 use Rattle.u_trace.specs.Stories.{IsGiver}
 
 -- each of the entries has got that place unless it had one, and nothing else has changed

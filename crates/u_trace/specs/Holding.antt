@@ -1,6 +1,6 @@
 -- What a set holds once firings were put in.
 use Rattle.std.specs.Prelude.{List, ◌⊎◌, ◌↔◌, Contains}
-use Rattle.u_system.specs.Firing.{System}
+use Rattle.u_base.specs.Firing.{System}
 
 -- f is one of the firings, and gives e
 abbrev pub GivenBy : {E F : Type 0} → System E F → List F → E → Type 0

@@ -1,3 +1,12 @@
+pub mod Ports
+pub mod Waiting
+pub mod Deferred
+pub mod Orders
+pub mod ExactOrders
+pub mod Gathering
+pub mod Waits
+pub mod Still
+pub mod Text
 pub mod Causes
 pub mod Sending
 pub mod Stories

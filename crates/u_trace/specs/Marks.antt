@@ -1,6 +1,6 @@
 -- Marked places.
 use Rattle.std.specs.Prelude.{◌≡◌, ℕ, ◌<◌, ◌⊎◌, ◌↔◌, Bool, true, List, length, Option, Some, slice_get}
-use Rattle.u_system.specs.Firing.{System}
+use Rattle.u_base.specs.Firing.{System}
 use Rattle.u_sets.specs.Members.{SomeOf}
 
 -- the place is marked

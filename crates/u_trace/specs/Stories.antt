@@ -4,7 +4,7 @@
 -- giver, that one's needs have one giver each, and so on back to the start, which has none.
 use Rattle.std.specs.Prelude.{◌≡◌, ℕ, ◌<◌, List, [], ◌∷◌, ◌++◌, ◌↔◌, Contains, Some, slice_get, take}
 use Rattle.std.specs.List.{AllZip}
-use Rattle.u_system.specs.Firing.{System, Derivation, Within}
+use Rattle.u_base.specs.Firing.{System, Derivation, Within}
 use Rattle.u_sets.specs.Rising.{Ascending}
 
 -- the firing at place k gives x, and none at a place below k does

@@ -4,7 +4,7 @@ ghost use Rattle.u_rule.specs.Rule.{system_of};
 ghost use Rattle.u_rule.specs.Parts.{token, most_ports};
 ghost use Rattle.u_rule.specs.declared.entry.Entry.TheVariants as entries;
 ghost use Rattle.u_name.specs.Context.{IsBetween};
-ghost use Rattle.u_system.specs.Firing.{Held, Derivation};
+ghost use Rattle.u_base.specs.Firing.{Held, Derivation};
 ghost use Rattle.u_trace.specs.Givers.{AreFirings};
 ghost use Rattle.u_trace.specs.Blames.{AreFirstTokens, AreLeastTokens, IsFoundAmong};
 ghost use Rattle.u_trace.specs.Blames.{BlameOf, BlameAnswer, BlamesByWrites};

@@ -2,7 +2,7 @@
 ghost use Rattle.u_trace.specs.TokenKeys.{token_key_ties};
 
 use crate::token_key::TokenKey;
-use u_order::ExactOrd;
+use u_base::ExactOrd;
 
 impl ExactOrd for TokenKey {
     ghost exact = { token_key_ties };

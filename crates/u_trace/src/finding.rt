@@ -3,7 +3,7 @@ ghost use Rattle.std.specs.Prelude.{◌≡◌, ◌<◌, IfOk, Contains, Some, le
 ghost use Rattle.u_rule.specs.Rule.{system_of};
 ghost use Rattle.u_rule.specs.EntryOrder.{write_of};
 ghost use Rattle.u_rule.specs.declared.entry.Entry.TheVariants as entries;
-ghost use Rattle.u_system.specs.Firing.{Held, Same};
+ghost use Rattle.u_base.specs.Firing.{Held, Same};
 ghost use Rattle.u_history.specs.Outcomes.{PairIn, IsCellClash};
 ghost use Rattle.u_history.specs.Clashes.{cell_pairs};
 ghost use Rattle.u_trace.specs.Table.{place_in};

@@ -2,7 +2,7 @@
 ghost use Rattle.std.specs.Prelude.{IfOk, OnOk, Contains};
 ghost use Rattle.u_rule.specs.Rule.{system_of};
 ghost use Rattle.u_sets.specs.Members.{IsUnion};
-ghost use Rattle.u_system.specs.Firing.{Held, Same};
+ghost use Rattle.u_base.specs.Firing.{Held, Same};
 ghost use Rattle.u_trace.specs.Givers.{AreFirings};
 ghost use Rattle.u_trace.specs.Holding.{GainsGiven};
 

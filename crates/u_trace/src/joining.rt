@@ -1,7 +1,7 @@
 //! Two stories, one behind the other.
 ghost use Rattle.std.specs.Prelude.{IfOk};
 ghost use Rattle.u_rule.specs.Rule.{system_of};
-ghost use Rattle.u_system.specs.Firing.{Held, Derivation};
+ghost use Rattle.u_base.specs.Firing.{Held, Derivation};
 ghost use Rattle.u_trace.specs.Table.{place_in};
 ghost use Rattle.u_trace.specs.Givers.{AreGivers};
 ghost use Rattle.u_trace.specs.Stories.{IsStory};

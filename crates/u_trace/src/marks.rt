@@ -8,7 +8,7 @@ ghost use Rattle.u_rule.specs.Parts.{most_ports};
 ghost use Rattle.u_rule.specs.Rule.{system_of, start_of, needs_of, tokens_from};
 ghost use Rattle.u_rule.specs.declared.entry.Entry.TheVariants as entries;
 ghost use Rattle.u_sets.specs.Members.{SomeOf};
-ghost use Rattle.u_system.specs.Firing.{Derivation};
+ghost use Rattle.u_base.specs.Firing.{Derivation};
 ghost use Rattle.u_trace.specs.Numbers.{number_in};
 ghost use Rattle.u_trace.specs.Table.{place_in, Owns};
 ghost use Rattle.u_trace.specs.Givers.{AreGivers};

@@ -5,7 +5,7 @@ ghost use Rattle.u_trace.specs.Places.{place_of, IsPut};
 use std::alloc::{AllocError, Global};
 use std::collections::HashMap;
 use std::hash::Hash;
-use u_order::ExactOrd;
+use u_base::ExactOrd;
 
 /// A place for each of some keys.
 #[derive(Drop)]

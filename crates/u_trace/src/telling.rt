@@ -1,7 +1,7 @@
 //! The applied firings that an entry rests on.
 ghost use Rattle.std.specs.Prelude.{◌≡◌, ◌↔◌, ◌⊎◌, IfOk, IsTrue, IsSome};
 ghost use Rattle.u_rule.specs.Rule.{system_of, start_of};
-ghost use Rattle.u_system.specs.Firing.{Derivation};
+ghost use Rattle.u_base.specs.Firing.{Derivation};
 ghost use Rattle.u_trace.specs.Table.{place_in, Owns};
 ghost use Rattle.u_trace.specs.Givers.{AreGivers};
 ghost use Rattle.u_trace.specs.Stories.{IsStory};

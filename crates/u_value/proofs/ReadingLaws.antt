@@ -5,20 +5,20 @@ use Rattle.std.specs.Fmt.{decimal, signed_decimal}
 use Rattle.std.proofs.lemmas.Bool.Decides.{nat_tests}
 use Rattle.std.specs.Int.{w64}
 use lib.IntN.{ℤ}
-use Rattle.u_text.specs.Reader.{Reader, ◌>>=◌}
-use Rattle.u_text.proofs.ReaderLaws.{Reads}
-use Rattle.u_text.proofs.PartsLaws.{alike, unlike, same_or, lead_Reads, widened}
-use Rattle.u_text.proofs.ThenLaws.{after, both_Reads}
-use Rattle.u_text.specs.Then.{AreBoth}
-use Rattle.u_text.specs.Choice.{mapped, choice, IsOne}
-use Rattle.u_text.proofs.ChoiceLaws.{mapped_Reads, choice_Reads, one_text}
-use Rattle.u_text.proofs.NumberLaws.{IsDigit}
-use Rattle.u_text.proofs.FromZeroLaws.{number0_Reads}
-use Rattle.u_text.specs.Signed.{signed}
-use Rattle.u_text.proofs.SignedLaws.{signed_Reads, signed_first}
-use Rattle.u_text.specs.Fixed.{fixed, IsUnit}
-use Rattle.u_text.proofs.FixedLaws.{fixed_Reads}
-use Rattle.u_text.proofs.TextAtLaws.{read_within, refused_within, whole_read, refused_whole, left_over, found_at, missing_at, found_within, missing_within}
+use Rattle.u_base.specs.Reader.{Reader, ◌>>=◌}
+use Rattle.u_base.proofs.ReaderLaws.{Reads}
+use Rattle.u_base.proofs.PartsLaws.{alike, unlike, same_or, lead_Reads, widened}
+use Rattle.u_base.proofs.ThenLaws.{after, both_Reads}
+use Rattle.u_base.specs.Then.{AreBoth}
+use Rattle.u_base.specs.Choice.{mapped, choice, IsOne}
+use Rattle.u_base.proofs.ChoiceLaws.{mapped_Reads, choice_Reads, one_text}
+use Rattle.u_base.proofs.NumberLaws.{IsDigit}
+use Rattle.u_base.proofs.FromZeroLaws.{number0_Reads}
+use Rattle.u_base.specs.Signed.{signed}
+use Rattle.u_base.proofs.SignedLaws.{signed_Reads, signed_first}
+use Rattle.u_base.specs.Fixed.{fixed, IsUnit}
+use Rattle.u_base.proofs.FixedLaws.{fixed_Reads}
+use Rattle.u_base.proofs.TextAtLaws.{read_within, refused_within, whole_read, refused_whole, left_over, found_at, missing_at, found_within, missing_within}
 use Rattle.u_name.specs.Block.{IsBlock}
 use Rattle.u_name.specs.BlockText.{block_at}
 use Rattle.u_name.proofs.BlockTextLaws.{block_Reads, IsBlockByte}

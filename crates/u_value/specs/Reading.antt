@@ -7,14 +7,14 @@ use Rattle.u_name.specs.Block.{IsBlock}
 use Rattle.u_name.specs.BlockText.{block_at}
 use Rattle.u_name.specs.Name.{Activity, IsName}
 use Rattle.u_name.specs.NameReader.{name_steps}
-use Rattle.u_text.specs.Reader.{Reader}
-use Rattle.u_text.specs.Parts.{lead}
-use Rattle.u_text.specs.Then.{both}
-use Rattle.u_text.specs.Choice.{mapped, choice}
-use Rattle.u_text.specs.FromZero.{number0}
-use Rattle.u_text.specs.Signed.{signed}
-use Rattle.u_text.specs.Fixed.{fixed}
-use Rattle.u_text.specs.TextAt.{IsTextOf, IsNoText, IsTextAt, IsNoTextAt}
+use Rattle.u_base.specs.Reader.{Reader}
+use Rattle.u_base.specs.Parts.{lead}
+use Rattle.u_base.specs.Then.{both}
+use Rattle.u_base.specs.Choice.{mapped, choice}
+use Rattle.u_base.specs.FromZero.{number0}
+use Rattle.u_base.specs.Signed.{signed}
+use Rattle.u_base.specs.Fixed.{fixed}
+use Rattle.u_base.specs.TextAt.{IsTextOf, IsNoText, IsTextAt, IsNoTextAt}
 use Rattle.u_value.specs.Pointer.{pointer, IsPointer}
 use Rattle.u_value.specs.Values.{value_text}
 use Rattle.u_value.specs.declared.value.Value.{Value}

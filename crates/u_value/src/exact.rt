@@ -3,7 +3,7 @@ ghost use Rattle.u_value.specs.ExactOrders.{derived_value_ties, derived_fault_ki
 
 use crate::fault_kind::FaultKind;
 use crate::value::Value;
-use u_order::ExactOrd;
+use u_base::ExactOrd;
 
 impl ExactOrd for Value {
     ghost exact = { derived_value_ties };

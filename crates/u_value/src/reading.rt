@@ -1,8 +1,8 @@
 //! Values read from bytes.
 ghost use Rattle.std.specs.Prelude.{◌≡◌, ◌≤◌, Ok, Err, MatchResult, IfOk, length, drop};
 ghost use Rattle.u_name.specs.BlockText.{block_at};
-ghost use Rattle.u_text.specs.Choice.{mapped};
-ghost use Rattle.u_text.specs.Signed.{signed};
+ghost use Rattle.u_base.specs.Choice.{mapped};
+ghost use Rattle.u_base.specs.Signed.{signed};
 ghost use Rattle.u_value.specs.Reading.{length_at, pointer_at, reference_of, false_at, true_at, value_at, IsValueOf, IsValueErrorOf, IsValueAt, IsValueErrorAt};
 ghost use Rattle.u_value.specs.declared.reading.ValueTextError.TheVariants.{NoMemory, BadValue};
 ghost use Rattle.u_value.specs.declared.value.Value.TheVariants as values;
@@ -13,7 +13,7 @@ use crate::value::Value;
 use std::alloc::{AllocError, Global};
 use thiserror::Error;
 use u_name::{Front, Name, front_block, front_name};
-use u_text::{after, after_all, number0_at, signed_at};
+use u_base::{after, after_all, number0_at, signed_at};
 
 /// Why no value is read.
 #[derive(Debug, Drop, PartialEq, Eq, Error)]
@@ -36,7 +36,7 @@ impl From<AllocError> for ValueTextError {
 }
 
 /// `#` and a length from 0 to 1000000.
-#[tactic(auto, using(u_text::proofs::FromZeroLaws::number0_at_bound))]
+#[tactic(auto, using(u_base::proofs::FromZeroLaws::number0_at_bound))]
 fn front_length(bytes: &[u8]) -> Front<'_, u32>
     ensures { MatchResult result
         (λ found. (found.0 ≤ 1000000) × (length_at bytes.now ≡ Ok (found.0, found.1.now)))

@@ -5,7 +5,7 @@ ghost use Rattle.std.specs.Cmp.{partial_order_from_own_ties};
 ghost use Rattle.std.specs.Cmp.Rules.{comparing, hashing};
 ghost use Rattle.std.specs.Ordering.{eq_by_cmp, as_partial_cmp};
 ghost use Rattle.std.proofs.lemmas.Cmp.{eq_by_cmp_equiv};
-ghost use Rattle.u_text.specs.Appending.{Extends};
+ghost use Rattle.u_base.specs.Appending.{Extends};
 ghost use Rattle.u_value.specs.PointerOrder.{pointer_cmp, pointer_cmp_total, pointer_hash, pointers_hash_alike};
 ghost use Rattle.u_value.specs.Values.{pointer_text};
 ghost use Rattle.u_value.specs.Pointer.{pointer, IsPointer};
@@ -16,7 +16,7 @@ use std::hash::{Hash, Hasher};
 use std::marker::Model;
 use std::sync::Arc;
 use u_name::Name;
-use u_text::{cut_back, push_behind};
+use u_base::{cut_back, push_behind};
 
 /// A structure: the name of the activity that made it, and its length, 0 to 1000000. Copies share both.
 /// References are ordered by name, and then by length.
@@ -93,7 +93,7 @@ impl Reference {
     ///
     /// # Errors
     /// `AllocError` where there is no memory. Then `out` is as it was.
-    #[tactic(auto, using(u_text::proofs::AppendingLaws::extends_cut))]
+    #[tactic(auto, using(u_base::proofs::AppendingLaws::extends_cut))]
     pub fn write_text(&self, out: &mut Vec<u8>) -> Result<(), AllocError>
         ensures ok { OnOk result (out.new.items ≡ out.old.items ++ pointer_text self.now) }
         ensures err { OnErr result (out.new.items ≡ out.old.items) }
@@ -105,7 +105,7 @@ impl Reference {
 }
 
 /// Appends the text of the reference. On an error a part of it may stand there.
-#[tactic(auto, using(crate::proofs::Written::pointer_more, u_text::proofs::AppendingLaws::extends_same, u_text::proofs::AppendingLaws::extends_by, u_text::proofs::AppendingLaws::extends_behind))]
+#[tactic(auto, using(crate::proofs::Written::pointer_more, u_base::proofs::AppendingLaws::extends_same, u_base::proofs::AppendingLaws::extends_by, u_base::proofs::AppendingLaws::extends_behind))]
 fn push_reference(out: &mut Vec<u8>, reference: &Reference) -> Result<(), AllocError>
     ensures ok { OnOk result (out.new.items ≡ out.old.items ++ pointer_text reference.now) }
     ensures err { OnErr result (Extends out.old.items out.new.items) }

@@ -1,6 +1,6 @@
 //! Values.
 ghost use Rattle.std.specs.Prelude.{◌≡◌, ◌++◌, ◌∷◌, IfOk, OnOk, OnErr};
-ghost use Rattle.u_text.specs.Appending.{Extends};
+ghost use Rattle.u_base.specs.Appending.{Extends};
 ghost use Rattle.u_value.specs.Values.{value_cmp, value_text};
 
 use crate::procedure::Procedure;
@@ -8,7 +8,7 @@ use crate::reference::Reference;
 use std::alloc::AllocError;
 use std::cmp::Ordering;
 use u_name::BlockName;
-use u_text::{cut_back, push_signed};
+use u_base::{cut_back, push_signed};
 
 /// A value, as a token carries one. The kinds come in this order, and then the values by number,
 /// false before true, the bytes of the block's name, and the reference's name and length. A value takes two
@@ -50,7 +50,7 @@ impl Value {
     ///
     /// # Errors
     /// `AllocError` where there is no memory. Then `out` is as it was.
-    #[tactic(auto, using(u_text::proofs::AppendingLaws::extends_cut))]
+    #[tactic(auto, using(u_base::proofs::AppendingLaws::extends_cut))]
     pub fn write_text(&self, out: &mut Vec<u8>) -> Result<(), AllocError>
         ensures ok { OnOk result (out.new.items ≡ out.old.items ++ value_text self.now) }
         ensures err { OnErr result (out.new.items ≡ out.old.items) }
@@ -62,7 +62,7 @@ impl Value {
 }
 
 /// Appends the text of the value. On an error a part of it may stand there.
-#[tactic(auto, unfolding(crate::specs::Values::value_text), using(u_text::proofs::AppendingLaws::extends_same))]
+#[tactic(auto, unfolding(crate::specs::Values::value_text), using(u_base::proofs::AppendingLaws::extends_same))]
 fn push_value(out: &mut Vec<u8>, value: &Value) -> Result<(), AllocError>
     ensures ok { OnOk result (out.new.items ≡ out.old.items ++ value_text value.now) }
     ensures err { OnErr result (Extends out.old.items out.new.items) }
@@ -77,7 +77,7 @@ fn push_value(out: &mut Vec<u8>, value: &Value) -> Result<(), AllocError>
 }
 
 /// Appends `@block`. On an error a part of it may stand there.
-#[tactic(auto, using(crate::proofs::Written::proc_more, u_text::proofs::AppendingLaws::extends_same, u_text::proofs::AppendingLaws::extends_by))]
+#[tactic(auto, using(crate::proofs::Written::proc_more, u_base::proofs::AppendingLaws::extends_same, u_base::proofs::AppendingLaws::extends_by))]
 fn push_block(out: &mut Vec<u8>, block: &BlockName) -> Result<(), AllocError>
     ensures ok { OnOk result (out.new.items ≡ out.old.items ++ (64 ∷ block.now)) }
     ensures err { OnErr result (Extends out.old.items out.new.items) }

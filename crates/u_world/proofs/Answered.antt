@@ -2,8 +2,8 @@
 use Rattle.std.specs.Prelude.{◌≡◌, ℕ, zero, suc, ◌+◌, ◌-◌, ◌^◌, ◌<◌, ◌⊎◌, List, [], ◌∷◌, ◌++◌, length, take, map, Result, Ok, Err, slice_get, Some, refl}
 use Rattle.std.proofs.Common.{sym, ◌∙◌, ap, subst, arith, inl, inr, get_or, length-append}
 use Rattle.std.proofs.lemmas.List.{take_all}
-use Rattle.u_text.specs.Spaced.{ended}
-use Rattle.u_text.proofs.WholeWordsLaws.{le_cases}
+use Rattle.u_base.specs.Spaced.{ended}
+use Rattle.u_base.proofs.WholeWordsLaws.{le_cases}
 use Rattle.u_program.specs.declared.program.Version.{Version}
 use Rattle.u_rule.specs.declared.firing.Firing.{Firing}
 use Rattle.u_rule.specs.FiringText.{firing_text}

@@ -2,7 +2,7 @@
 use Rattle.std.specs.Prelude.{◌≡◌, ℕ, ◌-◌, List, [], ◌∷◌, ◌++◌, length, take, Contains, Result, Ok, Err, IfOk}
 use Rattle.std.proofs.Common.{sym, ◌∙◌, ap, subst, arith, append-nil}
 use Rattle.std.proofs.lemmas.List.{take_all}
-use Rattle.u_system.specs.Firing.{Same}
+use Rattle.u_base.specs.Firing.{Same}
 use Rattle.u_rule.specs.declared.firing.Firing.{Firing}
 use Rattle.u_delta.specs.declared.message.Mark.{Mark}
 use Rattle.u_machine.specs.State.{Taken, IsSettled}

@@ -1,7 +1,7 @@
 -- Where no event is refused for want of memory, each replica has applied all that it can.
 use Rattle.std.specs.Prelude.{◌≡◌, ℕ, zero, suc, ◌-◌, List, [], ◌∷◌, take, Contains, Result, Ok, Err, refl}
 use Rattle.std.proofs.Common.{sym, ap, subst, arith, inl, inr, ◌∙◌}
-use Rattle.u_system.proofs.Member.{Contains-nil}
+use Rattle.u_base.proofs.Member.{Contains-nil}
 use Rattle.u_check.specs.Jobs.{JobParts}
 use Rattle.u_rule.specs.declared.entry.Entry.{Entry}
 use Rattle.u_rule.specs.Rule.{system_of}

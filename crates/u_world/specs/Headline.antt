@@ -7,7 +7,7 @@
 -- its answer or its clashes are those of every other replica that finds nothing ready. The events
 -- are those of `specs/Happenings.antt`, the sets of one machine those of `u_machine/specs/Headline.antt`.
 use Rattle.std.specs.Prelude.{◌≡◌, ℕ, List, [], ◌∷◌, length, Contains, Result, Ok, Err}
-use Rattle.u_system.specs.Firing.{Derivation, Held, Whole, Same}
+use Rattle.u_base.specs.Firing.{Derivation, Held, Whole, Same}
 use Rattle.u_rule.specs.Rule.{system_of}
 use Rattle.u_rule.specs.declared.entry.Entry.{Entry}
 use Rattle.u_machine.specs.State.{Taken, IsSettled, NothingReady}

@@ -3,7 +3,7 @@ use std::alloc::{AllocError, Global};
 use u_check::Job;
 use u_history::History;
 use u_plain::worked::entry_of;
-use u_waits::{Waiting, waits};
+use u_trace::{Waiting, waits};
 
 /// Puts the entries of these texts in.
 fn put_all(alloc: Global, history: &mut History, texts: &[&str]) -> Result<(), AllocError> {

@@ -1,5 +1,5 @@
 use Rattle.std.proofs.Common.{◌≡◌, length}
-use Rattle.u_text.specs.Pieces.{words}
+use Rattle.u_base.specs.Pieces.{words}
 use Rattle.u_cli.specs.Places.{first_found}
 use Rattle.u_cli.proofs.placing.first_found.Given as goal
 

@@ -1,6 +1,6 @@
 use Rattle.std.proofs.Common.{sym, ◌∙◌, ap, subst, ℕ, ◌++◌, List, Contains}
 use Rattle.u_rule.specs.declared.entry.Entry.{Entry}
-use Rattle.u_waits.specs.Answers.{AreWaits}
+use Rattle.u_trace.specs.Waits.{AreWaits}
 use Rattle.u_commands.proofs.Waited.{tells_waits}
 use Rattle.u_commands.proofs.waiting.told.Goals as goal
 

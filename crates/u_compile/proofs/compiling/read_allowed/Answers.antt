@@ -2,7 +2,7 @@ use Rattle.std.proofs.Common.{List, sym, subst}
 use Rattle.u_source.specs.Sources.{SourceParts}
 use Rattle.u_scope.specs.Verdicts.{IsChecked}
 use Rattle.u_scope.specs.declared.checked.Meaning.{Meaning}
-use Rattle.u_kinds.specs.Verdicts.{HasNoClash}
+use Rattle.u_scope.specs.KindVerdicts.{HasNoClash}
 use Rattle.u_compile.proofs.compiling.read_allowed.Goals as goal
 
 pub returns-in-Err-clause-back : goal.returns-in-Err-clause-back

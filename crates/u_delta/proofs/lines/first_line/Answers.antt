@@ -1,6 +1,6 @@
 use Rattle.std.proofs.Common.{◌≡◌, ◌<◌, ◌+◌, ◌-◌, length, take, sym, ◌∙◌, ap, subst, arith}
 use Rattle.std.proofs.lemmas.List.{length-drop}
-use Rattle.u_text.specs.Pieces.{IsCutInto}
+use Rattle.u_base.specs.Pieces.{IsCutInto}
 use Rattle.u_delta.proofs.NewlineLaws.{cut_at_first, cut_at_none, within}
 use Rattle.u_delta.proofs.lines.first_line.Goals as goal
 

@@ -1,7 +1,7 @@
 use Rattle.std.proofs.Common.{◌≡◌, ◌++◌, map, take}
 use Rattle.std.specs.Prelude.{IfSome}
 use Rattle.u_rule.specs.FiringText.{firing_text}
-use Rattle.u_text.specs.Spaced.{ended}
+use Rattle.u_base.specs.Spaced.{ended}
 use Rattle.u_delta.specs.WrittenContexts.{StandsAt}
 use Rattle.u_delta.proofs.writing.push_firings.Given as goal
 

@@ -1,6 +1,6 @@
 use Rattle.std.proofs.Common.{subst, sym, arith}
 use Rattle.std.proofs.lemmas.List.{take_all}
-use Rattle.u_system.specs.Firing.{Same}
+use Rattle.u_base.specs.Firing.{Same}
 use Rattle.u_machine.specs.State.{Taken}
 use Rattle.u_fleet.specs.Headline.{IsPublished}
 use Rattle.u_fleet.proofs.Soundness.{gains_same}

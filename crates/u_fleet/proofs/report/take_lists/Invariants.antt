@@ -1,5 +1,5 @@
 use Rattle.std.proofs.Common.{take}
-use Rattle.u_system.specs.Firing.{Same}
+use Rattle.u_base.specs.Firing.{Same}
 use Rattle.u_machine.specs.State.{Taken}
 use Rattle.u_fleet.specs.Gains.{Gains}
 use Rattle.u_fleet.specs.Headline.{IsPublished}

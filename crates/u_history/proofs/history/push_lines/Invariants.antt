@@ -1,5 +1,5 @@
 use Rattle.std.proofs.Common.{◌≡◌, ◌++◌, map, take}
-use Rattle.u_text.specs.Spaced.{ended}
+use Rattle.u_base.specs.Spaced.{ended}
 use Rattle.u_rule.specs.EntryText.{entry_text}
 use Rattle.u_history.specs.Outcomes.{lent}
 use Rattle.u_history.proofs.history.push_lines.Given as goal

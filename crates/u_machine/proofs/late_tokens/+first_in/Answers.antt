@@ -1,6 +1,6 @@
 use Rattle.std.proofs.Common.{◌+◌, ◌-◌, length, take, drop, subst, sym, ◌∷◌, List}
 use Rattle.std.specs.Prelude.{Contains, IfSome, IfNone}
-use Rattle.u_system.proofs.Member.{Contains-tail}
+use Rattle.u_base.proofs.Member.{Contains-tail}
 use Rattle.u_rule.specs.Parts.{token}
 use Rattle.u_rule.specs.Rule.{tokens_from}
 use Rattle.u_rule.specs.declared.entry.Entry.{Entry}

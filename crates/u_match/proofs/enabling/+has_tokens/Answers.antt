@@ -1,6 +1,6 @@
 use Rattle.std.proofs.Common.{◌↔◌, ◌+◌, ◌-◌, IsTrue, List, length, take, drop, subst, sym}
 use Rattle.std.specs.Prelude.{Contains}
-use Rattle.u_system.specs.Firing.{Within}
+use Rattle.u_base.specs.Firing.{Within}
 use Rattle.u_rule.specs.Parts.{token}
 use Rattle.u_rule.specs.Rule.{tokens_from}
 use Rattle.u_rule.specs.declared.entry.Entry.{Entry}

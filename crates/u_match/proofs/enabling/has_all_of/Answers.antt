@@ -1,7 +1,7 @@
 use Rattle.std.proofs.Common.{◌↔◌, IsTrue, sym, ◌∙◌, subst}
 use Rattle.std.specs.Prelude.{Contains}
 use Rattle.std.proofs.lemmas.Bool.{false≢true}
-use Rattle.u_system.specs.Firing.{Within}
+use Rattle.u_base.specs.Firing.{Within}
 use Rattle.u_rule.specs.Parts.{ValueList}
 use Rattle.u_rule.specs.Rule.{tokens_from}
 use Rattle.u_match.proofs.Finding.{reads_its_cell, enabled_if}

@@ -1,7 +1,7 @@
 use Rattle.std.proofs.Common.{take}
 use Rattle.std.specs.Prelude.{Contains}
 use Rattle.u_value.specs.declared.value.Value.{Value}
-use Rattle.u_system.specs.Firing.{Within}
+use Rattle.u_base.specs.Firing.{Within}
 use Rattle.u_match.specs.Keys.{Notes}
 use Rattle.u_match.proofs.noting_reads.note_reads.Given as goal
 

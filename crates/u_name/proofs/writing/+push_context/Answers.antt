@@ -1,7 +1,7 @@
 use Rattle.std.proofs.Common.{rules}
 use Rattle.u_name.proofs.Written.{in_loop_more, in_call_more, root_text}
-use Rattle.u_text.specs.Appending.{Extends}
-use Rattle.u_text.proofs.AppendingLaws.{extends_same, extends_behind}
+use Rattle.u_base.specs.Appending.{Extends}
+use Rattle.u_base.proofs.AppendingLaws.{extends_same, extends_behind}
 use Rattle.u_name.proofs.writing.+push_context.Goals as goal
 
 pub returns-in_ok-push-in-Root-clause-ok : goal.returns-in_ok-push-in-Root-clause-ok

@@ -2,7 +2,7 @@ use Rattle.std.proofs.Common.{◌⊎◌, ◌↔◌, inl, inr, [], Contains, subs
 use Rattle.u_rule.specs.declared.entry.Entry.{Entry}
 use Rattle.u_rule.specs.declared.firing.Firing.{Firing}
 use Rattle.u_sets.proofs.Gathering.{scan_more, scan_all}
-use Rattle.u_system.proofs.Member.{Contains-nil}
+use Rattle.u_base.proofs.Member.{Contains-nil}
 use Rattle.u_plain.specs.Tries.{FitsFirst}
 use Rattle.u_plain.proofs.Growing.{first_enabled}
 use Rattle.u_plain.proofs.enabling.enabled.Goals as goal

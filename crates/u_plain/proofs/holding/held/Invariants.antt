@@ -1,7 +1,7 @@
 use Rattle.std.proofs.Common.{◌↔◌, take, Contains}
 use Rattle.u_rule.specs.Rule.{system_of}
 use Rattle.u_rule.specs.declared.entry.Entry.{Entry}
-use Rattle.u_system.specs.Firing.{Held}
+use Rattle.u_base.specs.Firing.{Held}
 use Rattle.u_plain.proofs.holding.held.Given as goal
 
 abbrev pub invariant-loop-firing : goal.invariant-loop-firing

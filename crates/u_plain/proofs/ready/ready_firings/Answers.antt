@@ -2,7 +2,7 @@ use Rattle.std.proofs.Common.{◌↔◌, ◌∙◌, Contains, subst, sym}
 use Rattle.u_rule.specs.Rule.{system_of}
 use Rattle.u_rule.specs.EntryOrder.{EntryList, FiringList}
 use Rattle.u_rule.specs.declared.firing.Firing.{Firing}
-use Rattle.u_system.specs.Firing.{Enabled}
+use Rattle.u_base.specs.Firing.{Enabled}
 use Rattle.u_plain.proofs.ready.ready_firings.Goals as goal
 use Rattle.u_plain.proofs.ready.ready_firings.Goals.{In_ok-ready}
 

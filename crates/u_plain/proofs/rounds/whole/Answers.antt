@@ -2,7 +2,7 @@ use Rattle.std.proofs.Common.{◌↔◌, ◌∙◌, ◌++◌, List, Contains, Is
 use Rattle.u_rule.specs.Rule.{system_of, is_firing_of}
 use Rattle.u_rule.specs.declared.entry.Entry.{Entry}
 use Rattle.u_rule.specs.declared.firing.Firing.{Firing}
-use Rattle.u_system.specs.Firing.{Held, Enabled, Within}
+use Rattle.u_base.specs.Firing.{Held, Enabled, Within}
 use Rattle.u_plain.proofs.Fired.{are_firings, round_fired, round_whole}
 use Rattle.u_plain.proofs.rounds.whole.Goals as goal
 

@@ -1,5 +1,5 @@
 use Rattle.u_rule.specs.Rule.{system_of}
-use Rattle.u_system.specs.Firing.{Derivation}
+use Rattle.u_base.specs.Firing.{Derivation}
 use Rattle.u_plain.proofs.rounds.whole.Given as goal
 
 abbrev pub invariant-loop-round : goal.invariant-loop-round

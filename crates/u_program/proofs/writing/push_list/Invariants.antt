@@ -1,5 +1,5 @@
 use Rattle.std.proofs.Common.{◌≡◌, ◌++◌, take, map}
-use Rattle.u_text.specs.Spaced.{spaced}
+use Rattle.u_base.specs.Spaced.{spaced}
 use Rattle.u_program.specs.Text.{destination_word}
 use Rattle.u_program.proofs.writing.push_list.Given as goal
 

@@ -1,5 +1,5 @@
 use Rattle.std.proofs.Common.{◌≡◌, ◌++◌, take}
-use Rattle.u_text.specs.Spaced.{ended}
+use Rattle.u_base.specs.Spaced.{ended}
 use Rattle.u_program.specs.Text.{statement_lines}
 use Rattle.u_program.proofs.writing.push_statements.Given as goal
 

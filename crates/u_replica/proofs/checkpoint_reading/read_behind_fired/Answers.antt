@@ -1,4 +1,4 @@
-use Rattle.u_text.specs.Pieces.{pieces}
+use Rattle.u_base.specs.Pieces.{pieces}
 use Rattle.u_replica.proofs.checkpoint_reading.read_behind_fired.Goals as goal
 
 pub returns-in-Ok : goal.returns-in-Ok

@@ -1,5 +1,5 @@
 use Rattle.std.proofs.Common.{[], arith, subst}
-use Rattle.u_text.specs.Pieces.{lines}
+use Rattle.u_base.specs.Pieces.{lines}
 use Rattle.u_replica.specs.ListedLines.{texts, FiresAmong}
 use Rattle.u_replica.proofs.ListedLaws.{texts_length, among_none, listed_none, listed_some, listed_all}
 use Rattle.u_replica.proofs.listed_lines.fire_listed.Goals as goal

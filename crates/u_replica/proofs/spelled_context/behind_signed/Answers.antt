@@ -1,6 +1,6 @@
 use Rattle.std.proofs.Common.{sym, ◌∙◌, ap, w64, to_z}
 use Rattle.std.proofs.lemmas.Int.{to_z-of_z}
-use Rattle.u_text.proofs.SignedLaws.{signed_Reads}
+use Rattle.u_base.proofs.SignedLaws.{signed_Reads}
 use Rattle.u_replica.proofs.SpelledTexts.{signed_there}
 use Rattle.u_replica.proofs.spelled_context.behind_signed.Goals as goal
 

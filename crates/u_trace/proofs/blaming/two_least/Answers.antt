@@ -1,6 +1,6 @@
 use Rattle.std.proofs.Common.{List, subst}
 use Rattle.std.specs.Prelude.{Contains}
-use Rattle.u_system.specs.Firing.{Held}
+use Rattle.u_base.specs.Firing.{Held}
 use Rattle.u_value.specs.declared.value.Value.{Value}
 use Rattle.u_rule.specs.Rule.{system_of}
 use Rattle.u_history.specs.Orders.{value_order}

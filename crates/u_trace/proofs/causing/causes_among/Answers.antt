@@ -4,7 +4,7 @@ use Rattle.u_rule.specs.Rule.{system_of}
 use Rattle.u_rule.specs.declared.entry.Entry.{Entry}
 use Rattle.u_rule.specs.declared.firing.Firing.{Firing}
 use Rattle.u_sets.specs.Members.{SomeOf, Gains}
-use Rattle.u_system.proofs.Member.{Contains-nil}
+use Rattle.u_base.proofs.Member.{Contains-nil}
 use Rattle.u_machine.proofs.Needed.{needs_some}
 use Rattle.u_trace.specs.Causes.{IsKept, IsCause}
 use Rattle.u_trace.specs.Sending.{matters}

@@ -2,7 +2,7 @@ use Rattle.std.proofs.Common.{List, take, sym, subst, arith}
 use Rattle.std.proofs.lemmas.List.{take_all}
 use Rattle.u_rule.specs.declared.entry.Entry.{Entry}
 use Rattle.u_sets.specs.Members.{SomeOf}
-use Rattle.u_system.proofs.Member.{Contains-nil}
+use Rattle.u_base.proofs.Member.{Contains-nil}
 use Rattle.u_trace.specs.Table.{place_in}
 use Rattle.u_trace.specs.Marks.{IsWanted, Marks}
 use Rattle.u_trace.proofs.Lists.{next_take}

@@ -1,5 +1,5 @@
 use Rattle.std.proofs.Common.{List, subst, Contains}
-use Rattle.u_system.specs.Firing.{Same}
+use Rattle.u_base.specs.Firing.{Same}
 use Rattle.u_rule.specs.declared.entry.Entry.{Entry}
 use Rattle.u_history.specs.Tables.{contents_of, listed_entries}
 use Rattle.u_history.proofs.Tabled.{in_order_is}

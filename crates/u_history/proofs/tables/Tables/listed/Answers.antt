@@ -1,7 +1,7 @@
 use Rattle.std.proofs.Common.{◌∙◌, ◌++◌, ap, sym, subst, map, List}
 use Rattle.std.specs.Map.Iter.{deref}
 use Rattle.u_names.specs.CellPairs.{deref_at_cell}
-use Rattle.u_system.specs.Firing.{Distinct}
+use Rattle.u_base.specs.Firing.{Distinct}
 use Rattle.u_rule.specs.declared.entry.Entry.{Entry}
 use Rattle.u_history.specs.Tables.{contents_of, write_entry}
 use Rattle.u_history.proofs.Tabled.{three, listed_distinct}

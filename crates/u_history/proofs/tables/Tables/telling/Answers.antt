@@ -1,7 +1,7 @@
 use Rattle.std.proofs.Common.{◌≡◌, ◌∙◌, ◌++◌, ap, sym, subst, refl, map, List, Contains}
 use Rattle.std.specs.Map.Iter.{deref}
 use Rattle.u_names.specs.CellPairs.{deref_at_cell}
-use Rattle.u_system.specs.Firing.{Same, Distinct}
+use Rattle.u_base.specs.Firing.{Same, Distinct}
 use Rattle.u_rule.specs.declared.entry.Entry.{Entry}
 use Rattle.u_history.specs.Tables.{Contents, contents_of, write_entry, listed_entries}
 use Rattle.u_history.proofs.Tabled.{three, listed_distinct, held_in, in_order_is, sharing_distinct}

@@ -1,6 +1,6 @@
 use Rattle.std.proofs.Common.{◌<◌, ◌≤◌, ◌∙◌, ◌+◌, ◌++◌, ap, sym, subst, length, map, get_or, List, arith}
 use Rattle.std.proofs.lemmas.List.{take_all}
-use Rattle.u_system.specs.Firing.{Distinct}
+use Rattle.u_base.specs.Firing.{Distinct}
 use Rattle.u_rule.specs.declared.entry.Entry.{Entry}
 use Rattle.u_sets.specs.Columns.{named, deref_value, AreBelow}
 use Rattle.u_sets.proofs.Named.{named_distinct}

@@ -2,8 +2,8 @@ use Rattle.std.proofs.Common.{◌≡◌, ◌≤◌, ◌-◌, ◌+◌, ◌++◌, 
 use Rattle.std.specs.Prelude.{Contains}
 use Rattle.std.specs.Map.Iter.{deref}
 use Rattle.std.proofs.lemmas.List.{map-append}
-use Rattle.u_system.specs.Firing.{Distinct}
-use Rattle.u_system.proofs.Apart.{Distinct-left}
+use Rattle.u_base.specs.Firing.{Distinct}
+use Rattle.u_base.proofs.Apart.{Distinct-left}
 use Rattle.u_sets.proofs.Shown.{shown, shown_all}
 use Rattle.u_rule.specs.declared.firing.Firing.{Firing}
 use Rattle.u_machine.specs.State.{State}

@@ -3,7 +3,7 @@ use Rattle.std.specs.Prelude.{Contains, slice_get}
 use Rattle.u_rule.specs.EntryOrder.{FiringList}
 use Rattle.u_rule.specs.declared.firing.Firing.{Firing}
 use Rattle.u_sets.specs.Members.{IsWith}
-use Rattle.u_system.proofs.Member.{Contains-head}
+use Rattle.u_base.proofs.Member.{Contains-head}
 use Rattle.std.proofs.lemmas.Bool.{false≢true}
 use Rattle.u_machine.proofs.Flight.{as_they_wait, all_wait, not_flying}
 use Rattle.u_machine.proofs.Beginning.{unparked, begun_logged, begun_partitioned, begun_idle, begun_takes, begun_late, others}

@@ -1,7 +1,7 @@
 use Rattle.std.proofs.Common.{◌≡◌, [], inl, inr, subst, sym, arith}
 use Rattle.std.specs.Prelude.{Contains, IsTrue}
 use Rattle.u_name.specs.Name.{Activity}
-use Rattle.u_system.proofs.Member.{Contains-nil}
+use Rattle.u_base.proofs.Member.{Contains-nil}
 use Rattle.u_rule.specs.Rule.{needs_of}
 use Rattle.u_rule.specs.declared.entry.Entry.{Entry}
 use Rattle.u_machine.specs.Masks.{has_bucket, is_in, those_in}

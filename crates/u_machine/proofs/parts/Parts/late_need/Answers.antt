@@ -1,6 +1,6 @@
 use Rattle.std.proofs.Common.{subst, arith}
 use Rattle.std.specs.Prelude.{Contains, IfSome, IfNone}
-use Rattle.u_system.proofs.Member.{Contains-nil}
+use Rattle.u_base.proofs.Member.{Contains-nil}
 use Rattle.u_rule.specs.Parts.{ValueList}
 use Rattle.u_rule.specs.Rule.{tokens_from, needs_of}
 use Rattle.u_rule.specs.declared.entry.Entry.{Entry}

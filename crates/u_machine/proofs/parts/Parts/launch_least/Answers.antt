@@ -1,6 +1,6 @@
 use Rattle.std.proofs.Common.{◌≡◌, ◌∙◌, ◌+◌, ◌++◌, [], ◌∷◌, length, drop, sym, ap, subst, refl, arith, length-append}
 use Rattle.std.specs.Prelude.{Contains, slice_get}
-use Rattle.u_system.proofs.Member.{Contains-head}
+use Rattle.u_base.proofs.Member.{Contains-head}
 use Rattle.u_rule.specs.EntryOrder.{FiringList, firing_cmp}
 use Rattle.u_rule.specs.declared.firing.Firing.{Firing}
 use Rattle.u_sets.specs.Rising.{Rises}

@@ -3,7 +3,7 @@ use Rattle.u_rule.specs.Rule.{start_of, system_of}
 use Rattle.u_rule.specs.declared.entry.Entry.{Entry}
 use Rattle.u_rule.specs.declared.firing.Firing.{Firing}
 use Rattle.std.specs.Prelude.{Contains, ◌↔◌}
-use Rattle.u_system.specs.Firing.{Enabled, Same}
+use Rattle.u_base.specs.Firing.{Enabled, Same}
 use Rattle.u_rule.specs.EntryOrder.{entry_cmp, EntryList, FiringList}
 use Rattle.u_sets.specs.Rising.{Rises}
 use Rattle.u_sets.specs.Members.{IsWith}

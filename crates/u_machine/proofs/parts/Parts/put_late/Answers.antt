@@ -4,7 +4,7 @@ use Rattle.u_rule.specs.declared.entry.Entry.{Entry}
 use Rattle.u_rule.specs.declared.firing.Firing.{Firing}
 use Rattle.u_machine.specs.Invariant.{taken_of}
 use Rattle.u_sets.specs.Members.{IsWith}
-use Rattle.u_system.proofs.Member.{Contains-head}
+use Rattle.u_base.proofs.Member.{Contains-head}
 use Rattle.u_machine.proofs.Going.{slice_get_below}
 use Rattle.u_machine.proofs.Lists.{slice_get_Contains}
 use Rattle.u_machine.proofs.LateTokens.{put_late_partitioned, puts_late, same_late, put_back}

@@ -1,6 +1,6 @@
 use Rattle.std.proofs.Common.{◌≡◌, ◌∙◌, [], arith, inl, inr, refl, subst, sym}
 use Rattle.std.specs.Prelude.{Contains}
-use Rattle.u_system.proofs.Member.{Contains-nil}
+use Rattle.u_base.proofs.Member.{Contains-nil}
 use Rattle.u_rule.specs.EntryOrder.{FiringList}
 use Rattle.u_machine.specs.Invariant.{state_of, woken_of, IsPartitioned, HasLate, taken_of}
 use Rattle.u_machine.proofs.Lists.{slice_get_Contains}

@@ -1,6 +1,6 @@
 use Rattle.std.proofs.Common.{◌↔◌, Contains, map, subst, sym}
 use Rattle.std.specs.Map.Iter.{deref_pair}
-use Rattle.u_system.specs.Firing.{Distinct}
+use Rattle.u_base.specs.Firing.{Distinct}
 use Rattle.u_sets.specs.Pairs.{HasAnother}
 use Rattle.u_names.proofs.Celled.{pairs_distinct, shared_list}
 use Rattle.u_names.proofs.Mapped.{if_ok}

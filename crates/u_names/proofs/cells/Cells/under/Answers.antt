@@ -1,5 +1,5 @@
 use Rattle.std.proofs.Common.{◌↔◌, [], Contains, subst}
-use Rattle.u_system.proofs.Member.{Contains-nil}
+use Rattle.u_base.proofs.Member.{Contains-nil}
 use Rattle.u_names.proofs.Celled.{at_spot, under_none}
 use Rattle.u_names.proofs.cells.Cells.under.Goals as goal
 

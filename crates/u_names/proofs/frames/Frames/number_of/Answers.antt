@@ -1,6 +1,6 @@
 use Rattle.std.proofs.Common.{◌≡◌, List, Some, subst, sym, ap, ◌∙◌}
 use Rattle.std.specs.Prelude.{slice_get}
-use Rattle.u_system.specs.Firing.{Distinct}
+use Rattle.u_base.specs.Firing.{Distinct}
 use Rattle.u_name.specs.Context.{Tree}
 use Rattle.u_sets.specs.Members.{GoesLast}
 use Rattle.u_names.specs.Frames.{FrameParts, FrameKey, frame_key, frame_of, frames_at, AreFrames}

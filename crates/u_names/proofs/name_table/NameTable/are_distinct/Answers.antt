@@ -1,6 +1,6 @@
 use Rattle.std.proofs.Common.{List, subst}
 use Rattle.u_name.specs.Name.{Activity}
-use Rattle.u_system.specs.Firing.{Distinct}
+use Rattle.u_base.specs.Firing.{Distinct}
 use Rattle.u_names.proofs.Framed.{names_distinct}
 use Rattle.u_names.proofs.OneNumber.{one_number}
 use Rattle.u_names.proofs.name_table.NameTable.are_distinct.Goals as goal

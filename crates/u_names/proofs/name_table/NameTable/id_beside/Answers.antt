@@ -1,6 +1,6 @@
 use Rattle.std.proofs.Common.{◌≡◌, List, Some, subst, sym, ◌∙◌, ap}
 use Rattle.u_name.specs.Name.{Activity}
-use Rattle.u_system.specs.Firing.{Distinct}
+use Rattle.u_base.specs.Firing.{Distinct}
 use Rattle.u_sets.specs.Members.{GoesLast}
 use Rattle.u_names.specs.Frames.{FrameParts, frame_of, beside}
 use Rattle.u_names.specs.Places.{PlaceParts, place_of, IsPlace}

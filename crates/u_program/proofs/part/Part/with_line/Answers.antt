@@ -1,5 +1,5 @@
 use Rattle.std.proofs.Common.{rules, ◌≡◌, Some, None}
-use Rattle.u_text.specs.Pieces.{words}
+use Rattle.u_base.specs.Pieces.{words}
 use Rattle.u_program.specs.Reading.{line_at}
 use Rattle.u_program.proofs.LineLaws.{line_sound}
 use Rattle.u_program.specs.declared.reading.Line.TheVariants.{Block, Loop, Statement}

@@ -1,5 +1,5 @@
 use Rattle.std.proofs.Common.{◌∙◌, ap, ◌++◌, ◌∷◌, []}
-use Rattle.u_text.specs.Spaced.{ended}
+use Rattle.u_base.specs.Spaced.{ended}
 use Rattle.u_program.specs.Text.{header, blocks_lines}
 use Rattle.u_program.proofs.Written.{whole_text}
 use Rattle.u_program.proofs.program.Program.append.Goals as goal

@@ -1,7 +1,7 @@
 use Rattle.std.proofs.Common.{◌↔◌, ◌∙◌, subst, sym, ap, Contains}
 use Rattle.std.specs.Prelude.{slice_get}
 use Rattle.std.proofs.lemmas.Option.{slice_get_past}
-use Rattle.u_system.proofs.Member.{Contains-nil}
+use Rattle.u_base.proofs.Member.{Contains-nil}
 use Rattle.u_sets.specs.Columns.{numbered_pairs}
 use Rattle.u_sets.proofs.Keyed.{items_at}
 use Rattle.u_sets.proofs.Columned.{at_number, read_at}

@@ -1,5 +1,5 @@
 use Rattle.std.proofs.Common.{◌≡◌, ◌↔◌, ◌∙◌, ℕ, map, sym, subst, ap, List, Contains}
-use Rattle.u_system.specs.Firing.{Distinct}
+use Rattle.u_base.specs.Firing.{Distinct}
 use Rattle.std.specs.Prelude.{nat_eq}
 use Rattle.std.specs.Cmp.{nat_eq_equiv}
 use Rattle.std.proofs.lemmas.Bool.{eqb-true}

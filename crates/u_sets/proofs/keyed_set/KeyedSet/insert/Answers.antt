@@ -1,6 +1,6 @@
 use Rattle.std.proofs.Common.{◌≡◌, ◌∙◌, ap, sym, subst, refl, ◌∷◌, [], Some, cond}
 use Rattle.std.specs.Prelude.{IsSome}
-use Rattle.u_system.proofs.Member.{Contains-nil}
+use Rattle.u_base.proofs.Member.{Contains-nil}
 use Rattle.u_sets.specs.Members.{IsWith}
 use Rattle.u_sets.specs.Pairs.{items_of, pairs_of}
 use Rattle.u_sets.specs.declared.few.Few.{Few}

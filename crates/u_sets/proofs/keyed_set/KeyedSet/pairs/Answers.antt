@@ -1,6 +1,6 @@
 use Rattle.std.proofs.Common.{◌≡◌, ◌∙◌, map, sym, subst, List}
 use Rattle.std.specs.Map.Iter.{deref_pair}
-use Rattle.u_system.specs.Firing.{Distinct}
+use Rattle.u_base.specs.Firing.{Distinct}
 use Rattle.u_sets.specs.Pairs.{pairs_of_many, GroupsAreDistinct}
 use Rattle.u_sets.proofs.Hashed.{exactly}
 use Rattle.u_sets.proofs.Keyed.{ok_then, all_of_many, many_distinct}

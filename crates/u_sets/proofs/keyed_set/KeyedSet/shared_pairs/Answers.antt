@@ -1,6 +1,6 @@
 use Rattle.std.proofs.Common.{◌≡◌, ◌↔◌, map, sym, subst, List, Contains}
 use Rattle.std.specs.Map.Iter.{deref_pair}
-use Rattle.u_system.specs.Firing.{Distinct}
+use Rattle.u_base.specs.Firing.{Distinct}
 use Rattle.u_sets.specs.Pairs.{pairs_of, pairs_of_many, GroupsAreDistinct, HasAnother}
 use Rattle.u_sets.proofs.Hashed.{exactly}
 use Rattle.u_sets.proofs.Keyed.{ok_then, shared, many_distinct}

@@ -1,4 +1,4 @@
-use Rattle.u_system.proofs.Member.{Contains-nil}
+use Rattle.u_base.proofs.Member.{Contains-nil}
 use Rattle.u_sets.proofs.Hashed.{exactly}
 use Rattle.u_sets.proofs.Keyed.{at_key}
 use Rattle.u_sets.proofs.keyed_set.KeyedSet.under.Goals as goal

@@ -1,7 +1,7 @@
 use Rattle.std.proofs.Common.{subst, sym}
 use Rattle.u_rule.specs.Rule.{system_of}
 use Rattle.u_rule.specs.EntryOrder.{write_of}
-use Rattle.u_system.specs.Firing.{Held}
+use Rattle.u_base.specs.Firing.{Held}
 use Rattle.u_sets.specs.Rising.{IsListOf}
 use Rattle.u_history.specs.Orders.{written_order}
 use Rattle.u_history.specs.Outcomes.{PairIn}

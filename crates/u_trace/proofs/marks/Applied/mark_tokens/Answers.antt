@@ -6,7 +6,7 @@ use Rattle.u_rule.specs.Rule.{tokens_from}
 use Rattle.u_rule.specs.declared.entry.Entry.{Entry}
 use Rattle.u_rule.specs.declared.entry.Entry.TheVariants as entries
 use Rattle.u_sets.specs.Members.{SomeOf}
-use Rattle.u_system.proofs.Member.{Contains-nil}
+use Rattle.u_base.proofs.Member.{Contains-nil}
 use Rattle.u_trace.specs.Table.{place_in}
 use Rattle.u_trace.specs.Marks.{IsWanted, Marks}
 use Rattle.u_trace.proofs.MarkLaws.{mark_none, marks_on}

@@ -1,0 +1,16 @@
+pub mod Firing
+pub mod Exact
+pub mod Reader
+pub mod Parts
+pub mod Then
+pub mod Choice
+pub mod Fixed
+pub mod Number
+pub mod FromZero
+pub mod Signed
+pub mod Longest
+pub mod TextAt
+pub mod Pieces
+pub mod Spaced
+pub mod WholeWords
+pub mod Appending

@@ -1,0 +1,17 @@
+use Rattle.std.proofs.Common.{◌≡◌}
+use Rattle.u_commands.specs.declared.command_error.CommandError.{CommandError}
+use Rattle.u_commands.specs.declared.command_error.CommandError.TheVariants.{NoMemory}
+use Rattle.u_commands.proofs.RanLaws.{error_is}
+use Rattle.u_cli.proofs.DrawnLaws.{draws_job}
+use Rattle.u_pictures.proofs.runs.drawn.Goals as goal
+
+pub returns-in_err-text-clause-memory : goal.returns-in_err-text-clause-memory
+returns-in_err-text-clause-memory c = error_is c.from_residual-in_err-text.result (λ (e : CommandError). e ≡ NoMemory) c.from_residual-in_err-text.ensures.1
+
+pub returns-in_err-status-clause-memory : goal.returns-in_err-status-clause-memory
+returns-in_err-status-clause-memory c = error_is c.from_residual-in_err-status.result (λ (e : CommandError). e ≡ NoMemory) c.from_residual-in_err-status.ensures.1
+
+pub returns-in-Ok-clause-ok : goal.returns-in-Ok-clause-ok
+returns-in-Ok-clause-ok c =
+    draws_job c.args.job.now c.args.firings c.in_ok-machine.state c.in_ok-machine.machine _ c.in_ok-text.text.items c.in_ok-status.status c.in-Ok.left _
+    c.in_ok-machine.ensures.ok c.applied.ensures c.in_ok-text.ensures c.in_ok-status.ensures c.in-Ok.ensures.ok

@@ -1,5 +1,0 @@
-use Rattle.std.proofs.Common.{length}
-use Rattle.u_draw_run.proofs.looks.+push_cells.Given as goal
-
-abbrev pub decreases-push_cells : goal.decreases-push_cells
-decreases-push_cells l = length l.values.now

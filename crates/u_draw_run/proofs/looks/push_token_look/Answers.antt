@@ -1,4 +1,0 @@
-use Rattle.u_draw_run.proofs.looks.push_token_look.Goals as goal
-
-pub returns-then-is_start : goal.returns-then-is_start
-returns-then-is_start c = rw c.if-is_start.true c.push_worded_look.ensures

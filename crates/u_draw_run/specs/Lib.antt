@@ -1,4 +1,0 @@
-pub mod Names
-pub mod Places
-pub mod Looks
-pub mod Picture

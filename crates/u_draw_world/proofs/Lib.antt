@@ -1,5 +1,0 @@
-pub mod Joined
-pub mod ToldLaws
-pub mod Noting
-pub mod Lives
-pub mod Going

@@ -1,9 +1,0 @@
-use Rattle.std.proofs.Common.{[], take}
-use Rattle.u_draw_world.specs.Living.{Lives, Agree}
-use Rattle.u_draw_world.proofs.living.live.Given as goal
-
-abbrev pub invariant-loop-place : goal.invariant-loop-place
-invariant-loop-place l = record {
-  lives : Lives 1 [] l.initial.world (take l.place l.events) l.happenings.items l.sent.items l.world;
-  agree : Agree l.sent.items l.world.messages;
-}

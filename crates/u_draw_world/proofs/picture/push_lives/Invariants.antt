@@ -1,7 +1,0 @@
-use Rattle.std.proofs.Common.{◌≡◌, ◌++◌}
-use Rattle.u_draw.specs.Dot.{text}
-use Rattle.u_draw_world.specs.Picture.{lives_shown}
-use Rattle.u_draw_world.proofs.picture.push_lives.Given as goal
-
-abbrev pub invariant-loop-before : goal.invariant-loop-before
-invariant-loop-before l = l.out.items ≡ l.initial.out.items ++ text (lives_shown l.last l.before)

@@ -1,4 +1,0 @@
-pub mod Words
-pub mod Living
-pub mod Looks
-pub mod Picture

@@ -1,5 +1,0 @@
-use Rattle.u_guards.proofs.Ports.{Before, IsThat}
-use Rattle.u_guards.proofs.marking.is_alone.Given as goal
-
-abbrev pub invariant-loop-other : goal.invariant-loop-other
-invariant-loop-other l = Before (IsThat l.link) l.other-index l.links

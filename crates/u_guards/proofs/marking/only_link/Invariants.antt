@@ -1,5 +1,0 @@
-use Rattle.u_guards.proofs.Ports.{Before, IsElsewhere}
-use Rattle.u_guards.proofs.marking.only_link.Given as goal
-
-abbrev pub invariant-loop-link : goal.invariant-loop-link
-invariant-loop-link l = Before (IsElsewhere l.port) l.link-index l.links

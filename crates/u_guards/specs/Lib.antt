@@ -1,3 +1,0 @@
-pub mod Flow
-pub mod Meetings
-pub mod Findings

@@ -1,3 +1,0 @@
-pub mod Kinds
-pub mod Clashes
-pub mod Verdicts

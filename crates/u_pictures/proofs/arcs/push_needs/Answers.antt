@@ -1,0 +1,12 @@
+use Rattle.u_pictures.specs.Picture.{need_arc}
+use Rattle.u_draw.proofs.Shows.{mapped_more, lent_more}
+use Rattle.u_pictures.proofs.arcs.push_needs.Goals as goal
+
+pub loop-entry-preserved : goal.loop-entry-preserved
+loop-entry-preserved c =
+    let es = c.args.entries.now in
+    let i = c.loop-entry.entry-index in
+    let e = c.entry-item.result in
+    mapped_more (need_arc c.args.firing.now) es i e c.args.out.now.items c.loop-entry.out.items c.push_need.new.out.items
+    (lent_more es i e c.loop-entry-test.true c.entry-item.is)
+    c.loop-entry.invariant c.in_ok-push_need.ensures.ok

@@ -1,9 +1,0 @@
-pub mod Breaches
-pub mod CallTables
-pub mod EndFacts
-pub mod GuardTables
-pub mod KindFacts
-pub mod NumberFacts
-pub mod PortFacts
-pub mod SourceTables
-pub mod Tests

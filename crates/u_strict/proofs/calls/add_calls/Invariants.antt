@@ -1,5 +1,0 @@
-use Rattle.u_strict.specs.Tables.{CallsBefore}
-use Rattle.u_strict.proofs.calls.add_calls.Given as goal
-
-abbrev pub invariant-loop-statement : goal.invariant-loop-statement
-invariant-loop-statement l = CallsBefore l.statements l.statement-index l.table

@@ -1,5 +1,0 @@
-use Rattle.u_strict.proofs.Breaches.{KeptRules}
-use Rattle.u_strict.proofs.first.strictness_of.Given as goal
-
-abbrev pub invariant-loop-rule : goal.invariant-loop-rule
-invariant-loop-rule l = KeptRules l.blocks l.rule-index

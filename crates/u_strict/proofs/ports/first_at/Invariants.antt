@@ -1,6 +1,0 @@
-use Rattle.std.proofs.Common.{ℕ, ◌+◌, ◌<◌}
-use Rattle.u_strict.specs.Tables.{PortIsFed}
-use Rattle.u_strict.proofs.ports.first_at.Given as goal
-
-abbrev pub invariant-loop-place : goal.invariant-loop-place
-invariant-loop-place l = (m : ℕ) → m < l.place + 1 → PortIsFed l.statements l.port m

@@ -1,4 +1,0 @@
-pub mod Arcs
-pub mod Breaches
-pub mod Strict
-pub mod Tables

@@ -1,9 +1,0 @@
-pub mod Ports
-pub mod Waiting
-pub mod Deferred
-pub mod Orders
-pub mod ExactOrders
-pub mod Gathering
-pub mod Answers
-pub mod Still
-pub mod Text
