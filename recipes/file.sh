@@ -7,9 +7,9 @@ find_place() {
     touch -- "$log"
 }
 
-# All lines of the log, and then each new one.
+# All lines of the log, and then each new one, as long as the member runs.
 from() {
-    exec tail -n +1 -f -- "$log"
+    exec tail -n +1 -f --pid=$$ -- "$log"
 }
 
 # Adds lines to the log.
@@ -17,16 +17,17 @@ to() {
     exec cat >>"$log"
 }
 
-# An empty line in the log each second. One of those who call this does it, as long as it lives.
+# An empty line in the log each second. One of the members that call this does it, as long as it runs.
 clock() {
     (
         flock 9 || exit
-        while sleep 1; do echo >>"$log"; done
+        while sleep 1 && is_wanted; do echo >>"$log"; done
     ) 9>>"$log.clock"
 }
 
 # The clock's lines are in the log.
 listen() {
     clock &
-    from "$1"
+    (from "$1")
+    end_job
 }

@@ -18,11 +18,16 @@ find_server() {
     esac
 }
 
-# Passes lines on, and writes an empty one about each second, whatever comes. After so many seconds without
-# a line it ends. A line that came in part is held until its end comes.
+# Whether the member that sourced this still runs.
+is_wanted() {
+    kill -0 "$$" 2>/dev/null
+}
+
+# Passes lines on, and writes an empty one about each second, whatever comes. It ends after so many seconds
+# without a line, and within a second after the member. A line that came in part is held until its end comes.
 ticking() {
     local part='' line status silent=0 last=$SECONDS
-    while [ "$silent" -lt "${U_PATIENCE:-30}" ]; do
+    while [ "$silent" -lt "${U_PATIENCE:-30}" ] && is_wanted; do
         IFS= read -r -t 1 line
         status=$?
         part+=$line
@@ -41,7 +46,15 @@ ticking() {
     done
 }
 
+# Ends the job that calls it, with all that it started: `from` may wait for a server that is away, and would
+# keep the member's input open. A member that was killed by -9 left its folder, which goes here.
+end_job() {
+    is_wanted || rm -rf -- "$room"
+    kill -- "-$BASHPID"
+}
+
 # What the member reads: the lines of the bus, and those of the clock.
 listen() {
-    from "$1" | ticking
+    ticking < <(from "$1")
+    end_job
 }

@@ -1,20 +1,22 @@
 #!/usr/bin/env bash
 # Tries `u share` over message buses, by the scripts of recipes/, each with a server of its own on this
-# machine: a file, a stream of Redis, a topic of MQTT; and a stream of NATS where its name is given.
+# machine: a file, a stream of Redis, a topic of MQTT, a stream of NATS.
 #
-#   tests/engines.sh [ENGINE..]     file, redis, mqtt, nats; the first three where none is named
+#   tests/engines.sh [ENGINE..]     file, redis, mqtt, nats; all of them if none is named
 #
 # On each bus a calm run comes first: a leader and two followers, which have to write the report of `u run`,
 # byte for byte. Then a rough one: each member loses one line in ten and gets one in ten twice; forged and
 # broken lines come in between; a member comes late; the leader is killed and started again; the server is
 # killed and started again. Each member that is left has to write that report, but for the number of
-# parked firings. A row says how many firings there are, how many lines the bus carried for each of them,
-# and how many firings a second that was.
+# parked firings. Then the server dies for good under a leader and a follower, and a member starts without
+# one: each has to write that report once the bus was silent for U_PATIENCE seconds. Last, a member that is
+# killed by -9 has to take all that it started along. A row says how many firings there are, how many lines
+# the bus carried for each of them, and how many firings a second that was.
 #
 # Programs that lack are installed by the names of their Debian packages. Ports lie outside of the range
-# from which the system takes ports for connections. Each wait has an end, and all of them after three
-# minutes. U_BINARY is the program that is tried, the built one by default. The last line is
-# 'N passed, M failed'.
+# from which the system takes ports for connections. Each wait has an end, and all of them after five
+# minutes. U_BINARY is the program that is tried, the built one by default, and U_ENGINES_SIZE the argument
+# of the sum. The last line is 'N passed, M failed'.
 set -u
 export LC_ALL=C
 
@@ -28,9 +30,10 @@ fi
 program=$top/programs/sum.u
 size=${U_ENGINES_SIZE:-2000}
 temp=$(mktemp -d) || exit 2
-started=()
-passed=0
-failed=0
+# The numbers of what was started, and those of the members by their names.
+started=() servers=()
+declare -A member=()
+passed=0 failed=0
 
 # Ends what this script started, by number.
 end_all() {
@@ -39,52 +42,44 @@ end_all() {
     for number in "${servers[@]}"; do kill -9 -- "$number" 2>/dev/null; done
     rm -rf -- "$temp"
 }
-servers=()
 trap end_all EXIT
 trap 'exit 2' INT TERM HUP
 
-# Counts one thing that has to be so.
-count() {
-    if [ "$2" -eq 0 ]; then
+# Counts whether a command has status 0.
+expect() {
+    if "${@:2}"; then
         passed=$((passed + 1))
     else
         failed=$((failed + 1))
-        echo "$1: not so"
+        echo "$engine: $1: not so"
     fi
 }
 
 # Milliseconds since some time.
 now() {
-    local time=${EPOCHREALTIME/[.,]/}
-    echo $((time / 1000))
+    echo $((${EPOCHREALTIME/[.,]/} / 1000))
 }
 
 # Waits until the command has status 0, for so many tenths of a second at most, and not at all once the
-# script has run for three minutes.
+# script has run for five minutes.
 until_so() {
     local tenths=$1
-    shift
-    until "$@"; do
+    until "${@:2}"; do
         tenths=$((tenths - 1))
-        [ "$tenths" -gt 0 ] && [ "$SECONDS" -lt 180 ] || return 1
+        [ "$tenths" -gt 0 ] && [ "$SECONDS" -lt 300 ] || return 1
         sleep 0.1
     done
 }
 
-# Installs the packages of the programs that lack for an engine.
+# Installs the packages of the programs that lack for an engine, which are named PROGRAM:PACKAGE.
 install_for() {
-    local packages=()
+    local word words='' packages=()
     case $1 in
-        redis)
-            command -v redis-server >/dev/null || packages+=(redis-server)
-            command -v redis-cli >/dev/null || packages+=(redis-tools)
-            ;;
-        mqtt)
-            command -v mosquitto >/dev/null || [ -x /usr/sbin/mosquitto ] || packages+=(mosquitto)
-            command -v mosquitto_sub >/dev/null || packages+=(mosquitto-clients)
-            ;;
-        nats) command -v nats-server >/dev/null || packages+=(nats-server) ;;
+        redis) words='redis-server:redis-server redis-cli:redis-tools' ;;
+        mqtt) words='mosquitto:mosquitto mosquitto_sub:mosquitto-clients' ;;
+        nats) words='nats-server:nats-server' ;;
     esac
+    for word in $words; do command -v "${word%:*}" >/dev/null || packages+=("${word#*:}"); done
     [ "${#packages[@]}" -gt 0 ] || return 0
     echo "$1: installs ${packages[*]}"
     timeout 60 apt-get update >"$temp/apt" 2>&1
@@ -95,14 +90,19 @@ install_for() {
     return 1
 }
 
-# A port that nobody listens to.
-free_port() {
-    local low port tries
+# Whether something takes connections at the port.
+listens() {
+    (: <>"/dev/tcp/127.0.0.1/$port") 2>/dev/null
+}
+
+# Leaves in `port` one that nobody listens to.
+find_port() {
+    local low tries
     read -r low _ </proc/sys/net/ipv4/ip_local_port_range
     for ((tries = 0; tries < 50; tries++)); do
         port=$((low - 1 - (RANDOM % 8000)))
         [ "$port" -gt 1024 ] || return 1
-        (: <>"/dev/tcp/127.0.0.1/$port") 2>/dev/null || { echo "$port"; return; }
+        listens || return 0
     done
     return 1
 }
@@ -110,31 +110,42 @@ free_port() {
 # Starts the server of an engine.
 start_server() {
     case $engine in
-        redis)
-            redis-server --bind 127.0.0.1 --port "$port" --save '' --appendonly yes --dir "$temp" \
-                >>"$temp/server" 2>&1 &
-            ;;
-        mqtt) PATH=$PATH:/usr/sbin mosquitto -p "$port" >>"$temp/server" 2>&1 & ;;
-        nats) nats-server -a 127.0.0.1 -p "$port" -js -sd "$temp/nats" >>"$temp/server" 2>&1 & ;;
-        *) return 0 ;;
+        redis) set -- redis-server --bind 127.0.0.1 --port "$port" --save '' --appendonly yes --dir "$temp" ;;
+        mqtt) set -- mosquitto -p "$port" ;;
+        nats) set -- nats-server -a 127.0.0.1 -p "$port" -js -sd "$temp/nats" ;;
     esac
+    "$@" >>"$temp/server" 2>&1 &
     server=$!
     servers+=("$server")
     disown "$server"
     until_so 100 listens || { tail -n 3 -- "$temp/server"; return 1; }
 }
 
-# Whether the server takes connections.
-listens() {
-    (: <>"/dev/tcp/127.0.0.1/$port") 2>/dev/null
+# Whether an engine has a server, or needs none.
+is_served() {
+    case $engine in
+        file) ;;
+        redis | mqtt | nats) install_for "$engine" && find_port && start_server ;;
+        *) return 1 ;;
+    esac
+}
+
+# Kills the server, if there is one, and starts it again.
+kill_server() {
+    kill -9 -- "$server" && until_so 50 has_ended "$server"
+}
+renew_server() {
+    [ "$engine" != file ] || return 0
+    kill_server
+    sleep 0.3
+    start_server
 }
 
 # A copy of the recipes, in which what comes of the bus is spoilt: every tenth line is lost, and another
 # one in ten comes twice. Nothing comes behind so many lines as U_STOP_AFTER says, if it is set.
 spoil_recipes() {
     local script
-    mkdir -- "$temp/spoilt"
-    cp -- "$top"/recipes/* "$temp/spoilt/"
+    cp -R -- "$top/recipes" "$temp/spoilt"
     for script in file redis mqtt nats; do
         cat >>"$temp/spoilt/$script.sh" <<'END'
 eval "whole_$(declare -f from)"
@@ -154,31 +165,31 @@ chmod +x "$temp/u"
 
 # Starts a member of that name by the scripts in a folder. Its report and what it says go to files.
 start_member() {
-    local name=$1 recipes=$2
-    shift 2
+    local name=$1
     rm -f -- "$temp/$name.number"
-    U_BINARY=$temp/u U_NUMBER=$temp/$name.number "$recipes/member" "$engine:$place" "$program" \
-        "$argument" --report "$temp/$name.report" "$@" 2>"$temp/$name.said" &
-    member=$!
-    started+=("$member")
+    U_BINARY=$temp/u U_NUMBER=$temp/$name.number "$2/member" "$engine:$place" "$program" \
+        "$argument" --report "$temp/$name.report" "${@:3}" 2>"$temp/$name.said" &
+    member[$name]=$!
+    started+=($!)
 }
 
-# Whether a member's program runs.
+# Whether a member's program runs; kills one, which has to run.
 is_running() {
     [ -s "$temp/$1.number" ] && kill -0 "$(cat -- "$temp/$1.number")" 2>/dev/null
 }
+kill_member() {
+    is_running "$1" && kill -9 -- "$(cat -- "$temp/$1.number")"
+}
 
-# How many lines of firings were seen on the bus, but for forged ones.
+# How many lines of firings were seen on the bus, but for forged ones, and whether so many were.
 seen() {
     grep '^f ' "$temp/seen" | grep -cvxF "$forged"
 }
-
-# Whether so many were.
 has_seen() {
     [ "$(seen)" -ge "$1" ]
 }
 
-# Whether the last of the forged lines was.
+# Whether the last of the forged lines was seen.
 has_seen_forged() {
     grep -qxF -- "${forged##*$'\n'}" "$temp/seen"
 }
@@ -189,14 +200,19 @@ has_ended() {
 }
 
 # Whether a member ends with status 0 in time, and its report is that of the run, but for the
-# number of parked firings where the third word says so.
+# number of parked firings where the second word says so.
 reports() {
-    local name=$1 number=$2 but=${3:-nothing} status
-    until_so 600 has_ended "$number" || return 1
-    wait "$number"
+    local but=${2:-nothing} status
+    until_so 600 has_ended "${member[$1]}" || return 1
+    wait "${member[$1]}"
     status=$?
-    [ "$status" -eq 0 ] || { echo "$engine: $name ended with status $status"; tail -n 3 -- "$temp/$name.said"; return 1; }
-    diff <(sed "/^$but /d" "$temp/wanted") <(sed "/^$but /d" "$temp/$name.report")
+    [ "$status" -eq 0 ] || { echo "$engine: $1 ended with status $status"; tail -n 3 -- "$temp/$1.said"; return 1; }
+    diff <(sed "/^$but /d" "$temp/wanted") <(sed "/^$but /d" "$temp/$1.report")
+}
+
+# Whether a member said that a line is no firing, and that one is none of the job.
+has_notices() {
+    grep -q 'u: line [0-9]* not allowed' "$temp/$1.said" && grep -q 'u: line [0-9]* not of this job' "$temp/$1.said"
 }
 
 # Calls `from` or `to` of the engine's recipe.
@@ -223,14 +239,8 @@ see_all() {
 
 # Lines that no member prints: some are no firing's text, some are none of the program, and some are firings
 # that no run of it makes.
-forged='x
-f
-f -.main.17.1 9
-f -.main.99.1 1
-f -.main.1.1 01
-f -.main.1.1
-f (-.main.L1.1).main.5.1 9 9
-f -.main.1.1 -7'
+forged=$(printf '%s\n' x f 'f -.main.17.1 9' 'f -.main.99.1 1' 'f -.main.1.1 01' 'f -.main.1.1' \
+    'f (-.main.L1.1).main.5.1 9 9' 'f -.main.1.1 -7')
 
 # Sends them again and again. In the file a line without its end comes too, now and then.
 forge() {
@@ -259,7 +269,7 @@ begin() {
 end() {
     local spent=$(($(now) - begun)) lines before=-1
     # Who sees all lines may be behind.
-    until lines=$(seen) && [ "$lines" -eq "$before" ] || [ "$SECONDS" -ge 180 ]; do
+    until lines=$(seen) && [ "$lines" -eq "$before" ] || [ "$SECONDS" -ge 300 ]; do
         before=$lines
         sleep 0.3
     done
@@ -271,41 +281,21 @@ end() {
 # A leader and two followers on a bus that carries all lines. The followers come first, since some buses
 # keep nothing for those who come late.
 run_calm() {
-    local leader one two
     begin calm "$size"
     start_member one "$top/recipes" --follow
-    one=$member
     start_member two "$top/recipes" --follow
-    two=$member
     sleep 0.3
     start_member leader "$top/recipes"
-    leader=$member
-    reports leader "$leader"
-    count "$engine: the report of a leader" $?
-    reports one "$one"
-    count "$engine: the report of a follower" $?
-    reports two "$two"
-    count "$engine: the report of another follower" $?
+    expect 'the report of a leader' reports leader
+    expect 'the report of a follower' reports one
+    expect 'the report of another follower' reports two
     end calm
-}
-
-# Kills a member's program, which has to run.
-kill_member() {
-    is_running "$1" && kill -9 -- "$(cat -- "$temp/$1.number")"
-}
-
-# Kills the server and starts it again, if there is one.
-kill_server() {
-    [ "$engine" != file ] || return 0
-    kill -9 -- "$server" && until_so 50 has_ended "$server"
-    sleep 0.3
-    start_server
 }
 
 # A run on a bus that loses lines and repeats them, with forged ones, where a member comes late, and the
 # leader and the server are killed and started again.
 run_rough() {
-    local follower late again forging
+    local forging
     begin rough $((size - 1))
     start_job forge
     forging=$job
@@ -314,56 +304,66 @@ run_rough() {
     # For each line it fires eight times at most, so it is not at its end once its lines stop.
     U_STOP_AFTER=$((firings / 12)) start_member leader "$temp/spoilt" --burst 8
     start_member follower "$temp/spoilt" --follow
-    follower=$member
     until_so 300 has_seen $((firings / 8))
     start_member late "$temp/spoilt" --follow
-    late=$member
     until_so 300 has_seen $((firings / 4))
-    kill_member leader
-    count "$engine: the leader is killed before its end" $?
+    expect 'the leader is killed before its end' kill_member leader
     start_member again "$temp/spoilt" --burst 8
-    again=$member
     until_so 300 has_seen $((firings / 2))
-    kill_server
-    count "$engine: the server is killed and starts again" $?
-    reports follower "$follower" parked
-    count "$engine: the report of a follower of the one that was killed" $?
-    reports late "$late" parked
-    count "$engine: the report of a member that came late" $?
-    reports again "$again" parked
-    count "$engine: the report of the member that was killed" $?
+    expect 'the server is killed and starts again' renew_server
+    expect 'the report of a follower of the one that was killed' reports follower parked
+    expect 'the report of a member that came late' reports late parked
+    expect 'the report of the member that was killed' reports again parked
     kill -- "-$forging" 2>/dev/null
-    grep -q 'u: line [0-9]* not allowed' "$temp/follower.said" &&
-        grep -q 'u: line [0-9]* not of this job' "$temp/follower.said"
-    count "$engine: notices of forged lines" $?
+    expect 'notices of forged lines' has_notices follower
     end rough
 }
 
-# Both runs on one engine.
-run_engine() {
-    engine=$1 port=0
-    case $engine in
-        file) ;;
-        redis | mqtt | nats)
-            if ! install_for "$engine" || ! port=$(free_port) || ! start_server; then
-                count "$engine: a server" 1
-                return
-            fi
-            ;;
-        *)
-            echo "tests/engines.sh: no engine $engine: file, redis, mqtt or nats" >&2
-            failed=$((failed + 1))
-            return
-            ;;
-    esac
-    run_calm
-    run_rough
-    [ "$engine" = file ] || kill -9 -- "$server" 2>/dev/null
+# A server that dies for good under a leader and a follower, and a member that never had one.
+run_away() {
+    [ "$engine" != file ] || return 0
+    export U_PATIENCE=3
+    begin away $((size + 1))
+    U_STOP_AFTER=$((firings / 12)) start_member leader "$temp/spoilt" --burst 8
+    start_member follower "$top/recipes" --follow
+    until_so 300 has_seen $((firings / 8))
+    kill_server
+    expect 'the server dies before the end of a leader' is_running leader
+    expect 'the server dies before the end of a follower' is_running follower
+    expect 'the report of a leader whose server died' reports leader
+    expect 'the report of a follower whose server died' reports follower
+    start_member alone "$top/recipes" --follow
+    expect 'the report of a member without a server' reports alone
+    unset U_PATIENCE
+    kill -- "-$seeing" 2>/dev/null
 }
 
-[ "$#" -gt 0 ] || set -- file redis mqtt
+# Whether no process has the mark of a member in its environment.
+left_nothing() {
+    ! grep -qs "U_NUMBER=$temp/$1.number" /proc/[0-9]*/environ
+}
+
+# A member that is killed by -9, with a server or without one.
+run_killed() {
+    begin killed $((size + 2))
+    start_member killed "$top/recipes" --follow
+    until_so 50 is_running killed && kill -9 -- "${member[killed]}" && wait "${member[killed]}" 2>/dev/null
+    expect 'a member that is killed by -9 leaves no process' until_so 100 left_nothing killed
+    kill -- "-$seeing" 2>/dev/null
+}
+
+[ "$#" -gt 0 ] || set -- file redis mqtt nats
+PATH=$PATH:/usr/sbin
 spoil_recipes
 printf '%8s %8s %10s %13s %10s\n' bus run firings lines/firing firings/s
-for name in "$@"; do run_engine "$name"; done
+for engine in "$@"; do
+    port=0 wrong=$failed
+    expect 'a server, or an engine that needs none' is_served
+    [ "$failed" -eq "$wrong" ] || continue
+    run_calm
+    run_rough
+    run_away
+    run_killed
+done
 echo "$passed passed, $failed failed"
 [ "$failed" -eq 0 ]
