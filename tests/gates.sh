@@ -1,9 +1,8 @@
 #!/usr/bin/env bash
-# Tries the tests of u_tests_fleet on wrong bodies of u_fleet that no contract refuses: tests/gates/TEST/NAME.edit
-# is a change of u_fleet, of the form of the edits in crates/u_fleet/must-fail, with which TEST has to fail.
-# Without a change each TEST has to pass. It runs the sources by `rt try`, a minute or two for each change, and
-# is no part of the gate. In the copy that it runs, the long tests draw two fleets for a program in place of two
-# hundred: no TEST is one of them. The last line is 'N passed, M failed'.
+# Tries the tests of fleets in u_tests_replicas on wrong bodies of u_fleet that no contract refuses:
+# tests/gates/TEST/NAME.edit is a change of u_fleet, of the form of the edits in crates/u_fleet/must-fail, with
+# which TEST has to fail. Without a change each TEST has to pass. It runs the sources by `rt try`, two minutes or
+# more for each change, and is no part of the gate. The last line is 'N passed, M failed'.
 set -u
 export LC_ALL=C
 
@@ -26,22 +25,12 @@ copy_crates() {
             [ ! -d "$crate/$part" ] || cp -R -- "$crate/$part" "$room/$crate/"
         done
     done
-    draw_few "$room/crates/u_tests_fleet/src/gate_tests.rt"
-    [ -z "${1-}" ] || tests/edits_fit.py --apply "$1" "$room/crates/u_fleet"
-}
-
-# Lowers how many fleets are drawn for a program. It fails where the line that says how many isn't there.
-draw_few() {
-    if ! grep -qx 'const SEEDS: u64 = [0-9]*;' "$1"; then
-        echo "FAILED: $1 doesn't say how many fleets are drawn"
-        exit 1
-    fi
-    sed -i 's/^const SEEDS: u64 = [0-9]*;$/const SEEDS: u64 = 2;/' "$1"
+    [ -z "${1-}" ] || tests/apply_edit.py "$1" "$room/crates/u_fleet" || exit 1
 }
 
 # Runs the tests of the copy, and leaves what they say in $room/said.
 run_tests() {
-    (cd -- "$room/crates/u_tests_fleet" && rt try --test) >"$room/said" 2>&1 </dev/null
+    (cd -- "$room/crates/u_tests_replicas" && rt try --test) >"$room/said" 2>&1 </dev/null
 }
 
 # Counts one trial: whether it went as it has to, and what it is.
