@@ -1,5 +1,5 @@
 #!/usr/bin/env python3
-"""Runs the built program where its surroundings fail and its texts are damaged, and compares what it says.
+"""Runs the built program with surroundings that fail, damaged texts, and programs that are dear to check.
 
     tests/hostile.py [--seed S] [--damaged N] [--planted] [PART..]
 
@@ -14,9 +14,9 @@ reads    input comes a byte at a time, and fails at each byte in turn: nothing i
          with `u: not readable` and status 5
 large    programs of up to 999 statements that are dear to check: `check --strict --determinate` and `explain`
          take at most a second of processor time
-damaged  N programs, checkpoints, entries, names and lines of a bus that were changed at random: a status of
-         the table, one named refusal or whole output, the same answer of a checkpoint and of a bus, and at
-         most a second of processor time
+damaged  N programs, checkpoints, entries and lines of a bus that were changed at random: a status of the table,
+         one named refusal or whole output, the same answer of a checkpoint and of a bus, and at most a second
+         of processor time
 
 Without a PART all are run. The library that refuses, cuts and fails is tests/memory/refuse.c. The program is the
 built one, or U_BINARY, and that of `calls` crates/u_refused, or U_REFUSED. With --planted the program is not told
@@ -33,6 +33,8 @@ import sys
 import tempfile
 from concurrent.futures import ThreadPoolExecutor
 
+from sources.making import damage
+
 TOP = os.path.dirname(os.path.dirname(os.path.abspath(__file__)))
 BINARY = os.environ.get("U_BINARY", f"{TOP}/crates/u/out/u")
 REFUSED_CALLS = os.environ.get("U_REFUSED", f"{TOP}/crates/u_refused/out/u_refused")
@@ -46,15 +48,9 @@ LIMIT, MOST_SECONDS = 60, 1.0
 DOUBLE, SUM, WRITERS = "programs/double.u", "programs/sum.u", "programs/two_writers.u"
 CHECKPOINT = b"u-history 1\nf -.main.1.1 3\nf -.main.2.1 3\nf -.main.3.1 3\nf -.main.4.1 0\nend 4\n"
 BUS = b"f -.main.1.1 3\nf -.main.2.1 3\n\nf -.main.3.1 3\nf (-.main.L1.1).main.5.1 3\n"
-REFUSED = b"u-program 1\nblock main\n1 0 begin -> 2.1\n2 0 add -> 3.1\n3 0 end ->\n"
-# What may stand behind `u: ` where a text is refused, or an entry or a port is not there.
-NAMED = re.compile(
-    rb"u: (program line \d+ not allowed|program line \d+ has too many|program cut short"
-    rb"|rule \d+ block \d+ statement \d+|argument not allowed|entry not allowed at byte \d+"
-    rb"|name not allowed at byte \d+|checkpoint line \d+ not allowed|checkpoint line \d+ too long"
-    rb"|firing \d+ not of this job|entry not held|port not clashed)\n"
-)
+ENTRY = b"t (-.main.L1.1).main.8.2 1 2"
 NOTICE = re.compile(rb"u: line \d+ (too long|not allowed|not of this job|cut short)\n")
+REFUSED = b"u-program 1\nblock main\n1 0 begin -> 2.1\n2 0 add -> 3.1\n3 0 end ->\n"
 
 
 class Ended:
@@ -250,105 +246,41 @@ def shown(words, room):
     return " ".join(words).replace(room, "TEMP") or "the stored run"
 
 
-def damage(chance, text):
-    """The text with one to three changes: cut, a byte changed, added or left out, a line left out, doubled or moved."""
-    for _ in range(chance.randint(1, 3)):
-        place = chance.randrange(len(text) + 1)
-        kind = chance.randrange(7)
-        if kind == 0:
-            text = text[:place]
-        elif kind == 1:
-            text = text[:place] + chance.choice(BYTES) + text[place + 1 :]
-        elif kind == 2:
-            text = text[:place] + chance.choice(BYTES) + text[place:]
-        elif kind == 3:
-            text = text[:place] + text[place + 1 :]
-        else:
-            lines = text.splitlines(keepends=True)
-            if lines:
-                line = lines.pop(chance.randrange(len(lines)))
-                to = chance.randrange(len(lines) + 1)
-                lines[to:to] = [line] * (kind - 4)
-            text = b"".join(lines)
-    return text
-
-
-BYTES = [bytes([byte]) for byte in b"0123456789 .()-\n\r\tfatwelL@&#n\x00\x7f\x80\xff/>,[]"]
-
-
-def programs():
-    for name in sorted(os.listdir(f"{TOP}/programs")):
-        with open(f"{TOP}/programs/{name}", "rb") as file:
-            yield file.read()
-
-
-def same_answer(ended):
-    """Whether the report has the answer of the sum of 3, and no other."""
-    return ended.status == 0 and ended.out.endswith(b"\nanswer 6\nverdict answer 6\n")
-
-
-def is_word(text):
-    """Whether the text can be a word of a command line that is no option."""
-    return b"\0" not in text and not text.startswith(b"-")
-
-
-def damaged_run(chance, texts, room):
+def damaged_run(chance, room, number):
     """A run over a damaged text, and whether it ended as it may."""
-    kind = chance.randrange(6)
-    if kind < 3:
-        text = damage(chance, chance.choice(texts))
-        words = (["check", "stdin"], ["explain", "stdin"], ["run", "stdin", "3", "--firings", "200"])[kind]
-        ended = run(words, text, bounded=True)
-        named = (2,) if kind == 1 else ()
-        right = (ended.status in (0, 3, 4) + named and not ended.error) or is_refusal(ended)
-    elif kind == 3:
-        text = damage(chance, CHECKPOINT)
-        with tempfile.NamedTemporaryFile(dir=room) as file:
+    kind = chance.choice(("check", "explain", "run", "restore", "trace", "share"))
+    text = {"restore": CHECKPOINT, "trace": ENTRY, "share": BUS}.get(kind)
+    if text is None:
+        with open(f"{TOP}/programs/{chance.choice(sorted(os.listdir(f'{TOP}/programs')))}", "rb") as file:
+            text = file.read()
+    text = damage(text.decode(), chance)
+    words = [kind, "stdin"] + ["3", "--firings", "200"] * (kind == "run")
+    if kind == "restore":
+        words = [kind, SUM, "3", f"{room}/damaged{number}"]
+        with open(words[-1], "wb") as file:
             file.write(text)
-            file.flush()
-            words = ["restore", SUM, "3", file.name]
-            ended = run(words, bounded=True)
-        right = same_answer(ended) or is_refusal(ended)
-    elif kind == 4:
-        text = damage(chance, b"t (-.main.L1.1).main.8.2 1 2")
-        words = ["trace", SUM, "3", os.fsdecode(text)] if is_word(text) else ["check", DOUBLE]
-        ended = run(words, bounded=True)
-        right = ended.status == 0 or is_refusal(ended) or (ended.status == 1 and not is_utf8(text))
-    else:
-        text = damage(chance, BUS)
-        words = ["share", SUM, "3", "--follow", "--report", "/dev/stdout"]
-        ended = run(words, text, bounded=True)
-        right = same_answer(ended) and not NOTICE.sub(b"", ended.error)
-    return text, words, ended, right
-
-
-def is_utf8(text):
-    try:
-        text.decode()
-        return True
-    except UnicodeDecodeError:
-        return False
-
-
-def is_refusal(ended):
-    """Whether the run ended with one named refusal and nothing else."""
-    return ended.status in (2, 3) and ended.out == b"" and NAMED.fullmatch(ended.error) is not None
+    elif kind == "trace":
+        words = [kind, SUM, "3", "--", text.replace(b"\0", b"")]
+    elif kind == "share":
+        words = [kind, SUM, "3", "--follow", "--report", "/dev/stdout"]
+    ended = run(words, text, bounded=True)
+    same = ended.status == 0 and ended.out.endswith(b"\nanswer 6\nverdict answer 6\n")
+    if kind == "share":
+        return text, ended, same and not NOTICE.sub(b"", ended.error)
+    refused = ended.status in (2, 3) and ended.out == b"" and re.fullmatch(rb"u: [^\n]+ [^\n]+\n", ended.error)
+    told = ended.status in (0, 3, 4) + (2,) * (kind == "explain") and not ended.error
+    usage = kind == "trace" and ended.status == 1 and b"UTF-8" in ended.error
+    return text, ended, refused or usage or (same if kind == "restore" else told)
 
 
 def damage_texts(tally, room, seed, count):
     """Runs over that many damaged texts."""
-    texts = list(programs())
-    wrong = []
 
     def one(number):
-        return damaged_run(random.Random(f"{seed} {number}"), texts, room)
+        return damaged_run(random.Random(f"{seed} {number}"), room, number)
 
-    refused = 0
-    for number, (text, words, ended, right) in side_by_side(range(count), one):
-        refused += is_refusal(ended)
-        if not right:
-            wrong.append((f"number {number}, {' '.join(words[:2])} of {text[:400]}", ended))
-    print(f"damaged: {refused} of {count} were refused by name")
+    wrong = [(f"number {number}, {text[:400]}", ended) for number, (text, ended, right) in side_by_side(range(count), one)
+             if not right]
     tally.add(f"damaged: seed {seed}", count, wrong)
 
 
@@ -369,15 +301,12 @@ def chain_backwards():
 
 
 def conditionals():
-    """Conditionals one behind another, whose sides meet."""
+    """Conditionals one after another, whose sides meet."""
     groups = []
     for first in range(2, 998, 4):
-        groups += [
-            f"0 switch ->{to((first + 1, 1))} /{to((first + 2, 1))}",
-            f"0 pass ->{to((first + 3, 1))}",
-            f"0 pass ->{to((first + 3, 1))}",
-            f"0 pass ->{to((first + 4, 1), (first + 4, 2 if first + 4 < 998 else 1))}",
-        ]
+        side = f"0 pass ->{to((first + 3, 1))}"
+        join = f"0 pass ->{to((first + 4, 1), (first + 4, 2 if first + 4 < 998 else 1))}"
+        groups += [f"0 switch ->{to((first + 1, 1))} /{to((first + 2, 1))}", side, side, join]
     return program_text(["0 begin -> 2.1 2.2", *groups, "0 end ->"])
 
 
@@ -443,7 +372,7 @@ def make_files(room):
 
 
 def main():
-    parser = argparse.ArgumentParser(description="Failing surroundings and damaged texts.")
+    parser = argparse.ArgumentParser(description=__doc__.split("\n")[0])
     parser.add_argument("--seed", type=int, default=1)
     parser.add_argument("--damaged", type=int, default=2000, metavar="N")
     parser.add_argument("--planted", action="store_true")

@@ -1,10 +1,9 @@
 #!/usr/bin/env bash
-# Runs the built program on the cases of tests/cases, and compares standard output, standard error
+# Runs the built program on the cases of tests/cases/*.txt, and compares standard output, standard error
 # and the exit status with what stands there; runs the examples of README.md, docs/LANGUAGE.md,
-# docs/NOTATION.md, docs/TUTORIAL.md, docs/REPLICAS.md and docs/programs; compares the manual page and the
-# completions with `--help`, what README counts with what there is, and the names that docs/THEOREMS.md
-# lists with those of its promises; and compares programs/ and the example of docs/LIBRARY.md with the code
-# that tests run. The last line is 'N passed, M failed'.
+# docs/NOTATION.md, docs/TUTORIAL.md, docs/REPLICAS.md and docs/programs; compares the manual page and
+# the completions with `--help`, and what README counts with what there is; and compares programs/ and
+# the example of docs/LIBRARY.md with the code that tests run. The last line is 'N passed, M failed'.
 #
 # The lines of a case:
 #   case: NAME            begins a case
@@ -12,6 +11,8 @@
 #                         a byte, TEMP the folder of the files that this script makes
 #   stdin: FILE           standard input; `endless` (it never ends) and `closed` stand for
 #                         themselves; without the line it is empty
+#   input: TEXT           a line of standard input; without TEXT an empty line
+#   line NAME: TEXT       a line of the file TEMP/NAME, which only this case has
 #   stdout: WHERE         `full` (every write fails), `closed`, or `nobody` (a pipe that no one
 #                         reads); without the line it is compared
 #   folder: FOLDER        where the program is run; without the line at the top of the repository
@@ -22,7 +23,8 @@
 #   error has: TEXT       standard error has TEXT somewhere
 #   status: NUMBER        the exit status
 #   two spaces and TEXT   a line of standard output
-# Lines that begin with `#` and empty lines say nothing.
+# Lines that begin with `#` and empty lines say nothing. CASES names the files of cases that are run, and nothing
+# else is then looked at.
 set -u
 export LC_ALL=C
 
@@ -38,6 +40,21 @@ temp=$(mktemp -d) || exit 2
 trap 'rm -rf -- "$temp"' EXIT
 passed=0
 failed=0
+
+# Counts a test of that name, which passed if nothing is said to be wrong with it.
+count() {
+    if [ -z "$2" ]; then
+        passed=$((passed + 1))
+    else
+        failed=$((failed + 1))
+        printf 'FAILED: %s\n%s\n' "$1" "$(sed 's/^/  /' <<<"$2")"
+    fi
+}
+
+# Counts whether two texts are the same.
+expect_same() {
+    count "$1" "$(diff <(printf '%s\n' "$2") <(printf '%s\n' "$3"))"
+}
 
 # The files that are too large or too odd to stand in the repository.
 make_files() {
@@ -60,11 +77,6 @@ make_files() {
         printf 'u-program 1\nblock main\n1 0 begin ->\n'
         for k in {2..1000}; do printf '%s 0 add ->\n' "$k"; done
     } >"$temp/statements_1000"
-    {
-        echo 'u-program 1'
-        printf 'block main\n1 0 begin -> 2.1\n2 0 end ->\n'
-        for k in {2..64}; do printf 'block b%s\n1 0 begin -> 2.1\n2 0 end ->\n' "$k"; done
-    } >"$temp/blocks_64"
     make_checkpoints
     make_bus
 }
@@ -103,7 +115,14 @@ make_bus() {
 begin_case() {
     name=$1 words='' stdin=/dev/null stdout='' folder=$top by=$binary memory=''
     output='' status=0
-    output_has=() error_has=() error=''
+    output_has=() error_has=() error='' made=()
+}
+
+# Adds a line to a file that only this case has. What it is given is `NAME: TEXT` or `NAME:`.
+add_line() {
+    local file=$temp/${1%%:*} text=${1#*:}
+    made+=("$file")
+    printf '%s\n' "${text# }" >>"$file"
 }
 
 # The command line of the case, as the list `line`.
@@ -175,21 +194,15 @@ judge() {
 }
 
 end_case() {
-    local got wrong
+    local got
     [ -n "$name" ] || return 0
     split_words
     folder=${folder//TEMP/$temp}
     : >"$temp/out"
     (start_in) 2>"$temp/err"
     got=$?
-    wrong=$(judge "$got")
-    if [ -z "$wrong" ]; then
-        passed=$((passed + 1))
-    else
-        failed=$((failed + 1))
-        printf 'FAILED: %s\n  words: %s\n' "$name" "$words"
-        printf '%s\n' "$wrong" | sed 's/^/  /'
-    fi
+    count "$name"$'\n'"  words: $words" "$(judge "$got")"
+    [ ${#made[@]} -eq 0 ] || rm -f -- "${made[@]}"
     name=''
 }
 
@@ -201,6 +214,8 @@ while IFS= read -r row || [ -n "$row" ]; do
         'words:') ;;
         'words: '*) words=${row#words: } ;;
         'stdin: '*) stdin=${row#stdin: } ;;
+        'input:'*) stdin=TEMP/input; add_line "$row" ;;
+        'line '*) add_line "${row#line }" ;;
         'stdout: '*) stdout=${row#stdout: } ;;
         'folder: '*) folder=${row#folder: } ;;
         'by: '*) by=${row#by: } ;;
@@ -213,21 +228,16 @@ while IFS= read -r row || [ -n "$row" ]; do
         '' | '#'*) ;;
         *) echo "tests/cases has a line that says nothing: $row" >&2; failed=$((failed + 1)) ;;
     esac
-done <tests/cases
+done < <(cat ${CASES:-tests/cases/*.txt})
 end_case
+[ -z "${CASES:-}" ] || { echo "$passed passed, $failed failed"; exit "$((failed > 0))"; }
 
 # Runs the example whose command and wanted output stand in `command` and `wanted`.
 end_example() {
     local got
     [ -n "$command" ] || return 0
     got=$(timeout 60 bash -c "${command//.\/u /\"$binary\" }" 2>&1 </dev/null)
-    if [ "$got" = "$wanted" ]; then
-        passed=$((passed + 1))
-    else
-        failed=$((failed + 1))
-        printf 'FAILED: an example of %s\n  %s\n' "$document" "$command"
-        diff <(printf '%s\n' "$wanted") <(printf '%s\n' "$got") | sed 's/^/  /'
-    fi
+    expect_same "an example of $document"$'\n'"  $command" "$wanted" "$got"
     command=''
 }
 
@@ -248,17 +258,6 @@ run_examples() {
 for page in README.md docs/LANGUAGE.md docs/NOTATION.md docs/TUTORIAL.md docs/REPLICAS.md docs/programs/*.md; do
     run_examples "$page"
 done
-
-# Counts whether two texts are the same.
-expect_same() {
-    if [ "$2" = "$3" ]; then
-        passed=$((passed + 1))
-    else
-        failed=$((failed + 1))
-        echo "FAILED: $1"
-        diff <(printf '%s\n' "$2") <(printf '%s\n' "$3") | sed 's/^/  /'
-    fi
-}
 
 # What bash completes these words to, the last of which is at the cursor.
 completed() {
@@ -289,22 +288,11 @@ expect_same 'README counts the definitions of the headline' \
     "$(tests/definitions.py u_world/Headline | tail -n 1)" \
     "$(grep -o '[0-9]* pages, [0-9,]* lines' README.md)"
 
-expect_same 'THEOREMS lists the names of its promises, each once' \
-    "$(sed -n 's/^| <a id="\([a-z-]*\)"><\/a>.*/\1/p' docs/THEOREMS.md | awk '!seen[$0]++')" \
-    "$(grep -o '](#[a-z-]*)' docs/THEOREMS.md | tr -d '](#)')"
-
-# The programs that tests run are constants of u_plain, and have to be the files of the folder programs.
-for file in programs/*.u; do
-    constant=$(basename -- "$file" .u)
-    if awk -v head="pub const ${constant^^}: &[u8] = b\"" \
-        'index($0, head) == 1 { on = 1; next } on && /^";$/ { exit } on { sub(/\\n\\$/, ""); print }' \
-        crates/u_plain/src/examples.rt | cmp -s -- - "$file"; then
-        passed=$((passed + 1))
-    else
-        failed=$((failed + 1))
-        echo "FAILED: $file is not the constant ${constant^^} of u_plain"
-    fi
-done
+# The programs that tests run by calls of the library are constants of u_plain, and have to be files of programs.
+while read -r name text; do
+    expect_same "$name of u_plain is a program" "$(cat "programs/${name,,}.u")" "$(printf '%b' "$text")"
+done < <(sed -n '/^pub const [A-Z_]*: &\[u8\] =$/{N;s/^pub const \([A-Z_]*\).*\n *b"\(.*\)";$/\1 \2/p}' \
+    crates/u_plain/src/examples.rt)
 
 # What `check` says of the promises of each program of tests/determinate: what stands beside the program.
 for file in tests/determinate/*.u; do
@@ -315,25 +303,9 @@ for file in programs/*.u; do
     expect_same "$file is determinate" determinate "$("$binary" check "$file" --determinate | tail -n 1)"
 done
 
-# The picture of each program: what tests/drawn.py, which shares nothing with the program `u`, writes of its
-# text.
-for file in programs/*.u tests/determinate/*.u tests/pictures/*.u "$temp/blocks_64"; do
-    expect_same "the picture of $file" "$(tests/drawn.py <"$file")" "$("$binary" draw "$file" 2>&1)"
-done
-
-# The pictures of runs and stories: what tests/drawn_runs.py finds wrong with them.
+# The pictures of runs, stories and worlds: what tests/drawn.py finds wrong with them.
 for file in programs/*.u; do
-    expect_same "the pictures of runs of $file" '' "$(tests/drawn_runs.py "$binary" "$file" 3 60 2>&1)"
-    expect_same "the pictures of whole runs of $file" '' "$(tests/drawn_runs.py "$binary" "$file" 2 2000 2>&1)"
-done
-
-# The pictures of worlds: what tests/drawn_worlds.py, which makes the random events anew, finds wrong with them.
-for file in programs/*.u; do
-    for world in '2 1 60' '3 7 200' '8 11 100' '1 5 30'; do
-        read -r replicas seed events <<<"$world"
-        expect_same "the picture of a world of $file: $world" '' \
-            "$(tests/drawn_worlds.py "$binary" "$file" 2 "$replicas" "$seed" "$events" 2>&1)"
-    done
+    expect_same "the pictures of runs and worlds of $file" '' "$(U_BINARY=$binary tests/drawn.py "$file" 2>&1)"
 done
 
 # The pictures of the documents are drawn from what `draw` prints today.
@@ -349,13 +321,8 @@ expect_explained() {
         status=$?
         sed 's/^u: //' "$temp/said" | cat -- - "${file%.u}.out" >"$temp/wanted"
         "$binary" explain "$file" "$@" >"$temp/got" 2>"$temp/err"
-        if [ $? -eq "$status" ] && [ ! -s "$temp/err" ] && cmp -s -- "$temp/wanted" "$temp/got"; then
-            passed=$((passed + 1))
-        else
-            failed=$((failed + 1))
-            echo "FAILED: what is said of $file"
-            diff -- "$temp/wanted" "$temp/got" | sed 's/^/  /'
-        fi
+        [ $? -eq "$status" ] || echo "the status is not $status" >>"$temp/err"
+        count "what is said of $file" "$(cat -- "$temp/err"; diff -- "$temp/wanted" "$temp/got")"
     done
 }
 expect_explained tests/explain

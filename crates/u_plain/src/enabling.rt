@@ -2,6 +2,8 @@
 //!
 //! Each is found at its first token: what has that value alone, and then what has one more value, as
 //! long as there are tokens of the same activity at the next port.
+//!
+//! No table is kept, since this is compared with code that is clever.
 ghost use Rattle.std.specs.Prelude.{◌≡◌, ◌↔◌, ◌⊎◌, ◌+◌, ◌<◌, [], ◌∷◌, length, Contains, IfOk, OnOk, IsTrue, None, MatchOption};
 ghost use Rattle.u_rule.specs.Rule.{system_of, needs_of};
 ghost use Rattle.u_rule.specs.EntryOrder.{firing};

@@ -8,9 +8,7 @@ mod among;
 mod enabling;
 pub mod examples;
 mod holding;
-mod jobs;
 mod ready;
-mod rounds;
 pub mod shuffling;
 pub mod worked;
 
@@ -18,4 +16,3 @@ pub use among::are_among;
 pub use enabling::{are_in, enabled, is_enabled};
 pub use holding::{are_firings, held};
 pub use ready::ready_firings;
-pub use rounds::whole;

@@ -1,10 +1,9 @@
 //! The calls that take no memory. The line `call` stands before them and `answered` behind them, for the
 //! library that counts allocations.
-use crate::calls::LIMIT;
-use crate::programs::{DOUBLE, job_of};
+use crate::machines::LIMIT;
 use crate::replicas::mark_of;
 use crate::rows::TRIES;
-use crate::standing;
+use crate::standing::has_all;
 use anyhow::{Result, anyhow};
 use std::alloc::Global;
 use u_check::Job;
@@ -13,6 +12,7 @@ use u_history::History;
 use u_machine::{Machine, Ran, Step, Took};
 use u_match::Matcher;
 use u_names::Names;
+use u_plain::examples::{DOUBLE, job};
 use u_replica::Replica;
 use u_rule::{Entry, Firing, is_firing};
 
@@ -26,11 +26,6 @@ fn new_are_empty(alloc: Global) -> bool {
 struct End<'a> {
     entries: &'a [Entry],
     firings: &'a [Firing],
-}
-
-/// Whether the history has all entries of the run, and no other.
-fn has_all(history: &History, entries: &[Entry]) -> bool {
-    standing::has_all(history, entries) && history.len() == entries.len()
 }
 
 /// Whether the machine knows the firings, which are of its job and equal to themselves, and each has a
@@ -59,6 +54,7 @@ fn take_again(machine: &mut Machine<'_>, firings: &[Firing]) -> bool {
 fn machine_answers(machine: &mut Machine<'_>, end: &End<'_>) -> bool {
     machine.is_settled()
         && has_all(machine.history(), end.entries)
+        && machine.history().len() == end.entries.len()
         && knows_all(machine, end.firings)
         && take_again(machine, end.firings)
         && machine.settle().is_ok()
@@ -66,27 +62,11 @@ fn machine_answers(machine: &mut Machine<'_>, end: &End<'_>) -> bool {
         && machine.run(LIMIT) == Ok(Ran::Quiet)
 }
 
-/// Whether the replica, whose number is 1, has nothing of the other one's log.
-fn has_no_mark(replica: &Replica<'_>) -> bool {
-    match mark_of(replica, 2) {
-        Some(mark) => mark.count == 0,
-        None => false,
-    }
-}
-
-/// Whether the calls of the new replica answer as they must.
+/// Whether the calls of the new replica, whose number is 1, answer as they must.
 fn replica_answers(replica: &Replica<'_>) -> bool {
-    replica.life() == 1 && has_no_mark(replica) && replica.machine().history().len() == 1
-}
-
-/// Whether each of the calls answers as it must.
-fn all_answer(
-    alloc: Global,
-    machine: &mut Machine<'_>,
-    replica: &Replica<'_>,
-    end: &End<'_>,
-) -> bool {
-    new_are_empty(alloc) && machine_answers(machine, end) && replica_answers(replica)
+    matches!(mark_of(replica, 2), Some(mark) if mark.count == 0)
+        && replica.life() == 1
+        && replica.machine().history().len() == 1
 }
 
 /// Makes the calls between the two lines.
@@ -97,7 +77,9 @@ fn call_all(
     end: &End<'_>,
 ) -> Result<()> {
     println!(rt; "call")?;
-    let right = all_answer(rt.alloc(), machine, replica, end);
+    let right = new_are_empty(rt.alloc())
+        && machine_answers(machine, end)
+        && replica_answers(replica);
     println!(rt; "answered")?;
     println!(rt; "lent: {right}")?;
     Ok(())
@@ -137,7 +119,7 @@ fn try_job(rt: &HostRuntime, job: &Job) -> Result<()> {
 
 /// Makes the calls that take no memory, of the program of the double.
 fn try_double(rt: &HostRuntime) -> Result<()> {
-    match job_of(rt.alloc(), DOUBLE, 4) {
+    match job(rt.alloc(), DOUBLE, 4) {
         Ok(job) => try_job(rt, &job),
         Err(_) => Err(anyhow!("there is no job")),
     }

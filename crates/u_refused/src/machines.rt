@@ -1,13 +1,121 @@
 //! Rows of one machine, whose calls may be refused memory, and what a refused call leaves.
-use crate::calls::{Call, LIMIT, Way, call_of, count_of, is_refused};
-use crate::programs::job_of;
-use crate::rows::TRIES;
-use crate::standing::{lies_in, stands};
-use crate::taking::{goes_on, held_by, is_same, took_the_first};
-use crate::trouble::{Trouble, must};
+use crate::rows::{TRIES, Trouble, must};
+use crate::standing::stands;
 use std::alloc::Global;
 use u_check::Job;
-use u_machine::{Machine, Ran};
+use u_machine::{ListRefusal, Machine, Ran, Refusal, TakeRefusal};
+use u_rule::Firing;
+
+/// How many firings a machine takes at most.
+pub const LIMIT: usize = 1_000;
+
+/// How a row's machine comes to its end.
+#[derive(Clone, Copy)]
+pub enum Way {
+    /// It fires one by one.
+    Fires,
+    /// It takes the run's firings, last one first.
+    Backwards,
+    /// It takes lists of them, the later ones first.
+    Lists,
+    /// It runs in two pieces.
+    Runs,
+}
+
+/// A call of a machine.
+#[derive(Clone, Copy)]
+enum Call<'a> {
+    Fire,
+    Take(&'a Firing),
+    TakeAll(&'a [Firing]),
+    Run(usize),
+    Settle,
+}
+
+/// How many calls a row has, over so many firings of the run. The last one runs to the end.
+fn count_of(firings: usize, way: Way) -> usize {
+    match way {
+        Way::Fires | Way::Backwards => firings.saturating_add(1),
+        Way::Lists => 4,
+        Way::Runs => 3,
+    }
+}
+
+/// The call at that place of a row that takes the firings backwards.
+fn backwards_at(firings: &[Firing], place: usize) -> Call<'_> {
+    match firings.iter().rev().nth(place) {
+        Some(firing) => Call::Take(firing),
+        None => Call::Settle,
+    }
+}
+
+/// The call at that place of a row, of a machine that took so many firings, some by a refused call.
+fn call_of(firings: &[Firing], way: Way, place: usize, taken: usize) -> Call<'_> {
+    if place.saturating_add(1) >= count_of(firings.len(), way) {
+        return Call::Run(LIMIT);
+    }
+    match way {
+        Way::Fires if taken > place => Call::Settle,
+        Way::Fires => Call::Fire,
+        Way::Backwards => backwards_at(firings, place),
+        Way::Lists if place == 0 && taken > 0 => Call::Settle,
+        Way::Lists if place == 0 => Call::Fire,
+        Way::Lists if place == 1 => Call::TakeAll(firings.get(2..).unwrap_or(&[])),
+        Way::Lists => Call::TakeAll(firings),
+        Way::Runs if place == 0 => Call::Run((firings.len() / 2).saturating_sub(taken)),
+        Way::Runs => Call::Settle,
+    }
+}
+
+/// Makes the call. Returns whether it is refused memory.
+fn is_refused(machine: &mut Machine<'_>, call: Call<'_>) -> bool {
+    match call {
+        Call::Fire => machine.fire(1) == Err(Refusal::NoMemory),
+        Call::Take(firing) => machine.take(firing) == Err(TakeRefusal::NoMemory),
+        Call::TakeAll(firings) => machine.take_all(firings) == Err(ListRefusal::NoMemory),
+        Call::Run(budget) => machine.run(budget) == Err(Refusal::NoMemory),
+        Call::Settle => machine.settle().is_err(),
+    }
+}
+
+/// How much a machine holds.
+#[derive(Clone, Copy)]
+pub struct Held {
+    pub entries: usize,
+    pub applied: usize,
+    pub taken: usize,
+}
+
+/// How much the machine holds.
+pub fn held_by(machine: &Machine<'_>) -> Held {
+    let applied = machine.applied().len();
+    Held {
+        entries: machine.history().len(),
+        applied,
+        taken: applied.saturating_add(machine.parked().len()),
+    }
+}
+
+impl Held {
+    /// Whether nothing is less than before.
+    pub fn has_kept(self, before: Held) -> bool {
+        before.entries <= self.entries
+            && before.applied <= self.applied
+            && before.taken <= self.taken
+    }
+}
+
+/// Whether both took the same firings and park none.
+fn is_same(one: &Machine<'_>, other: &Machine<'_>) -> bool {
+    for firing in other.applied() {
+        if !one.knows(firing) {
+            return false;
+        }
+    }
+    one.parked().len() == 0
+        && other.parked().len() == 0
+        && one.applied().len() == other.applied().len()
+}
 
 /// Runs the machine to its end, which is not refused.
 pub fn run_out(machine: &mut Machine<'_>) -> Result<(), Trouble> {
@@ -33,109 +141,38 @@ impl Row<'_, '_> {
         call_of(self.end.applied(), self.way, place, held_by(machine).taken)
     }
 
-    /// Makes the row's first calls, which are refused nothing.
-    fn call_first(&self, machine: &mut Machine<'_>, count: usize) -> Result<(), Trouble> {
-        for place in 0..count {
-            let call = self.call_at(place, machine);
-            if is_refused(machine, call) {
-                return Err(Trouble::Memory);
-            }
-        }
-        Ok(())
-    }
-
-    /// Sees that the machine, whose call at that place was refused, is what it may be between those
-    /// before the call and after it.
-    fn compare(
-        &self,
-        machine: &Machine<'_>,
-        place: usize,
-        before: &Machine<'_>,
-        after: &Machine<'_>,
-    ) -> Result<(), Trouble> {
+    /// Sees that the machine, of which a call was refused, stands as it may, and holds no less than before.
+    fn look(&self, machine: &Machine<'_>, before: Held) -> Result<(), Trouble> {
         stands(self.alloc, machine, self.end)?;
-        must(goes_on(before, machine), "something taken is lost")?;
-        must(
-            lies_in(before.history(), machine.history())?,
-            "an entry is lost",
-        )?;
-        must(
-            took_the_first(self.call_at(place, before), before, after, machine),
-            "it took other firings",
-        )
+        must(held_by(machine).has_kept(before), "something is lost")
     }
 
-    /// Brings the one to where the machine was before the call, and the other to where it is behind it.
-    fn look_between(
-        &self,
-        machine: &Machine<'_>,
-        place: usize,
-        before: &mut Machine<'_>,
-        after: &mut Machine<'_>,
-    ) -> Result<(), Trouble> {
-        self.call_first(before, place)?;
-        self.call_first(after, place.saturating_add(1))?;
-        self.compare(machine, place, before, after)
-    }
-
-    fn look_from(
-        &self,
-        machine: &Machine<'_>,
-        place: usize,
-        before: &mut Machine<'_>,
-    ) -> Result<(), Trouble> {
-        let mut after = Machine::new(self.alloc, self.end.job(), LIMIT)?;
-        self.look_between(machine, place, before, &mut after)
-    }
-
-    /// Sees that the call at that place, which was refused, left what it may.
-    fn look(&self, machine: &Machine<'_>, place: usize) -> Result<(), Trouble> {
-        let mut before = Machine::new(self.alloc, self.end.job(), LIMIT)?;
-        self.look_from(machine, place, &mut before)
-    }
-
-    /// Settles the machine once, and sees that this takes no firing and loses nothing.
-    fn settle_once(&self, machine: &mut Machine<'_>) -> Result<bool, Trouble> {
-        let before = held_by(machine);
-        let is_settled = machine.settle().is_ok();
-        let now = held_by(machine);
-        stands(self.alloc, machine, self.end)?;
-        must(now.has_kept(before), "settling loses something")?;
-        must(now.taken == before.taken, "settling takes a firing")?;
-        must(
-            !is_settled || machine.is_settled(),
-            "settling does not settle",
-        )?;
-        Ok(is_settled)
-    }
-
-    /// Settles the machine, again while that is refused.
+    /// Settles the machine, again while that is refused, which takes no firing.
     fn settle(&self, machine: &mut Machine<'_>) -> Result<(), Trouble> {
         for _ in 0..TRIES {
-            if self.settle_once(machine)? {
-                return Ok(());
+            let before = held_by(machine);
+            let is_settled = machine.settle().is_ok();
+            self.look(machine, before)?;
+            must(held_by(machine).taken == before.taken, "settling takes")?;
+            if is_settled {
+                return must(machine.is_settled(), "settling does not settle");
             }
         }
         must(false, "settling goes on being refused")
     }
 
-    /// Looks at the machine whose call at that place was refused, and settles it in rows that do.
-    fn look_on(&self, machine: &mut Machine<'_>, place: usize) -> Result<(), Trouble> {
-        self.look(machine, place)?;
-        if self.settles {
-            return self.settle(machine);
-        }
-        Ok(())
-    }
-
-    /// Makes the call at that place, again while it is refused.
+    /// Makes the call at that place, again while it is refused, in rows that settle once settled.
     fn call(&self, machine: &mut Machine<'_>, place: usize) -> Result<(), Trouble> {
         for _ in 0..TRIES {
+            let before = held_by(machine);
             let call = self.call_at(place, machine);
             if !is_refused(machine, call) {
                 return must(machine.is_settled(), "the call does not settle");
             }
-            self.look_on(machine, place)?;
+            self.look(machine, before)?;
+            if self.settles {
+                self.settle(machine)?;
+            }
         }
         must(false, "memory is wanted that is there")
     }

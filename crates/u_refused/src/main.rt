@@ -5,21 +5,16 @@
 //! again. So each run prints the same, whichever allocations are refused, or else what is wrong.
 #![tactic(auto)]
 
-mod calls;
 mod lent;
 mod machines;
-mod programs;
 mod replicas;
 mod rows;
 mod sets;
 mod standing;
-mod taking;
-mod trouble;
 mod worlds;
 
 use anyhow::Result;
-use rows::{Row, rows, tell_again};
-use trouble::Trouble;
+use rows::{Row, Trouble, rows, tell_again};
 
 /// Prints the row.
 fn print_row(rt: &HostRuntime, row: &Row) -> Result<()> {

@@ -1,10 +1,7 @@
 //! Rows of two replicas that exchange deltas, save, start again and merge.
-use crate::calls::LIMIT;
-use crate::machines::run_out;
-use crate::rows::TRIES;
+use crate::machines::{Held, LIMIT, held_by, run_out};
+use crate::rows::{TRIES, Trouble, must};
 use crate::standing::lies_in;
-use crate::taking::{Held, held_by};
-use crate::trouble::{Trouble, must};
 use std::alloc::Global;
 use u_check::Job;
 use u_delta::{Ask, Delta, Mark, Message, read_message, write_message};
@@ -53,16 +50,6 @@ impl Row<'_, '_> {
         Ok(())
     }
 
-    /// Sees that a refused delta moved no mark.
-    fn mark_stays(
-        &self,
-        replica: &Replica<'_>,
-        peer: u8,
-        mark: Option<Mark>,
-    ) -> Result<(), Trouble> {
-        must(mark == mark_of(replica, peer), "a mark moved")
-    }
-
     /// Hands the delta on, again while that is refused.
     fn receive(&self, replica: &mut Replica<'_>, delta: &Delta) -> Result<(), Trouble> {
         let mark = mark_of(replica, delta.sender);
@@ -71,7 +58,7 @@ impl Row<'_, '_> {
             match replica.receive(delta) {
                 Err(ListRefusal::NoMemory) => {
                     self.look(replica, before)?;
-                    self.mark_stays(replica, delta.sender, mark)?;
+                    must(mark == mark_of(replica, delta.sender), "a mark moved")?;
                 }
                 taken => return must(taken.is_ok(), "it is not taken"),
             }
@@ -104,18 +91,12 @@ impl Row<'_, '_> {
         Err(Trouble::Wrong("it does not answer though memory is there"))
     }
 
-    /// Hands on what arrives, which is a delta.
-    fn arrive(&self, replica: &mut Replica<'_>, message: &Message) -> Result<(), Trouble> {
-        match message {
-            Message::Delta(delta) => self.receive(replica, delta),
-            Message::Ask(_) => must(false, "the delta comes as an ask"),
-        }
-    }
-
     /// Hands on the delta as it comes from its text.
     fn hand_on(&self, one: &mut Replica<'_>, delta: &Message) -> Result<(), Trouble> {
-        let arrived = self.sent(delta)?;
-        self.arrive(one, &arrived)
+        match self.sent(delta)? {
+            Message::Delta(delta) => self.receive(one, &delta),
+            Message::Ask(_) => must(false, "the delta comes as an ask"),
+        }
     }
 
     /// Lets the one replica have what it lacks of the other one's log.

@@ -1,8 +1,6 @@
 //! Rows of tables of names and of histories, which stay as they were where memory is refused.
-use crate::calls::LIMIT;
-use crate::machines::run_out;
-use crate::rows::TRIES;
-use crate::trouble::{Trouble, must};
+use crate::machines::{LIMIT, run_out};
+use crate::rows::{TRIES, Trouble, must};
 use std::alloc::Global;
 use u_check::Job;
 use u_history::History;
@@ -44,7 +42,7 @@ fn number_again(names: &mut Names, firings: &[Firing]) -> Result<(), Trouble> {
     number_all(names, firings)
 }
 
-/// Sees that the activities have their numbers in the order in which they came.
+/// Sees that the activities have their numbers in the order in which they came, and keep them.
 fn tell_names(alloc: Global, firings: &[Firing]) -> Result<(), Trouble> {
     let mut names = Names::new(alloc);
     number_again(&mut names, firings)
@@ -103,21 +101,11 @@ fn join(
     Ok(())
 }
 
-/// Makes the other history.
-fn tell_union(
-    alloc: Global,
-    one: &mut History,
-    entries: &[Entry],
-    out: &mut Vec<u8>,
-) -> Result<(), Trouble> {
-    let mut other = History::new(alloc);
-    join(one, &mut other, entries, out)
-}
-
 /// Makes two halves of the history.
 fn tell_halves(alloc: Global, entries: &[Entry], out: &mut Vec<u8>) -> Result<(), Trouble> {
     let mut one = History::new(alloc);
-    tell_union(alloc, &mut one, entries, out)
+    let mut other = History::new(alloc);
+    join(&mut one, &mut other, entries, out)
 }
 
 /// Numbers the names of the run, and makes two halves of its history.

@@ -1,10 +1,11 @@
-//! What holds of each machine, after any calls.
-use crate::trouble::{Trouble, must};
+//! What holds of each machine, after any calls, by the definitions as plain programs.
+use crate::rows::{Trouble, must};
 use std::alloc::{AllocError, Global};
 use u_check::Job;
 use u_history::History;
 use u_machine::Machine;
-use u_rule::{Entry, Firing, gives, needs, start};
+use u_plain::{are_firings, are_in, held, is_enabled};
+use u_rule::{Entry, Firing};
 
 /// Whether each of the entries is in the history.
 pub fn has_all(history: &History, entries: &[Entry]) -> bool {
@@ -22,48 +23,14 @@ pub fn lies_in(history: &History, other: &History) -> Result<bool, AllocError> {
     Ok(has_all(other, &entries))
 }
 
-/// Puts copies of the entries into the history.
-fn put_all(history: &mut History, entries: &[Entry]) -> Result<(), Trouble> {
-    for entry in entries {
-        history.insert(entry.copy()?)?;
-    }
-    Ok(())
-}
-
-/// Puts what the firing gives into the history.
-fn put_given(
+/// Whether a parked firing has all that it needs among the entries.
+fn some_enabled(
     alloc: Global,
-    job: &Job,
-    history: &mut History,
-    firing: &Firing,
-) -> Result<(), Trouble> {
-    match gives(alloc, job, firing) {
-        Ok(given) => put_all(history, &given),
-        Err(_) => Err(Trouble::Memory),
-    }
-}
-
-/// Puts the start token and what the machine's applied firings give into the history.
-fn put_held(alloc: Global, machine: &Machine<'_>, history: &mut History) -> Result<(), Trouble> {
-    history.insert(start(machine.job()))?;
-    for firing in machine.applied() {
-        put_given(alloc, machine.job(), history, firing)?;
-    }
-    Ok(())
-}
-
-/// Whether the firing has all that it needs in the machine's history.
-fn is_enabled(alloc: Global, machine: &Machine<'_>, firing: &Firing) -> Result<bool, Trouble> {
-    match needs(alloc, machine.job(), firing) {
-        Ok(needed) => Ok(has_all(machine.history(), &needed)),
-        Err(_) => Err(Trouble::Memory),
-    }
-}
-
-/// Whether a parked firing has all that it needs in the machine's history.
-fn some_enabled(alloc: Global, machine: &Machine<'_>) -> Result<bool, Trouble> {
+    machine: &Machine<'_>,
+    entries: &[Entry],
+) -> Result<bool, AllocError> {
     for firing in machine.parked().iter() {
-        if is_enabled(alloc, machine, firing)? {
+        if is_enabled(alloc, machine.job(), entries, firing)? {
             return Ok(true);
         }
     }
@@ -92,20 +59,34 @@ fn parks_none_applied(machine: &Machine<'_>) -> bool {
     true
 }
 
-/// Sees that the machine has all that its applied firings hold, and that it says rightly whether it is
-/// settled. What they hold is put into the empty history.
-fn compare(alloc: Global, machine: &Machine<'_>, held: &mut History) -> Result<(), Trouble> {
-    put_held(alloc, machine, held)?;
+/// The entries that the firings, which are of the job, hold.
+fn held_by(alloc: Global, job: &Job, firings: &[Firing]) -> Result<Vec<Entry>, Trouble> {
+    if !are_firings(job, firings) {
+        return Err(Trouble::Wrong("what is no firing was applied"));
+    }
+    Ok(held(alloc, job, firings)?)
+}
+
+/// Sees that the machine says rightly whether it is settled: it holds what its applied firings hold and
+/// nothing else, and no parked firing is enabled.
+fn compare(
+    alloc: Global,
+    machine: &Machine<'_>,
+    applied: &[Entry],
+    entries: &[Entry],
+) -> Result<(), Trouble> {
+    must(are_in(entries, applied), "what was applied is not held")?;
+    let enabled = some_enabled(alloc, machine, entries)?;
     must(
-        lies_in(held, machine.history())?,
-        "what was applied is not held",
-    )?;
-    let enabled = some_enabled(alloc, machine)?;
-    let has_more = held.len() != machine.history().len();
-    must(
-        machine.is_settled() == (!enabled && !has_more),
+        machine.is_settled() == (!enabled && are_in(applied, entries)),
         "it says wrongly whether it is settled",
     )
+}
+
+/// Compares the machine's entries.
+fn compare_with(alloc: Global, machine: &Machine<'_>, applied: &[Entry]) -> Result<(), Trouble> {
+    let entries = machine.history().entries()?;
+    compare(alloc, machine, applied, &entries)
 }
 
 /// Sees that the machine has all that its applied firings hold and nothing that no run has, each firing
@@ -119,6 +100,6 @@ pub fn stands(alloc: Global, machine: &Machine<'_>, end: &Machine<'_>) -> Result
         are_apart(machine.applied()) && parks_none_applied(machine),
         "a firing is taken twice",
     )?;
-    let mut held = History::new(alloc);
-    compare(alloc, machine, &mut held)
+    let applied = held_by(alloc, machine.job(), machine.applied())?;
+    compare_with(alloc, machine, &applied)
 }

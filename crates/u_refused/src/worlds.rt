@@ -1,9 +1,7 @@
 //! Rows of a world whose events may be refused memory.
-use crate::calls::LIMIT;
-use crate::machines::run_out;
-use crate::rows::TRIES;
+use crate::machines::{LIMIT, run_out};
+use crate::rows::{TRIES, Trouble, must};
 use crate::standing::lies_in;
-use crate::trouble::{Trouble, must};
 use std::alloc::{AllocError, Global};
 use u_check::Job;
 use u_history::History;
@@ -21,14 +19,9 @@ const SEED: u64 = 4;
 /// Adds so many firings by each replica.
 fn add_firings(events: &mut Vec<Event>, firings: usize) -> Result<(), AllocError> {
     for _ in 0..firings {
-        events.push(Event::Fire {
-            replica: 1,
-            pick: 0,
-        })?;
-        events.push(Event::Fire {
-            replica: 2,
-            pick: 0,
-        })?;
+        for replica in [1, 2] {
+            events.push(Event::Fire { replica, pick: 0 })?;
+        }
     }
     Ok(())
 }
@@ -51,8 +44,7 @@ fn look_at(world: &World<'_>, number: u8, end: &History) -> Result<(), Trouble> 
     )
 }
 
-/// Lets the events happen, and where one of them is refused it and those behind it again. How many
-/// happened before that.
+/// Lets the events happen. Returns how many happened before one that was refused.
 fn run_some(world: &mut World<'_>, events: &[Event], end: &History) -> Result<usize, Trouble> {
     match world.run(events) {
         Err(WorldError::NoMemory(place)) => {

@@ -78,7 +78,7 @@ pub fn answers(alloc: Global, machine: &mut Machine<'_>, rows: &[(Call, Reply)])
     add_commands(alloc, &mut commands, rows).is_ok() && obeys(alloc, machine, &commands, rows)
 }
 
-/// Whether the machine is settled and has so many applied firings, parked firings and entries.
+/// Whether the machine is settled and has these numbers of applied firings, parked firings and entries.
 pub fn has(machine: &Machine<'_>, counts: [usize; 3]) -> bool {
     let [applied, parked, entries] = counts;
     machine.is_settled()
