@@ -13,11 +13,11 @@ use std::sync::Wait;
 use std::thread::Threads;
 use std::{fs, io};
 use u_cli::{
-    Asked, Bus, CommandError, Form, Plan, STORED_PROGRAM, WorldPlan, blame_placed_text, check_text,
-    compile_text, draw_run_text, draw_story_text, draw_text, draw_world_text, explain_source_text,
-    explain_text, fleet_text, is_source, lift_text, restore_watched_text, run_text,
-    run_watched_text, save_watched_text, share_text, trace_placed_text, waits_placed_text,
-    world_watched_text, write_placed,
+    Asked, Bus, CommandError, Form, Plan, STORED_PROGRAM, ScriptedPlan, WorldPlan,
+    blame_placed_text, check_text, compile_text, draw_run_text, draw_story_text, draw_text,
+    draw_world_text, explain_source_text, explain_text, fleet_text, is_source, lift_text,
+    restore_watched_text, run_text, run_watched_text, save_watched_text, scripted_world_text,
+    share_text, trace_placed_text, waits_placed_text, world_watched_text, write_placed,
 };
 
 /// The argument of the stored run, and how often it may fire.
@@ -243,6 +243,29 @@ pub fn world(rt: &HostRuntime, file: &str, argument: &str, plan: WorldPlan) -> R
     let texts = job_texts(&program, argument);
     let mut watch = Telling::new(rt);
     let status = world_watched_text(rt.alloc(), texts, plan, &mut watch, &mut io::writer(rt))?;
+    Ok(status)
+}
+
+/// `world FILE ARG --script PATH`, with the events of that file and the plan's other numbers.
+pub fn scripted_world(
+    rt: &HostRuntime,
+    file: &str,
+    argument: &str,
+    plan: WorldPlan,
+    path: &str,
+) -> Result<u8, Fault>
+    requires { IsOneToEight plan.replicas }
+{
+    let program = read_program(rt, file)?;
+    let script = read_path(rt, path)?;
+    let texts = job_texts(&program, argument);
+    let plan = ScriptedPlan {
+        replicas: plan.replicas,
+        script: &script,
+        firings: plan.firings,
+    };
+    let mut watch = Telling::new(rt);
+    let status = scripted_world_text(rt.alloc(), texts, plan, &mut watch, &mut io::writer(rt))?;
     Ok(status)
 }
 

@@ -153,6 +153,7 @@ fn follow<T: Threads + Wait + Sync>(
             events,
             firings,
             draw,
+            script,
         } => {
             let plan = WorldPlan {
                 replicas,
@@ -160,10 +161,10 @@ fn follow<T: Threads + Wait + Sync>(
                 events,
                 firings,
             };
-            if draw {
-                commands::draw_world(rt, file, argument, plan)
-            } else {
-                commands::world(rt, file, argument, plan)
+            match script {
+                Some(path) => commands::scripted_world(rt, file, argument, plan, path),
+                None if draw => commands::draw_world(rt, file, argument, plan),
+                None => commands::world(rt, file, argument, plan),
             }
         }
         Request::Fleet {

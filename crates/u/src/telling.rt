@@ -1,4 +1,7 @@
 //! How far a command has come, told on standard error.
+//!
+//! It is told in whole lines, one below the other, which stay readable if a terminal is recorded. If
+//! standard error is no terminal, nothing is told.
 
 use std::alloc::Global;
 use std::io::{IsTerminal, Write};

@@ -111,6 +111,8 @@ ends_refused w firings first g faults.InputTooLong r = r
 ends_refused w firings first g (faults.CheckpointLineNotAllowed n) r = r
 ends_refused w firings first g (faults.CheckpointLineTooLong n) r = r
 ends_refused w firings first g (faults.OtherFiring n) r = r
+ends_refused w firings first g (faults.ScriptLineNotAllowed n) r = r
+ends_refused w firings first g (faults.ScriptLineImpossible n) r = r
 ends_refused w firings first g (faults.EntryNotAllowed n) r = r
 ends_refused w firings first g faults.EntryNotHeld r = r
 ends_refused w firings first g (faults.NameNotAllowed n) r = r
@@ -135,6 +137,8 @@ module _ (bytes word : List ℕ) (plan : WorldPlan) (old : Option (List ℕ)) wh
   not_told (faults.CheckpointLineNotAllowed n) h = (inr h, kept old)
   not_told (faults.CheckpointLineTooLong n) h = (inr h, kept old)
   not_told (faults.OtherFiring n) h = (inr h, kept old)
+  not_told (faults.ScriptLineNotAllowed n) h = (inr h, kept old)
+  not_told (faults.ScriptLineImpossible n) h = (inr h, kept old)
   not_told (faults.EntryNotAllowed n) h = (inr h, kept old)
   not_told faults.EntryNotHeld h = (inr h, kept old)
   not_told (faults.NameNotAllowed n) h = (inr h, kept old)

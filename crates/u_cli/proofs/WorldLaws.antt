@@ -21,6 +21,8 @@ module _ (bytes word : List ℕ) (plan : WorldPlan) (old : Option (List ℕ)) wh
   not_drawn (faults.CheckpointLineNotAllowed n) h = (inr h, kept old)
   not_drawn (faults.CheckpointLineTooLong n) h = (inr h, kept old)
   not_drawn (faults.OtherFiring n) h = (inr h, kept old)
+  not_drawn (faults.ScriptLineNotAllowed n) h = (inr h, kept old)
+  not_drawn (faults.ScriptLineImpossible n) h = (inr h, kept old)
   not_drawn (faults.EntryNotAllowed n) h = (inr h, kept old)
   not_drawn faults.EntryNotHeld h = (inr h, kept old)
   not_drawn (faults.NameNotAllowed n) h = (inr h, kept old)

@@ -10,3 +10,4 @@ pub mod Shares
 pub mod Worlds
 pub mod Draws
 pub mod DrawnRuns
+pub mod ScriptedWorlds

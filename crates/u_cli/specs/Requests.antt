@@ -9,7 +9,7 @@ use Rattle.u_cli.specs.Numbers.{IsFirings, IsDrawn, IsOneToEight, IsPort, IsNumb
 -- the numbers of a request are in their ranges: what runs may fire from one to a million times, the
 -- picture of a run has one to two thousand firings, a port
 -- is one of the first five, a world has one to eight replicas, which take one to a million
--- firings each, and at most a hundred thousand events, a fleet one to eight workers with at most a
+-- firings each, and at most a hundred thousand random events, a fleet one to eight workers with at most a
 -- thousand rounds, and a member of a bus fires one to a million times between two reads
 abbrev pub IsInRange : Request → Type 0
 IsInRange Stored = Unit {0}
@@ -26,7 +26,7 @@ IsInRange (Restore file argument checkpoint firings) = IsFirings firings
 IsInRange (Trace file argument entry firings) = IsFirings firings
 IsInRange (Blame file argument activity port) = IsPort port
 IsInRange (Waits file argument firings) = IsFirings firings
-IsInRange (World file argument replicas seed events firings draw) =
+IsInRange (World file argument replicas seed events firings draw script) =
     IsOneToEight replicas × (events ≤ 100000) × IsFirings firings
 IsInRange (Fleet file argument workers rounds) = IsOneToEight workers × (rounds ≤ 1000)
 IsInRange (Share file argument follow burst report) = IsFirings burst
@@ -140,7 +140,7 @@ IsWaitsRequest found request = ⊥
 
 -- a world, with the words that were found for it
 abbrev pub IsWorldRequest : Found → Request → Type 0
-IsWorldRequest found (World file argument replicas seed events firings draw) =
+IsWorldRequest found (World file argument replicas seed events firings draw script) =
     AreRunWords found file.now argument.now firings
     × IsOneToEight replicas
     × IsNumberText replicas (word_of found (codes "replicas"))
@@ -148,6 +148,7 @@ IsWorldRequest found (World file argument replicas seed events firings draw) =
     × (events ≤ 100000)
     × IsNumberText events (word_of found (codes "events"))
     × IsFlag draw (word_of found (codes "draw"))
+    × (option_map (λ s. s.now) script ≡ first_value found (codes "script"))
 IsWorldRequest found request = ⊥
 
 -- a fleet, with the words that were found for it

@@ -98,6 +98,16 @@ pub fn number_of_events<'a>(alloc: Global) -> Arg<'a> {
         .value_parser(value_parser!(u32).range(0..=100000))
 }
 
+/// The file of events in place of random ones.
+pub fn script<'a>(alloc: Global) -> Result<Arg<'a>, AllocError> {
+    Arg::new(alloc, "script")
+        .long("script")
+        .value_name("PATH")
+        .help("The file of the events, one a line, in place of random ones")
+        .action(ArgAction::Set)
+        .conflicts_with_all(&["seed", "events", "draw"])
+}
+
 /// How many firings there are at most.
 pub fn most_firings<'a>(alloc: Global) -> Arg<'a> {
     Arg::new(alloc, "firings")

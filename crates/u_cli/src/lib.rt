@@ -15,6 +15,7 @@ mod holding;
 mod number;
 mod placing;
 mod refusals;
+mod scripted_worlds;
 mod sharing;
 mod telling;
 mod words;
@@ -29,6 +30,7 @@ pub use fleets::{FLEET_BUDGET, FLEET_FIRINGS, fleet_text};
 pub use number::{firings_of, number_of};
 pub use placing::{Form, write_placed};
 pub use refusals::{SourceFault, explain_source_text};
+pub use scripted_worlds::{ScriptedPlan, scripted_world_text};
 pub use sharing::{SHARED_FIRINGS, member_plan, share_text};
 pub use telling::{PlacedTexts, blame_placed_text, trace_placed_text, waits_placed_text};
 pub use u_commands::{

@@ -1,4 +1,8 @@
 //! The words of the command line.
+//!
+//! An option that is given twice, also with the same number, and words that are no UTF-8 are a wrong
+//! command line. Without any word the stored program runs, that of `programs/double.u`, with the argument
+//! 4.
 ghost use Rattle.std.specs.Prelude.{◌≡◌, IfOk, IfSome, codes};
 ghost use Rattle.clap.specs.Words.{found_of, first_value};
 ghost use Rattle.u_cli.specs.Requests.{IsInRange, IsCheckRequest, IsRunRequest, IsSaveRequest, IsRestoreRequest, IsTraceRequest, IsWorldRequest, word_of};
@@ -8,7 +12,7 @@ ghost use Rattle.u_cli.specs.Numbers.{IsFirings, IsDrawn, IsOneToEight, IsPort, 
 
 use crate::arguments::{
     burst, choice, drawn, most_firings, number_of_events, number_of_replicas, number_of_rounds,
-    number_of_workers, perhaps, report, seed, word,
+    number_of_workers, perhaps, report, script, seed, word,
 };
 use crate::number::{firings_of, number_of};
 use clap::error::ErrorKind;
@@ -159,7 +163,8 @@ pub enum Request<'a> {
         firings: usize,
     },
     /// `world FILE ARG`: 1 to 8 replicas, each of which takes at most `firings` firings, from 1 to
-    /// 1000000; and at most 100000 random events. Their picture is asked for only if `draw` says so.
+    /// 1000000; and at most 100000 random events, or those of the file `script`, if there is one. Their picture
+    /// is asked for only if `draw` says so, and only of random events.
     World {
         file: &'a str,
         argument: &'a str,
@@ -168,6 +173,7 @@ pub enum Request<'a> {
         events: usize,
         firings: usize,
         draw: bool,
+        script: Option<&'a str>,
     },
     /// `fleet FILE ARG`: 1 to 8 workers, and at most 1000 rounds for each.
     Fleet {
@@ -187,9 +193,11 @@ pub enum Request<'a> {
     },
 }
 
-/// The request in the words of a command line, the first of which is the program's name. The error
-/// is a mistake in the words, or a request for help or the version. The numbers of a request are in their
-/// ranges.
+/// The request in the words of a command line, the first of which is the program's name. The error is a
+/// mistake in the words, or a request for help or the version.
+///
+/// Promise requests-in-range: the numbers of a request are in the ranges of their options, firings from 1 to
+/// 1000000 and replicas and workers from 1 to 8.
 pub fn parse<'a>(alloc: Global, words: &'a [String]) -> Result<Request<'a>, Error>
     ensures { IfOk result IsInRange }
 {
@@ -215,7 +223,7 @@ pub fn parse<'a>(alloc: Global, words: &'a [String]) -> Result<Request<'a>, Erro
 
 /// The mistake that a word is no text.
 pub fn not_text(alloc: Global) -> Result<Error, AllocError> {
-    told(
+    usage_error(
         commands(alloc),
         "invalid UTF-8 was detected in one or more arguments",
     )
@@ -226,7 +234,7 @@ pub fn below_zero(alloc: Global, word: &str) -> Result<Error, AllocError> {
     let message = format!(in alloc;
         "unexpected argument '{word}' found: a number below zero is written with n: n1 is -1"
     )?;
-    told(commands(alloc), message.as_str())
+    usage_error(commands(alloc), message.as_str())
 }
 
 /// The words of `check`.
@@ -327,7 +335,7 @@ fn not_drawn(alloc: Global, matches: &ArgMatches<'_>, most: &str) -> Result<Erro
     let message = format!(in alloc;
         "invalid value '{word}' for '--firings <N>': here it is a number from 1 to {most}, without a sign or a leading zero"
     )?;
-    told(draw(alloc, "u draw"), message.as_str())
+    usage_error(draw(alloc, "u draw"), message.as_str())
 }
 
 /// The words of `run`.
@@ -418,7 +426,7 @@ fn port(matches: &ArgMatches<'_>) -> Option<u8>
 fn no_port(alloc: Global, matches: &ArgMatches<'_>) -> Result<Error, AllocError> {
     let word = text(matches, "PORT");
     let message = format!(in alloc; "invalid value '{word}' for '<PORT>': a port is 1 to 5")?;
-    told(blame(alloc, "u blame"), message.as_str())
+    usage_error(blame(alloc, "u blame"), message.as_str())
 }
 
 /// The words of `waits`.
@@ -459,6 +467,7 @@ fn world_request<'a>(alloc: Global, matches: &ArgMatches<'a>) -> Result<Request<
         events: events as usize,
         firings,
         draw: flag(matches, "draw"),
+        script: matches.get_str("script"),
     })
 }
 
@@ -527,7 +536,7 @@ fn other_spelling(
     let message = format!(in alloc;
         "invalid value '{word}' for '--{option} <{value}>': a number has no sign and no leading zero"
     )?;
-    told(command, message.as_str())
+    usage_error(command, message.as_str())
 }
 
 /// Whether the option stands in the words.
@@ -547,7 +556,10 @@ fn text<'a>(matches: &ArgMatches<'a>, name: &str) -> &'a str
 }
 
 /// A mistake in the words of a command.
-fn told(command: Result<Command<'_>, AllocError>, message: &str) -> Result<Error, AllocError> {
+fn usage_error(
+    command: Result<Command<'_>, AllocError>,
+    message: &str,
+) -> Result<Error, AllocError> {
     let mut command = command?;
     command.error(ErrorKind::ValueValidation, message)
 }
@@ -746,9 +758,10 @@ fn world<'a>(alloc: Global, name: &'a str) -> Result<Command<'a>, AllocError> {
     of_run(
         alloc,
         name,
-        "Lets random events happen between replicas, and prints what they hold and the report",
+        "Lets events happen between replicas, and prints what they hold and the report",
         "Examples:
   ./u world programs/sum.u 3 --replicas 3 --seed 7 --events 200
+  ./u world programs/sum.u 3 --script events
   ./u world programs/sum.u 3 --events 40 --draw | neato -Tsvg -o world.svg",
     )?
     .arg(choice(alloc, "draw").help(
@@ -757,6 +770,7 @@ fn world<'a>(alloc: Global, name: &'a str) -> Result<Command<'a>, AllocError> {
     .arg(number_of_replicas(alloc))?
     .arg(seed(alloc))?
     .arg(number_of_events(alloc))?
+    .arg(script(alloc)?)?
     .arg(most_firings(alloc).help("The most firings that a replica takes, from 1 to 1000000"))
 }
 

@@ -1,4 +1,7 @@
 //! The command `world`.
+//!
+//! Replica 1 is reported once it merged the others and fired what was left. So if its report is quiet, its
+//! history is the whole one. `--firings` bounds what each replica takes.
 ghost use Rattle.std.specs.Prelude.{◌≡◌, ◌≤◌, ◌-◌, ◌++◌, IfOk, MatchResult, length};
 ghost use Rattle.u_name.specs.Context.{IsBetween};
 ghost use Rattle.u_world.specs.Runs.{EventSteps};
@@ -117,7 +120,7 @@ fn first_of<'a>(alloc: Global, mut world: World<'a>) -> Result<Replica<'a>, Comm
 
 /// What is told of a world in which the first replica fires so many times at most in the end, and the
 /// exit status.
-fn told_of<V: Watch>(
+pub(crate) fn told_of<V: Watch>(
     alloc: Global,
     world: World<'_>,
     firings: usize,
@@ -158,6 +161,9 @@ pub(crate) fn world_job<V: Watch>(
 /// line for each replica, and then the report of replica 1, once it merged the others in the order of
 /// their numbers and fired that many times at most. The same seed gives the same events. Answers the
 /// exit status, that of `run_text`.
+///
+/// Promise world-command: each line has the counts of one replica after the events, and the report is that of
+/// replica 1 after it merged the others and fired.
 ///
 /// # Errors
 /// As `run_text`, and `Full` where a replica has no room for a firing that it takes or fires: nothing

@@ -135,6 +135,8 @@ module _ (job : JobParts) (number life firings : ℕ) (checkpoint : List ℕ) (e
   restored_refused (faults.CheckpointLineNotAllowed n) r = absurd r
   restored_refused (faults.CheckpointLineTooLong n) r = absurd r
   restored_refused (faults.OtherFiring n) r = absurd r
+  restored_refused (faults.ScriptLineNotAllowed n) r = absurd r
+  restored_refused (faults.ScriptLineImpossible n) r = absurd r
   restored_refused (faults.EntryNotAllowed n) r = r
   restored_refused faults.EntryNotHeld r = r
   restored_refused (faults.NameNotAllowed n) r = r
@@ -173,6 +175,8 @@ module _ (bytes word checkpoint : List ℕ) (firings : ℕ) (old : Option (List 
   not_restored (faults.CheckpointLineNotAllowed k) h = (inr h, kept old)
   not_restored (faults.CheckpointLineTooLong k) h = (inr h, kept old)
   not_restored (faults.OtherFiring place) h = (inr h, kept old)
+  not_restored (faults.ScriptLineNotAllowed place) h = (inr h, kept old)
+  not_restored (faults.ScriptLineImpossible place) h = (inr h, kept old)
   not_restored (faults.EntryNotAllowed k) h = (inr h, kept old)
   not_restored faults.EntryNotHeld h = (inr h, kept old)
   not_restored (faults.NameNotAllowed k) h = (inr h, kept old)

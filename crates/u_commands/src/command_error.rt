@@ -36,6 +36,13 @@ pub enum CommandError {
     /// The checkpoint's firing at this place is none of the job; places count from 0.
     #[error("firing {0} not of this job")]
     OtherFiring(usize),
+    /// This line of the script is no event's; lines count from 1.
+    #[error("script line {0} not allowed")]
+    ScriptLineNotAllowed(usize),
+    /// The event of this line of the script can't happen: there is no such replica or message, a replica asks
+    /// or merges itself, or takes what is no firing of the job.
+    #[error("script line {0} can't happen")]
+    ScriptLineImpossible(usize),
     /// The entry is no entry's text. The number is the offset of the first byte with which none goes on.
     #[error("entry not allowed at byte {0}")]
     EntryNotAllowed(usize),
@@ -82,9 +89,10 @@ impl From<AllocError> for CommandError {
 }
 
 impl CommandError {
-    /// The exit status: 2 where a text is refused, 3 where an entry is not held or a port has
-    /// fewer than two values, 4 where there is no
-    /// room for more firings, 5 where the machine's surroundings fail.
+    /// The exit status.
+    ///
+    /// Promise exit-status: it is 2 if a text is refused, 3 if the entry or the clash is not there, 4 if no
+    /// more may be fired, 5 if the surroundings fail.
     pub fn status(&self) -> u8
         ensures { result ≡ status_of_error self.now }
     {
@@ -98,6 +106,8 @@ impl CommandError {
             | CommandError::CheckpointLineNotAllowed(_)
             | CommandError::CheckpointLineTooLong(_)
             | CommandError::OtherFiring(_)
+            | CommandError::ScriptLineNotAllowed(_)
+            | CommandError::ScriptLineImpossible(_)
             | CommandError::EntryNotAllowed(_)
             | CommandError::NameNotAllowed(_)
             | CommandError::NameTooDeep => 2,

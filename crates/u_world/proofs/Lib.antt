@@ -14,3 +14,4 @@ pub mod Doable
 pub mod Caught
 pub mod Rounded
 pub mod Among
+pub mod ScriptLaws

@@ -8,3 +8,4 @@ pub mod Headline
 pub mod Inside
 pub mod Random
 pub mod Rounds
+pub mod Scripts

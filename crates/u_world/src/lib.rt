@@ -13,9 +13,11 @@ mod random;
 mod refused;
 mod room;
 mod saved;
+mod script;
 mod world;
 
 pub use event::Event;
 pub use random::random_events;
 pub use refused::WorldError;
+pub use script::{ScriptError, read_script};
 pub use world::World;

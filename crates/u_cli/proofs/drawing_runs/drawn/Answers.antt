@@ -3,7 +3,7 @@ use Rattle.u_commands.specs.declared.command_error.CommandError.{CommandError}
 use Rattle.u_commands.specs.declared.command_error.CommandError.TheVariants.{NoMemory}
 use Rattle.u_commands.proofs.RanLaws.{error_is}
 use Rattle.u_cli.proofs.DrawnLaws.{draws_job}
-use Rattle.u_pictures.proofs.runs.drawn.Goals as goal
+use Rattle.u_cli.proofs.drawing_runs.drawn.Goals as goal
 
 pub returns-in_err-text-clause-memory : goal.returns-in_err-text-clause-memory
 returns-in_err-text-clause-memory c = error_is c.from_residual-in_err-text.result (λ (e : CommandError). e ≡ NoMemory) c.from_residual-in_err-text.ensures.1

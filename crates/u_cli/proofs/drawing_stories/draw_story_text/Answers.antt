@@ -1,5 +1,5 @@
 use Rattle.u_cli.proofs.DrawnLaws.{not_drawn}
-use Rattle.u_pictures.proofs.stories.draw_story_text.Goals as goal
+use Rattle.u_cli.proofs.drawing_stories.draw_story_text.Goals as goal
 
 pub returns-in-Err : goal.returns-in-Err
 returns-in-Err g c =

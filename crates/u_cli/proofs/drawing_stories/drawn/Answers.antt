@@ -2,10 +2,10 @@ use Rattle.u_commands.specs.Traces.{TraceRefused}
 use Rattle.u_commands.proofs.Known.{match_more}
 use Rattle.u_commands.proofs.Traced.{of_run}
 use Rattle.u_cli.specs.DrawnRuns.{DrawsStoryJob}
-use Rattle.u_pictures.proofs.stories.drawn.Goals as goal
+use Rattle.u_cli.proofs.drawing_stories.drawn.Goals as goal
 
 pub returns : goal.returns
 returns c =
     let ran = c.in_ok-machine.ensures.ok in
-    match_more c.told.result _ _ _ _ (λ v h. of_run c.args.job.now c.args.firings c.in_ok-machine.machine _ ran (λ j n. DrawsStoryJob j n c.args.entry.now v.items) h)
-    (λ fault h. of_run c.args.job.now c.args.firings c.in_ok-machine.machine _ ran (λ j n. TraceRefused j n c.args.entry.now fault) h) c.told.ensures
+    match_more c.story_picture.result _ _ _ _ (λ v h. of_run c.args.job.now c.args.firings c.in_ok-machine.machine _ ran (λ j n. DrawsStoryJob j n c.args.entry.now v.items) h)
+    (λ fault h. of_run c.args.job.now c.args.firings c.in_ok-machine.machine _ ran (λ j n. TraceRefused j n c.args.entry.now fault) h) c.story_picture.ensures

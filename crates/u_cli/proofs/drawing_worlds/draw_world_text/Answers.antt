@@ -1,5 +1,5 @@
 use Rattle.u_cli.proofs.WorldLaws.{not_drawn}
-use Rattle.u_cli.proofs.drawing.draw_world_text.Goals as goal
+use Rattle.u_cli.proofs.drawing_worlds.draw_world_text.Goals as goal
 
 pub returns-in-Err : goal.returns-in-Err
 returns-in-Err g c =

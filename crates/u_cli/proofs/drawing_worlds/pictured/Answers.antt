@@ -2,7 +2,7 @@ use Rattle.std.proofs.Common.{sym, subst, List}
 use Rattle.u_world.specs.declared.event.Event.{Event}
 use Rattle.u_world.specs.WorldState.{WorldState}
 use Rattle.u_cli.specs.Worlds.{AreDoable}
-use Rattle.u_cli.proofs.drawing.pictured.Goals as goal
+use Rattle.u_cli.proofs.drawing_worlds.pictured.Goals as goal
 
 pub lived-requires-clause-doable : goal.lived-requires-clause-doable
 lived-requires-clause-doable c =

@@ -4,7 +4,7 @@ use Rattle.u_rule.specs.EntryOrder.{entry_cmp}
 use Rattle.u_rule.specs.Rule.{system_of}
 use Rattle.u_rule.specs.declared.entry.Entry.{Entry}
 use Rattle.u_cli.proofs.HeldLaws.{start_held, more_held, all_held, listed}
-use Rattle.u_pictures.proofs.holding.held.Goals as goal
+use Rattle.u_cli.proofs.holding.held.Goals as goal
 
 pub loop-firing-init : goal.loop-firing-init
 loop-firing-init c = start_held (system_of c.args.job.now) c.args.firings.now c.new-history.result c.put.new.history c.new-history.ensures (rw c.start.ensures.start at c.in_ok-put.ensures)

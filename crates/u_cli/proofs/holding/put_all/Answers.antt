@@ -1,7 +1,7 @@
 use Rattle.std.proofs.Common.{List}
 use Rattle.u_rule.specs.declared.entry.Entry.{Entry}
 use Rattle.u_cli.proofs.HeldLaws.{one_put, all_put}
-use Rattle.u_pictures.proofs.holding.put_all.Goals as goal
+use Rattle.u_cli.proofs.holding.put_all.Goals as goal
 
 pub loop-entry-preserved : goal.loop-entry-preserved
 loop-entry-preserved c =

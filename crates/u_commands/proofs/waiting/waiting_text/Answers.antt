@@ -2,7 +2,7 @@ use Rattle.std.proofs.Common.{sym, ◌∙◌, ap, subst, ℕ, ◌++◌, List, Co
 use Rattle.u_rule.specs.declared.entry.Entry.{Entry}
 use Rattle.u_trace.specs.Waits.{AreWaits}
 use Rattle.u_commands.proofs.Waited.{tells_waits}
-use Rattle.u_commands.proofs.waiting.told.Goals as goal
+use Rattle.u_commands.proofs.waiting.waiting_text.Goals as goal
 
 pub returns : goal.returns
 returns c =

@@ -1,0 +1,7 @@
+use Rattle.std.proofs.lemmas.Slice.Eq.{strip_prefix_is}
+use Rattle.std.proofs.lemmas.Bool.Decides.{Decides-eqb}
+use Rattle.u_world.proofs.script.behind.Goals as goal
+
+-- nothing stands behind them, or this
+pub returns : goal.returns
+returns c = strip_prefix_is Decides-eqb c.args.bytes.now c.args.front.now c.strip_prefix.result c.strip_prefix.ensures.cases
