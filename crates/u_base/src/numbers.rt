@@ -31,6 +31,9 @@ pub fn after_all<'a>(bytes: &'a [u8], wanted: &[u8]) -> Result<&'a [u8], &'a [u8
 }
 
 /// The longest number from 1 to `max` at the front.
+///
+/// Promise longest-front: the longest number in the range that stands at the front is read, or what is left
+/// begins with the byte with which none goes on.
 #[tactic(auto, using(crate::proofs::NumberLaws::number_bound))]
 pub fn number_at(bytes: &[u8], max: u32) -> Result<(u32, &[u8]), &[u8]>
     requires { 9 ≤ max }

@@ -1,4 +1,6 @@
 //! The words of a line.
+//!
+//! A word that is not of its form has no error text: whoever reads the word says which line it makes wrong.
 ghost use Rattle.std.specs.Prelude.{◌≡◌, ◌≤◌, ◌∷◌, [], Some, None, MatchOption, MatchResult};
 ghost use Rattle.u_base.specs.Pieces.{words};
 ghost use Rattle.u_base.specs.WholeWords.{negative_word, number_word, number0_word, signed_word};
@@ -69,6 +71,9 @@ impl<'a> Words<'a> {
 }
 
 /// The number from 1 to `max` that the whole word is.
+///
+/// Promise words-as-numbers: a word is read as a number exactly if it is the decimal text of one from 1 to
+/// `max`, without leading zeros.
 #[tactic(auto, unfolding(crate::specs::WholeWords::number_word))]
 pub fn number_word(word: &[u8], max: u32) -> Result<u32, BadWord>
     requires { 9 ≤ max }

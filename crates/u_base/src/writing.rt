@@ -7,6 +7,9 @@ use itoa::Buffer;
 use std::alloc::AllocError;
 
 /// Returns what came of writing. Where memory was refused, cuts `out` to its first `len` bytes.
+///
+/// Promise texts-are-cut-back: after an error `out` has its first `len` bytes alone, so a writer that ends
+/// with this call leaves nothing half written.
 pub fn cut_back(
     out: &mut Vec<u8>,
     len: usize,
@@ -23,6 +26,8 @@ pub fn cut_back(
 }
 
 /// Appends a number without leading zeros.
+///
+/// Promise numbers-are-written: exactly the decimal text of the number is appended.
 ///
 /// # Errors
 /// `AllocError` where there is no memory. Then `out` is as it was.

@@ -1,4 +1,8 @@
 //! The checker.
+//!
+//! The check goes over the program once for each rule, and hands the program back. It takes no memory, so
+//! it can't fail for want of it. `Refused` is no error: it has the program, and the breach, which is the
+//! error.
 ghost use Rattle.std.specs.Prelude.{◌≡◌, ℕ, ◌↔◌, IsOk, IfOk, IfErr, IfSome, IfNone, ◌<◌};
 ghost use Rattle.u_check.specs.Rules.{IsChecked, Breaches, StatementBreaks, IsFirstOfRule, IsFirstBreach};
 
@@ -99,6 +103,12 @@ fn first_breach(blocks: &[Block]) -> Option<Breach>
 }
 
 /// The program as a checked one, where it breaks no rule.
+///
+/// Promise check-is-exact: a checked program is returned exactly if no rule is broken, and it is the program
+/// that was passed.
+///
+/// Promise first-breach: an error has the least rule that is broken, and of its breaches that of the first
+/// block, and there of the first statement.
 ///
 /// # Errors
 /// The program itself and its first breach. The check takes no memory.

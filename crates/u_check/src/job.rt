@@ -77,6 +77,8 @@ impl Job {
     }
 
     /// The program.
+    ///
+    /// Promise jobs-are-checked: the program breaks no rule of the checker.
     pub fn program(&self) -> &Program
         ensures program { result.now ≡ self.now.program }
         ensures checked { IsChecked self.now.program.blocks }
@@ -97,7 +99,9 @@ impl PartialEq for Job {
 
     ghost laws = { partial_equiv_from_equiv (and_equiv (on_equiv (λ (j : JobParts). j.program) (on_texts_equal text_of)) (on_equiv (λ (j : JobParts). j.argument) int_eq_equiv)) };
 
-    /// Whether the jobs run equal programs on the same argument. Takes no memory.
+    /// Compares the jobs. It takes no memory.
+    ///
+    /// Promise jobs-are-equal: two jobs are equal exactly if their programs and their arguments are.
     fn eq(&self, other: &Job) -> bool {
         self.argument == other.argument && *self.program() == *other.program()
     }

@@ -1,4 +1,6 @@
 //! What each rule demands of a program, a block, a statement and a destination.
+//!
+//! `u_compile/blocks` tests the names of blocks as it makes them; here finished programs are looked at.
 ghost use Rattle.std.specs.Prelude.{◌≡◌, ◌-◌, ◌<◌, ◌≤◌, ◌==◌, ◌&&◌, ◌||◌, not, length, take};
 ghost use Rattle.std.specs.List.{list_any, list_all, range_with_len};
 ghost use Rattle.u_program.specs.declared.program.Destination.{Destination};

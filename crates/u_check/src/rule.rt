@@ -1,4 +1,7 @@
 //! The rules of the checker, and where a program breaks one.
+//!
+//! Of several breaches the first by the rule's number is reported, then by block, then by statement. So a
+//! program with a wrong region and two blocks of one name is told of the names.
 ghost use Rattle.std.specs.Prelude.{◌≡◌};
 ghost use Rattle.u_check.specs.Rules.{number_of};
 

@@ -1,4 +1,7 @@
 //! What the calls of a board answer. Each answer is this project's profile.
+//!
+//! When `NoSeat` comes can't be said: seats get their numbers one after another, before any thread has the
+//! board.
 ghost use Rattle.std.specs.Prelude.{◌≡◌};
 ghost use Rattle.u_claims.specs.declared.answer.BoardError.TheVariants.{NoMemory};
 

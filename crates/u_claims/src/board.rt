@@ -1,4 +1,7 @@
 //! What is done on a board: numbers are drawn, and buckets claimed and released.
+//!
+//! No clause sees a board's words, since another thread may change them at any moment. So no contract says
+//! that a bucket is free, that a claim of a free one is won, or that the owner in `Busy` still holds it.
 ghost use Rattle.std.specs.Prelude.{◌≡◌, ◌<◌, ◌≤◌, ◌+◌, [], IfOk, All, vec_len};
 ghost use Rattle.u_name.specs.Context.{IsBetween};
 ghost use Rattle.u_claims.specs.Held.{newcomer, has_bucket, IsMaskOf};
@@ -70,8 +73,9 @@ fn number_all(
 }
 
 impl Board {
-    /// A board whose buckets are all free, and so many seats, 1 to 8, in the order of their numbers
-    /// 1, 2, and so on. The bounds are this project's profile.
+    /// A board, and that number of seats of it, 1 to 8. The bounds are this project's profile.
+    ///
+    /// Promise new-board: its seats are numbered 1, 2, and so on in order, and no bucket is held.
     ///
     /// # Errors
     /// `NoSeat` where the exchange that draws a number is not won, which nobody else could win;
@@ -90,6 +94,9 @@ impl Board {
 
     /// Claims the bucket, 0 to 63, for a seat of this board: by one compare-and-exchange, or by none
     /// where the seat holds the bucket already. It takes no memory and waits for nobody.
+    ///
+    /// Promise claim: after `Held` the seat holds the bucket besides what it held; after `Busy` it holds what
+    /// it held, and the number is another seat's.
     pub fn claim(&self, seat: &mut ClaimSeat, bucket: u64) -> Claimed
         requires bucket { bucket < 64 }
         requires board { IsSeatOf self.now seat.old }
@@ -113,6 +120,9 @@ impl Board {
 
     /// Releases the bucket, 0 to 63, where this seat of the board holds it: by one
     /// compare-and-exchange. It takes no memory and waits for nobody.
+    ///
+    /// Promise release: `Done` is returned exactly if the seat held the bucket, and then it no longer does;
+    /// `NotMine` changes nothing.
     pub fn release(&self, seat: &mut ClaimSeat, bucket: u64) -> Released
         requires bucket { bucket < 64 }
         requires board { IsSeatOf self.now seat.old }
@@ -132,6 +142,8 @@ impl Board {
 
     /// Releases each bucket that this seat of the board holds, one compare-and-exchange after
     /// another.
+    ///
+    /// Promise release-all: the seat holds no bucket afterwards, and has its number.
     pub fn release_all(&self, seat: &mut ClaimSeat)
         requires board { IsSeatOf self.now seat.old }
         ensures board { IsSeatOf self.now seat.new }
@@ -144,7 +156,9 @@ impl Board {
 }
 
 impl ClaimSeat {
-    /// The number of the seat, 1 to 8. No two seats of a board have one number.
+    /// The number of the seat, 1 to 8.
+    ///
+    /// Promise numbers-differ: no two seats of a board have one number.
     pub fn number(&self) -> u8
         ensures value { result ≡ (view_of self.now).number }
         ensures bounds { IsBetween 1 result 8 }

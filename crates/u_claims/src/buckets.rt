@@ -4,9 +4,11 @@ ghost use Rattle.u_claims.specs.Buckets.{bucket};
 
 use u_name::Name;
 
-/// The bucket of a name, 0 to 63: the sum of its statement, its initiation and the depth of its
-/// context, modulo 64. That there are 64 buckets, and which names share one, is this project's
+/// The bucket of a name, 0 to 63. That there are 64 buckets, and which names share one, is this project's
 /// profile.
+///
+/// Promise bucket-of-a-name: it is the sum of the statement, the initiation and the depth of the context,
+/// modulo 64.
 pub fn bucket_of(name: &Name) -> u64
     ensures bucket { result ≡ bucket name.now }
     ensures range { result < 64 }

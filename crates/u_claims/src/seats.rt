@@ -1,4 +1,8 @@
 //! A board and its seats.
+//!
+//! A seat keeps its buckets as a mask, so asking takes no step. Seats are never joined, and one that is
+//! dropped keeps its buckets: nobody else can release them. The contracts of the calls stand in another
+//! file, since a struct with ghost fields imports all that its file cites.
 ghost use Rattle.std.specs.Prelude.{◌≡◌, ◌≤◌, [], length};
 ghost use Rattle.u_name.specs.Context.{IsBetween};
 ghost use Rattle.u_claims.specs.Held.{IsMaskOf};
@@ -7,8 +11,11 @@ use crate::rule::{Hand, Holding};
 use atomic_table::{Seat, Table};
 use std::alloc::Global;
 
-/// 64 buckets, numbered from 0, each of which at most one seat holds. Threads share a board by
-/// reference. It is made with its seats, and has no others.
+/// 64 buckets, numbered from 0. Threads share a board by reference. It is made with its seats, and has no
+/// others.
+///
+/// Promise no-two-hold-a-bucket: at every moment at most one seat holds a bucket, for any number of threads
+/// and in any order of their calls.
 #[derive(Drop)]
 pub struct Board {
     pub(crate) table: Table<(), Hand, u64, Holding, Global>,

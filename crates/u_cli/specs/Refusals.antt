@@ -1,7 +1,7 @@
 -- Sources that are refused, and what `explain` answers to the bytes of a source.
 use Rattle.std.specs.Prelude.{◌≡◌, ◌⊎◌, ℕ, Bool, List, Option, Some, None, Result, Ok, Err}
 use Rattle.std.specs.Io.KnownBytes.{Keeps}
-use Rattle.u_source.specs.declared.place.Place.{Place}
+use Rattle.u_source.specs.declared.place.Position.{Position}
 use Rattle.u_source.specs.declared.source_error.SourceError.TheVariants as source_errors
 use Rattle.u_scope.specs.declared.check_error.CheckError.TheVariants as check_errors
 use Rattle.u_scope.specs.declared.kind_error.KindError.TheVariants as kind_errors
@@ -15,7 +15,7 @@ use Rattle.u_cli.specs.declared.refusals.SourceFault.{SourceFault}
 use Rattle.u_cli.specs.declared.refusals.SourceFault.TheVariants as faults
 
 -- the place that shows why a source is refused; where there was no memory there is none
-abbrev pub place_of : CompileError → Option Place
+abbrev pub place_of : CompileError → Option Position
 place_of (errors.Source (source_errors.Refused place problem)) = Some place
 place_of (errors.Source source_errors.NoMemory) = None
 place_of (errors.Check (check_errors.Refused place problem)) = Some place
@@ -26,7 +26,7 @@ place_of (errors.Refused place problem) = Some place
 place_of errors.NoMemory = None
 
 -- 2 where a source is refused, 5 where there was no memory
-abbrev pub status_at : Option Place → ℕ
+abbrev pub status_at : Option Position → ℕ
 status_at (Some place) = 2
 status_at None = 5
 
@@ -36,7 +36,7 @@ status_of_fault faults.NotWritten = 5
 
 -- a place of the source shows why it is refused
 pub record IsShown (error : CompileError) : Type 0 where
-  pub place : Place
+  pub place : Position
   pub is : place_of error ≡ Some place
 
 -- what is told of the program that an allowed source compiles to

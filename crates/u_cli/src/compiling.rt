@@ -16,8 +16,10 @@ const ENDING: &[u8] = b".ul";
 /// How the text of a program begins.
 const HEAD: &[u8] = b"u-program";
 
-/// Whether a file with that path and these bytes is a source: its name ends in `.ul`, and it does not begin
-/// as a program does.
+/// Whether a file with that path and these bytes is a source.
+///
+/// Promise what-is-a-source: it is one exactly if the path ends in `.ul` and the bytes do not begin with
+/// `u-program`.
 pub fn is_source(path: &str, bytes: &[u8]) -> bool
     ensures { IsTrue result ↔ IsSource path.now bytes.now }
 {
@@ -98,6 +100,12 @@ fn text_of(alloc: Global, source: &[u8], map: bool) -> Result<Vec<u8>, CompileEr
 
 /// Compiles the source and writes the text of its program; if `map` is true, in place of that the map: which
 /// place of the source each statement stands for. Returns the exit status, 0.
+///
+/// Promise compile-command: what is written is the text of a program of version 2 that breaks no rule and is
+/// determinate.
+///
+/// Promise map-text: if `map` is true, it is a map with one line for each statement of such a program, in
+/// order.
 ///
 /// # Errors
 /// `Refused` as `u_compile::compile` refuses the source: nothing is written. `NotWritten`: a prefix of the

@@ -1,4 +1,6 @@
 //! The command `draw`.
+//!
+//! A program is read and checked here as `u_commands` does it for `check`.
 ghost use Rattle.std.specs.Prelude.{◌≡◌, IfOk, MatchResult};
 ghost use Rattle.u_commands.specs.Checks.{IsCheckedOf, CheckRefused, error_of};
 ghost use Rattle.u_draw.specs.Dot.{picture_text};
@@ -51,6 +53,9 @@ fn picture_of(alloc: Global, program: &Program) -> Result<Vec<u8>, AllocError>
 
 /// Checks the program with this text and writes its picture, as a text of DOT, the language of Graphviz.
 /// Returns the exit status, 0.
+///
+/// Promise draw-command: exactly the picture of the program is written, and what `check_text` refuses is
+/// refused.
 ///
 /// # Errors
 /// A fault of the program's text or of the checker, in that order, or want of memory: nothing is

@@ -1,4 +1,7 @@
 //! The command `draw` with an argument: the picture of a run.
+//!
+//! A picture has 2000 firings at most. What it leaves out is counted by a second run, of 1000000 firings at
+//! most, only if the first one goes on.
 ghost use Rattle.std.specs.Prelude.{◌≡◌, ◌≤◌, ◌-◌, length, IfOk, IfErr, MatchResult, IsTrue, List};
 ghost use Rattle.u_base.specs.Firing.{Plain, Within};
 ghost use Rattle.u_rule.specs.Rule.{is_firing_of, system_of};
@@ -79,6 +82,9 @@ fn drawn(alloc: Global, job: &Job, firings: usize) -> Result<(Vec<u8>, u8, usize
 /// writes the picture of the run, as a text of DOT, the language of Graphviz. Returns the exit status,
 /// which is that of `run`, and how many firings the picture leaves out: those of the same run with
 /// 1000000 firings at most that come behind the ones in the picture.
+///
+/// Promise picture-of-a-run: the picture is of the firings of the plain run and of exactly the entries that
+/// they hold, each once.
 ///
 /// # Errors
 /// A fault of the program's text, of the checker or of the argument, in that order, or want of memory:

@@ -1,4 +1,6 @@
 //! The command `draw` with an argument and an entry: the picture of the entry's story.
+//!
+//! It is the picture of a run of the story's firings alone, so it shows all that they give.
 ghost use Rattle.std.specs.Prelude.{◌≡◌, ◌≤◌, IfOk, MatchResult, ℕ};
 ghost use Rattle.u_commands.specs.Traces.{trace_fault, RanPlainly, TraceRefused};
 ghost use Rattle.u_cli.specs.DrawnRuns.{DrawsStoryJob, DrawStoryAnswer};
@@ -23,7 +25,11 @@ fn fault_of(error: TraceError) -> CommandError
 }
 
 /// The picture of the entry's story in the machine.
-fn told(alloc: Global, machine: &Machine<'_>, entry: &Entry) -> Result<Vec<u8>, CommandError>
+fn story_picture(
+    alloc: Global,
+    machine: &Machine<'_>,
+    entry: &Entry,
+) -> Result<Vec<u8>, CommandError>
     ensures { MatchResult result
         (λ v. (n : ℕ) → RanPlainly machine.now.job n machine.now
         → DrawsStoryJob machine.now.job n entry.now v.items)
@@ -46,12 +52,15 @@ fn drawn(alloc: Global, job: &Job, entry: &Entry, firings: usize) -> Result<Vec<
         (λ fault. TraceRefused job.now firings entry.now fault) }
 {
     let (machine, _) = ran(alloc, job, firings)?;
-    told(alloc, &machine, entry)
+    story_picture(alloc, &machine, entry)
 }
 
 /// Runs the program with this text on the argument that the word gives, with so many firings at most, and
 /// writes the picture of the story of how this run came to the entry, as a text of DOT, the language of
 /// Graphviz. Returns the exit status, 0.
+///
+/// Promise picture-of-a-story: the picture is of the story that `trace_text` writes and of exactly the
+/// entries that its firings hold.
 ///
 /// # Errors
 /// A fault of the program's text, of the checker, of the argument or of the entry's text, in that order,

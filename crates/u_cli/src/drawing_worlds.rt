@@ -1,4 +1,7 @@
 //! The command `world` with its option `--draw`: the picture of the events.
+//!
+//! The events happen twice: once for what `world` prints, with its status and refusals, and once for the
+//! picture, since no world keeps what each event did.
 ghost use Rattle.std.specs.Prelude.{◌≡◌, [], MatchResult, List};
 ghost use Rattle.u_name.specs.Context.{IsBetween};
 ghost use Rattle.u_pictures.specs.Living.{Lives};
@@ -66,7 +69,9 @@ fn drawn(alloc: Global, job: &Job, plan: WorldPlan) -> Result<(Vec<u8>, u8), Com
 
 /// Lets the random events of the plan happen in a world of replicas of the program with this text, on the
 /// argument that the word gives, and writes the space-time picture of the events, as a text of DOT, the
-/// language of Graphviz. They are the events of which `world_text` tells. Returns its exit status.
+/// language of Graphviz. Returns its exit status.
+///
+/// Promise picture-of-a-world: the picture is of the events of which `world_text` tells.
 ///
 /// # Errors
 /// As `world_text`: nothing is written. `NotWritten`: a prefix of the picture is written.

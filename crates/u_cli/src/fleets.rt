@@ -1,4 +1,7 @@
 //! The command `fleet`.
+//!
+//! No gate stops a worker here, so the report is that of `run`. The budget of 100 firings a round and the
+//! limit of 100,000 are this project's.
 ghost use Rattle.std.specs.Prelude.{◌≡◌, ◌≤◌, MatchResult};
 ghost use Rattle.u_name.specs.Context.{IsBetween};
 ghost use Rattle.u_fleet.specs.Plans.{IsPlan};
@@ -76,6 +79,9 @@ fn fleet_job<R: Threads + Wait + Sync>(
 /// `rounds`, which is at most 1,000: how many rounds a worker has, of 100 firings each at most, before
 /// its last run. A worker takes 100,000 firings at most. Answers the exit status, that of `run_text`.
 /// It may wait.
+///
+/// Promise fleet-command: the report is quiet and of the whole history, whatever the workers, the rounds and
+/// the schedule.
 ///
 /// # Errors
 /// As `run_text`. `Full` if the job has more than 100,000 firings. `NoThread` and `NoReader` are

@@ -1,4 +1,7 @@
 //! Places of a source, beside what speaks of the statements of its program.
+//!
+//! A place stands at the end of its line, after two spaces and in words, so scripts that cut words at
+//! spaces go on working. In a picture it stands in the tooltip, so no box gets larger.
 ghost use Rattle.std.specs.Prelude.{◌≡◌, ◌++◌, if◌then◌else◌, IfOk};
 ghost use Rattle.u_base.specs.Pieces.{words};
 ghost use Rattle.u_base.specs.Parts.{after_byte};
@@ -293,6 +296,9 @@ fn write_text<W: Write>(text: &[u8], writer: &mut W) -> Result<(), CommandError>
 /// each line has the place of the statement of which it speaks: in lines for people behind it, in a picture
 /// at the end of its tooltip. A line that speaks of no statement stays, and so does all that is told of
 /// another program.
+///
+/// Promise places: the place is that of the first word of a line that is a statement's, an activity's or a
+/// cell's; nothing else changes.
 ///
 /// # Errors
 /// `NoMemory`: nothing is written. `NotWritten`: a prefix is written.

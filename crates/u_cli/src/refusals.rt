@@ -12,7 +12,7 @@ use u_commands::{CommandError, explain_text, write_whole};
 use u_compile::CompileError;
 use u_explain::show_marked;
 use u_scope::{CheckError, KindError};
-use u_source::{Place, SourceError};
+use u_source::{Position, SourceError};
 
 /// Why a source gives no whole output.
 #[derive(Debug, Drop, PartialEq, Eq, Error)]
@@ -34,7 +34,7 @@ impl From<CompileError> for SourceFault {
 }
 
 /// The place of the source that shows why it is refused. There is none where there was no memory.
-fn place_of(error: &CompileError) -> Option<Place>
+fn place_of(error: &CompileError) -> Option<Position>
     ensures { result ≡ place_of error.now }
 {
     match error {
@@ -50,7 +50,9 @@ fn place_of(error: &CompileError) -> Option<Place>
 }
 
 impl SourceFault {
-    /// The exit status: 2 where a source is refused, 5 where memory or writing fails.
+    /// The exit status.
+    ///
+    /// Promise status-of-a-source: it is 2 if a source is refused, and 5 if memory or writing fails.
     pub fn status(&self) -> u8
         ensures { result ≡ status_of_fault self.now }
     {
@@ -84,7 +86,7 @@ fn refusal(
     alloc: Global,
     source: &[u8],
     error: &CompileError,
-    place: Place,
+    place: Position,
 ) -> Result<Vec<u8>, AllocError> {
     let mut text = Vec::new(alloc);
     let line = format!(in alloc; "{error}\n")?;
@@ -118,6 +120,9 @@ fn explain_refusal<W: Write>(
 /// Writes why the source is refused: the line that every command says of it, without `u: `, and behind it
 /// the line of the source with a mark under the place. The status is then 2. Of a source that is not refused
 /// it writes what `explain_text` writes of its program.
+///
+/// Promise explain-a-source: of an allowed source it writes what `explain_text` writes of some determinate
+/// program, and of another it returns 2.
 ///
 /// # Errors
 /// `Refused` where there is no memory: nothing is written. `NotWritten`: a prefix is written.

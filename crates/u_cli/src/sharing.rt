@@ -76,6 +76,9 @@ fn share_job<R: Read, W: Write, N: Write>(
 /// member takes 1,000,000 firings at most. Returns the report of `run`, which is quiet, and the exit
 /// status. It may wait for the reader.
 ///
+/// Promise share-command: the report is quiet and whole, of a machine that took exactly the firings of the
+/// job among the lines and those that it printed.
+///
 /// # Errors
 /// As `run_text`; nothing is read or written then. `Full` if a firing has no room; `NotReadable` if the bus
 /// can't be read; `NotWritten` if it takes no more. What was written before stands.

@@ -1,4 +1,6 @@
 //! The commands `waits`, `trace` and `blame`, with the places of a source.
+//!
+//! They write to memory first, and then to standard output with the places added.
 ghost use Rattle.std.specs.Prelude.{◌≡◌, ◌≤◌};
 ghost use Rattle.std.specs.Option.{option_copied};
 ghost use Rattle.u_name.specs.Context.{IsBetween};
@@ -39,6 +41,9 @@ fn kept(fault: CommandError) -> CommandError
 
 /// Does what `waits_watched_text` does. If the program is that of a source, each line has the place of the
 /// statement of which it speaks.
+///
+/// Promise places-of-commands: what is written is what `write_placed` makes of what the command without
+/// places writes.
 ///
 /// # Errors
 /// Those of `waits_watched_text`.

@@ -4,8 +4,10 @@ ghost use Rattle.u_commands.specs.Arguments.{argument_word, IsArgumentOf};
 
 use u_base::{long_word, negative_word};
 
-/// The number that the word gives: decimal, without leading zeros, with `n` in place of a minus,
-/// so that no word begins with a hyphen. It is from -2^63 to 2^63 - 1, and 0 has no `n`.
+/// The number that the word gives: decimal, without leading zeros, with `n` in place of a minus, so that no
+/// word begins with a hyphen. 0 has no `n`.
+///
+/// Promise arguments: a word is read exactly if it is the text of a number from -2^63 to 2^63 - 1.
 #[tactic(auto, using(crate::proofs::ArgumentLaws::argument_sound, crate::proofs::ArgumentLaws::argument_none))]
 pub fn argument_of(word: &[u8]) -> Option<i64>
     ensures { MatchOption result ((z : ℤ) → IsArgumentOf word.now z → ⊥)

@@ -140,6 +140,8 @@ fn blame_job<V: Watch>(
 /// two least writes, or `no cell`, which is never so if the program is strict or determinate. Returns
 /// the exit status, 0.
 ///
+/// Promise blame-command: exactly what `blame` returns of the plain run of at most 100000 firings is written.
+///
 /// # Errors
 /// A fault of the program's text, of the checker, of the argument or of the name's text, in that order,
 /// `PortNotClashed` if the run holds fewer than two values at the port, or want of memory: nothing is

@@ -175,6 +175,9 @@ fn checked_lines(alloc: Global, checked: &Checked, asked: Asked) -> Result<Vec<u
 /// and `determinate`, or `not determinate block B at A WHAT`, the first place where it is not, and what
 /// meets there: `two arcs`, `two ends`, `two applies`, or `next and last`. Returns the exit status, 0.
 ///
+/// Promise check-command: the lines are written exactly of the text of a program that breaks no rule, and
+/// each says what is so of that program.
+///
 /// # Errors
 /// A fault of the program's text or of the checker, in that order, or want of memory: nothing is
 /// written. `NotWritten`: a prefix of the lines is written.

@@ -11,7 +11,7 @@ use crate::output::write_whole;
 use std::alloc::{AllocError, Global};
 use std::io::Write;
 use u_check::Checked;
-use u_determinate::{Determinacy, Place, Strictness, determinacy, strictness};
+use u_determinate::{Determinacy, MeetingPoint, Strictness, determinacy, strictness};
 use u_explain::{explain, explain_loose, explain_meeting};
 
 /// What is said of a program that is not refused and is determinate.
@@ -67,7 +67,7 @@ fn meeting_text(
     alloc: Global,
     program: &[u8],
     checked: &Checked,
-    place: Place,
+    place: MeetingPoint,
 ) -> Result<Vec<u8>, AllocError>
     ensures { IfOk result (λ v. TellsBehind (determinacy_line (Determinacy.Meets place)) v.items) }
 {
@@ -134,6 +134,9 @@ fn explanation(alloc: Global, program: &[u8], strict: bool) -> Result<(Vec<u8>, 
 /// a determinate one `nothing to explain`. If `strict` is asked for, it writes of a program that is not
 /// refused in place of that the line of `check` on whether it is strict, and where it is not, behind it
 /// for people which rule it breaks and how. Returns the exit status, that of `check`.
+///
+/// Promise explain-command: the status is 0 exactly if the bytes are the text of a program that breaks no
+/// rule, and else that of the fault of `check_text`.
 ///
 /// # Errors
 /// `NoMemory`: nothing is written. `NotWritten`: a prefix is written.

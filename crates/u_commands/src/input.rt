@@ -11,6 +11,9 @@ pub const INPUT_LIMIT: usize = 67_108_864;
 
 /// All bytes up to the end of the reader.
 ///
+/// Promise input: exactly the bytes of the reader are returned, and `InputTooLong` only if there are more
+/// than 67108864.
+///
 /// # Errors
 /// `InputTooLong` where there are more than 67108864 bytes, `NotReadable` where a read failed,
 /// `NoMemory`; whichever is met first.

@@ -1,4 +1,6 @@
 //! The command `lift`.
+//!
+//! The program is checked first, as in each other command.
 ghost use Rattle.std.specs.Prelude.{◌≡◌, IfOk, MatchResult};
 ghost use Rattle.u_program.specs.Text.{program_text};
 ghost use Rattle.u_program.specs.declared.program.Version.TheVariants as versions;
@@ -35,6 +37,8 @@ fn lifted_of(alloc: Global, bytes: &[u8]) -> Result<Vec<u8>, CommandError>
 /// Checks the program with this text and writes its text under version 2: the same blocks, in which each
 /// `apply` says that it has one argument. It runs alike, but that initiations go on behind 4294967295. A
 /// program of version 2 is written as it is. Returns the exit status, 0.
+///
+/// Promise lift-command: exactly the text of the program's blocks under version 2 is written.
 ///
 /// # Errors
 /// A fault of the program's text or of the checker, in that order, or want of memory: nothing is

@@ -1,4 +1,7 @@
 //! Output.
+//!
+//! The whole report is made before the first byte is written, so a fault of the run leaves standard output
+//! empty. It is written without a buffer, so there is nothing to flush.
 ghost use Rattle.std.specs.Prelude.{◌≡◌, ◌++◌, IfOk, OnOk, OnErr, length, MatchResult, ◌≤◌, drop};
 ghost use Rattle.u_commands.specs.Outputs.{WritesAll, WritesPrefix, numbered};
 
@@ -18,8 +21,9 @@ fn behind(bytes: &[u8], count: usize) -> &[u8]
     &bytes[count..]
 }
 
-/// Writes all bytes, in order. A write that fails or takes no byte ends it; what was written
-/// before is a prefix of the bytes.
+/// Writes all bytes, in order. A write that fails or takes no byte ends it.
+///
+/// Promise failed-writes: after an error a prefix of the bytes is written.
 pub fn write_whole<W: Write>(writer: &mut W, bytes: &[u8]) -> Result<(), Unwritten>
     ensures ok { OnOk result (WritesAll (W.contents writer.old) (W.contents writer.new) bytes.now) }
     ensures err { OnErr result

@@ -134,6 +134,9 @@ fn restore_job<V: Watch>(
 /// writes the line `checkpoint whole` or `checkpoint torn` and the report. Answers the exit status, that
 /// of `run_text`.
 ///
+/// Promise restore-command: the report is that of the firings of the complete lines and of at most `firings`
+/// more, each the least that is ready.
+///
 /// # Errors
 /// A fault of the program's text, of the checker, of the argument or of the checkpoint, in that
 /// order, `Full` where the checkpoint has more than 1,000,000 firings or more are ready while the

@@ -1,4 +1,7 @@
 //! The command `run`.
+//!
+//! `save` and `waits` have the same outline: a job, a run, bytes, writing. What they share are `job_of`,
+//! `ran_watched` and `write_whole`.
 ghost use Rattle.std.specs.Prelude.{◌≡◌, ◌≤◌, IfOk, IfErr, MatchResult, IsTrue, List, ℕ, length};
 ghost use Rattle.u_check.specs.Jobs.{JobParts};
 ghost use Rattle.u_machine.specs.Calls.{IsFresh};
@@ -36,6 +39,9 @@ pub struct JobTexts<'a> {
 }
 
 /// The job of the program with this text on the argument that the word gives.
+///
+/// Promise job-of-texts: unless memory runs out, a job is returned exactly if the bytes are the text of a
+/// checked program and the word gives an argument.
 pub fn job_of(alloc: Global, bytes: &[u8], word: &[u8]) -> Result<Job, CommandError>
     ensures { MatchResult result (λ job. IsJobOf bytes.now word.now job)
         (λ fault. JobRefused bytes.now word.now fault) }
@@ -142,6 +148,9 @@ pub(crate) fn replica_ran<'a, V: Watch>(
 
 /// A new machine of the job after so many firings at most, and the state that a report names then. The
 /// watch is told how far it has come.
+///
+/// Promise watched-commands: a command that is watched has the contract of the one that is not, whatever the
+/// watch does.
 pub fn ran_watched<'a, V: Watch>(
     alloc: Global,
     job: &'a Job,
@@ -189,6 +198,12 @@ fn run_job<V: Watch>(
 /// most, and writes the report. Answers the exit status: 0 for a quiet report with one answer, 3 for
 /// another quiet report, 4 for a paused one. If the program is strict or determinate, a report without a
 /// `cell` line has no `port` line, and one `answer` line at most.
+///
+/// Promise run-command: exactly the report of the plain run of at most `firings` firings is written; `state
+/// quiet` stands there only if its history is whole.
+///
+/// Promise run-refuses: a text is refused only for the fault that it has, and only if the texts before it are
+/// right.
 ///
 /// # Errors
 /// A fault of the program's text, of the checker or of the argument, in that order, or want of

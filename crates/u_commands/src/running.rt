@@ -1,4 +1,6 @@
 //! Runs in pieces, between which a watch is told how far they have come.
+//!
+//! A piece has 1,000 firings, since one may be dear; a piece costs one look at the clock.
 ghost use Rattle.std.specs.Prelude.{◌≡◌, ◌≤◌};
 ghost use Rattle.u_machine.specs.Calls.{IsFresh, RunAnswer, RunsPlainly};
 ghost use Rattle.u_replica.specs.ReplicaState.{ChangesMachine};

@@ -32,6 +32,8 @@ fn save_job<V: Watch>(
 /// Runs the program with this text on the argument that the word gives, with so many firings at
 /// most, and writes the checkpoint: all that was fired. Answers the exit status, 0.
 ///
+/// Promise save-command: exactly the checkpoint of the plain run of at most `firings` firings is written.
+///
 /// # Errors
 /// As `run_text`. `NotWritten`: a prefix of the checkpoint is written.
 pub fn save_text<W: Write>(

@@ -99,6 +99,9 @@ fn trace_job<V: Watch>(
 /// and writes all firings that give the entry, and the story of how this run came to it. Answers the
 /// exit status, 0.
 ///
+/// Promise trace-command: exactly the causes of the entry and its story in the plain run are written, each
+/// with its count.
+///
 /// # Errors
 /// A fault of the program's text, of the checker, of the argument or of the entry's text, in that
 /// order, `EntryNotHeld` where the run does not hold the entry, or want of memory: nothing is written.

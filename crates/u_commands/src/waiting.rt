@@ -1,4 +1,7 @@
 //! The command `waits`.
+//!
+//! The state stands before the verdict, so lines of a run that was cut off are not taken for those of a run
+//! that ended.
 ghost use Rattle.std.specs.Prelude.{◌≡◌, ◌≤◌, Contains, IfOk, IfErr};
 ghost use Rattle.u_history.specs.Report.{state_line};
 ghost use Rattle.u_commands.specs.Waits.{TellsWaits, WaitsAfterRun, WaitsTextAnswer};
@@ -27,7 +30,11 @@ fn state_line(state: Ending) -> &'static [u8]
 }
 
 /// What the machine waits for, its state, the verdict on its history, and the exit status.
-fn told(alloc: Global, machine: &Machine<'_>, state: Ending) -> Result<(Vec<u8>, u8), AllocError>
+fn waiting_text(
+    alloc: Global,
+    machine: &Machine<'_>,
+    state: Ending,
+) -> Result<(Vec<u8>, u8), AllocError>
     ensures { IfOk result (λ p. TellsWaits machine.now.job (Contains machine.now.history) state
         p.0.items p.1) }
 {
@@ -52,7 +59,7 @@ fn waits_job<V: Watch>(
     ensures memory { IfErr result (λ e. e ≡ faults.NoMemory) }
 {
     let (machine, state) = ran_watched(alloc, job, firings, watch)?;
-    let told = told(alloc, &machine, state)?;
+    let told = waiting_text(alloc, &machine, state)?;
     Ok(told)
 }
 
@@ -60,6 +67,9 @@ fn waits_job<V: Watch>(
 /// most, and writes what waits then: a line for each activity that has a token at some port and lacks
 /// one at another, a line for each read of a cell that has no write, and the state and the verdict of
 /// the run's report. Returns the exit status, that of `run_text`.
+///
+/// Promise waits-command: exactly what waits in the history of the plain run is written, then the lines of
+/// the state and of the verdict.
 ///
 /// # Errors
 /// As `run_text`. `NotWritten`: a prefix is written.

@@ -1,4 +1,7 @@
 //! What is told from time to time of how far a command has come.
+//!
+//! A watch gets numbers alone and gives nothing back, so a watched command has the contract of the plain
+//! one.
 ghost use Rattle.std.specs.Prelude.{◌≡◌, ◌++◌, IfOk, length};
 ghost use Rattle.u_commands.specs.Watches.{progress_line};
 
@@ -17,6 +20,8 @@ pub struct Progress {
 
 impl Progress {
     /// The line that tells it: `u: 1200000 firings applied, 0 parked`.
+    ///
+    /// Promise watch-line: the line has exactly the two numbers, in decimal.
     ///
     /// # Errors
     /// `AllocError` where there is no memory.

@@ -15,7 +15,7 @@ use Rattle.u_compile.specs.Drafts.{DraftParts}
 use Rattle.u_compile.specs.Graphs.{GraphParts, draft_at, is_next, enters, IsGraph}
 use Rattle.u_compile.specs.Blocks.{statement_of, block_of}
 use Rattle.u_compile.specs.declared.place.Guard.{Guard}
-use Rattle.u_compile.specs.Scoped.{guard, PlaceParts, IsOf, Layout, sent_by, AreApart, IsScoped}
+use Rattle.u_compile.specs.Scoped.{guard, GuardedRegionParts, IsOf, Layout, sent_by, AreApart, IsScoped}
 use Rattle.u_compile.proofs.ArcLaws.{made_at, draft_from, IsLinkOf, arc_is}
 use Rattle.u_compile.proofs.GuardLaws.{made, one_draft, stands_as, stands_from, Owner, own, other, owner_of, some_port, no_of_none, same_arcs, sender_is, arc_has}
 
@@ -65,7 +65,7 @@ module _ (y : Layout) (g : GraphParts) (is : IsGraph g) (s : IsScoped y g) where
                 let named : back_named e_i.0.kind ≡ Some n = ap (λ (v : StatementParts). back_named v.kind) e_i.2 ∙ ap_i.names in
                 let w = s.backs i n e_i.0 e_i.1 named in
                 let before = w.earlier in
-                rec i e_i.0 e_i.1 (omega (arith, before, low)) (subst (λ (v : PlaceParts). IsOf v.guards (guard c value)) (sym w.beside) has);
+                rec i e_i.0 e_i.1 (omega (arith, before, low)) (subst (λ (v : GuardedRegionParts). IsOf v.guards (guard c value)) (sym w.beside) has);
           })
           | inr none ↦ absurd (no_of_none (y.at n).guards (guard c value) none has)
         ]

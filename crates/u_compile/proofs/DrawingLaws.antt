@@ -12,7 +12,7 @@ use Rattle.u_compile.specs.declared.drawing.Scope.{Scope}
 use Rattle.u_compile.specs.declared.drawing.Gate.{Gate}
 use Rattle.u_compile.specs.declared.drawing.Carried.{Carried}
 use Rattle.u_compile.specs.Drafts.{DraftParts}
-use Rattle.u_compile.specs.Scoped.{PlaceParts}
+use Rattle.u_compile.specs.Scoped.{GuardedRegionParts}
 use Rattle.u_compile.specs.Graphs.{link, output, draft_at}
 use Rattle.u_compile.specs.Drawings.{leads_to, feeders, DrawingParts, drawing, IsOfKind, IsFedBy, AreFed, IsFed, from_nothing, from_value, from_control, IsGate, IsDrawn, GoesOn, AddsOpen, Grows, Adds, Gives, Merges, IsGated, a_gate, with_value, links_to, input_links, AreValues, OnlyTo}
 use Rattle.u_compile.proofs.Numbers.{at_within, at_last}
@@ -219,7 +219,7 @@ grows_then a b c f g = record {
 }
 
 -- what a statement adds to whose ports those values lead
-pub adds_inputs : (d : DrawingParts) (gs : List Gate) (b : Bool) → IsDrawn d.statements d.links d.values gs b → (x : DraftParts) (at : PlaceParts) (ins : List ℕ) → AreValues d.values ins → Adds d (record d { statements = d.statements ++ (x ∷ []); links = d.links ++ input_links d.values (length d.statements + 1) 1 ins; places = d.places ++ (at ∷ []) }) x.kind ins
+pub adds_inputs : (d : DrawingParts) (gs : List Gate) (b : Bool) → IsDrawn d.statements d.links d.values gs b → (x : DraftParts) (at : GuardedRegionParts) (ins : List ℕ) → AreValues d.values ins → Adds d (record d { statements = d.statements ++ (x ∷ []); links = d.links ++ input_links d.values (length d.statements + 1) 1 ins; places = d.places ++ (at ∷ []) }) x.kind ins
 adds_inputs d gs b is x at ins all = record {
   grows = record {
     statements = on_one d.statements x;
@@ -277,7 +277,7 @@ merged d e left right v ones others both l r b at is =
     subst (λ (w : ℕ). Merges d e left right w) (sym at) (subst (λ (f : DrawingParts). Merges d f left right (length d.values)) (sym is) good)
 
 -- gates, and what is carried in addition, change nothing of it
-pub adds_again : (d : DrawingParts) (ds : List DraftParts) (ls : List Link) (ss : List Scope) (vs : List (List Output)) (gs hs : List Gate) (cs es : List Carried) (ps : List PlaceParts) (kind : Kind) (ins : List ℕ) → Adds d (drawing ds ls ss vs gs cs ps) kind ins → (x : Carried) → x.next ≡ None → es ≡ cs ++ (x ∷ []) → Adds d (drawing ds ls ss vs hs es ps) kind ins
+pub adds_again : (d : DrawingParts) (ds : List DraftParts) (ls : List Link) (ss : List Scope) (vs : List (List Output)) (gs hs : List Gate) (cs es : List Carried) (ps : List GuardedRegionParts) (kind : Kind) (ins : List ℕ) → Adds d (drawing ds ls ss vs gs cs ps) kind ins → (x : Carried) → x.next ≡ None → es ≡ cs ++ (x ∷ []) → Adds d (drawing ds ls ss vs hs es ps) kind ins
 adds_again d ds ls ss vs gs hs cs es ps kind ins a x none more = record {
   grows = record { statements = a.grows.statements; links = a.grows.links; scopes = a.grows.scopes; values = a.grows.values; carried = on_then d.carried cs es a.grows.carried (x ∷ [], more); opened = opens_then d.carried cs es a.grows.opened (subst (λ (ys : List Carried). AddsOpen cs ys) (sym more) (opens_one cs x none)); places = a.grows.places; fed = a.grows.fed };
   one = a.one;

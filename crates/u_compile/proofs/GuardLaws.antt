@@ -18,7 +18,7 @@ use Rattle.u_compile.specs.Drafts.{DraftParts}
 use Rattle.u_compile.specs.Graphs.{GraphParts, output, destinations, draft_at, is_next, is_enter, enters, IsGraph}
 use Rattle.u_compile.specs.Blocks.{statement_of, statements_of}
 use Rattle.u_compile.specs.declared.place.Guard.{Guard}
-use Rattle.u_compile.specs.Scoped.{guard, PlaceParts, IsOf, Layout, sent_by, OnlyFrom, HandsOn, it, pass, IsScoped}
+use Rattle.u_compile.specs.Scoped.{guard, GuardedRegionParts, IsOf, Layout, sent_by, OnlyFrom, HandsOn, it, pass, IsScoped}
 use Rattle.u_compile.proofs.Numbers.{test_stands}
 use Rattle.u_compile.proofs.ArcLaws.{made_at, draft_from, IsLinkOf, arc_is, arc_of, one_place}
 
@@ -170,7 +170,7 @@ module _ (y : Layout) (g : GraphParts) (is : IsGraph g) (s : IsScoped y g) (c : 
     has = λ n st.
         let m = stands_from g n (Enter d.region) st in
         let o = s.leaves_after a.statement n d m.0 at m.1 e m.2 in
-        earlier n m.0 m.1 (omega (arith, o)) (subst (λ (v : PlaceParts). IsOf v.guards (guard c value)) (sym (s.enters_from n m.0 d.region m.1 m.2)) has);
+        earlier n m.0 m.1 (omega (arith, o)) (subst (λ (v : GuardedRegionParts). IsOf v.guards (guard c value)) (sym (s.enters_from n m.0 d.region m.1 m.2)) has);
   }))
 
   pub arc_has : (k : Kind) → d.kind ≡ k → is_next k ≡ false → IsOf (sent_by y a.statement a.on_false d.region k).guards (guard c value) → ArcOf (made g) c value P a

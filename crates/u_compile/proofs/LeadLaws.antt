@@ -9,7 +9,7 @@ use Rattle.u_compile.specs.declared.drawing.Gate.{Gate}
 use Rattle.u_compile.specs.declared.drawing.Carried.{Carried}
 use Rattle.u_compile.specs.Drafts.{DraftParts}
 use Rattle.u_compile.specs.Graphs.{graph, draft_at}
-use Rattle.u_compile.specs.Scoped.{PlaceParts}
+use Rattle.u_compile.specs.Scoped.{GuardedRegionParts}
 use Rattle.u_compile.specs.Placed.{PlacedParts, NoteParts, note, places_of, with_link, with_statement}
 use Rattle.u_compile.specs.Drawings.{DrawingParts, drawing, from_nothing, IsDrawn, Adds, links_to, input_links, AreValues, OnlyTo, with_links, LeadsOn}
 use Rattle.u_compile.proofs.Numbers.{at_last}
@@ -70,54 +70,54 @@ value_end g p vs port rest ins r e = sym (no_more p) ∙ (ap (λ (v : List ℕ).
 abbrev pub as_drawn : PlacedParts → List (List Output) → List Gate → Bool → Type 0
 as_drawn p vs gs b = IsDrawn p.graph.statements p.graph.links vs gs b
 
-last_is : (p q : PlacedParts) (x : DraftParts) (at : PlaceParts) (c u : ℕ) → q ≡ with_statement p x at c u → length q.graph.statements ≡ length p.graph.statements + 1
+last_is : (p q : PlacedParts) (x : DraftParts) (at : GuardedRegionParts) (c u : ℕ) → q ≡ with_statement p x at c u → length q.graph.statements ≡ length p.graph.statements + 1
 last_is p q x at c u e = ap (λ (v : PlacedParts). length v.graph.statements) e ∙ length-append p.graph.statements (x ∷ [])
 
-linked_is : (p q r : PlacedParts) (x : DraftParts) (at : PlaceParts) (c u : ℕ) (ms : List Link) → q ≡ with_statement p x at c u → r ≡ with_links q ms → r ≡ with_links (with_statement p x at c u) ms
+linked_is : (p q r : PlacedParts) (x : DraftParts) (at : GuardedRegionParts) (c u : ℕ) (ms : List Link) → q ≡ with_statement p x at c u → r ≡ with_links q ms → r ≡ with_links (with_statement p x at c u) ms
 linked_is p q r x at c u ms e f = f ∙ ap (λ (v : PlacedParts). with_links v ms) e
 
 -- a statement is put, and nothing leads to it yet
-pub put_drawn : (p q : PlacedParts) (x : DraftParts) (at : PlaceParts) (c u : ℕ) (vs : List (List Output)) (gs : List Gate) (b : Bool) → as_drawn p vs gs b → q ≡ with_statement p x at c u → as_drawn q vs gs b
+pub put_drawn : (p q : PlacedParts) (x : DraftParts) (at : GuardedRegionParts) (c u : ℕ) (vs : List (List Output)) (gs : List Gate) (b : Bool) → as_drawn p vs gs b → q ≡ with_statement p x at c u → as_drawn q vs gs b
 put_drawn p q x at c u vs gs b is e =
     let base = drawn_inputs p.graph.statements p.graph.links vs gs b is x [] tt in
     subst (λ (v : PlacedParts). as_drawn v vs gs b) (sym e) (subst (λ (ls : List Link). IsDrawn (p.graph.statements ++ (x ∷ [])) ls vs gs b) (append-nil p.graph.links) base)
 
 -- a statement is put, and a part of what should lead to it does
-pub part_drawn : (p q r : PlacedParts) (x : DraftParts) (at : PlaceParts) (c u : ℕ) (vs : List (List Output)) (gs : List Gate) (b : Bool) → as_drawn p vs gs b → q ≡ with_statement p x at c u → LeadsOn q r → as_drawn r vs gs true
+pub part_drawn : (p q r : PlacedParts) (x : DraftParts) (at : GuardedRegionParts) (c u : ℕ) (vs : List (List Output)) (gs : List Gate) (b : Bool) → as_drawn p vs gs b → q ≡ with_statement p x at c u → LeadsOn q r → as_drawn r vs gs true
 part_drawn p q r x at c u vs gs b is e on =
     let only : OnlyTo (length p.graph.statements + 1) on.more = subst (λ (n : ℕ). OnlyTo n on.more) (last_is p q x at c u e) on.only in
     subst (λ (v : PlacedParts). as_drawn v vs gs true) (sym (linked_is p q r x at c u on.more e on.is)) (drawn_broken p.graph.statements p.graph.links vs gs b is x on.more only)
 
-whole : (p q r : PlacedParts) (x : DraftParts) (at : PlaceParts) (c u : ℕ) (vs : List (List Output)) (ins : List ℕ) → q ≡ with_statement p x at c u → r ≡ with_links q (input_links vs (length q.graph.statements) 1 ins) → r ≡ with_links (with_statement p x at c u) (input_links vs (length p.graph.statements + 1) 1 ins)
+whole : (p q r : PlacedParts) (x : DraftParts) (at : GuardedRegionParts) (c u : ℕ) (vs : List (List Output)) (ins : List ℕ) → q ≡ with_statement p x at c u → r ≡ with_links q (input_links vs (length q.graph.statements) 1 ins) → r ≡ with_links (with_statement p x at c u) (input_links vs (length p.graph.statements + 1) 1 ins)
 whole p q r x at c u vs ins e f =
     linked_is p q r x at c u (input_links vs (length p.graph.statements + 1) 1 ins) e (f ∙ ap (λ (n : ℕ). with_links q (input_links vs n 1 ins)) (last_is p q x at c u e))
 
 -- a statement is put, and those values lead to it
-pub all_drawn : (p q r : PlacedParts) (x : DraftParts) (at : PlaceParts) (c u : ℕ) (vs : List (List Output)) (gs : List Gate) (b : Bool) (ins : List ℕ) → as_drawn p vs gs b → q ≡ with_statement p x at c u → r ≡ with_links q (input_links vs (length q.graph.statements) 1 ins) → AreValues vs ins → as_drawn r vs gs b
+pub all_drawn : (p q r : PlacedParts) (x : DraftParts) (at : GuardedRegionParts) (c u : ℕ) (vs : List (List Output)) (gs : List Gate) (b : Bool) (ins : List ℕ) → as_drawn p vs gs b → q ≡ with_statement p x at c u → r ≡ with_links q (input_links vs (length q.graph.statements) 1 ins) → AreValues vs ins → as_drawn r vs gs b
 all_drawn p q r x at c u vs gs b ins is e f all =
     subst (λ (v : PlacedParts). as_drawn v vs gs b) (sym (whole p q r x at c u vs ins e f)) (drawn_inputs p.graph.statements p.graph.links vs gs b is x ins all)
 
 abbrev pub seen : PlacedParts → List Scope → List (List Output) → List Gate → List Carried → DrawingParts
 seen p scopes vs gs carried = drawing p.graph.statements p.graph.links scopes vs gs carried (places_of p)
 
-places_more : (p : PlacedParts) (x : DraftParts) (at : PlaceParts) (c u : ℕ) → places_of (with_statement p x at c u) ≡ places_of p ++ (at ∷ [])
+places_more : (p : PlacedParts) (x : DraftParts) (at : GuardedRegionParts) (c u : ℕ) → places_of (with_statement p x at c u) ≡ places_of p ++ (at ∷ [])
 places_more p x at c u = map-append (λ (n : NoteParts). n.place) p.notes (note at c ∷ [])
 
-pub all_added : (p q r : PlacedParts) (x : DraftParts) (at : PlaceParts) (c u : ℕ) (scopes : List Scope) (vs : List (List Output)) (gs : List Gate) (carried : List Carried) (b : Bool) (ins : List ℕ) (d : DrawingParts) → as_drawn p vs gs b → q ≡ with_statement p x at c u → r ≡ with_links q (input_links vs (length q.graph.statements) 1 ins) → AreValues vs ins → seen p scopes vs gs carried ≡ d → Adds d (seen r scopes vs gs carried) x.kind ins
+pub all_added : (p q r : PlacedParts) (x : DraftParts) (at : GuardedRegionParts) (c u : ℕ) (scopes : List Scope) (vs : List (List Output)) (gs : List Gate) (carried : List Carried) (b : Bool) (ins : List ℕ) (d : DrawingParts) → as_drawn p vs gs b → q ≡ with_statement p x at c u → r ≡ with_links q (input_links vs (length q.graph.statements) 1 ins) → AreValues vs ins → seen p scopes vs gs carried ≡ d → Adds d (seen r scopes vs gs carried) x.kind ins
 all_added p q r x at c u scopes vs gs carried b ins d is e f all same =
     subst (λ (v : DrawingParts). Adds v (seen r scopes vs gs carried) x.kind ins) same
     (subst (λ (v : PlacedParts). Adds (seen p scopes vs gs carried) (seen v scopes vs gs carried) x.kind ins) (sym (whole p q r x at c u vs ins e f))
-    (subst (λ (ps : List PlaceParts). Adds (seen p scopes vs gs carried) (drawing (p.graph.statements ++ (x ∷ [])) (p.graph.links ++ input_links vs (length p.graph.statements + 1) 1 ins) scopes vs gs carried ps) x.kind ins) (sym (places_more p x at c u))
+    (subst (λ (ps : List GuardedRegionParts). Adds (seen p scopes vs gs carried) (drawing (p.graph.statements ++ (x ∷ [])) (p.graph.links ++ input_links vs (length p.graph.statements + 1) 1 ins) scopes vs gs carried ps) x.kind ins) (sym (places_more p x at c u))
     (adds_inputs (seen p scopes vs gs carried) gs b is x at ins all)))
 
 -- and in the place where it was put
-pub all_placed : (p q r : PlacedParts) (x : DraftParts) (at : PlaceParts) (c u : ℕ) (scopes : List Scope) (vs : List (List Output)) (gs : List Gate) (carried : List Carried) (ins : List ℕ) (d : DrawingParts) → q ≡ with_statement p x at c u → r ≡ with_links q (input_links vs (length q.graph.statements) 1 ins) → seen p scopes vs gs carried ≡ d → places_of r ≡ d.places ++ (at ∷ [])
+pub all_placed : (p q r : PlacedParts) (x : DraftParts) (at : GuardedRegionParts) (c u : ℕ) (scopes : List Scope) (vs : List (List Output)) (gs : List Gate) (carried : List Carried) (ins : List ℕ) (d : DrawingParts) → q ≡ with_statement p x at c u → r ≡ with_links q (input_links vs (length q.graph.statements) 1 ins) → seen p scopes vs gs carried ≡ d → places_of r ≡ d.places ++ (at ∷ [])
 all_placed p q r x at c u scopes vs gs carried ins d e f same =
     ap (λ (v : PlacedParts). places_of v) (whole p q r x at c u vs ins e f)
     ∙ (places_more p x at c u ∙ ap (λ (v : DrawingParts). v.places ++ (at ∷ [])) same)
 
 -- it stands as it was put
-pub all_stands : (p q r : PlacedParts) (x : DraftParts) (at : PlaceParts) (c u : ℕ) (scopes : List Scope) (vs : List (List Output)) (gs : List Gate) (carried : List Carried) (ins : List ℕ) (d : DrawingParts) → q ≡ with_statement p x at c u → r ≡ with_links q (input_links vs (length q.graph.statements) 1 ins) → seen p scopes vs gs carried ≡ d → draft_at r.graph.statements (length d.statements + 1) ≡ Some x
+pub all_stands : (p q r : PlacedParts) (x : DraftParts) (at : GuardedRegionParts) (c u : ℕ) (scopes : List Scope) (vs : List (List Output)) (gs : List Gate) (carried : List Carried) (ins : List ℕ) (d : DrawingParts) → q ≡ with_statement p x at c u → r ≡ with_links q (input_links vs (length q.graph.statements) 1 ins) → seen p scopes vs gs carried ≡ d → draft_at r.graph.statements (length d.statements + 1) ≡ Some x
 all_stands p q r x at c u scopes vs gs carried ins d e f same =
     subst (λ (v : DrawingParts). draft_at r.graph.statements (length v.statements + 1) ≡ Some x) same
     (subst (λ (v : PlacedParts). draft_at v.graph.statements (length p.graph.statements + 1) ≡ Some x) (sym (whole p q r x at c u vs ins e f)) (at_last p.graph.statements x))

@@ -13,7 +13,7 @@ use Rattle.u_compile.specs.declared.placed.Test.{Test}
 use Rattle.u_compile.specs.Drafts.{DraftParts}
 use Rattle.u_compile.specs.Graphs.{graph, link, draft_at, is_next, IsGraph}
 use Rattle.u_compile.specs.Fanning.{holder}
-use Rattle.u_compile.specs.Scoped.{PlaceParts, guard, IsOf, GoesWell, AreApart, IsControlled, IsCalled, IsScoped}
+use Rattle.u_compile.specs.Scoped.{GuardedRegionParts, guard, IsOf, GoesWell, AreApart, IsControlled, IsCalled, IsScoped}
 use Rattle.u_compile.specs.Orderly.{LeavesWell}
 use Rattle.u_compile.specs.Placed.{entry, NoteParts, note, no_note, no_place, a_test, test_of, PlacedParts, layout_of, IsScopedBut, IsPlaced, OneSends, MayCome, with_link, with_statement, with_loop, with_test, finished, IsUntested, FitsIn, stands_against, names_back, opens, IsFull, IsLastFull, EachIsFull}
 use Rattle.u_compile.proofs.Numbers.{at_within, at_cases}
@@ -22,17 +22,17 @@ use Rattle.u_compile.proofs.ScopedSteps as steps
 use Rattle.u_compile.proofs.OrderlyLaws.{none_orderly, statement_orderly, link_orderly}
 
 -- the regions that hold loops are those of the places that hold them
-pub held_by : (arounds : List PlaceParts) (l : ℕ) → (entry no_place arounds l).region ≡ holder (map (λ (a : PlaceParts). a.region) arounds) l
+pub held_by : (arounds : List GuardedRegionParts) (l : ℕ) → (entry no_place arounds l).region ≡ holder (map (λ (a : GuardedRegionParts). a.region) arounds) l
 held_by arounds zero = refl
 held_by arounds (suc n) = at arounds n
   where
-    at : (xs : List PlaceParts) (m : ℕ) → (get_or xs m no_place).region ≡ holder (map (λ (a : PlaceParts). a.region) xs) (suc m)
+    at : (xs : List GuardedRegionParts) (m : ℕ) → (get_or xs m no_place).region ≡ holder (map (λ (a : GuardedRegionParts). a.region) xs) (suc m)
     at [] m = refl
     at (x ∷ xs) zero = refl
     at (x ∷ xs) (suc m) = at xs m
 
 -- the layout says of what was there what it said
-still_agree : (p : PlacedParts) (x : DraftParts) (at : PlaceParts) (control unfinished : ℕ) → length p.notes ≡ length p.graph.statements → steps.Agree (layout_of (with_statement p x at control unfinished)) (layout_of p) (length p.graph.statements) (length p.graph.loops)
+still_agree : (p : PlacedParts) (x : DraftParts) (at : GuardedRegionParts) (control unfinished : ℕ) → length p.notes ≡ length p.graph.statements → steps.Agree (layout_of (with_statement p x at control unfinished)) (layout_of p) (length p.graph.statements) (length p.graph.loops)
 still_agree p x at control unfinished notes = record {
   at = λ n low. ap (λ (v : NoteParts). v.place) (entry_more no_note p.notes (note at control) n (omega (arith, low, notes)));
   around = λ l low. refl;
@@ -46,7 +46,7 @@ and_true true true p q e = false≢true (sym e)
 and_true true false p q e = false≢true q
 and_true false b p q e = false≢true p
 
-module _ (p : PlacedParts) (x : DraftParts) (at : PlaceParts) (control unfinished : ℕ) (f : FitsIn p x at) where
+module _ (p : PlacedParts) (x : DraftParts) (at : GuardedRegionParts) (control unfinished : ℕ) (f : FitsIn p x at) where
   against_of : (k : Kind) → x.kind ≡ k → (n : ℕ) (d : DraftParts) → draft_at p.graph.statements n ≡ Some d → stands_against (record x { kind = k }) d ≡ false
   against_of k q n d h = subst (λ (c : Kind). stands_against (record x { kind = c }) d ≡ false) q (f.against n d h)
 
@@ -76,13 +76,13 @@ module _ (p : PlacedParts) (x : DraftParts) (at : PlaceParts) (control unfinishe
       let e : entry no_note (p.notes ++ (note at control ∷ [])) (length p.graph.statements + 1) ≡ note at control = ap (λ (n : ℕ). entry no_note (p.notes ++ (note at control ∷ [])) (n + 1)) (sym notes) ∙ last in
       let here : (entry no_note (p.notes ++ (note at control ∷ [])) (length p.graph.statements + 1)).place ≡ at = ap (λ (v : NoteParts). v.place) e in
       record {
-        region = f.region ∙ ap (λ (v : PlaceParts). v.region) (sym here);
+        region = f.region ∙ ap (λ (v : GuardedRegionParts). v.region) (sym here);
         later = λ m low. low;
-        begins = λ out. elim (f.lies.begins out) [ inl q ↦ inl q | inr q ↦ inr (ap (λ (v : PlaceParts). v.guards) here ∙ q) ];
+        begins = λ out. elim (f.lies.begins out) [ inl q ↦ inl q | inr q ↦ inr (ap (λ (v : GuardedRegionParts). v.guards) here ∙ q) ];
         enters_from = λ l q. here ∙ f.lies.enters l q;
         stays = no_leave;
-        next = λ q. subst (λ (v : PlaceParts). IsOf v.guards (guard (test_of p.tests x.region) true)) (sym here) (f.lies.next q);
-        last = λ q. subst (λ (v : PlaceParts). IsOf v.guards (guard (test_of p.tests x.region) false)) (sym here) (f.lies.last q);
+        next = λ q. subst (λ (v : GuardedRegionParts). IsOf v.guards (guard (test_of p.tests x.region) true)) (sym here) (f.lies.next q);
+        last = λ q. subst (λ (v : GuardedRegionParts). IsOf v.guards (guard (test_of p.tests x.region) false)) (sym here) (f.lies.last q);
         one_next = no_next;
         one_apply = no_apply;
         one_end = no_end;
@@ -133,7 +133,7 @@ scoped_with : (p : PlacedParts) (k : ℕ) → IsPlaced p → (k ≡ p.unfinished
 scoped_with p k b (inl e) = subst (λ (j : ℕ). IsScopedBut j (layout_of p) p.graph) (sym e) b.scoped
 scoped_with p k b (inr e) = steps.but_one k (layout_of p) p.graph (is_scoped p b e)
 
-module _ (p : PlacedParts) (is : IsGraph p.graph) (b : IsPlaced p) (x : DraftParts) (at : PlaceParts) (control unfinished : ℕ) (f : FitsIn p x at) (last : IsLastFull p.graph) (stays : (unfinished ≡ p.unfinished) ⊎ (p.unfinished ≡ 0))
+module _ (p : PlacedParts) (is : IsGraph p.graph) (b : IsPlaced p) (x : DraftParts) (at : GuardedRegionParts) (control unfinished : ℕ) (f : FitsIn p x at) (last : IsLastFull p.graph) (stays : (unfinished ≡ p.unfinished) ⊎ (p.unfinished ≡ 0))
     (switch : x.kind ≡ Switch → length p.graph.statements + 1 ≡ unfinished) (apply : (n : ℕ) → back_named x.kind ≡ Some n → length p.graph.statements + 1 ≡ unfinished) where
   full_before : (n : ℕ) (d : DraftParts) → draft_at (p.graph.statements ++ (x ∷ [])) n ≡ Some d → n < length (p.graph.statements ++ (x ∷ [])) → IsFull p.graph.links n d
   full_before n d h low =
@@ -165,7 +165,7 @@ named_opens (Apply b m) n e = refl
 named_opens k n e = cc
 
 -- a statement that is not finished when it is added may be added where each other one is
-pub put_placed : (p : PlacedParts) → IsGraph p.graph → IsPlaced p → (x : DraftParts) (at : PlaceParts) (control : ℕ) → FitsIn p x at → IsLastFull p.graph → (opens x.kind ≡ true → p.unfinished ≡ 0) → IsPlaced (with_statement p x at control (cond (opens x.kind) (length p.graph.statements + 1) p.unfinished))
+pub put_placed : (p : PlacedParts) → IsGraph p.graph → IsPlaced p → (x : DraftParts) (at : GuardedRegionParts) (control : ℕ) → FitsIn p x at → IsLastFull p.graph → (opens x.kind ≡ true → p.unfinished ≡ 0) → IsPlaced (with_statement p x at control (cond (opens x.kind) (length p.graph.statements + 1) p.unfinished))
 put_placed p is b x at control f last before = by (opens x.kind) refl
   where
     by : (w : Bool) → opens x.kind ≡ w → IsPlaced (with_statement p x at control (cond w (length p.graph.statements + 1) p.unfinished))
@@ -185,8 +185,8 @@ module _ (p : PlacedParts) (b : IsPlaced p) (o : Output) (port : ℕ) (m : MayCo
     ends = record { from = m.arrives.from; sends = m.arrives.stands; to = m.takes.taker; takes = m.takes.takes };
     other = m.arrives.other;
     outside = m.takes.outside;
-    region = ap (λ (v : PlaceParts). v.region) (sym m.arrives.arrives) ∙ m.takes.region;
-    guards = λ c has. subst (λ (v : PlaceParts). IsOf v.guards c) m.arrives.arrives (m.takes.guards c has);
+    region = ap (λ (v : GuardedRegionParts). v.region) (sym m.arrives.arrives) ∙ m.takes.region;
+    guards = λ c has. subst (λ (v : GuardedRegionParts). IsOf v.guards c) m.arrives.arrives (m.takes.guards c has);
     earlier = inr m.earlier;
   }
 
@@ -198,8 +198,8 @@ module _ (p : PlacedParts) (b : IsPlaced p) (o : Output) (port : ℕ) (m : MayCo
         other = record { from = w.other_arrives.from; sends = w.other_arrives.stands; to = m.takes.taker; takes = m.takes.takes };
         control = w.control;
         value = w.value;
-        one = subst (λ (v : PlaceParts). IsOf v.guards (guard w.control w.value)) w.one_arrives.arrives w.has;
-        two = subst (λ (v : PlaceParts). IsOf v.guards (guard w.control (not w.value))) w.other_arrives.arrives w.has_not;
+        one = subst (λ (v : GuardedRegionParts). IsOf v.guards (guard w.control w.value)) w.one_arrives.arrives w.has;
+        two = subst (λ (v : GuardedRegionParts). IsOf v.guards (guard w.control (not w.value))) w.other_arrives.arrives w.has_not;
       }
 
   meets : (l : Link) → IsOf p.graph.links l → l.to ≡ new.to → (l.from ≡ o) ⊎ AreApart (layout_of p) p.graph.statements l new
@@ -218,15 +218,15 @@ module _ (p : PlacedParts) (b : IsPlaced p) (o : Output) (port : ℕ) (m : MayCo
   }
 
 -- with one loop more
-module _ (p : PlacedParts) (is : IsGraph p.graph) (b : IsPlaced p) (around : PlaceParts) where
+module _ (p : PlacedParts) (is : IsGraph p.graph) (b : IsPlaced p) (around : GuardedRegionParts) where
   loops_many : length p.graph.loops ≡ length p.arounds
   loops_many = ap (λ (ls : List ℕ). length ls) b.loops ∙ length_map p.arounds
     where
-      length_map : (hs : List PlaceParts) → length (map (λ (a : PlaceParts). a.region) hs) ≡ length hs
+      length_map : (hs : List GuardedRegionParts) → length (map (λ (a : GuardedRegionParts). a.region) hs) ≡ length hs
       length_map [] = refl
       length_map (h ∷ hs) = ap suc (length_map hs)
 
-  map_more : (hs : List PlaceParts) → map (λ (a : PlaceParts). a.region) (hs ++ (around ∷ [])) ≡ map (λ (a : PlaceParts). a.region) hs ++ (around.region ∷ [])
+  map_more : (hs : List GuardedRegionParts) → map (λ (a : GuardedRegionParts). a.region) (hs ++ (around ∷ [])) ≡ map (λ (a : GuardedRegionParts). a.region) hs ++ (around.region ∷ [])
   map_more [] = refl
   map_more (h ∷ hs) = ap (λ (v : List ℕ). h.region ∷ v) (map_more hs)
 
@@ -235,7 +235,7 @@ module _ (p : PlacedParts) (is : IsGraph p.graph) (b : IsPlaced p) (around : Pla
 
   pub loop_placed : IsPlaced (with_loop p around)
   loop_placed =
-      let e : p.graph.loops ++ (around.region ∷ []) ≡ map (λ (a : PlaceParts). a.region) (p.arounds ++ (around ∷ [])) = ap (λ (v : List ℕ). v ++ (around.region ∷ [])) b.loops ∙ sym (map_more p.arounds) in
+      let e : p.graph.loops ++ (around.region ∷ []) ≡ map (λ (a : GuardedRegionParts). a.region) (p.arounds ++ (around ∷ [])) = ap (λ (v : List ℕ). v ++ (around.region ∷ [])) b.loops ∙ sym (map_more p.arounds) in
       record {
         notes = b.notes;
         loops = e;

@@ -11,7 +11,7 @@ use Rattle.u_compile.specs.declared.graph.Output.{Output}
 use Rattle.u_compile.specs.declared.place.Guard.{Guard}
 use Rattle.u_compile.specs.Drafts.{DraftParts}
 use Rattle.u_compile.specs.Graphs.{GraphParts, draft_at, link, enters}
-use Rattle.u_compile.specs.Scoped.{PlaceParts, place, guard, sent_by, IsOf, AreGuards, HandsOn, it, IsControlled, IsCalled, Layout, IsScoped}
+use Rattle.u_compile.specs.Scoped.{GuardedRegionParts, place, guard, sent_by, IsOf, AreGuards, HandsOn, it, IsControlled, IsCalled, Layout, IsScoped}
 use Rattle.u_compile.specs.Orderly.{IsOrderly}
 use Rattle.u_compile.specs.Kept.{KeepsItself}
 use Rattle.u_compile.specs.Placed.{PlacedParts, NoteParts, note, entry, layout_of, IsSender, IsArrived, OneSends, MeetsWell, MayTake, MayCome, IsAlone, AreFree, IsUntested, stands_against, IsPlaced, finished, IsLinked, IsFull, IsLastFull, EachIsFull, HasNext, EachGoesOn}
@@ -60,11 +60,11 @@ alone_more l ls o to h all m (inl e) q r =
     subst (λ (v : Link). v.from ≡ o) e (h (ap (λ (v : Link). v.to.statement) e ∙ q) (ap (λ (v : Link). v.to.port) e ∙ r))
 alone_more l ls o to h all m (inr i) q r = all m i q r
 
-pub arrived : (p : PlacedParts) (o : Output) (d : DraftParts) (at : PlaceParts) → IsSender p o d → at ≡ sent_by (layout_of p) o.statement o.on_false d.region d.kind → IsArrived p o at
+pub arrived : (p : PlacedParts) (o : Output) (d : DraftParts) (at : GuardedRegionParts) → IsSender p o d → at ≡ sent_by (layout_of p) o.statement o.on_false d.region d.kind → IsArrived p o at
 arrived p o d at s e = record { from = d; stands = s.stands; other = s.other; arrives = e }
 
 -- of two outputs that send to opposite sides only one sends
-pub one_sends : (p : PlacedParts) (a b : Output) (one other : PlaceParts) (c : Guard) → IsArrived p a one → IsArrived p b other → IsOf one.guards c → IsOf other.guards (guard c.control (not c.value)) → OneSends p a b
+pub one_sends : (p : PlacedParts) (a b : Output) (one other : GuardedRegionParts) (c : Guard) → IsArrived p a one → IsArrived p b other → IsOf one.guards c → IsOf other.guards (guard c.control (not c.value)) → OneSends p a b
 one_sends p a b one other c h k i j = record {
   one = one;
   other = other;
@@ -76,7 +76,7 @@ one_sends p a b one other c h k i j = record {
   has_not = j;
 }
 
-pub may_take : (p : PlacedParts) (sent : PlaceParts) (n : ℕ) (d : DraftParts) (at : NoteParts) → draft_at p.graph.statements n ≡ Some d → at ≡ entry (note (place 0 []) 0) p.notes n → comes_from_outside d.kind ≡ false → sent.region ≡ at.place.region → AreGuards at.place.guards sent.guards → MayTake p sent n
+pub may_take : (p : PlacedParts) (sent : GuardedRegionParts) (n : ℕ) (d : DraftParts) (at : NoteParts) → draft_at p.graph.statements n ≡ Some d → at ≡ entry (note (place 0 []) 0) p.notes n → comes_from_outside d.kind ≡ false → sent.region ≡ at.place.region → AreGuards at.place.guards sent.guards → MayTake p sent n
 may_take p sent n d at stands e outside region guards = record {
   taker = d;
   takes = stands;
@@ -85,7 +85,7 @@ may_take p sent n d at stands e outside region guards = record {
   guards = subst (λ (v : NoteParts). AreGuards v.place.guards sent.guards) e guards;
 }
 
-pub may_come : (p : PlacedParts) (o : Output) (to : Destination) (sent : PlaceParts) → IsArrived p o sent → MayTake p sent to.statement → o.statement < to.statement → MeetsWell p o to p.graph.links → MayCome p o to
+pub may_come : (p : PlacedParts) (o : Output) (to : Destination) (sent : GuardedRegionParts) → IsArrived p o sent → MayTake p sent to.statement → o.statement < to.statement → MeetsWell p o to p.graph.links → MayCome p o to
 may_come p o to sent h take before meets = record { sent = sent; arrives = h; takes = take; earlier = before; meets = meets }
 
 -- the one output that leads to the port of a `switch` that takes the control says which side

@@ -1,4 +1,4 @@
--- Names of blocks and of procedures, one after another.
+-- ScopedNames of blocks and of procedures, one after another.
 use Rattle.std.proofs.Common.{◌≡◌, ◌+◌, true, false, List, ◌∷◌, Some}
 use Rattle.u_program.specs.Parts.{BlockParts}
 use Rattle.u_source.specs.declared.form.Node.{Node}

@@ -21,7 +21,7 @@ use Rattle.u_compile.specs.declared.graph.Output.{Output}
 use Rattle.u_compile.specs.Drafts.{DraftParts}
 use Rattle.u_compile.specs.Graphs.{GraphParts, draft_at, is_next, is_link, has_port, has_output, IsGraph}
 use Rattle.u_compile.specs.Fanning.{holder}
-use Rattle.u_compile.specs.Scoped.{PlaceParts, IsOf, Layout, sent_by, GoesWell, IsScoped}
+use Rattle.u_compile.specs.Scoped.{GuardedRegionParts, IsOf, Layout, sent_by, GoesWell, IsScoped}
 use Rattle.u_compile.proofs.Numbers.{test_stands}
 use Rattle.u_compile.proofs.ArcLaws.{made_at, IsLinkOf, arc_is, arc_of}
 use Rattle.u_compile.specs.Placed.{EachIsFull}
@@ -100,7 +100,7 @@ module _ (y : Layout) (g : GraphParts) (is : IsGraph g) (s : IsScoped y g) where
   enters_inward_from n k d at q =
       let i = is.drafts n d at in
       let one : IsBetween 1 k 99 = subst IsKind q i.kind in
-      let same : d.region ≡ holder g.loops k = s.region n d at ∙ (ap (λ (v : PlaceParts). v.region) (s.enters_from n d k at q) ∙ s.held k) in
+      let same : d.region ≡ holder g.loops k = s.region n d at ∙ (ap (λ (v : GuardedRegionParts). v.region) (s.enters_from n d k at q) ∙ s.held k) in
       ap (holds d.region) (held_is g.loops k one.0 (entered_loop (length g.loops) k d.kind q i.enters)) ∙ eq-eqb d.region (holder g.loops k) same
 
   -- a port to which a link leads is fed

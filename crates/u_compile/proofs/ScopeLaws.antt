@@ -6,20 +6,20 @@ use Rattle.u_compile.specs.declared.drawing.Scope.{Scope}
 use Rattle.u_compile.specs.declared.drawing.Way.TheVariants.{Procedure, Side, Turn}
 use Rattle.u_compile.specs.declared.graph.Output.{Output}
 use Rattle.u_compile.specs.declared.place.Guard.{Guard}
-use Rattle.u_compile.specs.Scoped.{PlaceParts, place, guard}
+use Rattle.u_compile.specs.Scoped.{GuardedRegionParts, place, guard}
 use Rattle.u_compile.specs.Scopes.{IsPlaceOf, HasRegion}
 
 some_one : {A : Type 0} (x y : A) → Some x ≡ Some y → x ≡ y
 some_one x y e = cc
 
-place_region : (scopes : List Scope) (s : ℕ) (p : PlaceParts) (r : ℕ) → IsPlaceOf scopes s p → HasRegion scopes s r → p.region ≡ r
+place_region : (scopes : List Scope) (s : ℕ) (p : GuardedRegionParts) (r : ℕ) → IsPlaceOf scopes s p → HasRegion scopes s r → p.region ≡ r
 place_region scopes s p r (IsPlaceOf.procedure t x is way) h = ap (λ (y : Scope). y.region) (some_one x h.0 (sym is ∙ h.1)) ∙ h.2
 place_region scopes s p r (IsPlaceOf.turn t x loop is way) h = ap (λ (y : Scope). y.region) (some_one x h.0 (sym is ∙ h.1)) ∙ h.2
 place_region scopes s p r (IsPlaceOf.side t x control on q is way from) h = ap (λ (y : Scope). y.region) (some_one x h.0 (sym is ∙ h.1)) ∙ h.2
 
 -- so far these are the guards, and those further out come behind them
 pub IsPlaceSo : List Scope → ℕ → ℕ → List Guard → ℕ → Type 0
-IsPlaceSo scopes scope region gs at = (p : PlaceParts) → IsPlaceOf scopes at p → IsPlaceOf scopes scope (place region (gs ++ p.guards))
+IsPlaceSo scopes scope region gs at = (p : GuardedRegionParts) → IsPlaceOf scopes at p → IsPlaceOf scopes scope (place region (gs ++ p.guards))
 
 pub place_begins : (scopes : List Scope) (scope region : ℕ) → HasRegion scopes scope region → IsPlaceSo scopes scope region [] scope
 unfolding IsPlaceSo

@@ -12,7 +12,7 @@ use Rattle.u_compile.specs.declared.graph.Output.{Output}
 use Rattle.u_compile.specs.Drafts.{DraftParts}
 use Rattle.u_compile.specs.Graphs.{GraphParts, output, link, same_output, destinations, draft_at, is_next, enters, IsGraph}
 use Rattle.u_compile.specs.Fanning.{region_behind, moved, with_pass}
-use Rattle.u_compile.specs.Scoped.{guard, PlaceParts, place, IsOf, Layout, sent_by, Ends, GoesWell, AreApart, OnlyFrom, HandsOn, it, pass, IsControlled, IsCalled, IsScoped}
+use Rattle.u_compile.specs.Scoped.{guard, GuardedRegionParts, place, IsOf, Layout, sent_by, Ends, GoesWell, AreApart, OnlyFrom, HandsOn, it, pass, IsControlled, IsCalled, IsScoped}
 use Rattle.u_compile.proofs.Numbers.{at_within, at_more, at_cases, at_last}
 use Rattle.u_compile.proofs.Links.{none_from, same_is, same_not}
 use Rattle.u_compile.proofs.Moves.{from_behind, moved_stay, moved_come}
@@ -101,9 +101,9 @@ fanned_layout y o d p = record {
 }
 
 sent_alike : (x y : Layout) (n region : ℕ) (side : Bool) (k : Kind) → ((l : ℕ) → x.around l ≡ y.around l) → ((l : ℕ) → x.control l ≡ y.control l) → x.at n ≡ y.at n → sent_by x n side region k ≡ sent_by y n side region k
-sent_alike x y n region side Switch around control e = ap (λ (v : PlaceParts). place v.region (guard (x.control n) (not side) ∷ v.guards)) e ∙ ap (λ (c : ℕ). place (y.at n).region (guard c (not side) ∷ (y.at n).guards)) (control n)
+sent_alike x y n region side Switch around control e = ap (λ (v : GuardedRegionParts). place v.region (guard (x.control n) (not side) ∷ v.guards)) e ∙ ap (λ (c : ℕ). place (y.at n).region (guard c (not side) ∷ (y.at n).guards)) (control n)
 sent_alike x y n region side (Enter l) around control e = refl
-sent_alike x y n region side Last around control e = ap (λ (v : PlaceParts). place v.region []) e
+sent_alike x y n region side Last around control e = ap (λ (v : GuardedRegionParts). place v.region []) e
 sent_alike x y n region side Leave around control e = around region
 sent_alike x y n region side k around control e = e
 
@@ -212,11 +212,11 @@ module _ (y : Layout) (g : GraphParts) (is : IsGraph g) (s : IsScoped y g) (o : 
         ends = f.ends;
         other = f.not_next w.other;
         outside = ap (λ (v : DraftParts). comes_from_outside v.kind) f.same_to ∙ w.outside;
-        region = ap (λ (v : PlaceParts). v.region) f.sent ∙ (w.region ∙ ap (λ (v : PlaceParts). v.region) (sym place_is));
+        region = ap (λ (v : GuardedRegionParts). v.region) f.sent ∙ (w.region ∙ ap (λ (v : GuardedRegionParts). v.region) (sym place_is));
         guards = λ x has.
-            subst (λ (v : PlaceParts). IsOf v.guards x) (sym f.sent) (w.guards x (subst (λ (v : PlaceParts). IsOf v.guards x) place_is has));
+            subst (λ (v : GuardedRegionParts). IsOf v.guards x) (sym f.sent) (w.guards x (subst (λ (v : GuardedRegionParts). IsOf v.guards x) place_is has));
         earlier = elim w.earlier [
-          | inl e ↦ inl (ap (λ (v : PlaceParts). v.guards) f.sent ∙ e)
+          | inl e ↦ inl (ap (λ (v : GuardedRegionParts). v.guards) f.sent ∙ e)
           | inr b ↦ inr (order b)
         ];
       }
@@ -246,8 +246,8 @@ module _ (y : Layout) (g : GraphParts) (is : IsGraph g) (s : IsScoped y g) (o : 
         ends = record { from = d; sends = at_more g.statements new o.statement d at; to = new; takes = at_last g.statements new };
         other = d_no_next;
         outside = refl;
-        region = ap (λ (v : PlaceParts). v.region) (sent ∙ sym at_new);
-        guards = λ x has. subst (λ (v : PlaceParts). IsOf v.guards x) (at_new ∙ sym sent) has;
+        region = ap (λ (v : GuardedRegionParts). v.region) (sent ∙ sym at_new);
+        guards = λ x has. subst (λ (v : GuardedRegionParts). IsOf v.guards x) (at_new ∙ sym sent) has;
         earlier = inr (omega (arith, before, behind));
       }
 
@@ -292,8 +292,8 @@ module _ (y : Layout) (g : GraphParts) (is : IsGraph g) (s : IsScoped y g) (o : 
     other = h.ends;
     control = w.control;
     value = w.value;
-    one = subst (λ (v : PlaceParts). IsOf v.guards (guard w.control w.value)) (sym f.sent) w.one;
-    two = subst (λ (v : PlaceParts). IsOf v.guards (guard w.control (not w.value))) (sym h.sent) w.two;
+    one = subst (λ (v : GuardedRegionParts). IsOf v.guards (guard w.control w.value)) (sym f.sent) w.one;
+    two = subst (λ (v : GuardedRegionParts). IsOf v.guards (guard w.control (not w.value))) (sym h.sent) w.two;
   }
 
   to_old : (l : Link) → IsOf g.links l → l.to.statement ≤ length g.statements
@@ -437,8 +437,8 @@ module _ (y : Layout) (g : GraphParts) (is : IsGraph g) (s : IsScoped y g) (o : 
 
   region_is : (n : ℕ) (e : DraftParts) → draft_at drafts n ≡ Some e → e.region ≡ (z.at n).region
   region_is n e h = elim (old_or_new n e h) [
-    | inl w ↦ s.region n e w ∙ ap (λ (v : PlaceParts). v.region) (sym (at_old n (within n e w)))
-    | inr w ↦ ap (λ (v : DraftParts). v.region) w.1 ∙ (arrives y g s o.statement o.on_false d at ∙ (ap (λ (v : PlaceParts). v.region) (sym at_new) ∙ ap (λ (m : ℕ). (z.at m).region) (sym w.0)))
+    | inl w ↦ s.region n e w ∙ ap (λ (v : GuardedRegionParts). v.region) (sym (at_old n (within n e w)))
+    | inr w ↦ ap (λ (v : DraftParts). v.region) w.1 ∙ (arrives y g s o.statement o.on_false d at ∙ (ap (λ (v : GuardedRegionParts). v.region) (sym at_new) ∙ ap (λ (m : ℕ). (z.at m).region) (sym w.0)))
   ]
 
   -- statements of other kinds than `pass` were there
@@ -454,7 +454,7 @@ module _ (y : Layout) (g : GraphParts) (is : IsGraph g) (s : IsScoped y g) (o : 
   begins_well : (n : ℕ) (e : DraftParts) → draft_at drafts n ≡ Some e → comes_from_outside e.kind ≡ true → (e.kind ≡ Back) ⊎ ((z.at n).guards ≡ [])
   begins_well n e h out =
       let w = was_there n e h (not_outside e out) in
-      elim (s.begins n e w out) [ inl k ↦ inl k | inr q ↦ inr (ap (λ (v : PlaceParts). v.guards) (at_old n (within n e w)) ∙ q) ]
+      elim (s.begins n e w out) [ inl k ↦ inl k | inr q ↦ inr (ap (λ (v : GuardedRegionParts). v.guards) (at_old n (within n e w)) ∙ q) ]
 
   enters_well : (n : ℕ) (e : DraftParts) (l : ℕ) → draft_at drafts n ≡ Some e → e.kind ≡ Enter l → z.at n ≡ z.around l
   enters_well n e l h k =
@@ -473,12 +473,12 @@ module _ (y : Layout) (g : GraphParts) (is : IsGraph g) (s : IsScoped y g) (o : 
   nexts_well : (n : ℕ) (e : DraftParts) → draft_at drafts n ≡ Some e → e.kind ≡ Next → IsOf (z.at n).guards (guard (y.test e.region) true)
   nexts_well n e h k =
       let w = was_there n e h (not_pass Next e k (λ q. cc)) in
-      subst (λ (v : PlaceParts). IsOf v.guards (guard (y.test e.region) true)) (sym (at_old n (within n e w))) (s.nexts n e w k)
+      subst (λ (v : GuardedRegionParts). IsOf v.guards (guard (y.test e.region) true)) (sym (at_old n (within n e w))) (s.nexts n e w k)
 
   lasts_well : (n : ℕ) (e : DraftParts) → draft_at drafts n ≡ Some e → e.kind ≡ Last → IsOf (z.at n).guards (guard (y.test e.region) false)
   lasts_well n e h k =
       let w = was_there n e h (not_pass Last e k (λ q. cc)) in
-      subst (λ (v : PlaceParts). IsOf v.guards (guard (y.test e.region) false)) (sym (at_old n (within n e w))) (s.lasts n e w k)
+      subst (λ (v : GuardedRegionParts). IsOf v.guards (guard (y.test e.region) false)) (sym (at_old n (within n e w))) (s.lasts n e w k)
 
   backs_well : (m n : ℕ) (e : DraftParts) → draft_at drafts m ≡ Some e → back_named e.kind ≡ Some n → IsCalled z drafts m n
   backs_well m n e h named =

@@ -9,7 +9,7 @@ use Rattle.u_compile.specs.declared.graph.Output.{Output}
 use Rattle.u_compile.specs.Drafts.{DraftParts}
 use Rattle.u_compile.specs.Graphs.{GraphParts, graph, draft_at, enters_one, IsGraph}
 use Rattle.u_compile.specs.Fanning.{holder}
-use Rattle.u_compile.specs.Scoped.{guard, PlaceParts, place, IsOf, Layout, sent_by, Ends, GoesWell, AreApart, OnlyFrom, HandsOn, it, pass, IsControlled, IsCalled, IsScoped}
+use Rattle.u_compile.specs.Scoped.{guard, GuardedRegionParts, place, IsOf, Layout, sent_by, Ends, GoesWell, AreApart, OnlyFrom, HandsOn, it, pass, IsControlled, IsCalled, IsScoped}
 use Rattle.u_compile.specs.Placed.{IsForward, IsScopedBut}
 use Rattle.u_compile.proofs.Numbers.{at_within, at_more, at_cases}
 
@@ -123,9 +123,9 @@ module _ (y z : Layout) (g : GraphParts) (is : IsGraph g) (a : Agree z y (length
       here = a.at n (within g n e h)
 
       by : (c : Kind) → sent_by z n side e.region c ≡ sent_by y n side e.region c
-      by Switch = ap (λ (v : PlaceParts). place v.region (guard (z.control n) (not side) ∷ v.guards)) here ∙ ap (λ (c : ℕ). place (y.at n).region (guard c (not side) ∷ (y.at n).guards)) (a.control n (within g n e h))
+      by Switch = ap (λ (v : GuardedRegionParts). place v.region (guard (z.control n) (not side) ∷ v.guards)) here ∙ ap (λ (c : ℕ). place (y.at n).region (guard c (not side) ∷ (y.at n).guards)) (a.control n (within g n e h))
       by (Enter l) = refl
-      by Last = ap (λ (v : PlaceParts). place v.region []) here
+      by Last = ap (λ (v : GuardedRegionParts). place v.region []) here
       by Leave = a.around e.region (in_loops g is n e h)
       by c = here
 
@@ -144,10 +144,10 @@ module _ (y z : Layout) (g : GraphParts) (is : IsGraph g) (a : Agree z y (length
         ends = ends_still l e;
         other = w.other;
         outside = w.outside;
-        region = ap (λ (v : PlaceParts). v.region) sent ∙ (w.region ∙ ap (λ (v : PlaceParts). v.region) (sym there));
-        guards = λ c has. subst (λ (v : PlaceParts). IsOf v.guards c) (sym sent) (w.guards c (subst (λ (v : PlaceParts). IsOf v.guards c) there has));
+        region = ap (λ (v : GuardedRegionParts). v.region) sent ∙ (w.region ∙ ap (λ (v : GuardedRegionParts). v.region) (sym there));
+        guards = λ c has. subst (λ (v : GuardedRegionParts). IsOf v.guards c) (sym sent) (w.guards c (subst (λ (v : GuardedRegionParts). IsOf v.guards c) there has));
         earlier = elim w.earlier [
-          | inl q ↦ inl (ap (λ (v : PlaceParts). v.guards) sent ∙ q)
+          | inl q ↦ inl (ap (λ (v : GuardedRegionParts). v.guards) sent ∙ q)
           | inr b ↦ inr (omega (arith, before, behind, b))
         ];
       }
@@ -159,8 +159,8 @@ module _ (y z : Layout) (g : GraphParts) (is : IsGraph g) (a : Agree z y (length
     other = ends_still m w.other;
     control = w.control;
     value = w.value;
-    one = subst (λ (v : PlaceParts). IsOf v.guards (guard w.control w.value)) (sym (sent_still l.from.statement l.from.on_false w.ends.from w.ends.sends)) w.one;
-    two = subst (λ (v : PlaceParts). IsOf v.guards (guard w.control (not w.value))) (sym (sent_still m.from.statement m.from.on_false w.other.from w.other.sends)) w.two;
+    one = subst (λ (v : GuardedRegionParts). IsOf v.guards (guard w.control w.value)) (sym (sent_still l.from.statement l.from.on_false w.ends.from w.ends.sends)) w.one;
+    two = subst (λ (v : GuardedRegionParts). IsOf v.guards (guard w.control (not w.value))) (sym (sent_still m.from.statement m.from.on_false w.other.from w.other.sends)) w.two;
   }
 
   hands_still : (c n : ℕ) → HandsOn g c n → HandsOn (graph loops drafts g.links) c n
@@ -182,20 +182,20 @@ module _ (k : ℕ) (y z : Layout) (g : GraphParts) (is : IsGraph g) (s : IsScope
   -- with other loops it lies well in a layout that says the same of its statements
   pub relaid : (loops : List ℕ) → ((l : ℕ) → (z.around l).region ≡ holder loops l) → IsScopedBut k z (graph loops g.statements g.links)
   relaid loops held = record {
-    region = λ n d h. s.region n d h ∙ ap (λ (v : PlaceParts). v.region) (sym (a.at n (within g n d h)));
+    region = λ n d h. s.region n d h ∙ ap (λ (v : GuardedRegionParts). v.region) (sym (a.at n (within g n d h)));
     links = λ l i. goes_still y z g is a loops g.statements same l (s.links l i);
     ports = λ l n i j e. elim (s.ports l n i j e) [ inl q ↦ inl q | inr w ↦ inr (apart_still y z g is a loops g.statements same l n w) ];
     switches = λ n d h q o. controlled_still y z g is a loops g.statements same n (within g n d h) (s.switches n d h q o);
     held = held;
-    begins = λ n d h out. elim (s.begins n d h out) [ inl q ↦ inl q | inr q ↦ inr (ap (λ (v : PlaceParts). v.guards) (a.at n (within g n d h)) ∙ q) ];
+    begins = λ n d h out. elim (s.begins n d h out) [ inl q ↦ inl q | inr q ↦ inr (ap (λ (v : GuardedRegionParts). v.guards) (a.at n (within g n d h)) ∙ q) ];
     enters_from = λ n d l h q. a.at n (within g n d h) ∙ (s.enters_from n d l h q ∙ sym (a.around l (entered_loop (length g.loops) l d.kind q (is.drafts n d h).enters)));
     leaves_after = λ n m d e h i q r.
         let o = s.leaves_after n m d e h i q r in
         let before = a.order m (within g m e i) in
         let behind = a.order n (within g n d h) in
         omega (arith, o, before, behind);
-    nexts = λ n d h q. subst (λ (v : PlaceParts). IsOf v.guards (guard (z.test d.region) true)) (sym (a.at n (within g n d h))) (subst (λ (t : ℕ). IsOf (y.at n).guards (guard t true)) (sym (tests n d h (inl q))) (s.nexts n d h q));
-    lasts = λ n d h q. subst (λ (v : PlaceParts). IsOf v.guards (guard (z.test d.region) false)) (sym (a.at n (within g n d h))) (subst (λ (t : ℕ). IsOf (y.at n).guards (guard t false)) (sym (tests n d h (inr q))) (s.lasts n d h q));
+    nexts = λ n d h q. subst (λ (v : GuardedRegionParts). IsOf v.guards (guard (z.test d.region) true)) (sym (a.at n (within g n d h))) (subst (λ (t : ℕ). IsOf (y.at n).guards (guard t true)) (sym (tests n d h (inl q))) (s.nexts n d h q));
+    lasts = λ n d h q. subst (λ (v : GuardedRegionParts). IsOf v.guards (guard (z.test d.region) false)) (sym (a.at n (within g n d h))) (subst (λ (t : ℕ). IsOf (y.at n).guards (guard t false)) (sym (tests n d h (inr q))) (s.lasts n d h q));
     one_next = s.one_next;
     one_apply = s.one_apply;
     backs = λ i n d h q o.
@@ -235,7 +235,7 @@ module _ (k : ℕ) (y z : Layout) (g : GraphParts) (is : IsGraph g) (s : IsScope
 
     region_is : (n : ℕ) (d : DraftParts) → draft_at drafts n ≡ Some d → d.region ≡ (z.at n).region
     region_is n d h = elim (cases n d h) [
-      | inl w ↦ s.region n d w ∙ ap (λ (v : PlaceParts). v.region) (sym (a.at n (within g n d w)))
+      | inl w ↦ s.region n d w ∙ ap (λ (v : GuardedRegionParts). v.region) (sym (a.at n (within g n d w)))
       | inr w ↦ ap (λ (v : DraftParts). v.region) w.1 ∙ (m.region ∙ ap (λ (j : ℕ). (z.at j).region) (sym w.0))
     ]
 
@@ -247,7 +247,7 @@ module _ (k : ℕ) (y z : Layout) (g : GraphParts) (is : IsGraph g) (s : IsScope
 
     begins_is : (n : ℕ) (d : DraftParts) → draft_at drafts n ≡ Some d → comes_from_outside d.kind ≡ true → (d.kind ≡ Back) ⊎ ((z.at n).guards ≡ [])
     begins_is n d h out = elim (cases n d h) [
-      | inl w ↦ elim (s.begins n d w out) [ inl q ↦ inl q | inr q ↦ inr (ap (λ (v : PlaceParts). v.guards) (a.at n (within g n d w)) ∙ q) ]
+      | inl w ↦ elim (s.begins n d w out) [ inl q ↦ inl q | inr q ↦ inr (ap (λ (v : GuardedRegionParts). v.guards) (a.at n (within g n d w)) ∙ q) ]
       | inr w ↦ elim (m.begins (ap (λ (v : DraftParts). comes_from_outside v.kind) (sym w.1) ∙ out)) [
         | inl q ↦ inl (ap (λ (v : DraftParts). v.kind) w.1 ∙ q)
         | inr q ↦ inr (ap (λ (j : ℕ). (z.at j).guards) w.0 ∙ q)
@@ -285,7 +285,7 @@ module _ (k : ℕ) (y z : Layout) (g : GraphParts) (is : IsGraph g) (s : IsScope
     nexts_is n d h q = elim (cases n d h) [
       | inl w ↦
           let r = s.nexts n d w q in
-          subst (λ (v : PlaceParts). IsOf v.guards (guard (z.test d.region) true)) (sym (a.at n (within g n d w))) (subst (λ (t : ℕ). IsOf (y.at n).guards (guard t true)) (sym (tests n d w (inl q))) r)
+          subst (λ (v : GuardedRegionParts). IsOf v.guards (guard (z.test d.region) true)) (sym (a.at n (within g n d w))) (subst (λ (t : ℕ). IsOf (y.at n).guards (guard t true)) (sym (tests n d w (inl q))) r)
       | inr w ↦
           let r = m.next (kind_of d Next w.1 q) in
           subst (λ (j : ℕ). IsOf (z.at j).guards (guard (z.test d.region) true)) (sym w.0) (subst (λ (v : DraftParts). IsOf (z.at p).guards (guard (z.test v.region) true)) (sym w.1) r)
@@ -295,7 +295,7 @@ module _ (k : ℕ) (y z : Layout) (g : GraphParts) (is : IsGraph g) (s : IsScope
     lasts_is n d h q = elim (cases n d h) [
       | inl w ↦
           let r = s.lasts n d w q in
-          subst (λ (v : PlaceParts). IsOf v.guards (guard (z.test d.region) false)) (sym (a.at n (within g n d w))) (subst (λ (t : ℕ). IsOf (y.at n).guards (guard t false)) (sym (tests n d w (inr q))) r)
+          subst (λ (v : GuardedRegionParts). IsOf v.guards (guard (z.test d.region) false)) (sym (a.at n (within g n d w))) (subst (λ (t : ℕ). IsOf (y.at n).guards (guard t false)) (sym (tests n d w (inr q))) r)
       | inr w ↦
           let r = m.last (kind_of d Last w.1 q) in
           subst (λ (j : ℕ). IsOf (z.at j).guards (guard (z.test d.region) false)) (sym w.0) (subst (λ (v : DraftParts). IsOf (z.at p).guards (guard (z.test v.region) false)) (sym w.1) r)

@@ -18,7 +18,7 @@ use Rattle.u_compile.specs.declared.graph.Output.{Output}
 use Rattle.u_compile.specs.Drafts.{DraftParts}
 use Rattle.u_compile.specs.Graphs.{GraphParts, draft_at, enters, IsGraph}
 use Rattle.u_compile.specs.Blocks.{statement_of}
-use Rattle.u_compile.specs.Scoped.{PlaceParts, Layout, sent_by, IsScoped}
+use Rattle.u_compile.specs.Scoped.{GuardedRegionParts, Layout, sent_by, IsScoped}
 use Rattle.u_compile.specs.Orderly.{IsNamed, IsParamAt, FollowsParams, IsOrderly}
 use Rattle.u_compile.proofs.ArcLaws.{made_at, IsLinkOf, arc_is}
 use Rattle.u_compile.proofs.GuardLaws.{made, one_draft, Owner, own, other, owner_of}
@@ -76,7 +76,7 @@ module _ (y : Layout) (g : GraphParts) (is : IsGraph g) (s : IsScoped y g) (o : 
         called : (b : ℕ) → back_named d.kind ≡ Some b → is_back_in d.region (statement_at (made g) b) ≡ true
         called b named =
             let c = s.backs n b d at named in
-            let same : d.region ≡ c.back.region = s.region n d at ∙ (ap (λ (v : PlaceParts). v.region) c.beside ∙ sym (s.region b c.back c.stands)) in
+            let same : d.region ≡ c.back.region = s.region n d at ∙ (ap (λ (v : GuardedRegionParts). v.region) c.beside ∙ sym (s.region b c.back c.stands)) in
             ap (is_back_in d.region) (made_at g.links g.statements b c.back c.stands) ∙ and_from (is_back c.back.kind) (d.region == c.back.region) (ap is_back c.kind) (eq-eqb d.region c.back.region same)
 
         by : (k : Kind) → d.kind ≡ k → names_back (made g) d.region k ≡ true

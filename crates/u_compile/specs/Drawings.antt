@@ -14,7 +14,7 @@ use Rattle.u_compile.specs.declared.drawing.Gate.{Gate}
 use Rattle.u_compile.specs.declared.drawing.Carried.{Carried}
 use Rattle.u_compile.specs.Drafts.{DraftParts}
 use Rattle.u_compile.specs.Graphs.{graph, link, output, draft_at, is_enter}
-use Rattle.u_compile.specs.Scoped.{IsOf, PlaceParts}
+use Rattle.u_compile.specs.Scoped.{IsOf, GuardedRegionParts}
 use Rattle.u_compile.specs.Scopes.{IsPlaceOf}
 use Rattle.u_compile.specs.Placed.{PlacedParts}
 
@@ -35,9 +35,9 @@ pub record DrawingParts : Type 0 where
   pub values : List (List Output)
   pub gates : List Gate
   pub carried : List Carried
-  pub places : List PlaceParts
+  pub places : List GuardedRegionParts
 
-abbrev pub drawing : List DraftParts → List Link → List Scope → List (List Output) → List Gate → List Carried → List PlaceParts → DrawingParts
+abbrev pub drawing : List DraftParts → List Link → List Scope → List (List Output) → List Gate → List Carried → List GuardedRegionParts → DrawingParts
 drawing statements links scopes values gates carried places = record { statements = statements; links = links; scopes = scopes; values = values; gates = gates; carried = carried; places = places }
 
 -- statement n is of that kind
@@ -106,7 +106,7 @@ pub record Adds (d e : DrawingParts) (kind : Kind) (inputs : List ℕ) : Type 0 
 
 -- The statement that is added stands in the place of that scope.
 pub record StandsIn (d e : DrawingParts) (scope : ℕ) : Type 0 where
-  pub at : PlaceParts
+  pub at : GuardedRegionParts
   pub is : IsPlaceOf d.scopes scope at
   pub adds : e.places ≡ d.places ++ (at ∷ [])
 

@@ -8,7 +8,7 @@ use Rattle.u_compile.specs.declared.drawing.Scope.{Scope}
 use Rattle.u_compile.specs.declared.naming.Binding.{Binding}
 use Rattle.u_compile.specs.declared.naming.ConstantBinding.{ConstantBinding}
 use Rattle.u_compile.specs.declared.naming.Alias.{Alias}
-use Rattle.u_compile.specs.declared.naming.Names.{Names}
+use Rattle.u_compile.specs.declared.naming.ScopedNames.{ScopedNames}
 use Rattle.u_compile.specs.Graphs.{output}
 use Rattle.u_compile.specs.Scoped.{IsOf}
 use Rattle.u_compile.specs.Drawings.{DrawingParts, IsOfKind, AreFed, Grows, Enters, Comes}
@@ -48,7 +48,7 @@ pub record KnownParts : Type 0 where
   pub aliases : List Alias
   pub constants : List ConstantBinding
 
-abbrev pub known : Names → KnownParts
+abbrev pub known : ScopedNames → KnownParts
 known ns = record { bindings = ns.bindings.items; aliases = ns.aliases.items; constants = ns.constants.items }
 
 abbrev pub nothing_known : KnownParts

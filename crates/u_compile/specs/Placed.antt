@@ -10,7 +10,7 @@ use Rattle.u_compile.specs.declared.placed.Test.{Test}
 use Rattle.u_compile.specs.Drafts.{DraftParts}
 use Rattle.u_compile.specs.Graphs.{GraphParts, graph, link, draft_at, is_next, enters}
 use Rattle.u_compile.specs.Fanning.{holder}
-use Rattle.u_compile.specs.Scoped.{PlaceParts, place, guard, IsOf, AreGuards, Layout, sent_by, GoesWell, AreApart, IsControlled, IsCalled}
+use Rattle.u_compile.specs.Scoped.{GuardedRegionParts, place, guard, IsOf, AreGuards, Layout, sent_by, GoesWell, AreApart, IsControlled, IsCalled}
 use Rattle.u_compile.specs.Orderly.{StandsWell, IsOrderly}
 
 -- the one of that number, which counts from 1, or else that one
@@ -20,10 +20,10 @@ entry d xs (suc n) = get_or xs n d
 
 -- what is noted of a statement: its place, and of a `switch` the statement that chooses its side
 pub record NoteParts : Type 0 where
-  pub place : PlaceParts
+  pub place : GuardedRegionParts
   pub control : ℕ
 
-abbrev pub note : PlaceParts → ℕ → NoteParts
+abbrev pub note : GuardedRegionParts → ℕ → NoteParts
 note place control = record { place = place; control = control }
 
 -- a graph, what is noted of its statements, the places that hold its loops, the tests of their turns that are known, and
@@ -31,22 +31,22 @@ note place control = record { place = place; control = control }
 pub record PlacedParts : Type 0 where
   pub graph : GraphParts
   pub notes : List NoteParts
-  pub arounds : List PlaceParts
+  pub arounds : List GuardedRegionParts
   pub tests : List Test
   pub unfinished : ℕ
 
-abbrev pub placed : GraphParts → List NoteParts → List PlaceParts → List Test → ℕ → PlacedParts
+abbrev pub placed : GraphParts → List NoteParts → List GuardedRegionParts → List Test → ℕ → PlacedParts
 placed graph notes arounds tests unfinished = record { graph = graph; notes = notes; arounds = arounds; tests = tests; unfinished = unfinished }
 
 -- the places of its statements, in their order
-abbrev pub places_of : PlacedParts → List PlaceParts
+abbrev pub places_of : PlacedParts → List GuardedRegionParts
 places_of p = map (λ (n : NoteParts). n.place) p.notes
 
 -- what is noted of no statement, and the place that holds no loop
 abbrev pub no_note : NoteParts
 no_note = note (place 0 []) 0
 
-abbrev pub no_place : PlaceParts
+abbrev pub no_place : GuardedRegionParts
 no_place = place 0 []
 
 abbrev pub a_test : ℕ → ℕ → Test
@@ -112,7 +112,7 @@ pub record IsScopedBut (k : ℕ) (y : Layout) (g : GraphParts) : Type 0 where
 -- they stand well, wherever they lie; and each port of a statement before the last one is linked.
 pub record IsPlaced (p : PlacedParts) : Type 0 where
   pub notes : length p.notes ≡ length p.graph.statements
-  pub loops : p.graph.loops ≡ map (λ (a : PlaceParts). a.region) p.arounds
+  pub loops : p.graph.loops ≡ map (λ (a : GuardedRegionParts). a.region) p.arounds
   pub forward : IsForward p.graph.links
   pub scoped : IsScopedBut p.unfinished (layout_of p) p.graph
   pub orderly : IsOrderly p.graph.statements p.graph.links
@@ -142,7 +142,7 @@ pub record IsSender (p : PlacedParts) (o : Output) (d : DraftParts) : Type 0 whe
   pub other : is_next d.kind ≡ false
 
 -- what an output of a statement other than `next` sends arrives there
-pub record IsArrived (p : PlacedParts) (o : Output) (at : PlaceParts) : Type 0 where
+pub record IsArrived (p : PlacedParts) (o : Output) (at : GuardedRegionParts) : Type 0 where
   pub from : DraftParts
   pub stands : draft_at p.graph.statements o.statement ≡ Some from
   pub other : is_next from.kind ≡ false
@@ -150,8 +150,8 @@ pub record IsArrived (p : PlacedParts) (o : Output) (at : PlaceParts) : Type 0 w
 
 -- what the two outputs send needs different truth values of one control
 pub record OneSends (p : PlacedParts) (a b : Output) : Type 0 where
-  pub one : PlaceParts
-  pub other : PlaceParts
+  pub one : GuardedRegionParts
+  pub other : GuardedRegionParts
   pub one_arrives : IsArrived p a one
   pub other_arrives : IsArrived p b other
   pub control : ℕ
@@ -164,7 +164,7 @@ abbrev pub MeetsWell : PlacedParts → Output → Destination → List Link → 
 MeetsWell p o to ls = (l : Link) → IsOf ls l → l.to ≡ to → (l.from ≡ o) ⊎ OneSends p l.from o
 
 -- What arrives there may come to that statement: it arrives in the statement's place or in sides there.
-pub record MayTake (p : PlacedParts) (sent : PlaceParts) (n : ℕ) : Type 0 where
+pub record MayTake (p : PlacedParts) (sent : GuardedRegionParts) (n : ℕ) : Type 0 where
   pub taker : DraftParts
   pub takes : draft_at p.graph.statements n ≡ Some taker
   pub outside : comes_from_outside taker.kind ≡ false
@@ -173,7 +173,7 @@ pub record MayTake (p : PlacedParts) (sent : PlaceParts) (n : ℕ) : Type 0 wher
 
 -- The value of the output may come to that port: it comes from a statement before that one, and meets no other value.
 pub record MayCome (p : PlacedParts) (o : Output) (to : Destination) : Type 0 where
-  pub sent : PlaceParts
+  pub sent : GuardedRegionParts
   pub arrives : IsArrived p o sent
   pub takes : MayTake p sent to.statement
   pub earlier : o.statement < to.statement
@@ -185,7 +185,7 @@ IsAlone ls o to = (l : Link) → IsOf ls l → l.to.statement ≡ to.statement �
 
 -- In that place a statement of that kind lies well: a procedure's own begin without guards, an `enter` lies where its
 -- loop does, and `next` and `last` lie in the sides of the test.
-pub record LiesWell (p : PlacedParts) (x : DraftParts) (at : PlaceParts) : Type 0 where
+pub record LiesWell (p : PlacedParts) (x : DraftParts) (at : GuardedRegionParts) : Type 0 where
   pub begins : comes_from_outside x.kind ≡ true → (x.kind ≡ Back) ⊎ (at.guards ≡ [])
   pub enters : (l : ℕ) → x.kind ≡ Enter l → at ≡ (layout_of p).around l
   pub next : x.kind ≡ Next → IsOf at.guards (guard ((layout_of p).test x.region) true)
@@ -196,7 +196,7 @@ abbrev pub AreFree : List DraftParts → DraftParts → Type 0
 AreFree ds x = (n : ℕ) (d : DraftParts) → draft_at ds n ≡ Some d → stands_against x d ≡ false
 
 -- a statement that may be added in that place
-pub record FitsIn (p : PlacedParts) (x : DraftParts) (at : PlaceParts) : Type 0 where
+pub record FitsIn (p : PlacedParts) (x : DraftParts) (at : GuardedRegionParts) : Type 0 where
   pub region : x.region ≡ at.region
   pub lies : LiesWell p x at
   pub against : AreFree p.graph.statements x
@@ -214,11 +214,11 @@ opens (Apply b n) = true
 opens k = false
 
 -- with one statement more, in that place and with that control, and that statement unfinished then
-abbrev pub with_statement : PlacedParts → DraftParts → PlaceParts → ℕ → ℕ → PlacedParts
+abbrev pub with_statement : PlacedParts → DraftParts → GuardedRegionParts → ℕ → ℕ → PlacedParts
 with_statement p x at control unfinished = placed (graph p.graph.loops (p.graph.statements ++ (x ∷ [])) p.graph.links) (p.notes ++ (note at control ∷ [])) p.arounds p.tests unfinished
 
 -- with one loop more, in that place
-abbrev pub with_loop : PlacedParts → PlaceParts → PlacedParts
+abbrev pub with_loop : PlacedParts → GuardedRegionParts → PlacedParts
 with_loop p around = placed (graph (p.graph.loops ++ (around.region ∷ [])) p.graph.statements p.graph.links) p.notes (p.arounds ++ (around ∷ [])) p.tests p.unfinished
 
 -- where the test of the turns of a loop is known

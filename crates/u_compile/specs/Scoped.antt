@@ -18,11 +18,11 @@ use Rattle.u_compile.specs.Fanning.{holder}
 abbrev pub guard : ℕ → Bool → Guard
 guard control value = record { control = control; value = value }
 
-pub record PlaceParts : Type 0 where
+pub record GuardedRegionParts : Type 0 where
   pub region : ℕ
   pub guards : List Guard
 
-abbrev pub place : ℕ → List Guard → PlaceParts
+abbrev pub place : ℕ → List Guard → GuardedRegionParts
 place region guards = record { region = region; guards = guards }
 
 -- x is one of these
@@ -33,9 +33,9 @@ IsOf (y ∷ ys) x = (y ≡ x) ⊎ IsOf ys x
 -- Where statements lie, and in which order values come to them.
 pub record Layout : Type 0 where
   -- the place of a statement
-  pub at : ℕ → PlaceParts
+  pub at : ℕ → GuardedRegionParts
   -- the place that holds a loop
-  pub around : ℕ → PlaceParts
+  pub around : ℕ → GuardedRegionParts
   -- the control of a `switch`, and of a loop's turns
   pub control : ℕ → ℕ
   pub test : ℕ → ℕ
@@ -43,7 +43,7 @@ pub record Layout : Type 0 where
   pub order : ℕ → ℕ
 
 -- the place to which a list of statement n sends, by the statement's kind and region
-abbrev pub sent_by : Layout → ℕ → Bool → ℕ → Kind → PlaceParts
+abbrev pub sent_by : Layout → ℕ → Bool → ℕ → Kind → GuardedRegionParts
 sent_by y n side region Switch = place (y.at n).region (guard (y.control n) (not side) ∷ (y.at n).guards)
 sent_by y n side region (Enter l) = place l []
 sent_by y n side region Last = place (y.at n).region []

@@ -1,4 +1,8 @@
 //! The blocks of a program under construction.
+//!
+//! As a block is added, its name has to be new; as the program is made, there has to be a `main`, and
+//! constants have to name blocks. `u_check/keeps` asks the same of finished programs, and has no public
+//! call for it.
 ghost use Rattle.std.specs.Prelude.{◌≡◌, ◌++◌, ◌∷◌, ◌<◌, ◌≤◌, [], length, false, true, IfSome, IsTrue, MatchResult};
 ghost use Rattle.std.specs.List.{list_all};
 ghost use Rattle.u_program.specs.Limits.{IsBlockOf, limits_of};

@@ -8,7 +8,7 @@ use std::alloc::AllocError;
 use std::fmt;
 use thiserror::Error;
 use u_scope::{CheckError, KindError};
-use u_source::{Place, SourceError};
+use u_source::{Position, SourceError};
 
 /// Why there is no program of a source that follows the grammar, and whose names and kinds are allowed.
 #[derive(Clone, Copy, Debug, PartialEq, Eq)]
@@ -48,7 +48,7 @@ pub enum CompileError {
     Kinds(KindError),
     /// There is no program of it: the place where that shows, and why.
     #[error("source line {} column {}: {}", .0.line, .0.column, .1)]
-    Refused(Place, CompileProblem),
+    Refused(Position, CompileProblem),
     /// There is no memory left.
     #[error("no memory")]
     NoMemory,
@@ -56,7 +56,7 @@ pub enum CompileError {
 
 impl CompileError {
     /// What a graph that does not grow says of a source, at this place.
-    pub(crate) fn at(place: Place, full: Full) -> CompileError
+    pub(crate) fn at(place: Position, full: Full) -> CompileError
         ensures { IsToldLast result }
     {
         match full {

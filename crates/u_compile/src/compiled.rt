@@ -13,6 +13,8 @@ use u_check::Checked;
 use u_program::Program;
 
 /// A program that a source was compiled to, and where its statements come from.
+///
+/// Promise origins: each statement of each block has one origin: a place, a role and at most one name.
 #[derive(Drop)]
 pub struct Compiled {
     checked: Checked,
@@ -81,6 +83,8 @@ impl Compiled {
     /// in the order of the program. The place is where the source asks for the statement, and the role is a word for
     /// what it does there. The name is the one under which its value flows or is defined, or that of the structure of
     /// which it reads a cell, if there is one.
+    ///
+    /// Promise map-of-origins: exactly the text of the map of the program's origins is appended.
     ///
     /// # Errors
     /// `AllocError` where there is no memory. Then part of the map may stand there.

@@ -22,16 +22,16 @@ use crate::origins::BlockOrigins;
 use crate::procedures::are_procedures;
 use crate::tree::Tree;
 use std::alloc::Global;
-use u_check::check;
+use u_check::{Checked, check};
 use u_program::Program;
-use u_scope::{Checked, check_kinds};
-use u_source::{Place, Source};
+use u_scope::{CheckedSource, check_kinds};
+use u_source::{Position, Source};
 
 /// Why there is no program, and the place that shows it.
 #[derive(Clone, Copy)]
 struct Stopped {
     /// The place.
-    pub place: Place,
+    pub place: Position,
     /// Why.
     pub full: Full,
 }
@@ -77,7 +77,7 @@ fn lower_all(begun: Lowering<'_>, tree: &Tree<'_>) -> Result<Lowered, Stopped>
     match blocks.program() {
         Some(program) => Ok(Lowered { program, notes }),
         None => Err(Stopped {
-            place: Place::start(),
+            place: Position::start(),
             full: Full::Misplaced,
         }),
     }
@@ -93,14 +93,18 @@ fn lower(alloc: Global, tree: &Tree<'_>) -> Result<Lowered, Stopped>
     match Lowering::new(alloc, tree) {
         Ok(lowering) => lower_all(lowering, tree),
         Err(full) => Err(Stopped {
-            place: Place::start(),
+            place: Position::start(),
             full,
         }),
     }
 }
 
 /// The program of a source whose names and kinds are allowed. It is determinate and keeps the rules of the checker.
-fn program_of(alloc: Global, source: &Source, checked: &Checked) -> Result<Lowered, CompileError>
+fn program_of(
+    alloc: Global,
+    source: &Source,
+    checked: &CheckedSource,
+) -> Result<Lowered, CompileError>
     ensures determinate { IfOk result (λ l. IsDeterminate l.program.blocks) }
     ensures checked { IfOk result (λ l. IsChecked l.program.blocks) }
     ensures made { IfOk result (λ l. AreMadeOf source.now checked.now l.program.blocks) }
@@ -108,7 +112,7 @@ fn program_of(alloc: Global, source: &Source, checked: &Checked) -> Result<Lower
 {
     let tree = match Tree::new(alloc, source.tokens(), source.nodes(), checked.meanings()) {
         Ok(tree) => tree,
-        Err(full) => return Err(CompileError::at(Place::start(), full)),
+        Err(full) => return Err(CompileError::at(Position::start(), full)),
     };
     match lower(alloc, &tree) {
         Ok(lowered) => Ok(lowered),
@@ -117,7 +121,7 @@ fn program_of(alloc: Global, source: &Source, checked: &Checked) -> Result<Lower
 }
 
 /// The program as a checked one: it keeps the rules of the checker.
-fn checked_of(program: Program) -> u_check::Checked
+fn checked_of(program: Program) -> Checked
     requires { IsChecked program.blocks }
     ensures { result ≡ program }
 {
@@ -138,7 +142,7 @@ fn mapped(
 {
     match origins_of(alloc, program.blocks(), notes) {
         Ok(origins) => Ok(origins),
-        Err(full) => Err(CompileError::at(Place::start(), full)),
+        Err(full) => Err(CompileError::at(Position::start(), full)),
     }
 }
 
@@ -148,7 +152,7 @@ struct Allowed {
     /// The source.
     pub source: Source,
     /// What its names mean.
-    pub names: Checked,
+    pub names: CheckedSource,
 }
 
 /// Reads a source, and checks its names and then its kinds.
@@ -162,7 +166,7 @@ fn read_allowed(alloc: Global, bytes: &[u8]) -> Result<Allowed, CompileError>
         Ok(source) => source,
         Err(error) => return Err(CompileError::Source(error)),
     };
-    let names = match Checked::check(alloc, &source) {
+    let names = match CheckedSource::check(alloc, &source) {
         Ok(names) => names,
         Err(error) => return Err(CompileError::Check(error)),
     };
@@ -186,7 +190,7 @@ fn compiled_of(alloc: Global, allowed: &Allowed) -> Result<Compiled, CompileErro
     let Lowered { program, notes } = program_of(alloc, &allowed.source, &allowed.names)?;
     let source = &allowed.source;
     if !are_procedures(source.tokens(), source.nodes(), program.blocks()) {
-        return Err(CompileError::at(Place::start(), Full::Misplaced));
+        return Err(CompileError::at(Position::start(), Full::Misplaced));
     }
     let checked = checked_of(program);
     // Brings in that it is checked.
@@ -195,13 +199,27 @@ fn compiled_of(alloc: Global, allowed: &Allowed) -> Result<Compiled, CompileErro
     Ok(Compiled::new(checked, origins))
 }
 
-/// Compiles a source: the text of procedures in the notation with names. What is returned is a program that breaks
-/// no rule of the checker and is determinate: in a run of it a port has two values only if a cell has two writes.
+/// Compiles a source: the text of procedures in the notation with names. In a run of its program a port has
+/// two values only if a cell has two writes.
 ///
 /// The text is read, then its names and then its kinds are checked. Then each procedure becomes a block of version 2,
 /// which is determinate and keeps the rules of the checker since each statement and each link has its place: none is
 /// added where it may not stand. Of no source it is known that its names and kinds are allowed, and that a statement, a
 /// link or a block has no place; tests have found none, but there is no proof.
+///
+/// Promise compiled: the program breaks no rule of the checker and is determinate.
+///
+/// Promise told-of-a-source: there is a program only if the bytes are a source whose names and kinds are
+/// allowed; else the first that fails is returned.
+///
+/// Promise procedures-of-a-source: the program has one block for each procedure of the source, in order and
+/// with its name.
+///
+/// Promise arcs-are-uses: to each port at which the source takes an operand lead exactly the outputs of one
+/// value; of a name it is one that was bound to it.
+///
+/// Promise nodes-in-order: each block is made of the nodes of one procedure of the source's tree, one after
+/// another.
 ///
 /// # Errors
 /// `Source`, `Check` or `Kinds` with what is not allowed first. `Refused` where a procedure takes more than 999

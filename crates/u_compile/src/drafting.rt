@@ -1,4 +1,9 @@
 //! Statements and links that a graph gets only where they may stand there.
+//!
+//! A `switch` and an `apply` are unfinished until the link to port 2 of the one, and the `back` of the
+//! other, stand; a graph has one such statement at a time. Links lead to the last statement alone, so
+//! values come to statements in the order of their numbers. That such a graph is a determinate block which
+//! keeps the rules is a law, so the finished program need not be looked at.
 ghost use Rattle.std.specs.Prelude.{◌≡◌, ◌+◌, ◌<◌, ◌≤◌, true, false, length, IfOk, IsTrue, MatchResult};
 ghost use Rattle.u_compile.specs.Drafts.{draft};
 ghost use Rattle.u_compile.specs.Scoped.{Layout, IsScoped};

@@ -1,4 +1,7 @@
 //! A procedure under construction: its graph, its scopes and its values.
+//!
+//! A value is a list of outputs, and each port that uses it is linked to all of them. A procedure is broken
+//! once a value was linked in part, since links are not taken back: it never becomes a block.
 ghost use Rattle.std.specs.Prelude.{◌≡◌, ℕ, ◌+◌, ◌≤◌, List, [], ◌∷◌, ◌++◌, length, slice_get, slice_set, get_or, false, Some, None, IfOk, OnOk, IfSome, IfNone, MatchResult};
 ghost use Rattle.u_program.specs.Limits.{IsBlockOf, limits_of, place_of};
 ghost use Rattle.u_program.specs.declared.program.Version.TheVariants as versions;
@@ -14,7 +17,7 @@ ghost use Rattle.u_compile.specs.Scopes.{HasRegion, IsPlaceOf};
 ghost use Rattle.u_compile.specs.Drawings.{Adds, AddsNext, AreValues, Calls, Chooses, EachIsFed, Gives, Grows, HasNoGate, IsGate, IsGated, IsNextOf, IsOnly, IsOpen, IsOwn, IsParameter, IsValue, LeadsOn, Leaves, Merges, SetsNext, SharesGate, StandsIn, a_carried, a_gate, input_links, links_to, no_statements, with_links, with_scope, with_value};
 
 use crate::graph::{Full, Output, STATEMENTS};
-use crate::place::{Guard, Place};
+use crate::place::{Guard, GuardedRegion};
 use crate::placed::Noted;
 use std::alloc::Global;
 use std::marker::Model;
@@ -318,7 +321,7 @@ impl Drawing {
     }
 
     /// Where the statements of a scope lie: in its region, and in the sides of controls there that it stands in.
-    fn place(&self, scope: usize) -> Result<Place, Full>
+    fn place(&self, scope: usize) -> Result<GuardedRegion, Full>
         ensures { IfOk result (IsPlaceOf self.now.scopes scope) }
     {
         let region = self.region(scope)?;
@@ -327,8 +330,8 @@ impl Drawing {
         'outwards: for _ in 0..=scope {
             let outer = self.scope(at)?;
             match outer.way {
-                Way::Procedure => return Ok(Place::of(region, guards)),
-                Way::Turn(_) => return Ok(Place::of(region, guards)),
+                Way::Procedure => return Ok(GuardedRegion::of(region, guards)),
+                Way::Turn(_) => return Ok(GuardedRegion::of(region, guards)),
                 Way::Side(control, value) => {
                     guards.push(Guard {
                         control: control.statement,
@@ -393,7 +396,7 @@ impl Drawing {
     /// chooses its side.
     fn add(
         &mut self,
-        place: &Place,
+        place: &GuardedRegion,
         kind: &Kind,
         control: u16,
         inputs: &[usize],
@@ -414,7 +417,7 @@ impl Drawing {
     }
 
     /// Adds a `next` of an `enter` in a place, to which the value leads.
-    fn add_going_on(&mut self, place: &Place, enter: u16, value: usize) -> Result<(), Full>
+    fn add_going_on(&mut self, place: &GuardedRegion, enter: u16, value: usize) -> Result<(), Full>
         ensures adds { OnOk result (Adds self.old self.new kinds.Next (value ∷ [])) }
         ensures of { OnOk result (IsNextOf self.new.statements
             (length self.old.statements + 1) enter) }
@@ -492,7 +495,7 @@ impl Drawing {
     }
 
     /// Adds the `back` behind the last statement, which is an `apply`, and returns its value.
-    fn add_back(&mut self, place: &Place) -> Result<usize, Full>
+    fn add_back(&mut self, place: &GuardedRegion) -> Result<usize, Full>
         ensures { IfOk result (λ v. Gives self.old self.new kinds.Back [] v) }
     {
         let back = self.add(place, &Kind::Back, 0, &[])?;
@@ -733,8 +736,10 @@ impl Drawing {
         Ok(())
     }
 
-    /// The procedure as a block with this name. It is determinate, and keeps the rules of the checker. Each port is led to
-    /// by what one value gives, and by nothing else.
+    /// The procedure as a block with this name. It is determinate, and keeps the rules of the checker.
+    ///
+    /// Promise no-other-arc: to each port of the block nothing leads, or exactly the outputs of one value, or
+    /// one output to port 2 of a `switch`.
     pub fn finish(self, name: BlockName) -> Result<Block, Full>
         ensures block { IfOk result (λ b. IsBlockOf (limits_of versions.Two) b) }
         ensures determinate { IfOk result (λ b. IsDeterminateBlock b) }

@@ -1,4 +1,8 @@
 //! The lowering: one pass over the nodes of a source.
+//!
+//! Each node stands after its children, so one pass with a stack of operands and one of what has begun is
+//! enough. ScopedNames and constants wait there as they are, so one that nobody uses costs nothing. What can't be
+//! in a tree of the parser ends in one error, `Broken`.
 ghost use Rattle.std.specs.Prelude.{◌≡◌, [], IfOk, MatchResult, OnOk};
 ghost use Rattle.u_program.specs.Limits.{IsBlockOf, limits_of};
 ghost use Rattle.u_program.specs.declared.program.Version.TheVariants as versions;
@@ -15,13 +19,13 @@ ghost use Rattle.u_compile.specs.Sides.{IsFramePopped, IsLastFrame, OpensSide};
 use crate::blocks::Blocks;
 use crate::drawing::{Drawing, Scope, Way};
 use crate::graph::{Full, Output};
-use crate::naming::Names;
+use crate::naming::ScopedNames;
 use crate::notes::Notes;
 use crate::tree::Tree;
 use std::alloc::Global;
 use u_name::BlockName;
 use u_program::{Block, Constant};
-use u_source::{Form, Place};
+use u_source::{Form, Position};
 
 /// What waits for its use.
 #[derive(Clone, Copy)]
@@ -85,7 +89,7 @@ pub(crate) struct Start {
     /// The number of the value.
     pub value: usize,
     /// The place of the name.
-    pub place: Place,
+    pub place: Position,
 }
 
 /// A source that is gone through.
@@ -94,7 +98,7 @@ pub(crate) struct Lowering<'a> {
     /// The source.
     pub tree: &'a Tree<'a>,
     /// The names of the procedure.
-    pub names: Names,
+    pub names: ScopedNames,
     /// The procedure.
     pub drawing: Drawing,
     /// What waits for its use.
@@ -137,7 +141,7 @@ fn is_item(form: Form) -> bool
 /// A procedure's block, and what was noted of its statements.
 fn finished(
     drawing: Drawing,
-    names: Names,
+    names: ScopedNames,
     value: usize,
     name: BlockName,
 ) -> Result<(Block, Notes), Full>
@@ -161,7 +165,7 @@ impl<'a> Lowering<'a> {
     {
         Ok(Lowering {
             tree,
-            names: Names::new(alloc),
+            names: ScopedNames::new(alloc),
             drawing: Drawing::new(alloc, 0)?,
             operands: Vec::new(alloc),
             frames: Vec::new(alloc),
@@ -258,7 +262,7 @@ impl Lowering<'_> {
             return Err(Full::Misplaced);
         };
         self.drawing = Drawing::new(self.alloc, clock)?;
-        self.names = Names::new(self.alloc);
+        self.names = ScopedNames::new(self.alloc);
         self.forget_begun();
         self.scope = 0;
         Ok(())
@@ -290,7 +294,7 @@ impl Lowering<'_> {
         ensures { OnOk result (Finishes value name (lowering self.old) (lowering self.new)) }
     {
         let drawing = std::mem::replace(&mut self.drawing, Drawing::new(self.alloc, 0)?);
-        let names = std::mem::replace(&mut self.names, Names::new(self.alloc));
+        let names = std::mem::replace(&mut self.names, ScopedNames::new(self.alloc));
         let (block, notes) = finished(drawing, names, value, name)?;
         self.blocks.push(block)?;
         self.notes.push(notes)?;

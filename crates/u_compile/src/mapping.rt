@@ -1,4 +1,7 @@
 //! Where the statements of a finished program come from, by what was noted as they were drawn.
+//!
+//! A read has the name of its structure and not the one under which its value is defined, since that name
+//! leads to the writes. A `pass` that only continues a long list has the place of what it continues.
 ghost use Rattle.std.specs.Prelude.{◌≡◌, IfOk, length};
 ghost use Rattle.u_compile.specs.Maps.{AreOrigins};
 

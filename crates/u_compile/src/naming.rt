@@ -1,4 +1,9 @@
 //! The values of names and constants in scopes.
+//!
+//! A scope is a procedure, a side of an `if`, or a turn of a loop. A name from outside is brought in level
+//! by level at its first use: into a side by a gate that both sides share, into a turn by an `enter` and a
+//! `next`. `gate` and `carry` are these two ways, and `bring` takes the one that the scope has, so the
+//! three have one contract.
 ghost use Rattle.std.specs.Prelude.{◌≡◌, IfNone, IfOk, IfSome, MatchResult, OnOk};
 ghost use Rattle.u_compile.specs.declared.graph.Full.TheVariants as fulls;
 ghost use Rattle.u_compile.specs.Scoped.{IsOf};
@@ -11,7 +16,7 @@ use crate::notes::Notes;
 use std::alloc::Global;
 use u_name::BlockName;
 use u_program::{Constant, Kind};
-use u_source::Place;
+use u_source::Position;
 
 /// The value of a name in a scope.
 #[derive(Clone, Copy)]
@@ -55,13 +60,13 @@ struct Spelling {
 
 /// What the names of a procedure are in its scopes, and where its statements come from.
 #[derive(Drop)]
-pub(crate) struct Names {
+pub(crate) struct ScopedNames {
     bindings: Vec<Binding>,
     aliases: Vec<Alias>,
     constants: Vec<ConstantBinding>,
     spellings: Vec<Spelling>,
     notes: Notes,
-    place: Place,
+    place: Position,
 }
 
 /// The constant that a name is.
@@ -152,34 +157,34 @@ fn towards(drawing: &Drawing, outer: usize, scope: usize) -> Result<usize, Full>
     Err(Full::Misplaced)
 }
 
-impl Names {
+impl ScopedNames {
     /// Those of a procedure without scopes.
-    pub fn new(alloc: Global) -> Names
+    pub fn new(alloc: Global) -> ScopedNames
         ensures { known result ≡ nothing_known }
     {
-        Names {
+        ScopedNames {
             bindings: Vec::new(alloc),
             aliases: Vec::new(alloc),
             constants: Vec::new(alloc),
             spellings: Vec::new(alloc),
             notes: Notes::new(alloc),
-            place: Place::start(),
+            place: Position::start(),
         }
     }
 
     /// What was noted of its statements.
     pub fn into_notes(self) -> Notes {
-        let Names { notes, .. } = self;
+        let ScopedNames { notes, .. } = self;
         notes
     }
 
     /// The place from which statements come from now on.
-    pub fn place(&self) -> Place {
+    pub fn place(&self) -> Position {
         self.place
     }
 
     /// Lets statements come from this place from now on.
-    pub fn set_place(&mut self, place: Place)
+    pub fn set_place(&mut self, place: Position)
         ensures { known self.new ≡ known self.old }
     {
         self.place = place;
@@ -346,6 +351,9 @@ impl Names {
     }
 
     /// The value of a name in a scope.
+    ///
+    /// Promise values-of-names: it is one that was bound to the name here or in a scope around, brought in by
+    /// one gate or `enter` for each scope between.
     pub fn value_of(
         &mut self,
         drawing: &mut Drawing,

@@ -2,7 +2,7 @@
 
 use std::alloc::{AllocFailed, Global};
 use u_name::BlockName;
-use u_source::Place;
+use u_source::Position;
 
 /// The name of a statement, or that it gets none.
 #[derive(Clone, Copy)]
@@ -16,7 +16,7 @@ pub(crate) struct Named {
 /// The places and the names of the statements of a procedure, in their order.
 #[derive(Drop)]
 pub(crate) struct Notes {
-    places: Vec<Place>,
+    places: Vec<Position>,
     names: Vec<Named>,
 }
 
@@ -45,7 +45,7 @@ impl Notes {
     }
 
     /// The place from which the statement with this number comes.
-    pub fn place_of(&self, number: usize) -> Option<Place> {
+    pub fn place_of(&self, number: usize) -> Option<Position> {
         let Some(before) = number.checked_sub(1) else {
             return None;
         };
@@ -64,7 +64,7 @@ impl Notes {
     }
 
     /// Lets the statements up to this number come from there, but those that come from somewhere already.
-    pub fn note(&mut self, number: usize, place: Place) -> Result<(), AllocFailed<Place>> {
+    pub fn note(&mut self, number: usize, place: Position) -> Result<(), AllocFailed<Position>> {
         for _ in self.places.len()..number {
             self.places.push(place)?;
         }

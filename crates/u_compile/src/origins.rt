@@ -3,7 +3,7 @@ ghost use Rattle.std.specs.Prelude.{◌≡◌};
 ghost use Rattle.u_compile.specs.Maps.{role_word, role_words};
 
 use u_name::BlockName;
-use u_source::Place;
+use u_source::Position;
 
 /// What a statement does for its source.
 #[derive(Clone, Copy, Debug, PartialEq, Eq)]
@@ -46,7 +46,7 @@ pub enum Role {
 #[derive(Clone, Copy)]
 pub struct Origin {
     /// The place of the source that asks for it.
-    pub place: Place,
+    pub place: Position,
     /// What it does there.
     pub role: Role,
     /// The name that its value has or flows under, if there is one; of a read that of its structure, if that is a name.

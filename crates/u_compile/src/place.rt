@@ -30,35 +30,35 @@ impl Guard {
 
 /// Where statements lie: a region, and the guards that hold there, the inner ones first.
 #[derive(Drop)]
-pub struct Place {
+pub struct GuardedRegion {
     region: u8,
     guards: Vec<Guard>,
 }
 
-impl Model for Place {
-    ghost use Rattle.u_compile.specs.Scoped.{PlaceParts, place};
+impl Model for GuardedRegion {
+    ghost use Rattle.u_compile.specs.Scoped.{GuardedRegionParts, place};
 
-    ghost Value = { PlaceParts };
+    ghost Value = { GuardedRegionParts };
 
     ghost view = { λ p. place p.region p.guards.items };
 }
 
-impl Place {
+impl GuardedRegion {
     /// A region without guards. It takes no memory.
-    pub fn new(alloc: Global, region: u8) -> Place
+    pub fn new(alloc: Global, region: u8) -> GuardedRegion
         ensures { result ≡ place region [] }
     {
-        Place {
+        GuardedRegion {
             region,
             guards: Vec::new(alloc),
         }
     }
 
     /// A region with these guards, the inner ones first.
-    pub fn of(region: u8, guards: Vec<Guard>) -> Place
+    pub fn of(region: u8, guards: Vec<Guard>) -> GuardedRegion
         ensures { result ≡ place region guards.items }
     {
-        Place { region, guards }
+        GuardedRegion { region, guards }
     }
 
     /// The region: 0, or the number of a loop.
@@ -76,7 +76,7 @@ impl Place {
     }
 
     /// Whether it is the same place.
-    pub fn is(&self, other: &Place) -> bool
+    pub fn is(&self, other: &GuardedRegion) -> bool
         ensures { IsTrue result → self.now ≡ other.now }
     {
         self.region == other.region && are_same(&self.guards, &other.guards)
@@ -93,14 +93,19 @@ impl Place {
     ///
     /// # Errors
     /// `AllocError` where there is no memory.
-    pub fn side(&self, alloc: Global, control: u16, value: bool) -> Result<Place, AllocError>
+    pub fn side(
+        &self,
+        alloc: Global,
+        control: u16,
+        value: bool,
+    ) -> Result<GuardedRegion, AllocError>
         ensures { IfOk result
             (λ p. p ≡ place self.now.region (guard control value ∷ self.now.guards)) }
     {
         let mut guards = Vec::new(alloc);
         guards.push(Guard { control, value })?;
         guards.extend_from_slice(&self.guards)?;
-        Ok(Place {
+        Ok(GuardedRegion {
             region: self.region,
             guards,
         })
@@ -110,12 +115,12 @@ impl Place {
     ///
     /// # Errors
     /// `AllocError` where there is no memory.
-    pub fn copy(&self, alloc: Global) -> Result<Place, AllocError>
+    pub fn copy(&self, alloc: Global) -> Result<GuardedRegion, AllocError>
         ensures { IfOk result (λ p. p ≡ self.now) }
     {
         let mut guards = Vec::new(alloc);
         guards.extend_from_slice(&self.guards)?;
-        Ok(Place {
+        Ok(GuardedRegion {
             region: self.region,
             guards,
         })

@@ -15,7 +15,7 @@ ghost use Rattle.u_compile.specs.Placed.{entry, note, test_of, placed, layout_of
 use crate::fanning::draft_at;
 use crate::graph::{Draft, Full, Graph, Link, Output};
 use crate::orderly::{leaves_well, stands_well};
-use crate::place::{Place, are_guards, opposite};
+use crate::place::{GuardedRegion, are_guards, opposite};
 use std::alloc::{AllocError, Global};
 use std::marker::Model;
 use u_check::ports_of;
@@ -25,7 +25,7 @@ use u_program::{Block, Destination, Kind};
 /// What is noted of a statement: its place, and of a `switch` the statement that chooses its side, else 0.
 #[derive(Drop)]
 pub(crate) struct Note {
-    place: Place,
+    place: GuardedRegion,
     control: u16,
 }
 
@@ -39,14 +39,14 @@ impl Model for Note {
 
 impl Note {
     /// A place and a control.
-    fn new(place: Place, control: u16) -> Note
+    fn new(place: GuardedRegion, control: u16) -> Note
         ensures { result ≡ note place control }
     {
         Note { place, control }
     }
 
     /// The place.
-    fn place(&self) -> &Place
+    fn place(&self) -> &GuardedRegion
         ensures { result.now ≡ self.now.place }
     {
         &self.place
@@ -82,7 +82,7 @@ fn note_at(notes: &[Note], number: u16) -> Option<&Note>
 
 /// The place that holds the loop of that number, which counts from 1.
 #[tactic(auto, using(crate::proofs::Entries::entry_there))]
-fn around(places: &[Place], number: u8) -> Option<&Place>
+fn around(places: &[GuardedRegion], number: u8) -> Option<&GuardedRegion>
     ensures { IfSome result (λ p. p.now ≡ entry (place 0 []) places.now number) }
 {
     if number == 0 {
@@ -296,7 +296,7 @@ fn opens(kind: &Kind) -> bool
 pub(crate) struct Noted {
     graph: Graph,
     notes: Vec<Note>,
-    arounds: Vec<Place>,
+    arounds: Vec<GuardedRegion>,
     tests: Vec<Test>,
     unfinished: u16,
     alloc: Global,
@@ -359,7 +359,7 @@ impl Noted {
     }
 
     /// Where what an output of the statement sends arrives.
-    fn sent(&self, output: Output, draft: &Draft) -> Result<Option<Place>, AllocError>
+    fn sent(&self, output: Output, draft: &Draft) -> Result<Option<GuardedRegion>, AllocError>
         ensures { IfOk result (λ o. IfSome o (λ at. at ≡ sent_by (layout_of self.now)
             output.statement output.on_false draft.now.region draft.now.kind)) }
     {
@@ -369,8 +369,8 @@ impl Noted {
         let place = note.place();
         match draft.kind() {
             Kind::Switch => Ok(Some(place.side(self.alloc, note.control(), !output.on_false)?)),
-            Kind::Enter(number) => Ok(Some(Place::new(self.alloc, number))),
-            Kind::Last => Ok(Some(Place::new(self.alloc, place.region()))),
+            Kind::Enter(number) => Ok(Some(GuardedRegion::new(self.alloc, number))),
+            Kind::Last => Ok(Some(GuardedRegion::new(self.alloc, place.region()))),
             Kind::Leave => match around(&self.arounds, draft.region()) {
                 Some(around) => Ok(Some(around.copy(self.alloc)?)),
                 None => Ok(None),
@@ -380,7 +380,12 @@ impl Noted {
     }
 
     /// Whether a link and one from the output, whose value arrives there, may lead to one port.
-    fn may_meet(&self, link: &Link, output: Output, sent: &Place) -> Result<bool, AllocError>
+    fn may_meet(
+        &self,
+        link: &Link,
+        output: Output,
+        sent: &GuardedRegion,
+    ) -> Result<bool, AllocError>
         requires { IsArrived self.now output sent.now }
         ensures { IfOk result
             (λ b. IsTrue b → (link.now.from ≡ output) ⊎ OneSends self.now link.now.from output) }
@@ -405,7 +410,7 @@ impl Noted {
         &self,
         link: &Link,
         output: Output,
-        sent: &Place,
+        sent: &GuardedRegion,
         to: Destination,
     ) -> Result<bool, AllocError>
         requires { IsArrived self.now output sent.now }
@@ -422,7 +427,12 @@ impl Noted {
     }
 
     /// Whether a link from the output, whose value arrives there, may lead to the port beside those that do.
-    fn meets_well(&self, output: Output, sent: &Place, to: Destination) -> Result<bool, AllocError>
+    fn meets_well(
+        &self,
+        output: Output,
+        sent: &GuardedRegion,
+        to: Destination,
+    ) -> Result<bool, AllocError>
         requires { IsArrived self.now output sent.now }
         ensures { IfOk result
             (λ b. IsTrue b → MeetsWell self.now output to self.now.graph.links) }
@@ -438,7 +448,7 @@ impl Noted {
     }
 
     /// Whether what arrives there may come to the statement.
-    fn takes(&self, sent: &Place, statement: u16) -> bool
+    fn takes(&self, sent: &GuardedRegion, statement: u16) -> bool
         ensures { IsTrue result → MayTake self.now sent.now statement }
     {
         let (Some(draft), Some(note)) = (
@@ -511,7 +521,7 @@ impl Noted {
     }
 
     /// Whether a statement of that kind lies in that place.
-    fn lies_well(&self, new: &Draft, place: &Place) -> bool
+    fn lies_well(&self, new: &Draft, place: &GuardedRegion) -> bool
         ensures { IsTrue result → LiesWell self.now new.now place.now }
     {
         match new.kind() {
@@ -527,7 +537,7 @@ impl Noted {
     }
 
     /// Whether the statement may be added in that place.
-    fn fits(&self, new: &Draft, place: &Place) -> bool
+    fn fits(&self, new: &Draft, place: &GuardedRegion) -> bool
         ensures { IsTrue result → FitsIn self.now new.now place.now }
     {
         let drafts = self.graph.drafts();
@@ -570,7 +580,7 @@ impl Noted {
     /// # Errors
     /// `Misplaced` where it may not stand there, where a port of the last statement is not linked, or, of a `switch` and
     /// an `apply`, where another one is not finished; those of `Graph::put`. Nothing is added.
-    pub fn put(&mut self, place: &Place, kind: &Kind, control: u16) -> Result<u16, Full>
+    pub fn put(&mut self, place: &GuardedRegion, kind: &Kind, control: u16) -> Result<u16, Full>
         ensures { MatchResult result
             (λ number. (number ≡ length self.old.graph.statements + 1)
             × (self.new ≡ with_statement self.old (draft place.now.region kind.now number) place.now
@@ -602,7 +612,7 @@ impl Noted {
     /// # Errors
     /// `Misplaced` where it may not stand there, or where a port of the last statement is not linked; those of
     /// `Graph::put_next`. Nothing is added.
-    pub fn put_next(&mut self, place: &Place, enter: u16) -> Result<u16, Full>
+    pub fn put_next(&mut self, place: &GuardedRegion, enter: u16) -> Result<u16, Full>
         ensures { MatchResult result
             (λ number. (number ≡ length self.old.graph.statements + 1)
             × (self.new ≡ with_statement self.old (draft place.now.region kinds.Next enter)
@@ -630,7 +640,7 @@ impl Noted {
     ///
     /// # Errors
     /// Those of `Graph::put_loop`. Nothing is added.
-    pub fn put_loop(&mut self, around: &Place) -> Result<u8, Full>
+    pub fn put_loop(&mut self, around: &GuardedRegion) -> Result<u8, Full>
         ensures { MatchResult result
             (λ number. (number ≡ length self.old.graph.loops + 1)
             × (self.new ≡ with_loop self.old around.now))

@@ -1,4 +1,8 @@
 //! The lowering of `if`.
+//!
+//! What has begun says which `if` it is of, so an end fits its beginning by what is noted. A control is one
+//! output: a value of two outputs, and one that a loop carries, gets a `pass` first. Each control has a
+//! gate, so that one that is no truth value faults.
 ghost use Rattle.std.specs.Prelude.{◌≡◌, ◌↔◌, true, IfOk, IsTrue, OnOk};
 ghost use Rattle.u_compile.specs.Operands.{lowering};
 ghost use Rattle.u_compile.specs.Sides.{ClosesElse, ClosesIf, ClosesSide, ClosesSides, IsInChoice, IsSelect, IsSidePopped, Joins, JoinsSides, KeepsGate, LeavesSide, OpensElse, OpensIf, OpensOther, OpensSides, Selects, noted, with_left};

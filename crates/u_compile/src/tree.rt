@@ -10,7 +10,7 @@ use crate::graph::Full;
 use std::alloc::Global;
 use u_name::BlockName;
 use u_scope::Meaning;
-use u_source::{Form, Node, Place, Token, Word};
+use u_source::{Form, Node, Position, Token, Word};
 
 /// How many children a node of the form has.
 fn children(form: Form) -> usize
@@ -398,18 +398,18 @@ impl<'a> Tree<'a> {
     }
 
     /// The place of the token with this number, or of the first byte where there is none.
-    pub fn place_at(&self, token: usize) -> Place {
+    pub fn place_at(&self, token: usize) -> Position {
         match self.tokens.get(token) {
             Some(token) => token.place(),
-            None => Place::start(),
+            None => Position::start(),
         }
     }
 
     /// The place of the node with this number, or of the first byte where there is none.
-    pub fn place_of(&self, number: usize) -> Place {
+    pub fn place_of(&self, number: usize) -> Position {
         match self.nodes.get(number) {
             Some(node) => self.place_at(node.token),
-            None => Place::start(),
+            None => Position::start(),
         }
     }
 

@@ -41,10 +41,10 @@ fn first_firings(firings: &[Firing]) -> &[Firing]
     }
 }
 
-/// Returns the delta of the sender's log for a receiver that has what the mark says. It starts
-/// behind the firings of the mark where the mark is of this life and the log is that long,
-/// elsewhere with the log's first firing. It brings copies of at most 4,096 firings from there
-/// on.
+/// Returns the delta of the sender's log for a receiver that has what the mark says.
+///
+/// Promise deltas: it brings the log from the mark on, or from the front if the mark is of another life or
+/// beyond the log, at most 4096 firings.
 ///
 /// # Errors
 /// `AllocError` where there is no memory.

@@ -149,8 +149,11 @@ fn read_lines(alloc: Global, bytes: &[u8]) -> Result<Message, ReadError>
 /// its `COUNT` firings, and the line `end`, each with a newline behind it. Each message has one
 /// text, which `write_message` writes, so the two are inverse to each other.
 ///
-/// The two replicas are 1 to 8 and differ. The life of a delta is at least 1, and it has at most
-/// 4,096 firings. The text of a message is refused for want of memory alone.
+/// The two replicas are 1 to 8 and differ. The life of a delta is at least 1, and it has at most 4,096
+/// firings.
+///
+/// Promise messages-are-read: what is read has the bytes as its text, and the text of a message is refused
+/// only if there is no memory.
 ///
 /// # Errors
 /// Lines are judged from the first one. `TooLong` where a line has more than 32,768 bytes,

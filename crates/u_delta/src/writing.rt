@@ -13,8 +13,8 @@ use crate::message::{Ask, Delta, Message};
 use crate::ranges::all_in_range;
 use crate::written_context::push_line;
 use std::alloc::AllocError;
-use u_rule::Firing;
 use u_base::{cut_back, push_behind, push_long};
+use u_rule::Firing;
 
 /// Appends a space and a number. On an error the space may stand there.
 #[tactic(auto, using(u_base::proofs::AppendingLaws::extends_same, u_base::proofs::AppendingLaws::extends_behind, std::proofs::Common::append_assoc))]
@@ -146,6 +146,8 @@ fn message_in_range(message: &Message)
 /// delta the line `u-delta 1 SENDER RECEIVER LIFE START COUNT`, a line for each of its `COUNT`
 /// firings, and the line `end`. The parts of all firings are in their ranges, as those of every
 /// firing in memory.
+///
+/// Promise messages-are-written: exactly the text is appended that `read_message` reads as this message.
 ///
 /// # Errors
 /// `AllocError` where there is no memory. Then `out` is as it was.

@@ -13,7 +13,7 @@ use Rattle.u_determinate.proofs.KindFacts.{named_apply}
 use Rattle.u_determinate.specs.Determinate.{IsDeterminate}
 use Rattle.u_determinate.specs.declared.verdict.Meeting.{Meeting}
 use Rattle.u_determinate.specs.declared.verdict.Meeting.TheVariants.{Arcs, Ends, Calls, Turns}
-use Rattle.u_determinate.specs.declared.verdict.Place.{Place}
+use Rattle.u_determinate.specs.declared.verdict.MeetingPoint.{MeetingPoint}
 use Rattle.u_determinate.specs.declared.verdict.Determinacy.{Determinacy}
 use Rattle.u_determinate.specs.declared.verdict.Determinacy.TheVariants.{Determinate, Meets}
 use Rattle.u_determinate.specs.declared.first_meeting.Found.{Found}
@@ -92,7 +92,7 @@ module _ (p : List BlockParts) (fs : List Found) (are : AreFindings p fs) (m : M
       let k = place_of_member p b c in
       block_keeps k.0 b k.1 (none k.0)
 
-  pub some_found : (place : Place) → IsFirstPlace fs m place → IsFirstMeeting p m place.block place.at
+  pub some_found : (place : MeetingPoint) → IsFirstPlace fs m place → IsFirstMeeting p m place.block place.at
   some_found place h = record {
     here = record { counts = h.counts; it = b; stands = e; broken = first.0 };
     first = λ c n w x. elim x [
@@ -165,7 +165,7 @@ module _ (p : List BlockParts) where
         kept_nowhere p k (before k (omega (arith, h, e, q))) b n v;
   }
 
-  pub first_answer : (fs : List Found) → AreFindings p fs → (i : ℕ) (place : Place) → i < 4 → KeptKinds i → IsFirstPlace fs (meeting_in i) place → IsAnswer p (Meets place)
+  pub first_answer : (fs : List Found) → AreFindings p fs → (i : ℕ) (place : MeetingPoint) → i < 4 → KeptKinds i → IsFirstPlace fs (meeting_in i) place → IsAnswer p (Meets place)
   first_answer fs are i place l before h =
       subst (λ (m : Meeting). IsFirstOfAll p m place.block place.at) (sym h.meeting) (first_of_all i (meeting_in i) place.block place.at l refl before (some_found p fs are (meeting_in i) place h))
 

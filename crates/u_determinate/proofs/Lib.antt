@@ -15,8 +15,8 @@ pub mod Same
 pub mod Rooted
 pub mod Senders
 pub mod GuardsTell
-pub mod Loops
-pub mod Sources
+pub mod LoopLaws
+pub mod SourceLaws
 pub mod OnlyWrites
 pub mod Parameters
 pub mod RootAnswers
@@ -25,7 +25,7 @@ pub mod Rounds
 pub mod Theorem
 pub mod Links
 pub mod Sweeps
-pub mod Ports
+pub mod PortLaws
 pub mod Pairs
 pub mod SidesLaws
 pub mod Marks

@@ -17,7 +17,7 @@ use Rattle.u_determinate.proofs.Clash.{Clash, Cells}
 use Rattle.u_determinate.proofs.Givers.{Giver, giver}
 use Rattle.u_determinate.proofs.Same.{Trouble, same_activity}
 use Rattle.u_determinate.proofs.Senders.{placed, sent, not_first, back_not_first}
-use Rattle.u_determinate.proofs.Sources.{same_source, one_value}
+use Rattle.u_determinate.proofs.SourceLaws.{same_source, one_value}
 
 turned : (a b : Entry) → Clash a b → Clash b a
 turned (entries.Token a) (entries.Token b) c = (sym c.0, sym c.1, λ e. c.2 (sym e))

@@ -4,7 +4,7 @@ use Rattle.u_program.specs.Parts.{StatementParts, BlockParts}
 use Rattle.u_determinate.specs.Breaches.{IsFirstFailing}
 use Rattle.u_determinate.specs.declared.verdict.Meeting.{Meeting}
 use Rattle.u_determinate.specs.declared.verdict.Meeting.TheVariants.{Arcs, Ends, Calls, Turns}
-use Rattle.u_determinate.specs.declared.verdict.Place.{Place}
+use Rattle.u_determinate.specs.declared.verdict.MeetingPoint.{MeetingPoint}
 use Rattle.u_determinate.specs.declared.first_meeting.Found.{Found}
 use Rattle.u_determinate.specs.Meetings.{Asks}
 
@@ -28,7 +28,7 @@ pub record AreFindings (p : List BlockParts) (fs : List Found) : Type 0 where
       → AreFirst b.statements f
 
 -- the place is the first where something of that kind was found
-pub record IsFirstPlace (fs : List Found) (m : Meeting) (place : Place) : Type 0 where
+pub record IsFirstPlace (fs : List Found) (m : Meeting) (place : MeetingPoint) : Type 0 where
   pub meeting : place.meeting ≡ m
   pub counts : 1 ≤ place.block
   pub it : Found
@@ -40,6 +40,6 @@ pub record IsFirstPlace (fs : List Found) (m : Meeting) (place : Place) : Type 0
       → found_of f m ≡ None
 
 -- that place, or none where nothing of that kind was found
-abbrev pub IsFirstFound : List Found → Meeting → Option Place → Type 0
+abbrev pub IsFirstFound : List Found → Meeting → Option MeetingPoint → Type 0
 IsFirstFound fs m None = (i : ℕ) (f : Found) → slice_get fs i ≡ Some f → found_of f m ≡ None
 IsFirstFound fs m (Some place) = IsFirstPlace fs m place

@@ -1,4 +1,6 @@
 //! The first `back` that not one call returns to, by the calls counted in one pass over a block.
+//!
+//! Two `apply` that name one `back` are two calls, whatever their number of arguments.
 ghost use Rattle.std.specs.Prelude.{◌≡◌, ℕ, ◌+◌, ◌-◌, ◌<◌, ◌≤◌, ◌==◌, ◌||◌, not, if◌then◌else◌, IfOk, length, slice_index_or, replicate};
 ghost use Rattle.u_check.specs.Kinds.{is_back};
 ghost use Rattle.u_determinate.specs.Breaches.{ReturnsOneCall, Asks, IsFirstFailing};

@@ -1,13 +1,19 @@
 //! What holds of the runs of strict and of determinate jobs.
+//!
+//! Each law is the clause of a function that does nothing, as those of machines and replicas are: its
+//! callers have it of a job at hand. It is proved once, for determinate programs, and a strict program is
+//! shown to be determinate.
 ghost use Rattle.u_determinate.specs.Strict.{IsStrict};
 ghost use Rattle.u_determinate.specs.Determinate.{IsDeterminate};
 ghost use Rattle.u_determinate.specs.Theorem.{IsDeterminateJob};
 
 use u_check::Job;
 
-/// What holds of a job whose program is determinate, or strict: each of its runs has two values at a
-/// port, or two answers, only if it has two writes of one cell; and so has its whole history. It does
-/// nothing, and callers cite its clauses.
+/// What holds of each run of the job, and of its whole history. It does nothing, and callers cite its
+/// clauses.
+///
+/// Promise only-writes-clash: if the program is strict or determinate, two values at one port, or two
+/// answers, come only with two writes of one cell.
 pub fn only_writes_clash(job: &Job)
     ensures determinate { IsDeterminate job.now.program.blocks → IsDeterminateJob job.now }
     ensures strict { IsStrict job.now.program.blocks → IsDeterminateJob job.now }

@@ -1,4 +1,7 @@
 //! The first place where a program is not strict.
+//!
+//! Arcs are counted in tables, one pass each, so that no statement is looked for. So this takes memory,
+//! which the check does not.
 ghost use Rattle.std.specs.Prelude.{◌≡◌, IfOk};
 ghost use Rattle.u_determinate.specs.Breaches.{Asks, IsFirstFailing, IsFirstIn, IsAnswer, IsExact};
 
@@ -65,8 +68,13 @@ fn strictness_of(alloc: Global, blocks: &[Block]) -> Result<Strictness, AllocErr
     Ok(Strictness::Strict)
 }
 
-/// Whether the program is strict, or the first place where it is not: by the rule's number, then
-/// the block, then the statement or the loop. The time is linear in the size of the program.
+/// Whether the program is strict, or the first place where it is not. The time is linear in the size of the
+/// program.
+///
+/// Promise strictness-is-exact: `Strict` is returned exactly if the program is strict.
+///
+/// Promise first-loose-place: of another program the first place is returned that breaks a rule: by the
+/// rule's number, then the block, then the statement or the loop.
 ///
 /// # Errors
 /// `AllocError` where there is no memory.

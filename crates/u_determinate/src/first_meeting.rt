@@ -12,7 +12,7 @@ use crate::keeps::Guarded;
 use crate::marking::Flow;
 use crate::sides::all_marks;
 use crate::trail::ahead_of;
-use crate::verdict::{Determinacy, Meeting, Place};
+use crate::verdict::{Determinacy, Meeting, MeetingPoint};
 use std::alloc::{AllocError, Global};
 use u_check::Checked;
 use u_program::Block;
@@ -109,12 +109,12 @@ fn all_findings(alloc: Global, blocks: &[Block]) -> Result<Vec<Found>, AllocErro
 }
 
 /// The first place where that meets.
-fn first_of(findings: &[Found], meeting: Meeting) -> Option<Place>
+fn first_of(findings: &[Found], meeting: Meeting) -> Option<MeetingPoint>
     ensures { IsFirstFound findings.now meeting result }
 {
     for (i, found) in findings.iter().enumerate() {
         if let Some(at) = found.of(meeting) {
-            return Some(Place {
+            return Some(MeetingPoint {
                 meeting,
                 block: i + 1,
                 at,
@@ -140,8 +140,12 @@ fn determinacy_of(alloc: Global, blocks: &[Block]) -> Result<Determinacy, AllocE
     Ok(Determinacy::Determinate)
 }
 
-/// Whether the program is determinate; else the first place that shows that it is not: by what
-/// meets there, in the order of `Meeting`, then by its block, then by its statement.
+/// Whether the program is determinate, or the first place that shows that it is not.
+///
+/// Promise determinacy-is-exact: `Determinate` is returned exactly if the program is determinate.
+///
+/// Promise first-meeting: of another program the first place is returned that shows it, in the order of
+/// `Meeting`, then by its block, then by its statement.
 ///
 /// # Errors
 /// `AllocError` where there is no memory.

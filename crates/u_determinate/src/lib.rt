@@ -43,4 +43,4 @@ pub use clashes::only_writes_clash;
 pub use first::{strictness, strictness_of_job};
 pub use first_meeting::determinacy;
 pub use rule::StrictRule;
-pub use verdict::{Determinacy, Meeting, Place};
+pub use verdict::{Determinacy, Meeting, MeetingPoint};

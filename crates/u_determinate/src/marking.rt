@@ -5,7 +5,7 @@ ghost use Rattle.u_determinate.specs.Flow.{AreSources, marked, IsMarked, OnlyLin
 ghost use Rattle.u_determinate.specs.declared.incoming.Link.{Link};
 
 use crate::incoming::{Link, Sources, statement_of};
-use crate::trail::{Ahead, Course};
+use crate::trail::{Course, Followers};
 use std::alloc::{AllocError, Global};
 use u_program::{Kind, Statement};
 
@@ -14,7 +14,7 @@ use u_program::{Kind, Statement};
 pub(crate) struct Flow<'a> {
     pub statements: &'a [Statement],
     pub sources: &'a [Sources],
-    pub ahead: &'a Ahead,
+    pub ahead: &'a Followers,
 }
 
 /// Whether the number is marked.

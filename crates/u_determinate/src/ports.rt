@@ -1,4 +1,7 @@
 //! The first statement with a port that lacks one source.
+//!
+//! The statements are gone through once for each port, and of two breaches the earlier one is kept, so no
+//! table has a column for each port.
 ghost use Rattle.std.specs.Prelude.{◌≡◌, ℕ, ◌+◌, ◌-◌, ◌<◌, ◌≤◌, ◌↔◌, IsTrue, IfOk, length, slice_index_or};
 ghost use Rattle.u_determinate.specs.Breaches.{PortsHaveOneSource, Asks, IsFirstFailing};
 ghost use Rattle.u_determinate.specs.Tables.{is_one_source, has_one_source, first_of_both, AreSources, PortIsFed};

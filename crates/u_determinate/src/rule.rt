@@ -1,4 +1,7 @@
 //! The rules of strict programs.
+//!
+//! A breach is the denial of what a rule asks of one statement or loop, so one definition for each rule
+//! makes the answer exact both ways.
 ghost use Rattle.std.specs.Prelude.{◌≡◌};
 ghost use Rattle.u_determinate.specs.Breaches.{number_of};
 

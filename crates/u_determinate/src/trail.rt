@@ -8,7 +8,7 @@ use u_program::{Destination, Kind, Statement};
 
 /// What follows each statement of a block.
 #[derive(Drop)]
-pub(crate) struct Ahead {
+pub(crate) struct Followers {
     /// Of an `enter` the first `leave` of its loop, of that each other one, and of an `apply` the `back`
     /// that it names.
     behind: Vec<Vec<usize>>,
@@ -56,7 +56,7 @@ fn add(lists: &mut [Vec<usize>], place: usize, number: usize) -> Result<(), Allo
     Ok(())
 }
 
-impl Ahead {
+impl Followers {
     /// Takes note that statement `number` stands behind the other.
     fn note_behind(&mut self, number: usize, other: usize) -> Result<(), AllocError> {
         count_one(&mut self.counts, place_of(number, 0));
@@ -181,8 +181,8 @@ pub(crate) fn ahead_of(
     alloc: Global,
     statements: &[Statement],
     sources: &[Sources],
-) -> Result<Ahead, AllocError> {
-    let mut ahead = Ahead {
+) -> Result<Followers, AllocError> {
+    let mut ahead = Followers {
         behind: empty_lists(alloc, sources.len())?,
         leaves: first_leaves(alloc, statements)?,
         counts: vec![in alloc; 0; sources.len().saturating_mul(COUNTS)]?,
@@ -199,7 +199,7 @@ pub(crate) fn ahead_of(
 
 impl Trail {
     /// A list of none.
-    fn new(alloc: Global, ahead: &Ahead) -> Result<Trail, AllocError> {
+    fn new(alloc: Global, ahead: &Followers) -> Result<Trail, AllocError> {
         Ok(Trail {
             left: ahead.counts.clone()?,
             listed: vec![in alloc; false; ahead.behind.len()]?,
@@ -264,7 +264,7 @@ fn passes_at<'a>(passes: &'a [Vec<usize>], numbers: &[usize], at: usize) -> Opti
 #[derive(Clone, Copy)]
 pub(crate) struct Course<'a> {
     pub statements: &'a [Statement],
-    pub ahead: &'a Ahead,
+    pub ahead: &'a Followers,
 }
 
 impl Course<'_> {

@@ -15,7 +15,7 @@ pub enum Meeting {
 
 /// A statement where a program is not determinate.
 #[derive(Clone, Copy, Debug, PartialEq, Eq)]
-pub struct Place {
+pub struct MeetingPoint {
     /// What meets there.
     pub meeting: Meeting,
     /// The block's number from 1.
@@ -30,5 +30,5 @@ pub enum Determinacy {
     /// It is.
     Determinate,
     /// It is not, and this is the first place that shows so.
-    Meets(Place),
+    Meets(MeetingPoint),
 }

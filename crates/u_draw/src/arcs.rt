@@ -1,4 +1,7 @@
 //! The arcs of a block, and the points of the lists that its statements share.
+//!
+//! A point is named by its list, so two of one block can't be taken for each other. It stands with the last
+//! statement but one that has the list, which is known from the statements after it alone.
 ghost use Rattle.std.specs.Prelude.{◌≡◌, ◌+◌, ◌<◌, ◌^◌, ◌++◌, ◌∷◌, [], length, IfOk, OnOk, OnErr};
 ghost use Rattle.u_base.specs.Appending.{Extends};
 ghost use Rattle.u_draw.specs.Dot.{attributes_text, shown_line, text};

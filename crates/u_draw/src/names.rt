@@ -4,8 +4,8 @@ ghost use Rattle.std.specs.Prelude.{◌≡◌, IfOk};
 ghost use Rattle.u_draw.specs.Names.{statement_name, point_name, block_cluster, loop_cluster};
 
 use std::alloc::{AllocError, Global};
-use u_program::{Destination, push_list};
 use u_base::push_long;
+use u_program::{Destination, push_list};
 
 /// The name of a statement's node: `BLOCK.NUMBER`.
 #[tactic(auto, using(crate::proofs::Texts::join2))]

@@ -1,4 +1,7 @@
 //! The picture of a program.
+//!
+//! The program is gone over once, in the order of its text. Each line names all the clusters that hold what
+//! it shows; Graphviz takes clusters of one name within the same ones for one.
 ghost use Rattle.std.specs.Prelude.{◌≡◌, ◌++◌, ◌∷◌, OnOk, OnErr};
 ghost use Rattle.u_base.specs.Appending.{Extends};
 ghost use Rattle.u_draw.specs.Dot.{text, picture_text};
@@ -12,8 +15,8 @@ use crate::arcs::push_arcs;
 use crate::clusters::push_clusters;
 use crate::nodes::push_nodes;
 use std::alloc::AllocError;
-use u_program::{Block, Program, Version};
 use u_base::cut_back;
+use u_program::{Block, Program, Version};
 
 /// What begins the text: how a picture is laid out, and how nodes and arcs look that do not say so.
 const OPENING: &[u8] = b"digraph u {
@@ -61,9 +64,20 @@ fn push_picture(out: &mut Vec<u8>, program: &Program) -> Result<(), AllocError>
     Ok(())
 }
 
-/// Appends the picture of the program, as a text of DOT, the language of Graphviz: a line for each
-/// cluster, statement, arc and shared list. The tooltips of its clusters and nodes are the lines of the
-/// program, in their order.
+/// Appends the picture of the program, as a text of DOT, the language of Graphviz: a line for each cluster,
+/// statement, arc and shared list.
+///
+/// Promise picture-is-written: exactly the text of the picture in DOT is appended, each name and value
+/// between quotes.
+///
+/// Promise picture-leads: it leads from a statement to a port of another wherever the program does, by an arc
+/// or through the point of a shared list.
+///
+/// Promise picture-shows-no-more: beside clusters and statements it shows only arcs of the program, the
+/// points of their lists, and arcs from an `apply` to its `back`.
+///
+/// Promise picture-tells-the-text: the tooltips, in order, are the lines of the program after the first, so
+/// programs of one version have different pictures if their texts differ.
 ///
 /// # Errors
 /// `AllocError` where there is no memory. Then `out` is as it was.

@@ -1,4 +1,6 @@
 //! How statements and arcs look, by what they do.
+//!
+//! `next` has no say in what stands above what: with one, loops are torn apart.
 ghost use Rattle.std.specs.Prelude.{◌≡◌, ◌∷◌, []};
 ghost use Rattle.u_draw.specs.Dot.{attributes_text};
 ghost use Rattle.u_draw.specs.Styles.{fill, ports_of_call, label_above, label_below, exit_of, exit_attributes, join, entry};

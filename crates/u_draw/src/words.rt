@@ -6,8 +6,8 @@ ghost use Rattle.u_draw.specs.Styles.{label};
 
 use crate::styles::{label_above, label_below};
 use std::alloc::{AllocError, Global};
-use u_program::{Kind, Statement, Version, push_kind, push_tail};
 use u_base::{push_behind, push_long, push_spaced};
+use u_program::{Kind, Statement, Version, push_kind, push_tail};
 
 /// The statement's line in the text of its program, without the newline.
 #[tactic(auto, unfolding(u_program::specs::Text::statement_line), using(crate::proofs::Texts::join2))]

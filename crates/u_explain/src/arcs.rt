@@ -5,7 +5,7 @@ use u_program::{Block, Destination, Kind, Statement};
 
 /// A port of a statement of a block.
 #[derive(Clone, Copy)]
-pub struct Port {
+pub struct StatementPort {
     /// The statement's number, from 1.
     pub statement: usize,
     /// The port's number, from 1.
@@ -40,7 +40,7 @@ pub fn port_count(block: &Block, number: usize) -> usize {
 fn add_list(
     sources: &mut Vec<Source>,
     list: &[Destination],
-    to: Port,
+    to: StatementPort,
     first: Source,
 ) -> Result<(), AllocError> {
     for (i, destination) in list.iter().enumerate() {
@@ -62,7 +62,7 @@ fn add_statement(
     sources: &mut Vec<Source>,
     statement: &Statement,
     number: usize,
-    to: Port,
+    to: StatementPort,
 ) -> Result<(), AllocError> {
     let on_true = Source {
         statement: number,
@@ -82,7 +82,11 @@ fn add_statement(
 ///
 /// # Errors
 /// `AllocError` where there is no memory.
-pub fn sources_of(alloc: Global, block: &Block, to: Port) -> Result<Vec<Source>, AllocError> {
+pub fn sources_of(
+    alloc: Global,
+    block: &Block,
+    to: StatementPort,
+) -> Result<Vec<Source>, AllocError> {
     let mut sources = Vec::new(alloc);
     for (i, statement) in block.statements().iter().enumerate() {
         add_statement(&mut sources, statement, i + 1, to)?;

@@ -4,7 +4,7 @@ use u_program::{Block, Destination, Kind, Statement};
 
 /// A destination of a statement, with its place in the lists.
 #[derive(Clone, Copy)]
-pub struct Sent {
+pub struct DestinationAt {
     /// The destination.
     pub destination: Destination,
     /// How many words stand between the arrow and it.
@@ -59,10 +59,10 @@ fn first_of(
     statement: &Statement,
     sent: &[Destination],
     words: usize,
-) -> Option<Sent> {
+) -> Option<DestinationAt> {
     for (i, destination) in sent.iter().enumerate() {
         if breaks(rule, block, statement, destination) {
-            return Some(Sent {
+            return Some(DestinationAt {
                 destination: *destination,
                 words: words.saturating_add(i),
             });
@@ -81,7 +81,11 @@ fn enters_inward(block: &Block, statement: &Statement) -> bool {
 
 /// The first destination of the statement that breaks the rule, if there is one and the statement
 /// does not break it by itself.
-pub fn wrong_destination(rule: Rule, block: &Block, statement: &Statement) -> Option<Sent> {
+pub fn wrong_destination(
+    rule: Rule,
+    block: &Block,
+    statement: &Statement,
+) -> Option<DestinationAt> {
     if rule == Rule::EnterReachesItsLoop && !enters_inward(block, statement) {
         return None;
     }

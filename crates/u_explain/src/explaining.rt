@@ -53,15 +53,17 @@ fn error_text(alloc: Global, bytes: &[u8], error: ReadError) -> Result<Vec<u8>, 
     }
 }
 
-/// Why the bytes are no program that the checker takes, for people: some lines of text, each with
-/// its newline. There is nothing to explain, `None`, exactly where the bytes are the text of a
-/// program that breaks no rule.
+/// Why the bytes are no program that the checker takes, for people: some lines of text, each with its
+/// newline.
 ///
 /// Of a text that is refused it shows the line with its number and a mark under the byte from which
 /// on no allowed line goes on (`line_left`), and says what was expected there, what stands there,
 /// and the cause. Of a program that breaks a rule it says the rule, the block, the statement's line
 /// with a mark under what breaks it, and the cause; and it shows the other line that is involved,
 /// if there is one.
+///
+/// Promise nothing-to-explain: `None` is returned exactly if the bytes are the text of a program that breaks
+/// no rule, unless memory runs out.
 ///
 /// # Errors
 /// `AllocError` where there is no memory.

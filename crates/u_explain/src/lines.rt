@@ -31,10 +31,11 @@ fn offset_of(line: &[u8], place: TextPlace) -> usize
     }
 }
 
-/// The line of that number, from 1, or the bytes behind the last newline where there are fewer
-/// lines, with the place where it stands and its offset. Where the lines before it begin a program,
-/// the offset is the length of the longest front of the line with which some program goes on behind
-/// them.
+/// The line of that number, from 1, or the bytes behind the last newline where there are fewer lines, with
+/// the place where it stands and its offset.
+///
+/// Promise refused-at: if the lines before it begin a program, the offset is the length of the longest front
+/// of the line with which some program goes on.
 pub fn refused_at(bytes: &[u8], number: usize) -> Refused<'_>
     requires some { 1 ≤ number }
     ensures { (before : List (List ℕ)) (line : List ℕ) (others : List (List ℕ))

@@ -30,7 +30,7 @@ pub fn greatest_port(version: Version) -> u32
     }
 }
 
-/// The one that is not longer than the other.
+/// The one that is not longer than the other. Of two that are equally long either may be returned.
 pub fn shorter<'a>(left: &'a [u8], right: &'a [u8]) -> &'a [u8]
     ensures one { (result.now ≡ left.now) ⊎ (result.now ≡ right.now) }
     ensures first { length result.now ≤ length left.now }

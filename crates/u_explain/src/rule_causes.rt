@@ -1,6 +1,6 @@
 //! Why a statement breaks a rule, in a sentence, and the other place that is involved.
-use crate::breaking::{Sent, unfed_port};
-use crate::scanning::Part;
+use crate::breaking::{DestinationAt, unfed_port};
+use crate::scanning::BlockLine;
 use crate::telling::{Piece, say, tell};
 use crate::words_of_kinds::{article_of, behind_arrow, push_statement};
 use std::alloc::AllocError;
@@ -17,7 +17,7 @@ pub struct Breaking<'a> {
     /// The statement.
     pub statement: &'a Statement,
     /// The destination that breaks the rule, where one does.
-    pub sent: Option<Sent>,
+    pub sent: Option<DestinationAt>,
 }
 
 /// The words for a region: `region 0`, or `loop 2`.
@@ -101,7 +101,7 @@ fn tell_region(out: &mut Vec<u8>, it: &Breaking<'_>) -> Result<(), AllocError> {
 }
 
 /// `the destination 9.1`, with what it is.
-fn push_sent(out: &mut Vec<u8>, sent: &Sent) -> Result<(), AllocError> {
+fn push_sent(out: &mut Vec<u8>, sent: &DestinationAt) -> Result<(), AllocError> {
     tell(
         out,
         &[
@@ -115,7 +115,11 @@ fn push_sent(out: &mut Vec<u8>, sent: &Sent) -> Result<(), AllocError> {
 }
 
 /// Rule 5.
-fn tell_missing(out: &mut Vec<u8>, it: &Breaking<'_>, sent: &Sent) -> Result<(), AllocError> {
+fn tell_missing(
+    out: &mut Vec<u8>,
+    it: &Breaking<'_>,
+    sent: &DestinationAt,
+) -> Result<(), AllocError> {
     push_sent(out, sent)?;
     let number = sent.destination.statement;
     match statement_at(it.block.statements(), number) {
@@ -147,7 +151,11 @@ fn tell_missing(out: &mut Vec<u8>, it: &Breaking<'_>, sent: &Sent) -> Result<(),
 }
 
 /// The destination, and what the statement there is.
-fn tell_target(out: &mut Vec<u8>, it: &Breaking<'_>, sent: &Sent) -> Result<(), AllocError> {
+fn tell_target(
+    out: &mut Vec<u8>,
+    it: &Breaking<'_>,
+    sent: &DestinationAt,
+) -> Result<(), AllocError> {
     push_sent(out, sent)?;
     let number = sent.destination.statement;
     say(out, " is ")?;
@@ -158,7 +166,11 @@ fn tell_target(out: &mut Vec<u8>, it: &Breaking<'_>, sent: &Sent) -> Result<(), 
 }
 
 /// The destination, and the region of the statement there.
-fn tell_target_region(out: &mut Vec<u8>, it: &Breaking<'_>, sent: &Sent) -> Result<(), AllocError> {
+fn tell_target_region(
+    out: &mut Vec<u8>,
+    it: &Breaking<'_>,
+    sent: &DestinationAt,
+) -> Result<(), AllocError> {
     push_sent(out, sent)?;
     let number = sent.destination.statement;
     say(out, " lies in ")?;
@@ -169,7 +181,11 @@ fn tell_target_region(out: &mut Vec<u8>, it: &Breaking<'_>, sent: &Sent) -> Resu
 }
 
 /// Rule 6.
-fn tell_takes(out: &mut Vec<u8>, it: &Breaking<'_>, sent: &Sent) -> Result<(), AllocError> {
+fn tell_takes(
+    out: &mut Vec<u8>,
+    it: &Breaking<'_>,
+    sent: &DestinationAt,
+) -> Result<(), AllocError> {
     tell_target(out, it, sent)?;
     say(
         out,
@@ -212,7 +228,11 @@ fn tell_enter(out: &mut Vec<u8>, it: &Breaking<'_>) -> Result<(), AllocError> {
 }
 
 /// Rule 7, of a destination.
-fn tell_entered(out: &mut Vec<u8>, it: &Breaking<'_>, sent: &Sent) -> Result<(), AllocError> {
+fn tell_entered(
+    out: &mut Vec<u8>,
+    it: &Breaking<'_>,
+    sent: &DestinationAt,
+) -> Result<(), AllocError> {
     tell_target_region(out, it, sent)?;
     say(out, ", and not in the loop that is entered")
 }
@@ -268,7 +288,7 @@ fn tell_constant(out: &mut Vec<u8>, it: &Breaking<'_>) -> Result<(), AllocError>
 }
 
 /// Rule 12.
-fn tell_last(out: &mut Vec<u8>, it: &Breaking<'_>, sent: &Sent) -> Result<(), AllocError> {
+fn tell_last(out: &mut Vec<u8>, it: &Breaking<'_>, sent: &DestinationAt) -> Result<(), AllocError> {
     tell_target(out, it, sent)?;
     if matches!(it.statement.kind(), Kind::Last) {
         return say(out, ", and a `last` sends to `leave` alone");
@@ -284,7 +304,11 @@ fn tell_last(out: &mut Vec<u8>, it: &Breaking<'_>, sent: &Sent) -> Result<(), Al
 }
 
 /// Rule 13.
-fn tell_leave(out: &mut Vec<u8>, it: &Breaking<'_>, sent: &Sent) -> Result<(), AllocError> {
+fn tell_leave(
+    out: &mut Vec<u8>,
+    it: &Breaking<'_>,
+    sent: &DestinationAt,
+) -> Result<(), AllocError> {
     tell_target_region(out, it, sent)?;
     tell(
         out,
@@ -307,7 +331,11 @@ fn tell_leave(out: &mut Vec<u8>, it: &Breaking<'_>, sent: &Sent) -> Result<(), A
 }
 
 /// Rule 15.
-fn tell_crossing(out: &mut Vec<u8>, it: &Breaking<'_>, sent: &Sent) -> Result<(), AllocError> {
+fn tell_crossing(
+    out: &mut Vec<u8>,
+    it: &Breaking<'_>,
+    sent: &DestinationAt,
+) -> Result<(), AllocError> {
     tell_target_region(out, it, sent)?;
     tell(
         out,
@@ -428,7 +456,7 @@ fn tell_sent(
     out: &mut Vec<u8>,
     rule: Rule,
     it: &Breaking<'_>,
-    sent: &Sent,
+    sent: &DestinationAt,
 ) -> Result<(), AllocError> {
     match rule {
         Rule::DestinationExists => tell_missing(out, it, sent),
@@ -510,29 +538,29 @@ fn entered(it: &Breaking<'_>) -> u8 {
 }
 
 /// The other line of the block that is involved, where there is one.
-pub fn other_place(rule: Rule, it: &Breaking<'_>) -> Option<Part> {
+pub fn other_place(rule: Rule, it: &Breaking<'_>) -> Option<BlockLine> {
     if let Some(sent) = &it.sent {
         return match statement_at(it.block.statements(), sent.destination.statement) {
-            Some(_) => Some(Part::Statement(usize::from(sent.destination.statement))),
+            Some(_) => Some(BlockLine::Statement(usize::from(sent.destination.statement))),
             None => None,
         };
     }
     match (rule, it.statement.kind()) {
         (Rule::EnterReachesItsLoop, Kind::Enter(number)) => {
             match held_by(it.block.loops(), *number) {
-                Some(_) => Some(Part::Loop(usize::from(*number))),
+                Some(_) => Some(BlockLine::Loop(usize::from(*number))),
                 None => None,
             }
         }
         (Rule::ApplyNamesBack, Kind::Apply(number, _)) => {
             match statement_at(it.block.statements(), *number) {
-                Some(_) => Some(Part::Statement(usize::from(*number))),
+                Some(_) => Some(BlockLine::Statement(usize::from(*number))),
                 None => None,
             }
         }
-        (Rule::BeginComesFirst, _) if it.number != 1 => Some(Part::Statement(1)),
+        (Rule::BeginComesFirst, _) if it.number != 1 => Some(BlockLine::Statement(1)),
         (Rule::ParamsComeInOrder, _) => match ahead_of(it) {
-            Some(number) => Some(Part::Statement(number)),
+            Some(number) => Some(BlockLine::Statement(number)),
             None => None,
         },
         _ => None,
@@ -540,10 +568,10 @@ pub fn other_place(rule: Rule, it: &Breaking<'_>) -> Option<Part> {
 }
 
 /// The index of the word of the other line under which the mark stands.
-pub fn other_word(rule: Rule, part: Part) -> usize {
+pub fn other_word(rule: Rule, part: BlockLine) -> usize {
     match (rule, part) {
-        (_, Part::Loop(_)) => 2,
-        (_, Part::Block) => 1,
+        (_, BlockLine::Loop(_)) => 2,
+        (_, BlockLine::Block) => 1,
         (Rule::EnterReachesItsLoop | Rule::LeaveSendsOut | Rule::OwnRegion, _) => 1,
         _ => 2,
     }

@@ -49,7 +49,7 @@ pub fn behind_lines(bytes: &[u8], count: usize) -> Behind<'_>
 
 /// A line of a block.
 #[derive(Clone, Copy)]
-pub enum Part {
+pub enum BlockLine {
     /// The line that begins it.
     Block,
     /// The line of the loop of that number.
@@ -59,7 +59,7 @@ pub enum Part {
 }
 
 /// Whether the place stands right behind that line of the block of that number.
-fn is_behind(place: TextPlace, block: usize, part: Part) -> bool {
+fn is_behind(place: TextPlace, block: usize, part: BlockLine) -> bool {
     match (place, part) {
         (
             TextPlace::Inside {
@@ -68,7 +68,7 @@ fn is_behind(place: TextPlace, block: usize, part: Part) -> bool {
                 statements,
                 ..
             },
-            Part::Block,
+            BlockLine::Block,
         ) => blocks as usize == block && loops == 0 && statements == 0,
         (
             TextPlace::Inside {
@@ -77,7 +77,7 @@ fn is_behind(place: TextPlace, block: usize, part: Part) -> bool {
                 statements,
                 ..
             },
-            Part::Loop(number),
+            BlockLine::Loop(number),
         ) => blocks as usize == block && loops as usize == number && statements == 0,
         (
             TextPlace::Inside {
@@ -85,14 +85,14 @@ fn is_behind(place: TextPlace, block: usize, part: Part) -> bool {
                 statements,
                 ..
             },
-            Part::Statement(number),
+            BlockLine::Statement(number),
         ) => blocks as usize == block && statements as usize == number,
         _ => false,
     }
 }
 
 /// The number of that line of a program's text, from 1, and the line.
-pub fn line_of(bytes: &[u8], block: usize, part: Part) -> Option<(usize, &[u8])> {
+pub fn line_of(bytes: &[u8], block: usize, part: BlockLine) -> Option<(usize, &[u8])> {
     let mut place = TextPlace::Header;
     let mut number = 0;
     let mut rest = bytes;

@@ -1,4 +1,7 @@
 //! Lines of a program's text, shown with their numbers and a mark under one byte.
+//!
+//! A byte that is no printable ASCII is shown as `\t`, `\r` or `\xNN`, so the mark stands under it on any
+//! terminal.
 ghost use Rattle.std.specs.Prelude.{◌≤◌};
 
 use crate::telling::{Piece, is_plain, push_all_shown, tell};

@@ -1,6 +1,6 @@
 //! A statement or a loop that a sentence tells of, and the lines that are shown of its block.
-use crate::arcs::{Port, Source, statement_of};
-use crate::scanning::Part;
+use crate::arcs::{Source, StatementPort, statement_of};
+use crate::scanning::BlockLine;
 use crate::telling::{Piece, say, tell};
 use crate::telling_breach::{show_part, tell_block};
 use crate::words_of_kinds::{behind_arrow, push_statement};
@@ -38,8 +38,8 @@ impl Spot<'_> {
     }
 
     /// That port of the statement.
-    pub fn port(&self, port: usize) -> Port {
-        Port {
+    pub fn port(&self, port: usize) -> StatementPort {
+        StatementPort {
             statement: self.number,
             port,
         }
@@ -50,7 +50,7 @@ impl Spot<'_> {
     ///
     /// # Errors
     /// `AllocError` where there is no memory.
-    pub fn show(&self, out: &mut Vec<u8>, part: Part, word: usize) -> Result<(), AllocError> {
+    pub fn show(&self, out: &mut Vec<u8>, part: BlockLine, word: usize) -> Result<(), AllocError> {
         tell_block(out, self.bytes, self.block_number, self.block)?;
         show_part(out, self.bytes, self.block_number, part, word)
     }
@@ -76,7 +76,7 @@ impl Spot<'_> {
             if i == SEEN {
                 return push_left(out, numbers.len() - SEEN);
             }
-            let part = Part::Statement(*number);
+            let part = BlockLine::Statement(*number);
             show_part(out, self.bytes, self.block_number, part, 2)?;
         }
         Ok(())
@@ -103,7 +103,7 @@ impl Spot<'_> {
             None => 0,
         };
         let word = source.words.saturating_add(first);
-        let part = Part::Statement(source.statement);
+        let part = BlockLine::Statement(source.statement);
         show_part(out, self.bytes, self.block_number, part, word)
     }
 }

@@ -2,7 +2,7 @@
 use crate::breaking::wrong_destination;
 use crate::rule_causes::{Breaking, marked_word, other_place, other_word, tell_breach};
 use crate::rule_sentences::sentence_of_rule;
-use crate::scanning::{Part, line_of};
+use crate::scanning::{BlockLine, line_of};
 use crate::source::show_marked;
 use crate::telling::{Piece, say, tell};
 use crate::words::start_of;
@@ -22,7 +22,7 @@ pub fn show_part(
     out: &mut Vec<u8>,
     bytes: &[u8],
     block: usize,
-    part: Part,
+    part: BlockLine,
     word: usize,
 ) -> Result<(), AllocError> {
     let Some((number, line)) = line_of(bytes, block, part) else {
@@ -73,7 +73,7 @@ fn tell_same_name(
     number: usize,
     block: &Block,
 ) -> Result<(), AllocError> {
-    show_part(out, bytes, number, Part::Block, 1)?;
+    show_part(out, bytes, number, BlockLine::Block, 1)?;
     tell(
         out,
         &[
@@ -86,7 +86,7 @@ fn tell_same_name(
         out,
         bytes,
         first_named(blocks, block.name()),
-        Part::Block,
+        BlockLine::Block,
         1,
     )
 }
@@ -101,7 +101,7 @@ pub fn tell_block(
     number: usize,
     block: &Block,
 ) -> Result<(), AllocError> {
-    let line = match line_of(bytes, number, Part::Block) {
+    let line = match line_of(bytes, number, BlockLine::Block) {
         Some((line, _)) => line,
         None => 0,
     };
@@ -126,7 +126,7 @@ fn tell_statement(
     it: &Breaking<'_>,
 ) -> Result<(), AllocError> {
     tell_block(out, bytes, number, it.block)?;
-    let part = Part::Statement(it.number);
+    let part = BlockLine::Statement(it.number);
     show_part(out, bytes, number, part, marked_word(rule, it))?;
     say(out, "cause: ")?;
     tell_breach(out, rule, it)?;

@@ -1,11 +1,11 @@
 //! What is told of a program that is not strict.
-use crate::arcs::{Port, sources_of};
-use crate::scanning::Part;
+use crate::arcs::{StatementPort, sources_of};
+use crate::scanning::BlockLine;
 use crate::spot::Spot;
 use crate::telling::{Piece, say, tell};
 use crate::telling_meeting::{tell_calls, tell_second_end};
 use crate::telling_sources::{Why, tell_ports};
-use crate::tests_of_loops::{Exit, exits_of, first_amiss, first_other, first_tested};
+use crate::tests_of_loops::{TurnEnd, exits_of, first_amiss, first_other, first_tested};
 use std::alloc::{AllocError, Global};
 use u_check::Checked;
 use u_determinate::{StrictRule, Strictness};
@@ -31,7 +31,7 @@ fn tell_amiss(
     number: usize,
     why: &str,
 ) -> Result<(), AllocError> {
-    let to = Port {
+    let to = StatementPort {
         statement: number,
         port: 1,
     };
@@ -88,7 +88,7 @@ fn tell_exits(
     out: &mut Vec<u8>,
     alloc: Global,
     spot: &Spot<'_>,
-    exits: &[Exit],
+    exits: &[TurnEnd],
 ) -> Result<(), AllocError> {
     if let Some((number, why)) = first_amiss(exits) {
         return tell_amiss(out, alloc, spot, number, why);
@@ -108,7 +108,7 @@ fn tell_exits(
 /// A loop without one test.
 fn tell_untested(out: &mut Vec<u8>, alloc: Global, spot: &Spot<'_>) -> Result<(), AllocError> {
     let exits = exits_of(alloc, spot.block, spot.number)?;
-    spot.show(out, Part::Loop(spot.number), 1)?;
+    spot.show(out, BlockLine::Loop(spot.number), 1)?;
     say(out, "cause: ")?;
     tell_exits(out, alloc, spot, &exits)
 }

@@ -1,12 +1,12 @@
 //! What is told of a program that is not determinate.
 use crate::arcs::calls_of;
-use crate::scanning::Part;
+use crate::scanning::BlockLine;
 use crate::spot::Spot;
 use crate::telling::{Piece, say, tell};
 use crate::telling_sources::{Why, tell_ports};
 use std::alloc::{AllocError, Global};
 use u_check::Checked;
-use u_determinate::{Meeting, Place};
+use u_determinate::{Meeting, MeetingPoint};
 use u_program::{Block, Kind, Statement};
 
 /// What a determinate program keeps, so that this meets nowhere.
@@ -36,7 +36,7 @@ fn first_end(block: &Block) -> usize {
 /// `AllocError` where there is no memory.
 pub fn tell_second_end(out: &mut Vec<u8>, spot: &Spot<'_>) -> Result<(), AllocError> {
     let first = first_end(spot.block);
-    spot.show(out, Part::Statement(spot.number), 2)?;
+    spot.show(out, BlockLine::Statement(spot.number), 2)?;
     tell(
         out,
         &[
@@ -56,7 +56,7 @@ pub fn tell_second_end(out: &mut Vec<u8>, spot: &Spot<'_>) -> Result<(), AllocEr
 /// `AllocError` where there is no memory.
 pub fn tell_calls(out: &mut Vec<u8>, alloc: Global, spot: &Spot<'_>) -> Result<(), AllocError> {
     let calls = calls_of(alloc, spot.block, spot.number)?;
-    spot.show(out, Part::Statement(spot.number), 2)?;
+    spot.show(out, BlockLine::Statement(spot.number), 2)?;
     tell(
         out,
         &[
@@ -89,7 +89,7 @@ fn lasts_of(alloc: Global, block: &Block, region: u8) -> Result<Vec<usize>, Allo
 /// A `next` that may fire in a turn in which a `last` does.
 fn tell_turns(out: &mut Vec<u8>, alloc: Global, spot: &Spot<'_>) -> Result<(), AllocError> {
     let lasts = lasts_of(alloc, spot.block, spot.region())?;
-    spot.show(out, Part::Statement(spot.number), 2)?;
+    spot.show(out, BlockLine::Statement(spot.number), 2)?;
     tell(
         out,
         &[
@@ -133,7 +133,7 @@ pub fn explain_meeting(
     alloc: Global,
     bytes: &[u8],
     checked: &Checked,
-    place: Place,
+    place: MeetingPoint,
 ) -> Result<Vec<u8>, AllocError> {
     let mut out = Vec::new(alloc);
     say(&mut out, "determinate: ")?;

@@ -1,7 +1,7 @@
 //! What is told of a port to which several destinations lead.
 use crate::arcs::{Source, are_many, port_count, sources_of, statement_of};
 use crate::rounds::{reached_from, stays};
-use crate::scanning::Part;
+use crate::scanning::BlockLine;
 use crate::spot::Spot;
 use crate::telling::{Piece, say, tell};
 use std::alloc::{AllocError, Global};
@@ -181,7 +181,7 @@ pub fn tell_ports(
     why: Why,
 ) -> Result<(), AllocError> {
     let ports = many_ports(alloc, spot)?;
-    spot.show(out, Part::Statement(spot.number), 2)?;
+    spot.show(out, BlockLine::Statement(spot.number), 2)?;
     if let Some((port, source)) = first_round(alloc, spot, &ports)? {
         let sources = sources_of(alloc, spot.block, spot.port(port))?;
         say(out, "cause: ")?;

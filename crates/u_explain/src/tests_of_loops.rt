@@ -1,5 +1,5 @@
 //! The statement on which a `next` or a `last` depends.
-use crate::arcs::{Port, Source, sources_of, statement_of};
+use crate::arcs::{Source, StatementPort, sources_of, statement_of};
 use std::alloc::{AllocError, Global};
 use u_program::{Block, Kind, Statement};
 
@@ -15,7 +15,7 @@ pub enum Depends {
 
 /// A statement of a loop that ends its turn: a `next` or a `last`.
 #[derive(Clone, Copy)]
-pub struct Exit {
+pub struct TurnEnd {
     /// Its number, from 1.
     pub number: usize,
     /// What it depends on.
@@ -33,7 +33,11 @@ fn side_of(kind: &Kind) -> Option<bool> {
 }
 
 /// The only destination that leads to the port, if there is one alone.
-fn only_source(alloc: Global, block: &Block, to: Port) -> Result<Option<Source>, AllocError> {
+fn only_source(
+    alloc: Global,
+    block: &Block,
+    to: StatementPort,
+) -> Result<Option<Source>, AllocError> {
     let sources = sources_of(alloc, block, to)?;
     match sources.as_slice() {
         [one] => Ok(Some(*one)),
@@ -61,7 +65,7 @@ fn behind(
                 before the `/`, and a `last` from that for false\n",
         ));
     }
-    let control = Port {
+    let control = StatementPort {
         statement: source.statement,
         port: 2,
     };
@@ -80,7 +84,7 @@ fn depends_on(
     number: usize,
     on_false: bool,
 ) -> Result<Depends, AllocError> {
-    let to = Port {
+    let to = StatementPort {
         statement: number,
         port: 1,
     };
@@ -103,20 +107,20 @@ fn exit_side(statement: &Statement, region: usize) -> Option<bool> {
 ///
 /// # Errors
 /// `AllocError` where there is no memory.
-pub fn exits_of(alloc: Global, block: &Block, region: usize) -> Result<Vec<Exit>, AllocError> {
+pub fn exits_of(alloc: Global, block: &Block, region: usize) -> Result<Vec<TurnEnd>, AllocError> {
     let mut exits = Vec::new(alloc);
     for (i, statement) in block.statements().iter().enumerate() {
         if let Some(on_false) = exit_side(statement, region) {
             let number = i + 1;
             let depends = depends_on(alloc, block, number, on_false)?;
-            exits.push(Exit { number, depends })?;
+            exits.push(TurnEnd { number, depends })?;
         }
     }
     Ok(exits)
 }
 
 /// The first of them that depends on no test.
-pub fn first_amiss(exits: &[Exit]) -> Option<(usize, &'static str)> {
+pub fn first_amiss(exits: &[TurnEnd]) -> Option<(usize, &'static str)> {
     for exit in exits {
         if let Depends::Amiss(why) = exit.depends {
             return Some((exit.number, why));
@@ -126,7 +130,7 @@ pub fn first_amiss(exits: &[Exit]) -> Option<(usize, &'static str)> {
 }
 
 /// The first of them that depends on a test, and the test.
-pub fn first_tested(exits: &[Exit]) -> Option<(usize, usize)> {
+pub fn first_tested(exits: &[TurnEnd]) -> Option<(usize, usize)> {
     for exit in exits {
         if let Depends::On(test) = exit.depends {
             return Some((exit.number, test));
@@ -136,7 +140,7 @@ pub fn first_tested(exits: &[Exit]) -> Option<(usize, usize)> {
 }
 
 /// The first of them that depends on another test, and that test.
-pub fn first_other(exits: &[Exit], test: usize) -> Option<(usize, usize)> {
+pub fn first_other(exits: &[TurnEnd], test: usize) -> Option<(usize, usize)> {
     for exit in exits {
         if let Depends::On(other) = exit.depends {
             if other != test {

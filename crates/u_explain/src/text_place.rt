@@ -132,9 +132,11 @@ fn place_left(line: &[u8], place: TextPlace) -> &[u8]
     }
 }
 
-/// What is left of the line from the byte on with which no line goes on that may stand at that
-/// place: behind the longest front of the line with which some program goes on there. All of the
-/// line is left where its first byte is wrong, or no line may stand there.
+/// What is left of the line from the byte on with which no line goes on that may stand at that place. All of
+/// the line is left where its first byte is wrong, or no line may stand there.
+///
+/// Promise line-left: what is left stands after the longest front of the line with which some program goes on
+/// at that place.
 pub fn line_left(line: &[u8], place: TextPlace) -> &[u8]
     ensures { (before : List (List ℕ)) → IsPlace before place
         → IsLeft (IsAllowed before) line.now result.now }

@@ -71,6 +71,19 @@ fn fleet_of<'a, J: Named + Send + Sync, G: Gate + Sync, R: Threads + Wait + Sync
 /// its rounds it runs until nothing is ready, and publishes the rest. When all have ended, a machine
 /// takes what is published and fires nothing. It may wait.
 ///
+/// Promise fleet-lists: each worker has one published list, which is one run of the job.
+///
+/// Promise fleet-done-is-whole: the list of a worker that is done has every sound firing, and holds the job's
+/// whole history.
+///
+/// Promise fleet-ends: a worker is stopped only if the gate may stop it, and full only if more firings are
+/// sound than it may take.
+///
+/// Promise fleet-machine: the machine of the report took exactly the published firings, and if a worker is
+/// done, its history is whole.
+///
+/// Promise fleet-full: `Full` is returned only if more firings of the job are sound than the plan's limit.
+///
 /// # Errors
 /// `NoReader` where an outlet has no place for an inlet or the board no seat. `Full` where no worker is
 /// done and one had no room, or what is published has no room; then the job has more firings than

@@ -33,6 +33,9 @@ pub fn take_sound<J: Named>(
 /// Takes what an inlet of the replica's job shows from a place on, counted from 0. It returns the
 /// larger of the place and of how many firings the inlet has seen then: the place for the next time.
 ///
+/// Promise gather: exactly what the inlet has seen from the place on is taken besides, and nothing else of
+/// the replica changes.
+///
 /// # Errors
 /// `NoReading` where the inlet's outlet gives no reading, since it is closed; nothing is taken. `Full`
 /// where the replica may not take as many firings besides as there are new ones; nothing is taken.

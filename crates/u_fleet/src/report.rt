@@ -1,4 +1,7 @@
 //! The report of a fleet, and the machine that takes what its workers published.
+//!
+//! If a worker is done, its list alone is taken: it has every published firing. If none is done, all lists
+//! are taken.
 ghost use Rattle.std.specs.Prelude.{◌≡◌, ◌<◌, ◌⊎◌, ℕ, [], IfOk, IfErr, OnOk, IfSome, IsNone, Contains, length, slice_index_or};
 ghost use Rattle.u_base.specs.Firing.{Derivation, Same};
 ghost use Rattle.u_rule.specs.Rule.{system_of};

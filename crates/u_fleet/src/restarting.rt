@@ -1,4 +1,8 @@
 //! What a worker saves, and how it starts again.
+//!
+//! A worker saves lazily: if nothing is parked it notes how long its log is, since the log only grows, and
+//! else it writes a checkpoint. One that was restarted keeps its last save as text, since no clause of
+//! `restore` says in which order its next log has these firings.
 ghost use Rattle.std.specs.Prelude.{◌≡◌, ◌≤◌, ◌++◌, [], IfOk, OnOk, IfErr};
 ghost use Rattle.u_name.specs.Context.{IsBetween};
 ghost use Rattle.u_rule.specs.declared.firing.Firing.{Firing};
@@ -70,7 +74,8 @@ fn take_text<J: Named>(alloc: Global, life: &mut Life<'_>) -> Result<Vec<u8>, Al
 }
 
 /// Starts the life's worker again, in its next life: with a replica that is restored from what was saved
-/// last, of whose log nothing is published.
+/// last, of whose log nothing is published. The contract says that the replica took sound firings alone, and
+/// not which: a test shows that they are those that were saved.
 pub fn restart<'a, J: Named, G: Gate>(
     setting: &Setting<'a, G>,
     life: &mut Life<'a>,

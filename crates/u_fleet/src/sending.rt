@@ -11,6 +11,8 @@ use u_replica::Replica;
 /// outlet, which is one of the replica's job. It returns the length of the log: the place for the next
 /// time. The place is at most that length. It may wait for readers.
 ///
+/// Promise send: what was pending is published, then the log from the place on.
+///
 /// # Errors
 /// `AllocError` where there is no memory; nothing is published, and the copies may be pending.
 pub fn send<J: Named, R: Wait>(

@@ -1,4 +1,7 @@
 //! Workers run, each in a thread of its own.
+//!
+//! Each worker makes its replica in its own thread, since no law says that a machine may cross threads. If
+//! a thread can't be made, the library runs the worker on the thread that was to make it.
 ghost use Rattle.std.specs.Prelude.{◌≡◌, ◌<◌, All, length};
 ghost use Rattle.u_fleet.specs.Fleets.{MayRun, HasWorked, HaveWorked};
 

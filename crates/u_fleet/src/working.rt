@@ -1,4 +1,7 @@
 //! Claimed work is done: ready firings in held buckets are fired.
+//!
+//! A bucket of the share is left only to another seat (`others`). Without this clause a body that claims
+//! nothing, and so fires nothing, would keep all the others.
 ghost use Rattle.std.specs.Prelude.{◌≡◌, IfOk, IfErr};
 ghost use Rattle.u_claims.specs.Answers.{HoldsNone};
 ghost use Rattle.u_claims.specs.Seats.{view_of, IsSeatOf};
@@ -86,6 +89,12 @@ fn fire_claimed(
 /// whose bucket is held and in the mask, the least first, until none is ready there or `budget` were
 /// fired; and releases all that the seat holds. The seat is one of the board's. A bucket that another
 /// seat holds is passed over, and nothing is waited for.
+///
+/// Promise work: each firing is the least of those in held buckets that are ready then, and at most `budget`
+/// are fired.
+///
+/// Promise what-work-leaves: the seat holds nothing afterwards, and if fewer than `budget` were fired,
+/// nothing that is ready is in a bucket that was held.
 ///
 /// # Errors
 /// `Full` where a firing is ready in a held bucket and the replica has taken as many as it may.

@@ -21,8 +21,8 @@ use Rattle.u_rule.specs.EntryOrder.{entry_cmp}
 use Rattle.u_rule.specs.declared.parts.Write.{Write}
 use Rattle.u_rule.specs.declared.entry.Entry.{Entry}
 use Rattle.u_rule.specs.declared.entry.Entry.TheVariants as entries
-use Rattle.u_history.specs.declared.place.Place.{Place}
-use Rattle.u_history.specs.declared.place.Place.TheVariants.{Port, Cell}
+use Rattle.u_history.specs.declared.place.MeetingPlace.{MeetingPlace}
+use Rattle.u_history.specs.declared.place.MeetingPlace.TheVariants.{Port, Cell}
 use Rattle.u_history.specs.Orders.{write_order, token_order}
 use Rattle.u_history.specs.Places.{IsAt, IsBefore}
 use Rattle.u_history.proofs.Neighbours.{Le, le_of, rises_at}
@@ -63,7 +63,7 @@ module _ {K : Type 0} (R : K → K → Ordering) (o : IsTotalOrder R) where
   le_less a b c (inr e) h = subst (λ (x : K). R x c ≡ Less) (sym e) h
 
 -- what is below an entry before the place is before it too
-before_down : (p : Place) (a b : Entry) → entry_cmp a b ≡ Less → IsBefore p b → IsBefore p a
+before_down : (p : MeetingPlace) (a b : Entry) → entry_cmp a b ≡ Less → IsBefore p b → IsBefore p a
 before_down (Port n q) (entries.Token a) (entries.Token b) l h = le_less key_cmp key_total (key_of a) (key_of b) (n.now, q) (tokens_le a b l) h
 before_down (Port n q) a (entries.Token b) l h = absurd (cc)
 before_down (Port n q) a b l h = absurd h
@@ -73,7 +73,7 @@ before_down (Cell c) a (entries.Token b) l h = absurd (cc)
 before_down (Cell c) a (entries.Write b) l h = absurd (cc)
 before_down (Cell c) a b l h = absurd h
 
-at_not_before : (p : Place) (e : Entry) → IsAt p e → IsBefore p e → ⊥
+at_not_before : (p : MeetingPlace) (e : Entry) → IsAt p e → IsBefore p e → ⊥
 at_not_before (Port n q) (entries.Token t) s h =
     irreflexive key_cmp key_total (key_of t) (subst (λ (x : PortKey). key_cmp (key_of t) x ≡ Less) (ap (λ (m : Activity). (m, q)) (sym s.0) ∙ ap (λ (r : ℕ). (t.activity, r)) (sym s.1)) h)
 at_not_before (Cell c) (entries.Write w) s h =
@@ -82,7 +82,7 @@ at_not_before (Port n q) e s h = absurd s
 at_not_before (Cell c) e s h = absurd s
 
 -- behind an entry that is neither before the place nor at it, nothing is at it
-past : (p : Place) (a b : Entry) → entry_cmp a b ≡ Less → (IsBefore p a → ⊥) → (IsAt p a → ⊥) → IsAt p b → ⊥
+past : (p : MeetingPlace) (a b : Entry) → entry_cmp a b ≡ Less → (IsBefore p a → ⊥) → (IsAt p a → ⊥) → IsAt p b → ⊥
 unfolding Le
 past (Port n q) (entries.Token a) (entries.Token b) l f g s = over (tokens_le a b l)
   where
@@ -101,7 +101,7 @@ past (Cell c) a (entries.Write b) l f g s = absurd (cc)
 past (Cell c) a b l f g s = absurd s
 
 -- a search by halves for the first entry that is not before the place
-module _ (p : Place) (es : List Entry) (rises : Rises entry_cmp es) (m : ℕ) (below : m < length es) where
+module _ (p : MeetingPlace) (es : List Entry) (rises : Rises entry_cmp es) (m : ℕ) (below : m < length es) where
   pub low_moved : ((d : Entry) → IsBefore p (get_or es m d)) → (k : ℕ) (d : Entry) → k < m + 1 → IsBefore p (get_or es k d)
   low_moved h k d l = sides (grind arith)
     where
@@ -126,7 +126,7 @@ of_take es i e (k, l, g) =
     (k, a, omega (arith, l, n), sym (get_or-take i es k e a) ∙ g)
 
 -- what is gathered from the entries at a place, from the first on
-module _ {X : Type 0} (K : X → Entry) (p : Place) (at : (x : X) → IsAt p (K x)) (es : List Entry) where
+module _ {X : Type 0} (K : X → Entry) (p : MeetingPlace) (at : (x : X) → IsAt p (K x)) (es : List Entry) where
   -- no entry before the place is at it
   pub none_before : (start : ℕ) → ((k : ℕ) (d : Entry) → k < start → IsBefore p (get_or es k d)) → (xs : List X) → xs ≡ [] → (x : X) → Contains xs x ↔ (Contains [] x ⊎ SomeOf (take start es) (λ e y. e ≡ K y) x)
   none_before start before xs none x = ((λ m. inl (subst (λ (ys : List X). Contains ys x) none m)), λ s. subst (λ (ys : List X). Contains ys x) (sym none) (back s))

@@ -7,8 +7,8 @@ use Rattle.u_name.specs.NameOrder.{name_cmp}
 use Rattle.u_name.specs.Cell.{CellOf, cell_cmp}
 use Rattle.u_rule.specs.declared.entry.Entry.{Entry}
 use Rattle.u_rule.specs.declared.entry.Entry.TheVariants as entries
-use Rattle.u_history.specs.declared.place.Place.{Place}
-use Rattle.u_history.specs.declared.place.Place.TheVariants.{Port, Cell}
+use Rattle.u_history.specs.declared.place.MeetingPlace.{MeetingPlace}
+use Rattle.u_history.specs.declared.place.MeetingPlace.TheVariants.{Port, Cell}
 
 -- the two are values of one port of one activity, or of one cell
 abbrev pub AtOnePlace : Entry → Entry → Type 0
@@ -31,12 +31,12 @@ IsTokenAt n p (entries.Token t) = (t.activity ≡ n) × (t.port ≡ p)
 IsTokenAt n p e = ⊥
 
 -- the entry stands at the place
-abbrev pub IsAt : Place → Entry → Type 0
+abbrev pub IsAt : MeetingPlace → Entry → Type 0
 IsAt (Port n p) e = IsTokenAt n.now p e
 IsAt (Cell c) e = IsWriteOf c.now e
 
 -- the entry stands before all that stands at the place
-abbrev pub IsBefore : Place → Entry → Type 0
+abbrev pub IsBefore : MeetingPlace → Entry → Type 0
 IsBefore (Port n p) (entries.Token t) = ordering_then (name_cmp t.activity n.now) (nat_cmp t.port p) ≡ Less
 IsBefore (Cell c) (entries.Token t) = Unit {0}
 IsBefore (Cell c) (entries.Write w) = cell_cmp w.cell c.now ≡ Less

@@ -1,4 +1,7 @@
 //! Sets of entries.
+//!
+//! It promises of the entries alone what `NumberedHistory` promises, for callers who know nothing of
+//! numbers.
 ghost use Rattle.std.specs.Prelude.{◌≡◌, ◌↔◌, ◌++◌, [], ◌∷◌, OnOk, OnErr, IfOk, IfErr, Contains, ◌⊎◌, IsTrue, length, map};
 ghost use Rattle.std.specs.Borrow.{sem};
 ghost use Rattle.u_base.specs.Firing.{Distinct, Same};
@@ -22,9 +25,9 @@ use crate::numbered::{NumberedHistory, references};
 use crate::outcome::Outcome;
 use std::alloc::{AllocError, AllocFailed, Global};
 use std::marker::Model;
+use u_base::cut_back;
 use u_name::{Cell, Name};
 use u_rule::{Entry, Written};
-use u_base::cut_back;
 use u_value::Value;
 
 /// A set of entries. Contracts see it as the list of its entries, in order.
@@ -89,6 +92,8 @@ impl History {
 
     /// Puts the entry in. Returns whether it was new.
     ///
+    /// Promise history-is-a-set: the history has afterwards exactly the entries that it had and this one.
+    ///
     /// # Errors
     /// The entry is handed back where memory runs out, and the set stays as it was.
     pub fn insert(&mut self, entry: Entry) -> Result<bool, AllocFailed<Entry>>
@@ -143,6 +148,8 @@ impl History {
 
     /// Copies of the entries, in order.
     ///
+    /// Promise entries-of-a-history: exactly the entries of the history are returned, each once.
+    ///
     /// # Errors
     /// `AllocError` where there is no memory.
     pub fn entries(&self) -> Result<Vec<Entry>, AllocError>
@@ -165,6 +172,9 @@ impl History {
     }
 
     /// The values of the tokens at that port of the activity, in order.
+    ///
+    /// Promise values-and-writes: `values` and `writes` return exactly what the history has at the port or in
+    /// the cell, each once.
     ///
     /// # Errors
     /// `AllocError` where there is no memory.
@@ -202,7 +212,9 @@ impl History {
         push_lines(out, &lent)
     }
 
-    /// Appends the text of each entry, in order, with a newline behind it.
+    /// Appends a line for each entry, its text and a newline.
+    ///
+    /// Promise text-of-a-history: exactly the line of each entry is appended, in order.
     ///
     /// # Errors
     /// `AllocError` where there is no memory. Then `out` is as it was.
@@ -216,7 +228,10 @@ impl History {
         cut_back(out, len, written)
     }
 
-    /// What the entries say: the answers, the clashes in cells and at ports, and the faults.
+    /// What the entries say.
+    ///
+    /// Promise outcome: exactly the answers, the cells with two writes or more, the ports with two values or
+    /// more, and the faults are returned.
     ///
     /// # Errors
     /// `AllocError` where there is no memory.
@@ -260,7 +275,10 @@ impl History {
         Ok(copied)
     }
 
-    /// Puts the other set's entries in: the least set that has both.
+    /// Puts the other set's entries in.
+    ///
+    /// Promise union-of-histories: the history has afterwards exactly the entries that it had and those of
+    /// the other.
     ///
     /// # Errors
     /// `AllocError` where memory runs out, and the set stays as it was.

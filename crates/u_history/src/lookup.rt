@@ -10,7 +10,7 @@ ghost use Rattle.u_history.specs.Orders.{value_order, written_order};
 ghost use Rattle.u_history.specs.Outcomes.{lent, PairIn, ValueAt};
 ghost use Rattle.u_sets.specs.Members.{Gains};
 
-use crate::place::{Place, entry_at, first_at, is_at, is_at_port, is_in_cell};
+use crate::place::{MeetingPlace, entry_at, first_at, is_at, is_at_port, is_in_cell};
 use std::alloc::{AllocError, Global};
 use u_name::{Cell, Name};
 use u_rule::{Entry, Written};
@@ -51,7 +51,7 @@ pub fn values_at(
         (ValueAt (Contains (lent entries.now)) activity.now port) v.items) }
 {
     let mut list = Vec::new(alloc);
-    let place = Place::Port(activity, port);
+    let place = MeetingPlace::Port(activity, port);
     for index in first_at(entries, place)..entries.len() {
         let entry = entry_at(entries, index);
         if !is_at(entry, place) {
@@ -91,7 +91,7 @@ pub fn pairs_in(alloc: Global, entries: &[&Entry], cell: &Cell) -> Result<Vec<Wr
         (λ v. IsListOf written_order (PairIn (Contains (lent entries.now)) cell.now) v.items) }
 {
     let mut list = Vec::new(alloc);
-    let place = Place::Cell(cell);
+    let place = MeetingPlace::Cell(cell);
     for index in first_at(entries, place)..entries.len() {
         let entry = entry_at(entries, index);
         if !is_at(entry, place) {

@@ -38,7 +38,10 @@ impl History {
         ensures { IsUnion self.now [] self.now }
     {}
 
-    /// A merge is the least set that has both: it has both, and lies in every set that has both.
+    /// A merge has both sets, and lies in every set that has both.
+    ///
+    /// Promise laws-of-union: merging commutes, associates, changes nothing with the history itself or the
+    /// empty one, and makes the least that has both.
     pub fn merge_is_least(&self, other: &History)
         ensures left { (u : List Entry) → IsUnion self.now other.now u
             → (e : Entry) → Contains self.now e → Contains u e }

@@ -1,4 +1,6 @@
 //! Histories whose activities have numbers: who has the number of an activity looks for nothing.
+//!
+//! A number says nothing of an order, so merging and copying carry none over.
 ghost use Rattle.std.specs.Prelude.{◌≡◌, ◌↔◌, [], OnOk, OnErr, IfOk, IfErr, Contains, IsTrue, length, map};
 ghost use Rattle.std.specs.Map.Iter.{deref};
 ghost use Rattle.u_base.specs.Firing.{Distinct, Same};
@@ -75,6 +77,9 @@ impl NumberedHistory {
     }
 
     /// The number of the activity, which it gets where it has none. The others keep theirs.
+    ///
+    /// Promise numbers-of-activities: the number leads back to the activity, and the entries stay what they
+    /// are.
     ///
     /// # Errors
     /// `AllocError` where there is no memory; all have the numbers that they had.

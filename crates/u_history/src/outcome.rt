@@ -1,4 +1,7 @@
 //! What a set of entries says.
+//!
+//! An outcome puts in order what it lists, and counts the rest. It has each clashed cell once with all its
+//! pairs of a writer and a value, and each clashed port once with all its values.
 ghost use Rattle.std.specs.Prelude.{◌≡◌, ◌↔◌, ◌⊎◌, OnOk, IfOk, Contains};
 ghost use Rattle.u_sets.specs.Rising.{Rises, IsListOf};
 ghost use Rattle.u_rule.specs.EntryOrder.{entry_cmp};
@@ -97,8 +100,10 @@ impl Outcome {
         })
     }
 
-    /// The verdict: clashed, where something clashes or there is more than one answer; else faulted,
-    /// where there is a fault; else the answer, if there is one.
+    /// The verdict.
+    ///
+    /// Promise verdict: it is clashed if something clashes or there are two answers, else faulted if there is
+    /// a fault, else the answer, else none.
     pub fn verdict(&self) -> Verdict<'_>
         ensures { judgement result ≡ judged_of self.now }
     {

@@ -16,7 +16,7 @@ use u_rule::{Entry, Token, Write};
 
 /// Where values meet: a port of an activity, or a cell.
 #[derive(Clone, Copy)]
-pub enum Place<'a> {
+pub enum MeetingPlace<'a> {
     /// The activity, and its port.
     Port(&'a Name, u8),
     /// The cell.
@@ -47,12 +47,14 @@ pub fn is_in_cell(write: &Write, cell: &Cell) -> bool
 }
 
 /// Whether the entry stands at the place.
-pub fn is_at(entry: &Entry, place: Place<'_>) -> bool
+pub fn is_at(entry: &Entry, place: MeetingPlace<'_>) -> bool
     ensures { IsTrue result ↔ IsAt place.entry entry.now }
 {
     match (place, entry) {
-        (Place::Port(activity, port), Entry::Token(token)) => is_at_port(token, activity, port),
-        (Place::Cell(cell), Entry::Write(write)) => is_in_cell(write, cell),
+        (MeetingPlace::Port(activity, port), Entry::Token(token)) => is_at_port(
+            token, activity, port,
+        ),
+        (MeetingPlace::Cell(cell), Entry::Write(write)) => is_in_cell(write, cell),
         _ => false,
     }
 }
@@ -78,19 +80,21 @@ fn is_before_cell(write: &Write, cell: &Cell) -> bool
 }
 
 /// Whether the entry stands before all entries at the place.
-fn is_before(entry: &Entry, place: Place<'_>) -> bool
+fn is_before(entry: &Entry, place: MeetingPlace<'_>) -> bool
     ensures { IsTrue result ↔ IsBefore place.entry entry.now }
 {
     match (place, entry) {
-        (Place::Port(activity, port), Entry::Token(token)) => is_before_port(token, activity, port),
-        (Place::Cell(_), Entry::Token(_)) => true,
-        (Place::Cell(cell), Entry::Write(write)) => is_before_cell(write, cell),
+        (MeetingPlace::Port(activity, port), Entry::Token(token)) => is_before_port(
+            token, activity, port,
+        ),
+        (MeetingPlace::Cell(_), Entry::Token(_)) => true,
+        (MeetingPlace::Cell(cell), Entry::Write(write)) => is_before_cell(write, cell),
         _ => false,
     }
 }
 
 /// The index of the first entry that does not stand before the place, or how many entries there are.
-pub fn first_at(entries: &[&Entry], place: Place<'_>) -> usize
+pub fn first_at(entries: &[&Entry], place: MeetingPlace<'_>) -> usize
     requires { Rises entry_cmp (lent entries.now) }
     ensures bound { result ≤ length entries.now }
     ensures before { (k : ℕ) (d : Entry) → k < result

@@ -1,4 +1,6 @@
 //! Reports.
+//!
+//! A report and an exit status are made of one outcome, so answers and clashes are searched for once.
 ghost use Rattle.std.specs.Prelude.{◌≡◌, ◌++◌, List, Contains, OnOk, IfOk, codes, decimal, length, map};
 ghost use Rattle.u_sets.specs.Rising.{Rises};
 ghost use Rattle.u_rule.specs.EntryOrder.{entry_cmp};
@@ -286,6 +288,9 @@ pub fn report_of_outcome(
 /// The report of a history, after so many firings were applied and so many are parked: the state; how
 /// many firings, parked firings and entries there are; all answers; all that clashes; all faults; the
 /// verdict. Each line ends with a newline, and each kind of line is in order.
+///
+/// Promise report: the bytes are exactly the report of the history's entries, with the state and the counts
+/// that are passed.
 ///
 /// # Errors
 /// `AllocError` where there is no memory.

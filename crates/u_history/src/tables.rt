@@ -1,4 +1,9 @@
 //! Where the entries of a history stand: tokens under their activities, writes under their cells.
+//!
+//! An activity has a number from the moment that a token of it enters. A list for each port has the values
+//! by number; writes are found by the number of their structure and their index. So an activity is looked
+//! up once, and what it meets is found by its number. The entries are made, and put in order, only if they
+//! are listed.
 ghost use Rattle.std.specs.Prelude.{◌≡◌, ◌↔◌, ◌<◌, [], length, OnOk, OnErr, IfOk, IfErr, Contains, IsTrue, ◌++◌, map};
 ghost use Rattle.std.specs.Map.Iter.{deref};
 ghost use Rattle.u_names.specs.CellPairs.{deref_at_cell};

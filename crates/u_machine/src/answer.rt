@@ -1,4 +1,7 @@
 //! What the calls of a machine answer. Each answer is this project's choice.
+//!
+//! That the ready firings are elsewhere is an answer of `fire_in` alone (`StepIn`), so `fire` and `run`
+//! have no answer that they never give.
 ghost use Rattle.std.specs.Prelude.{◌≡◌};
 ghost use Rattle.u_machine.specs.declared.answer.Refusal.TheVariants.{NoMemory};
 ghost use Rattle.u_machine.specs.declared.answer.TakeRefusal.TheVariants as takes;

@@ -10,6 +10,9 @@
 //! this project's profile. The firings of the log whose entries have all entered leave the parked ones
 //! together, once the log has no more or memory runs out. Then what is left to do is remembered, and
 //! the next call goes on from there.
+//!
+//! A firing stands in the log before its entries enter. Else half of its entries could enable a firing,
+//! which would then stand before it.
 ghost use Rattle.std.specs.Prelude.{◌≡◌, ◌↔◌, ◌<◌, ◌≤◌, ◌+◌, [], ◌∷◌, OnOk, IfOk, IsOk, IsTrue, IsFalse, Contains, ◌-◌, length, true, false};
 ghost use Rattle.u_rule.specs.Rule.{system_of};
 ghost use Rattle.u_rule.specs.Fits.{IsFitting, AllFit};

@@ -46,6 +46,8 @@ pub enum Reply {
 
 impl<'a> Machine<'a> {
     /// Makes the call, and returns its answer.
+    ///
+    /// Promise calls-settle: each call that does not return `NoMemory` leaves the machine settled.
     pub fn obey(&mut self, command: &Command) -> Reply
         ensures { Does self.old command.now result self.new }
     {
@@ -60,6 +62,9 @@ impl<'a> Machine<'a> {
     }
 
     /// Makes the calls of the list one after another, and returns what each of them answered.
+    ///
+    /// Promise lists-of-calls: each call has its own answer, nothing that was taken is lost, and the headline
+    /// of one machine holds afterwards.
     ///
     /// # Errors
     /// `AllocError` where there is no memory for the answers; then no call is made.

@@ -1,5 +1,9 @@
 //! How ready firings are fired: the third of three things that a machine does with its parts, each of
 //! which has a file of its own.
+//!
+//! The ready firings are kept, not searched: only a pick above 0 goes over them. Whether anything is left
+//! is looked at after the last firing of a budget, so a run of exactly as many firings as there are is
+//! quiet.
 ghost use Rattle.std.specs.Prelude.{◌≡◌, ◌<◌, ◌%◌, [], IfOk, OnOk, OnErr, IsOk, IfSome, IsTrue, IsFalse, length, slice_get, Some};
 ghost use Rattle.u_rule.specs.declared.firing.Firing.{Firing};
 ghost use Rattle.u_machine.specs.State.{IsSettled, NothingReady, IsReady, IsPick, count_of};

@@ -5,6 +5,9 @@
 //! token and what earlier firings of the log give. So the history is fixed by the set of taken
 //! firings, in whatever order they came, and once nothing is ready it is all that can be derived from
 //! the job.
+//!
+//! Each call that fires or takes settles first. If it finds no memory for that, it returns so at once, and
+//! nothing is taken.
 ghost use Rattle.std.specs.Prelude.{◌≡◌, ◌↔◌, ◌++◌, [], ◌∷◌, IfOk, IfSome, IsFalse, IsOk, IsTrue, OnOk};
 ghost use Rattle.u_base.specs.Firing.{Distinct};
 ghost use Rattle.u_rule.specs.Rule.{system_of};
@@ -44,8 +47,10 @@ impl<'a> Model for Machine<'a> {
 }
 
 impl<'a> Machine<'a> {
-    /// A machine that holds the start token alone. `limit` is the greatest number of firings that it
-    /// takes; any number may stand there.
+    /// A machine of the job. `limit` is the greatest number of firings that it takes; any number may stand
+    /// there.
+    ///
+    /// Promise new-machine: it has taken nothing and holds the start token alone.
     ///
     /// # Errors
     /// `AllocError` where there is no memory.
@@ -60,6 +65,9 @@ impl<'a> Machine<'a> {
     /// Takes a firing, from wherever it comes. Where it is enabled it is applied, and each parked one
     /// that is enabled by it; else it is parked until it is.
     ///
+    /// Promise take: a firing of the job is taken if it is new and there is room, and is applied exactly if
+    /// it is enabled over what the machine holds.
+    ///
     /// # Errors
     /// `NotAFiring` exactly where it is no firing of the job. `Full` where it is new and the machine has
     /// taken as many as it may. In both cases nothing is taken. `NoMemory` where there is no memory;
@@ -73,6 +81,9 @@ impl<'a> Machine<'a> {
     }
 
     /// Takes the firings of the list one after another, each as `take` does, or none of them.
+    ///
+    /// Promise take-all: all of the list are taken; none if one is no firing of the job or the new ones do
+    /// not fit; a front of it if memory runs out.
     ///
     /// # Errors
     /// `NotAFiring` with the place of the first that is no firing of the job. `Full` where the machine
@@ -136,6 +147,12 @@ impl<'a> Machine<'a> {
 
     /// Goes on where an earlier call found no memory, until all that was begun is applied.
     ///
+    /// Promise nothing-is-lost: a call that finds no memory keeps what was taken and what has entered, and
+    /// the next call goes on.
+    ///
+    /// Promise when-memory-is-refused: on a settled machine this call succeeds without memory and changes
+    /// nothing.
+    ///
     /// # Errors
     /// `AllocError` where there is no memory; the entries that have entered stay.
     pub fn settle(&mut self) -> Result<(), AllocError>
@@ -154,8 +171,11 @@ impl<'a> Machine<'a> {
         self.parts.is_settled()
     }
 
-    /// Whether nothing is ready, and all that was begun is applied: then the history is all that can be
-    /// derived from the job. It takes no memory.
+    /// Whether the machine has nothing left to do: then the history is all that can be derived from the job.
+    /// It takes no memory.
+    ///
+    /// Promise whether-it-is-quiet: the answer is true exactly if the machine is settled and nothing is
+    /// ready.
     pub fn is_quiet(&self) -> bool
         ensures { IsTrue result ↔ IsQuiet self.now }
     {
@@ -165,9 +185,12 @@ impl<'a> Machine<'a> {
         self.parts.is_quiet()
     }
 
-    /// Applies one ready firing, and then each parked one that is enabled by it. The ready firings stand
-    /// in order; `pick` modulo their number is the place of the one that is applied, so any number may
-    /// stand there. Where nothing is ready, the history is all that can be derived from the job.
+    /// Applies one ready firing, and then each parked one that is enabled by it. The ready firings stand in
+    /// order; `pick` modulo their number is the place of the one that is applied, so any number may stand
+    /// there.
+    ///
+    /// Promise fire: the ready firing at the place is taken and no other; `Quiet` is returned only if nothing
+    /// is ready, and then the history is whole.
     ///
     /// # Errors
     /// `Full` where a firing is ready and the machine has taken as many as it may, and nothing is
@@ -180,9 +203,11 @@ impl<'a> Machine<'a> {
         Ok(fired)
     }
 
-    /// The firing that `fire(0)` applies, if there is room: the least ready one. It takes no memory. There is
-    /// none where something that was begun is not yet applied, where nothing is ready, or where many firings
-    /// would have to be made to know which is the least.
+    /// The firing that `fire(0)` applies, if there is room. It takes no memory. There is none where something
+    /// that was begun is not yet applied, where nothing is ready, or where many firings would have to be made
+    /// to know which is the least.
+    ///
+    /// Promise what-is-fired-next: a firing that is returned is the least of all ready ones.
     pub fn next_ready(&self) -> Option<&Firing>
         ensures { IfSome result (λ f. IsPick self.now 0 f.now) }
     {
@@ -195,8 +220,11 @@ impl<'a> Machine<'a> {
     /// number is the place of the one that is applied. That a worker fires by buckets is this project's
     /// profile.
     ///
-    /// Where nothing is ready at all it answers `Quiet`, and the history is all that can be derived from
-    /// the job. Where something is ready and nothing of it is in the mask it answers `Elsewhere`.
+    /// `Quiet` is returned if nothing is ready at all, and then the history is all that can be derived from
+    /// the job.
+    ///
+    /// Promise fire-in-a-mask: of the ready firings in the mask the one at the place is taken; `Elsewhere` is
+    /// returned only if some are ready and none is in the mask.
     ///
     /// # Errors
     /// `Full` where a firing in the mask is ready and the machine has taken as many as it may, and
@@ -208,9 +236,13 @@ impl<'a> Machine<'a> {
         Ok(fired)
     }
 
-    /// Applies the least ready firing again and again, until nothing is ready or it has done so
-    /// `budget` times. A machine that had taken nothing before has the plain run of its job then: what
-    /// one machine alone applies, firing the least ready firing each time.
+    /// Applies the least ready firing again and again, until nothing is ready or it has done so `budget`
+    /// times. The plain run of a job is what one machine alone applies so.
+    ///
+    /// Promise run: each firing that it fires is the least that is ready then; `Paused` is returned only if
+    /// it fired `budget` times and something is ready.
+    ///
+    /// Promise plain-run: a machine that had taken nothing before has the plain run of its job afterwards.
     ///
     /// # Errors
     /// `Full` where a firing is ready and the machine has taken as many as it may; a machine that had
@@ -263,10 +295,19 @@ impl<'a> Machine<'a> {
         self.parts.knows(firing)
     }
 
-    /// The headline of one machine, which holds after all calls: the applied firings are one run of the
-    /// job; once the machine is settled, its history is the closure of the firings that it took; and
-    /// where nothing is ready then, it has all that any run reaches. It does nothing, and callers cite
-    /// its clauses.
+    /// The headline of one machine, which holds after all calls. It does nothing, and callers cite its
+    /// clauses.
+    ///
+    /// Promise machine-one-run: the applied firings, in their order, are one run of the job.
+    ///
+    /// Promise machine-fixed-by-its-set: the history of a settled machine is the closure of the firings that
+    /// it took, whatever their order.
+    ///
+    /// Promise machine-quiet-is-whole: if a settled machine has nothing ready, its history is all that any
+    /// run of the job derives.
+    ///
+    /// Promise machine-always: what was taken are firings of the job, each once, no more than the limit, and
+    /// the history has nothing that they do not derive.
     pub fn holds(&self)
         ensures is { IsMachine self.now }
         ensures promise { KeepsItsPromise self.now }
@@ -276,8 +317,11 @@ impl<'a> Machine<'a> {
         let _parked = self.parts.parked.len();
     }
 
-    /// What holds of two machines of one job that took the same firings, in whatever orders: once both
-    /// are settled, they have the same history. It does nothing, and callers cite its clause.
+    /// What holds of two machines, in whatever orders they took firings. It does nothing, and callers cite
+    /// its clause.
+    ///
+    /// Promise machines-agree: two settled machines of one job that took the same firings have the same
+    /// history, the very list.
     pub fn agrees_with(&self, other: &Machine<'_>)
         ensures { Agree self.now other.now }
     {

@@ -2,6 +2,8 @@
 //!
 //! The ready firings are kept in one set whatever their buckets, and gone over where a mask is given:
 //! this project's choice, since most are fired without one.
+//!
+//! How many there are in the mask is counted only if the pick goes beyond them.
 ghost use Rattle.std.specs.Prelude.{◌≡◌, ◌↔◌, ◌+◌, ◌%◌, [], OnOk, IfOk, IfErr, IfSome, IfNone, IsTrue, IsFalse, ◌<◌, Contains, length, slice_get, Some};
 ghost use Rattle.u_rule.specs.declared.entry.Entry.{Entry};
 ghost use Rattle.u_rule.specs.declared.firing.Firing.{Firing};

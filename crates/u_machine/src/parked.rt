@@ -1,4 +1,7 @@
 //! How the parked firings of a machine are lent.
+//!
+//! They are lent as the ordered set that they stand in, or as the one that is in flight. So no body of the
+//! machine can lend them out of order.
 ghost use Rattle.std.specs.Prelude.{◌≡◌, ◌↔◌, [], ◌∷◌, IsTrue, Contains, length};
 ghost use Rattle.std.specs.Map.Iter.{ShowsInOrder, TakesFirst, deref};
 ghost use Rattle.std.specs.Iterator.{at_most};

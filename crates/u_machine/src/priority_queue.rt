@@ -1,4 +1,8 @@
 //! Priority queues: of distinct items the least one comes out first.
+//!
+//! Most woken firings are less than all that are ready, or greater than all. An item that belongs within
+//! the run ends it: all of the run goes into the set, and so it does before an item is taken out that is
+//! not the least. So each item goes from the run into the set at most once.
 ghost use Rattle.std.specs.Prelude.{◌≡◌, ◌↔◌, ◌%◌, ◌<◌, ◌++◌, [], ◌∷◌, OnOk, OnErr, IfSome, IfNone, Contains, IsTrue, IsFalse, length, slice_get};
 ghost use Rattle.std.specs.Option.{option_copied};
 ghost use Rattle.std.specs.Iterator.{at_most};

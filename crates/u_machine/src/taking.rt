@@ -1,6 +1,13 @@
 //! How firings are taken, one or a list: the first of three things that a machine does with its
 //! parts, each of which has a file of its own. A firing that is taken and is enabled begins to be
 //! applied, which `applying` goes on with.
+//!
+//! No table of the taken firings is kept. A woken firing needs the entry that has just entered, so it was
+//! taken exactly if it is parked. Any other was taken if it is enabled and neither ready nor still to be
+//! sorted out, or if it is parked.
+//!
+//! A list is taken as a whole, or refused as a whole. Its new firings are counted only if the whole list
+//! would be too long: in a set, or, without memory for one, by comparing each with those before it.
 ghost use Rattle.std.specs.Prelude.{◌≡◌, ◌↔◌, ◌<◌, ◌≤◌, ◌+◌, ◌++◌, [], ◌∷◌, OnOk, OnErr, IfOk, IfErr, Ok, IfSome, IfNone, IsTrue, IsFalse, Contains, length, slice_get, Some};
 ghost use Rattle.u_rule.specs.Rule.{system_of};
 ghost use Rattle.u_machine.specs.State.{Taken, count_of};
@@ -438,7 +445,7 @@ impl<'a> Parts<'a> {
 
     /// How many of the list were not taken, each counted once. It takes no memory, and compares each
     /// firing with those before it.
-    fn count_new(&self, firings: &[Firing]) -> usize
+    fn compare_all_new(&self, firings: &[Firing]) -> usize
         requires { Invariant self.now }
         ensures { HasSoManyNew (state_of self.now) firings.now result }
     {
@@ -461,7 +468,7 @@ impl<'a> Parts<'a> {
     {
         match self.new_of(firings) {
             Ok(news) => news.len(),
-            Err(AllocError) => self.count_new(firings),
+            Err(AllocError) => self.compare_all_new(firings),
         }
     }
 

@@ -1,6 +1,8 @@
 //! The firings of a job that a token makes with what it meets. What it meets is in the history, so each
 //! of them has all that it needs; which of them are firings of the job is tested as they are made. They
 //! are gathered in no order, and put in order once all are there.
+//!
+//! The loops over values and over writes have one form. What differs is in their clauses.
 ghost use Rattle.std.specs.Prelude.{◌≡◌, ◌↔◌, ◌⊎◌, ◌+◌, [], ◌∷◌, length, OnOk, IfOk, IfErr, Contains};
 ghost use Rattle.u_name.specs.Context.{IsBetween};
 ghost use Rattle.u_rule.specs.declared.entry.Entry.TheVariants.{Token as token_entry};

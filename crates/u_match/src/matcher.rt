@@ -1,4 +1,8 @@
 //! Sets of entries that say what each new entry enables.
+//!
+//! The history gains the entry last: first the firings are made, then the reads are noted, and one
+//! insertion ends the call. If memory runs out before, the history is as it was. What a refused call leaves
+//! in the table of reads does no harm, since each firing that the table proposes is tested.
 ghost use Rattle.std.specs.Prelude.{◌≡◌, ◌↔◌, [], IfOk, IfErr, OnOk, OnErr, IsTrue, Contains, ◌⊎◌, length};
 ghost use Rattle.u_rule.specs.declared.entry.Entry.{Entry};
 ghost use Rattle.u_rule.specs.declared.entry.Entry.TheVariants.{Token as token_entry};
@@ -286,7 +290,9 @@ impl Matcher {
         self.history.contains(entry)
     }
 
-    /// Whether it is a firing of the job, and all that it needs is there. It takes no memory.
+    /// Whether it is a firing of the job of which all needs are there. It takes no memory.
+    ///
+    /// Promise has-all-needs: the answer is true exactly if the firing is enabled over the set.
     ///
     /// # Errors
     /// `AllocError` where so many share a name or a value already, 2^63, that no copy can be made.
@@ -297,12 +303,16 @@ impl Matcher {
         has_all_of(&self.history, job, firing)
     }
 
-    /// Lets the entry enter the set, and answers the firings of the job that it wakes: those that need
-    /// it, and whose needs are all in the set then. They stand in order, each once. For an entry
-    /// that was there already it answers the same firings again. An activity fires once its ports
-    /// have tokens (Arvind and Gostelow, 1982), and a read of a cell once the cell has a write (Arvind
-    /// and Nikhil, 1990); that each choice of values and of a write is a firing of its own is this
-    /// project's profile.
+    /// Lets the entry enter the set, and returns the firings of the job that it wakes. For an entry that was
+    /// there already they are the same again. An activity fires once its ports have tokens (Arvind and
+    /// Gostelow, 1982), and a read of a cell once the cell has a write (Arvind and Nikhil, 1990); that each
+    /// choice of values and of a write is a firing of its own is this project's profile.
+    ///
+    /// Promise what-an-entry-wakes: exactly the firings are returned that need the entry and whose needs are
+    /// all in the set then, in order, each once.
+    ///
+    /// Promise matcher-without-memory: after an error the set is as it was, so a later call returns what this
+    /// one would have.
     ///
     /// # Errors
     /// `AllocError` where there is no memory; the set stays as it was.
@@ -417,9 +427,11 @@ impl Matcher {
     }
 
     /// Lets an entry that fits the job enter the set, unless it is there already or is a token that wakes
-    /// more than 16 firings. Of these no more than that are made before it answers `Many`, and the token
-    /// did not enter then. What a write wakes is always made. The list is emptied and its room is used:
-    /// after `Woken` it has the firings that the entry wakes, in order and each once, and else nothing.
+    /// more than 16 firings. Of these no more than that are made before `Many` is returned. What a write
+    /// wakes is always made. The list is emptied and its room is used.
+    ///
+    /// Promise what-a-new-entry-wakes: after `Woken` the entry is new, and the list has exactly the firings
+    /// that it wakes, in order, each once; after `Many` it did not enter.
     ///
     /// # Errors
     /// `AllocError` where there is no memory; the set stays as it was.
@@ -474,6 +486,8 @@ impl Matcher {
 
     /// The firings of the job that an entry of the set wakes, in order and each once: those that need
     /// it, and whose needs are all in the set.
+    ///
+    /// Promise entries-alone: exactly the firings are returned that `enter` would return for the entry.
     ///
     /// # Errors
     /// `AllocError` where there is no memory.

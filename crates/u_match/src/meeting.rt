@@ -8,10 +8,10 @@ ghost use Rattle.u_match.specs.ReadOrder.{read_ties};
 
 use std::alloc::{AllocError, Global};
 use std::slice;
+use u_base::ExactOrd;
 use u_history::NumberedHistory;
 use u_name::Name;
 use u_names::CellSet;
-use u_base::ExactOrd;
 use u_rule::TokenRef;
 use u_value::Value;
 

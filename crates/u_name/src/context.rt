@@ -1,4 +1,10 @@
 //! Contexts, as trees.
+//!
+//! A context is one pointer to what its copies share, behind a count of owners that threads may share.
+//! Copies, and the linkage calls `plain`, `next`, `last`, `leave` and `back`, take no memory. `enter` and
+//! `call` take memory that grows with the depth. A context keeps a digest, made of its outer context's
+//! digest, so hashing walks over no loops and calls. The digest leaves out the blocks: the other parts tell
+//! almost all names of one program apart.
 ghost use Rattle.std.specs.Prelude.{◌≡◌, ◌≤◌, ◌<◌, ◌↔◌, IfOk, IsTrue, ◌++◌, [], ◌∷◌};
 ghost use Rattle.u_name.specs.Context.{Top, InLoop, InCall, depth, IsContext, IsBetween};
 ghost use Rattle.std.proofs.Common.{rules};

@@ -2,6 +2,9 @@
 //!
 //! Below, `u.c.s.i` is the name with the context `u`, the block `c`, the statement `s` and the
 //! initiation `i`.
+//!
+//! The comparisons are written out. Equality looks at the short parts first and at the context last; the
+//! order has to look at the context first.
 ghost use Rattle.std.specs.Prelude.{◌≡◌, ◌≤◌, ◌<◌, ◌+◌, IfOk, MatchResult, OnOk, IsTrue, ◌↔◌, ◌++◌};
 ghost use Rattle.u_name.specs.Context.{depth, IsBetween, Tree};
 ghost use Rattle.u_name.specs.Greatest.{greatest_initiation};
@@ -53,8 +56,14 @@ impl<T: Drop> From<AllocFailed<T>> for NameError {
     }
 }
 
-/// The name of an activity: its context, the block and the number of its statement, 1 to 999, and
-/// the number of its initiation, 1 to 18446744073709551615. Names are ordered by these parts in turn.
+/// The name of an activity: its context, the block and the number of its statement, and the number of its
+/// initiation.
+///
+/// Promise names-in-range: a statement is 1 to 999, an initiation 1 to 18446744073709551615, and a context at
+/// most 64 deep.
+///
+/// Promise names-in-order: two names are equal exactly if these parts are, and names are ordered by the parts
+/// in turn.
 #[derive(Drop)]
 pub struct Name {
     context: Context,
@@ -191,6 +200,9 @@ impl Name {
 
     /// `(u.c.Ll.i).c.t.1` for `u.c.s.i`: a statement of a loop that is entered. `Deep` where the
     /// context has the depth 64.
+    ///
+    /// Promise linkage: `enter` and `call` return `Deep` exactly at depth 64, and `next` returns `Initiation`
+    /// exactly at the greatest one, unless memory runs out before.
     pub fn enter(&self, alloc: Global, number: u8, statement: u16) -> Result<Name, NameError>
         requires number_in { IsBetween 1 number 99 }
         requires statement_in { IsBetween 1 statement 999 }

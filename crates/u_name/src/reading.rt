@@ -1,4 +1,7 @@
 //! Names read from bytes.
+//!
+//! A name whose context is too deep has an error of its own. A value that holds such a name has not: its
+//! error is the byte of the 65th `(`.
 ghost use Rattle.std.specs.Prelude.{◌≡◌, ◌≤◌, ◌<◌, ◌-◌, ◌^◌, Ok, Err, MatchResult, IfOk, length, ◌∷◌, drop};
 ghost use Rattle.u_name.specs.Context.{depth, IsContext, Top};
 ghost use Rattle.u_name.specs.Block.{IsBlock};
@@ -346,6 +349,9 @@ pub fn front_name(alloc: Global, bytes: &[u8]) -> Result<Front<'_, Name>, AllocE
 impl Name {
     /// The name whose text the bytes are. A refusal's offset is where the longest front of a name's
     /// text ends.
+    ///
+    /// Promise names-are-read: what is read has the bytes as its text, and the text of a name is refused only
+    /// if there is no memory.
     #[tactic(auto, using(crate::proofs::WholeTexts::name_refused_within, crate::proofs::WholeTexts::name_refused_whole))]
     pub fn read(alloc: Global, bytes: &[u8]) -> Result<Name, NameTextError>
         ensures { MatchResult result (λ name. IsNameOf bytes.now name)

@@ -136,6 +136,8 @@ impl Context {
 impl Name {
     /// Appends the text of the name.
     ///
+    /// Promise names-are-written: exactly the text is appended that `Name::read` reads as this name.
+    ///
     /// # Errors
     /// `AllocError` where there is no memory. Then `out` is as it was.
     #[tactic(auto, using(u_base::proofs::AppendingLaws::extends_cut))]

@@ -8,13 +8,13 @@ use Rattle.std.specs.declared.cmp.Ordering.TheVariants.{Equal}
 use Rattle.u_name.specs.ContextLaws.{both}
 use Rattle.u_name.specs.ExactOrders.{block_cmp_ties}
 use Rattle.u_names.specs.Contexts.{KeyParts, context_key}
-use Rattle.u_names.specs.Places.{PlaceParts, place}
+use Rattle.u_names.specs.Places.{NamePlaceParts, place}
 use Rattle.u_names.specs.Frames.{FrameKey, frame_key}
 use Rattle.u_names.specs.Spots.{SpotParts, spot}
 use Rattle.u_names.specs.contracts.context_keys.ContextKeyOrd.TheImpl as key_ord
 use Rattle.u_names.specs.contracts.spots.SpotOrd.TheImpl as spot_ord
 use Rattle.u_names.specs.contracts.frames.FrameOrd.TheImpl as frame_ord
-use Rattle.u_names.specs.contracts.places.PlaceOrd.TheImpl as place_ord
+use Rattle.u_names.specs.contracts.places.NamePlaceOrd.TheImpl as place_ord
 
 bool_ties : (a b : Bool) → bool_cmp a b ≡ Equal → a ≡ b
 bool_ties false false h = refl
@@ -40,7 +40,7 @@ frame_ties a b h =
     ap (λ c. frame_key c a.block) (nat_cmp-IsAntisymmetric a.context b.context u.0)
     ∙ ap (λ k. frame_key b.context k) (block_cmp_ties a.block b.block u.1)
 
-pub place_ties : (a b : PlaceParts) → (place_ord.ghosts).cmp a b ≡ Equal → a ≡ b
+pub place_ties : (a b : NamePlaceParts) → (place_ord.ghosts).cmp a b ≡ Equal → a ≡ b
 place_ties a b h =
     let u = both _ _ h in
     let v = both _ _ u.1 in

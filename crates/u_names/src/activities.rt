@@ -71,6 +71,9 @@ impl Activities {
     /// The number of the activity. If it has none, it and the others of its group get theirs, behind
     /// all numbers that there are.
     ///
+    /// Promise activities-keep-numbers: no two activities have one number, and every activity keeps its
+    /// number, after an error too.
+    ///
     /// # Errors
     /// `AllocError` where there is no memory; all have the numbers that they had.
     pub fn number_of(&mut self, activity: &Name) -> Result<usize, AllocError>
@@ -99,7 +102,7 @@ impl Activities {
         }
         let behind = behind_of(statement);
         let first = statement - behind;
-        let place = self.leaders.id_beside(near, first)?;
+        let place = self.leaders.number_beside(near, first)?;
         Ok(GROUP * place + usize::from(behind))
     }
 

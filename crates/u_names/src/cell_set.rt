@@ -11,8 +11,8 @@ use crate::cells::Cells;
 use std::alloc::{AllocError, AllocFailed, Global};
 use std::hash::Hash;
 use std::marker::Model;
-use u_name::Cell;
 use u_base::ExactOrd;
+use u_name::Cell;
 
 /// A set of pairs of a cell and a value, by cell: structures have numbers, and the pairs of a cell are
 /// found by its structure's number and its index. Contracts see the list of the pairs.
@@ -66,6 +66,8 @@ impl<V: ExactOrd + Hash + Drop> CellSet<V> {
     }
 
     /// Puts the pair in. Returns whether it was new.
+    ///
+    /// Promise sets-by-cell: the set has afterwards exactly the pairs that it had and this one.
     ///
     /// # Errors
     /// `AllocFailed` with the value where there is no memory; the set stays as it was.

@@ -14,8 +14,8 @@ use crate::spots::Spot;
 use std::alloc::{AllocError, AllocFailed, Global};
 use std::hash::Hash;
 use std::marker::Model;
-use u_name::Cell;
 use u_base::ExactOrd;
+use u_name::Cell;
 use u_sets::KeyedSet;
 
 /// Pairs of a cell and a value: structures have numbers, and the pairs of a cell are found by its

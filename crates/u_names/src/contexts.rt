@@ -1,4 +1,8 @@
 //! Contexts, each of which has a number.
+//!
+//! A context is hashed by its kind, its outer context's number and its parts. The context itself stands
+//! beside its number, so a name that leads back from its number shares it. Of each depth the context that
+//! was asked for last is looked at first.
 ghost use Rattle.std.specs.Prelude.{◌≡◌, ◌<◌, [], ◌∷◌, IfOk, IfSome, IfNone, IsTrue, Contains, length, slice_get, Some};
 ghost use Rattle.std.specs.Option.{option_copied};
 ghost use Rattle.u_base.specs.Firing.{Distinct};

@@ -3,7 +3,7 @@ ghost use Rattle.u_names.specs.ExactOrders.{key_ties, frame_ties, place_ties, sp
 
 use crate::context_keys::ContextKey;
 use crate::frames::Frame;
-use crate::places::Place;
+use crate::places::NamePlace;
 use crate::spots::Spot;
 use u_base::ExactOrd;
 
@@ -15,7 +15,7 @@ impl ExactOrd for Frame {
     ghost exact = { frame_ties };
 }
 
-impl ExactOrd for Place {
+impl ExactOrd for NamePlace {
     ghost exact = { place_ties };
 }
 

@@ -1,4 +1,7 @@
 //! Names in frames.
+//!
+//! The frame that was asked for last is looked at first, and so are the last few places. So most names are
+//! found without hashing, and looking for a name takes no memory.
 ghost use Rattle.std.specs.Prelude.{◌≡◌, ℕ, [], OnOk, OnErr, IfOk, IfSome, IfNone, IsTrue, Contains, length, slice_get, Some};
 ghost use Rattle.u_sets.specs.Members.{GoesLast};
 ghost use Rattle.u_base.specs.Firing.{Distinct};
@@ -7,7 +10,7 @@ ghost use Rattle.u_name.specs.Name.{Activity};
 ghost use Rattle.u_names.specs.Frames.{beside};
 
 use crate::frames::Frames;
-use crate::places::Place;
+use crate::places::NamePlace;
 use std::alloc::{AllocError, Global};
 use std::marker::Model;
 use u_name::Name;
@@ -21,7 +24,7 @@ const RECENT: usize = 8;
 #[derive(Drop)]
 pub(crate) struct NameTable {
     frames: Frames,
-    places: PlacedSet<Place>,
+    places: PlacedSet<NamePlace>,
     /// Numbers that were asked for lately, which are looked at first.
     recent: [usize; RECENT],
 }
@@ -41,7 +44,7 @@ impl Model for NameTable {
 }
 
 /// Whether the place has that number.
-fn is_at(places: &PlacedSet<Place>, number: usize, place: &Place) -> bool
+fn is_at(places: &PlacedSet<NamePlace>, number: usize, place: &NamePlace) -> bool
     ensures { IsTrue result → slice_get places.now number ≡ Some place.now }
 {
     match places.get(number) {
@@ -53,9 +56,9 @@ fn is_at(places: &PlacedSet<Place>, number: usize, place: &Place) -> bool
 /// The number of the place, which goes last if it is new. Of the places with such a statement the one
 /// that was asked for last is looked at first.
 fn number_of_place(
-    places: &mut PlacedSet<Place>,
+    places: &mut PlacedSet<NamePlace>,
     recent: &mut [usize; RECENT],
-    place: Place,
+    place: NamePlace,
 ) -> Result<usize, AllocError>
     ensures number { IfOk result (λ i. slice_get places.new i ≡ Some place) }
     ensures ok { OnOk result (GoesLast places.old place places.new) }
@@ -98,7 +101,7 @@ impl NameTable {
     /// # Errors
     /// `AllocError` where there is no memory, or where 2^32 contexts or 2^32 blocks in contexts have
     /// numbers already; the names and their numbers stay as they were.
-    pub(crate) fn id_beside(&mut self, name: &Name, statement: u16) -> Result<usize, AllocError>
+    pub(crate) fn number_beside(&mut self, name: &Name, statement: u16) -> Result<usize, AllocError>
         requires { IsBetween 1 statement 999 }
         ensures number { IfOk result
             (λ i. slice_get self.new i ≡ Some (beside name.now statement)) }
@@ -107,7 +110,7 @@ impl NameTable {
         ensures distinct { Distinct self.new }
     {
         let frame = self.frames.number_of(name)?;
-        let Some(place) = Place::of(frame, name, statement) else {
+        let Some(place) = NamePlace::of(frame, name, statement) else {
             return Err(AllocError);
         };
         let id = number_of_place(&mut self.places, &mut self.recent, place)?;
@@ -123,7 +126,7 @@ impl NameTable {
         ensures none { IfNone result (Contains self.now (beside name.now statement) → ⊥) }
     {
         let frame = self.frames.find(name)?;
-        let place = Place::of(frame, name, statement)?;
+        let place = NamePlace::of(frame, name, statement)?;
         self.places.place_of(&place)
     }
 

@@ -53,6 +53,9 @@ impl Names {
 
     /// The number of the name. A name that is new goes last.
     ///
+    /// Promise numbers-of-names: equal names have one number and different names different ones, and every
+    /// name keeps its number, after an error too.
+    ///
     /// # Errors
     /// `AllocError` where there is no memory, or where 2^32 contexts or 2^32 blocks in contexts have
     /// numbers already; the names and their numbers stay as they were.
@@ -62,14 +65,14 @@ impl Names {
         ensures err { OnErr result (self.new ≡ self.old) }
         ensures distinct { Distinct self.new }
     {
-        self.id_beside(name, name.statement())
+        self.number_beside(name, name.statement())
     }
 
     /// The number of the name with that statement in place of its own. A name that is new goes last.
     ///
     /// # Errors
     /// As `id_of`.
-    pub(crate) fn id_beside(&mut self, name: &Name, statement: u16) -> Result<usize, AllocError>
+    pub(crate) fn number_beside(&mut self, name: &Name, statement: u16) -> Result<usize, AllocError>
         requires { IsBetween 1 statement 999 }
         ensures number { IfOk result
             (λ i. slice_get self.new i ≡ Some (beside name.now statement)) }
@@ -77,7 +80,7 @@ impl Names {
         ensures err { OnErr result (self.new ≡ self.old) }
         ensures distinct { Distinct self.new }
     {
-        self.table[0].id_beside(name, statement)
+        self.table[0].number_beside(name, statement)
     }
 
     /// The number of the name, if it is there. It takes no memory.

@@ -18,16 +18,16 @@ const ROUND: u128 = 1 << 64;
 /// have one hash, four by four, so a set that finds places by hashes has those of neighbouring turns of a loop
 /// side by side in memory.
 #[derive(PartialEq, Eq, PartialOrd, Ord, Drop)]
-pub(crate) struct Place {
+pub(crate) struct NamePlace {
     frame: u32,
     statement: u16,
     initiation: u64,
 }
 
-impl Model for Place {
-    ghost use Rattle.u_names.specs.Places.{PlaceParts, place, IsPlace, place_code};
+impl Model for NamePlace {
+    ghost use Rattle.u_names.specs.Places.{NamePlaceParts, place, IsPlace, place_code};
 
-    ghost Value = { PlaceParts };
+    ghost Value = { NamePlaceParts };
 
     ghost coded = { place_code };
 
@@ -38,7 +38,7 @@ impl Model for Place {
     ghost inverse = { λ p. record { frame = p.frame; statement = p.statement; initiation = p.initiation } };
 }
 
-impl Hash for Place {
+impl Hash for NamePlace {
     ghost use Rattle.std.proofs.Common.{rules};
     ghost use Rattle.std.specs.Cmp.Rules.{comparing, hashing};
     ghost use Rattle.u_names.specs.Places.{place_writes};
@@ -53,17 +53,17 @@ impl Hash for Place {
     }
 }
 
-impl Place {
+impl NamePlace {
     /// The place of the name with that statement in place of its own, whose frame has that number.
     /// There is none from 2^32 on.
-    pub(crate) fn of(frame: usize, name: &Name, statement: u16) -> Option<Place>
+    pub(crate) fn of(frame: usize, name: &Name, statement: u16) -> Option<NamePlace>
         requires { IsBetween 1 statement 999 }
         ensures place { IfSome result (λ p. p ≡ place_of frame (beside name.now statement)) }
         ensures range { IfSome result IsPlace }
         ensures none { IfNone result (2 ^ 32 ≤ frame) }
     {
         let frame = u32::try_from(frame).ok()?;
-        Some(Place {
+        Some(NamePlace {
             frame,
             statement,
             initiation: name.initiation(),

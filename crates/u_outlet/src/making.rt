@@ -1,4 +1,7 @@
 //! An outlet is made with its inlets.
+//!
+//! If there are too few places for readers, the outlet is returned beside the error, to be closed: closing
+//! may wait, so an outlet is not `Drop`.
 ghost use Rattle.std.specs.Prelude.{◌≡◌, [], All, IsTrue, IfOk, vec_len};
 ghost use Rattle.u_name.specs.Context.{IsBetween};
 ghost use Rattle.u_outlet.specs.Ends.{published, pending, seen_by};
@@ -29,6 +32,9 @@ fn fill<J: Named>(outlet: &Outlet<J>, inlets: &mut Vec<Inlet<J>>, readers: usize
 
 /// An outlet for firings of the job, and so many inlets, 1 to 8. The outlet has room for as many notices
 /// besides. Where it has no place for one of the inlets, it comes beside `NoReader`, to be closed.
+///
+/// Promise new-outlet: nothing is published or pending, and there are as many inlets as were asked for, which
+/// have seen nothing.
 ///
 /// # Errors
 /// `AllocError` where there is no memory; nothing is left open.

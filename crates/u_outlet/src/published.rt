@@ -9,6 +9,8 @@ use std::marker::{Model, PhantomData};
 use u_rule::Firing;
 
 /// Sound firings of a job, in the order in which they were published. Contracts see a list.
+///
+/// Promise published-is-sound: each firing that is published is one that some run of the job makes.
 #[derive(Drop)]
 pub struct Published<J: Named> {
     firings: Vec<Firing>,

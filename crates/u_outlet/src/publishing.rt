@@ -1,4 +1,8 @@
 //! The end that publishes.
+//!
+//! `notice` is a call of its own: it needs a reader's place, which may be missing, and that is no reason
+//! for a publication to fail. A firing moves into the second copy of the list, so it is copied twice and
+//! not three times.
 ghost use Rattle.std.specs.Prelude.{◌≡◌, ◌≤◌, ◌<◌, ◌^◌, ◌++◌, [], IfSome, All, drop, MatchResult, IfOk, OnErr, OnOk};
 ghost use Rattle.left_right.specs.Sides.{view};
 ghost use Rattle.u_outlet.specs.Fronts.{joined};
@@ -60,6 +64,8 @@ impl<J: Named> OutletOf<Published<J>, Published<J>, [Firing; 0], Grows> {
 
     /// Appends copies of sound firings of the job to what is pending.
     ///
+    /// Promise put: what is pending gets the copies at its end, and what is published stays.
+    ///
     /// # Errors
     /// `AllocError` where there is no memory; what is pending is as before.
     pub fn put(&mut self, firings: &[Firing]) -> Result<(), AllocError>
@@ -73,8 +79,10 @@ impl<J: Named> OutletOf<Published<J>, Published<J>, [Firing; 0], Grows> {
         add(&mut self.writer, batch)
     }
 
-    /// Publishes all that is pending, in its order and at once. It may wait for readers, where nothing
-    /// is pending too.
+    /// Publishes all that is pending, in its order. It may wait for readers, where nothing is pending too.
+    ///
+    /// Promise publish: all that was pending is published after what was published, in one step, and nothing
+    /// is pending then.
     ///
     /// # Errors
     /// `AllocError` where there is no memory; nothing is published, and all stays pending.
@@ -124,7 +132,9 @@ impl<J: Named> OutletOf<Published<J>, Published<J>, [Firing; 0], Grows> {
         writer.take(rt);
     }
 
-    /// Ends the outlet as `close` does, and returns what was published.
+    /// Ends the outlet as `close` does.
+    ///
+    /// Promise close-into: exactly what was published is returned.
     pub fn close_into<R: Wait>(self, rt: &R) -> Published<J>
         ensures { result ≡ published self }
     {

@@ -1,4 +1,7 @@
 //! What an inlet shows, and learns by a notice.
+//!
+//! `learn` takes the notice by value. A notice is a reader, and if it knows more than the inlet, the inlet
+//! goes on with it and drops its own. So a notice has a reader's place until it is learnt or dropped.
 ghost use Rattle.std.specs.Prelude.{◌≡◌, [], All, drop, length, IfOk, IfErr};
 ghost use Rattle.left_right.specs.Sides.{view};
 ghost use Rattle.u_outlet.specs.Fronts.{StartsWith, longer};
@@ -34,8 +37,9 @@ impl<J: Named> Inlet<J> {
     }
 
     /// Copies of the published firings from a place on, counted from 0; none where there are no more.
-    /// What is published begins with all that this inlet saw before or learnt of, and the inlet has
-    /// seen it then.
+    ///
+    /// Promise pull: the firings are those from the place on of all that the inlet has seen then, which
+    /// begins with what it had seen or learnt of.
     ///
     /// # Errors
     /// `NoReading` where the outlet gives no reading, since it is closed; the inlet has seen no more
@@ -57,8 +61,10 @@ impl<J: Named> Inlet<J> {
         copies
     }
 
-    /// Takes the longer of what the inlet has seen and what the notice tells as seen. It is meant for a
-    /// notice of this inlet's outlet: then later pulls show all that the notice tells.
+    /// Takes what the notice tells as seen. It is meant for a notice of this inlet's outlet: then later pulls
+    /// show all that the notice tells.
+    ///
+    /// Promise learn: the inlet has seen then the longer of what it had seen and what the notice tells.
     pub fn learn(&mut self, notice: Notice<J>)
         ensures { seen_by self.new ≡ longer (seen_by self.old) (told_by notice) }
     {

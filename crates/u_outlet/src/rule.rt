@@ -10,7 +10,10 @@ use left_right::reader::Reader;
 use left_right::writer::Writer;
 use u_rule::Firing;
 
-/// What is published begins with what each seat knows of it.
+/// The rule of a published list.
+///
+/// Promise each-knows-a-front: at every moment what is published begins with what each seat knows, so of what
+/// two seats know one begins the other.
 pub struct Grows;
 
 impl<J: Named> Protocol<Published<J>, [Firing; 0]> for Grows {

@@ -9,8 +9,8 @@ use Rattle.u_check.specs.Kinds.{is_leave}
 use Rattle.u_rule.specs.Fits.{statement_of}
 use Rattle.u_draw.specs.Dot.{Attribute, attribute, Shown, Cluster}
 use Rattle.u_pictures.specs.Names.{context_cluster, turn_cluster}
-use Rattle.u_pictures.specs.declared.places.Place.{Place}
-use Rattle.u_pictures.specs.declared.places.Place.TheVariants as places
+use Rattle.u_pictures.specs.declared.places.Enclosure.{Enclosure}
+use Rattle.u_pictures.specs.declared.places.Enclosure.TheVariants as places
 
 -- the turn of a loop's context
 abbrev pub turn_in : Tree → ℕ → List (List ℕ)
@@ -43,7 +43,7 @@ around p a =
     else around_turn a.context a.initiation
 
 -- the clusters of a place
-abbrev pub clusters_at : Place → List (List ℕ)
+abbrev pub clusters_at : Enclosure → List (List ℕ)
 clusters_at (places.Turn u i) = around_turn u.now i
 clusters_at (places.Outside u) = around_context u.now
 clusters_at places.Nowhere = []

@@ -1,4 +1,8 @@
 //! The nodes of entries.
+//!
+//! Each entry is a node, so what a firing needs and gives are its arcs, and nothing is searched for. The
+//! writes of a cell share its cylinder. Entries stand in order, so what lies in one place is seen by
+//! looking at the neighbours.
 ghost use Rattle.std.specs.Prelude.{◌≡◌, ◌++◌, IfOk, OnOk, OnErr, None};
 ghost use Rattle.std.specs.Option.{option_copied};
 ghost use Rattle.u_base.specs.Appending.{Extends};
@@ -11,7 +15,7 @@ ghost use Rattle.u_pictures.specs.Picture.{entry_clusters, entry_node, entry_nod
 
 use crate::looks::{meet, push_entry_look};
 use crate::names::{entry_name, text_of_entry};
-use crate::places::{Place, begin_line, end_line, place_of, push_clusters};
+use crate::places::{Enclosure, begin_line, end_line, place_of, push_clusters};
 use std::alloc::{AllocError, Global};
 use u_check::Job;
 use u_draw::{push_attribute, push_node};
@@ -20,14 +24,14 @@ use u_rule::{Entry, start};
 
 /// Where an entry lies: a token where its activity does, a cell where its structure was made.
 #[tactic(auto, unfolding(crate::specs::Picture::entry_place))]
-fn entry_place<'a>(program: &Program, entry: &'a Entry) -> Place<'a>
+fn entry_place<'a>(program: &Program, entry: &'a Entry) -> Enclosure<'a>
     ensures { clusters_at result ≡ entry_place program.now.blocks entry.now }
 {
     match entry {
         Entry::Token(token) => place_of(program, token.activity()),
-        Entry::Write(write) => Place::Outside(write.cell.name().context()),
+        Entry::Write(write) => Enclosure::Outside(write.cell.name().context()),
         Entry::Fault(fault) => place_of(program, &fault.activity),
-        Entry::Answer(_) => Place::Nowhere,
+        Entry::Answer(_) => Enclosure::Nowhere,
     }
 }
 

@@ -1,4 +1,8 @@
 //! What happens in a world, told event by event.
+//!
+//! A row says in what the worlds before and after the event differ, not what it was meant to do. The world
+//! lends no messages, so `live` notes each one that is sent. A restart says how many firings the replica
+//! has and had, since before and after may be no part of one another.
 ghost use Rattle.std.specs.Prelude.{◌≡◌, [], ◌∷◌, ◌++◌, ℕ, length, MatchResult, IfOk, IfSome, List, slice_get};
 ghost use Rattle.std.specs.Option.{option_copied};
 ghost use Rattle.u_world.specs.WorldState.{Has};
@@ -210,6 +214,9 @@ fn keep(
 
 /// Lets the events happen, one after another, in a world in which nothing was sent before. Returns what
 /// each of them did, in their order.
+///
+/// Promise events-lived-through: what is returned of each event is what the world before it and the world
+/// after it differ in.
 ///
 /// # Errors
 /// As `World::run`, with the place of the event; and `NoMemory` also where what happened can't be kept.

@@ -1,4 +1,7 @@
 //! The picture of a world.
+//!
+//! A life line is one line behind the boxes, drawn first, and ways are straight, so no way bends round a
+//! box. Each node has its place, since a layout would let life lines wander.
 ghost use Rattle.std.specs.Prelude.{◌≡◌, ◌++◌, ◌∷◌, [], IfOk, OnOk, codes};
 ghost use Rattle.u_draw.specs.Dot.{bracketed, quoted, shown_line, text};
 ghost use Rattle.u_draw.specs.Told.{told};
@@ -167,12 +170,15 @@ fn push_shown(out: &mut Vec<u8>, count: u8, happenings: &[Happening]) -> Result<
     push_events(out, happenings)
 }
 
-/// The picture of what happened among so many replicas, as a text of DOT, the language of Graphviz: a
-/// column for each replica, below its name, with a line for its life; a node for each event, in a row of
-/// its own, in the column of the replica that did what it says; and an arc for each message that came, from
-/// the node of the event that sent it to that of the event in which it came, and for each merge. Asks are
-/// dashed; what brought firings that were new is bold, and says how many; what brought none is dotted. The
-/// tooltips say what each event did, in their order.
+/// The picture of what happened among so many replicas, as a text of DOT, the language of Graphviz: a column
+/// for each replica, below its name, with a line for its life; a node for each event, in a row of its own, in
+/// the column of the replica that did what it says; and an arc for each message that came, from the node of
+/// the event that sent it to that of the event in which it came, and for each merge. Asks are dashed; what
+/// brought firings that were new is bold, and says how many; what brought none is dotted.
+///
+/// Promise picture-of-happenings: exactly the text of the picture of what happened is written.
+///
+/// Promise picture-tells-its-events: the tooltips of the events' nodes say what each event did, in order.
 ///
 /// # Errors
 /// `AllocError` where there is no memory.

@@ -1,5 +1,9 @@
 //! The clusters of a run's picture: one for each context of a loop or a call, and in a loop's one for
 //! each turn.
+//!
+//! The clusters of a firing stand before it each time; to Graphviz they are the same ones. A `leave` lies
+//! in no turn: it fires at initiation 1, after whichever turn was the last. What opens clusters and what
+//! closes them go the same way.
 ghost use Rattle.std.specs.Prelude.{◌≡◌, ◌++◌, ◌∷◌, [], IfOk, OnOk, OnErr, codes};
 ghost use Rattle.std.specs.Option.{option_copied};
 ghost use Rattle.u_base.specs.Appending.{Extends};
@@ -49,7 +53,7 @@ fn is_leaving(program: &Program, activity: &Name) -> bool
 
 /// Where a node or a cluster lies.
 #[derive(Clone, Copy)]
-pub enum Place<'a> {
+pub enum Enclosure<'a> {
     /// In the turn of a context. Only a loop's has turns.
     Turn(&'a Context, u64),
     /// In a context, and in no turn of it.
@@ -60,13 +64,13 @@ pub enum Place<'a> {
 
 /// Where the activity lies. A `leave` lies in no turn, since its box would go over all of them.
 #[tactic(auto, unfolding(crate::specs::Places::around))]
-pub fn place_of<'a>(program: &Program, activity: &'a Name) -> Place<'a>
+pub fn place_of<'a>(program: &Program, activity: &'a Name) -> Enclosure<'a>
     ensures { clusters_at result ≡ around program.now.blocks activity.now }
 {
     if is_leaving(program, activity) {
-        return Place::Outside(activity.context());
+        return Enclosure::Outside(activity.context());
     }
-    Place::Turn(activity.context(), activity.initiation())
+    Enclosure::Turn(activity.context(), activity.initiation())
 }
 
 /// Appends what begins the part within the turn of a loop's context. On an error a part of it may stand
@@ -175,41 +179,41 @@ fn close_context(out: &mut Vec<u8>, context: &Context) -> Result<(), AllocError>
 /// Appends what begins the part within the clusters of the place. On an error a part of it may stand
 /// there.
 #[tactic(auto, using(u_base::proofs::AppendingLaws::extends_same, u_base::proofs::AppendingLaws::extends_behind, crate::proofs::Opening::two_opened))]
-fn open_place(out: &mut Vec<u8>, place: Place<'_>) -> Result<(), AllocError>
+fn open_place(out: &mut Vec<u8>, place: Enclosure<'_>) -> Result<(), AllocError>
     ensures ok { OnOk result
         (out.new.items ≡ out.old.items ++ all_opened (clusters_at place.entry)) }
     ensures err { OnErr result (Extends out.old.items out.new.items) }
 {
     match place {
-        Place::Turn(context, turn) => {
+        Enclosure::Turn(context, turn) => {
             open_context(out, context)?;
             open_turn(out, context, turn)
         }
-        Place::Outside(context) => open_context(out, context),
-        Place::Nowhere => Ok(()),
+        Enclosure::Outside(context) => open_context(out, context),
+        Enclosure::Nowhere => Ok(()),
     }
 }
 
 /// Appends what ends the part within the clusters of the place. On an error a part of it may stand there.
 #[tactic(auto, using(u_base::proofs::AppendingLaws::extends_same, u_base::proofs::AppendingLaws::extends_behind, crate::proofs::Opening::two_closed))]
-fn close_place(out: &mut Vec<u8>, place: Place<'_>) -> Result<(), AllocError>
+fn close_place(out: &mut Vec<u8>, place: Enclosure<'_>) -> Result<(), AllocError>
     ensures ok { OnOk result
         (out.new.items ≡ out.old.items ++ all_closed (clusters_at place.entry)) }
     ensures err { OnErr result (Extends out.old.items out.new.items) }
 {
     match place {
-        Place::Turn(context, turn) => {
+        Enclosure::Turn(context, turn) => {
             close_context(out, context)?;
             close_turn(out, context, turn)
         }
-        Place::Outside(context) => close_context(out, context),
-        Place::Nowhere => Ok(()),
+        Enclosure::Outside(context) => close_context(out, context),
+        Enclosure::Nowhere => Ok(()),
     }
 }
 
 /// Appends what begins a line within the clusters of the place. On an error a part of it may stand there.
 #[tactic(auto, using(u_base::proofs::AppendingLaws::extends_same, u_base::proofs::AppendingLaws::extends_behind, u_draw::proofs::Texts::join2))]
-pub fn begin_line(out: &mut Vec<u8>, place: Place<'_>) -> Result<(), AllocError>
+pub fn begin_line(out: &mut Vec<u8>, place: Enclosure<'_>) -> Result<(), AllocError>
     ensures ok { OnOk result
         (out.new.items ≡ out.old.items ++ (codes "  " ++ all_opened (clusters_at place.entry))) }
     ensures err { OnErr result (Extends out.old.items out.new.items) }
@@ -220,7 +224,7 @@ pub fn begin_line(out: &mut Vec<u8>, place: Place<'_>) -> Result<(), AllocError>
 
 /// Appends what ends that line. On an error a part of it may stand there.
 #[tactic(auto, using(u_base::proofs::AppendingLaws::extends_same, u_base::proofs::AppendingLaws::extends_behind, u_draw::proofs::Texts::join2))]
-pub fn end_line(out: &mut Vec<u8>, place: Place<'_>) -> Result<(), AllocError>
+pub fn end_line(out: &mut Vec<u8>, place: Enclosure<'_>) -> Result<(), AllocError>
     ensures ok { OnOk result
         (out.new.items ≡ out.old.items ++ (all_closed (clusters_at place.entry) ++ (10 ∷ []))) }
     ensures err { OnErr result (Extends out.old.items out.new.items) }
@@ -266,7 +270,7 @@ fn turn_attributes(alloc: Global, turn: u64) -> Result<Vec<u8>, AllocError>
 #[tactic(auto, using(u_base::proofs::AppendingLaws::extends_same, u_base::proofs::AppendingLaws::extends_behind, u_draw::proofs::Nests::framed))]
 fn push_cluster_line(
     out: &mut Vec<u8>,
-    place: Place<'_>,
+    place: Enclosure<'_>,
     attributes: &[u8],
 ) -> Result<(), AllocError>
     ensures ok { OnOk result (out.new.items ≡ out.old.items ++ (codes "  "
@@ -289,7 +293,7 @@ fn push_context_line(out: &mut Vec<u8>, context: &Context) -> Result<(), AllocEr
         Node::Root => Ok(()),
         _ => {
             let attributes = context_attributes(*out.allocator(), context)?;
-            push_cluster_line(out, Place::Outside(context), &attributes)
+            push_cluster_line(out, Enclosure::Outside(context), &attributes)
         }
     }
 }
@@ -304,7 +308,7 @@ fn push_turn_line(out: &mut Vec<u8>, context: &Context, turn: u64) -> Result<(),
     match context.node() {
         Node::Loop { .. } => {
             let attributes = turn_attributes(*out.allocator(), turn)?;
-            push_cluster_line(out, Place::Turn(context, turn), &attributes)
+            push_cluster_line(out, Enclosure::Turn(context, turn), &attributes)
         }
         _ => Ok(()),
     }

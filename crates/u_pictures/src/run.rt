@@ -61,10 +61,14 @@ fn push_picture(
     Ok(())
 }
 
-/// Appends the picture of a run, as a text of DOT, the language of Graphviz: a node for each of these
-/// firings of the job and for each of these entries, which stand in order, and an arc for each entry that
-/// a firing needs or gives. A cell has one node for all its writes. The tooltips of the firings' nodes are
-/// their texts, in their order.
+/// Appends the picture of a run, as a text of DOT, the language of Graphviz: a node for each of these firings
+/// of the job and for each of these entries, which stand in order, and an arc for each entry that a firing
+/// needs or gives. A cell has one node for all its writes.
+///
+/// Promise picture-of-firings: exactly the text of the picture of these firings and entries is appended.
+///
+/// Promise picture-names-its-firings: the tooltips of the firings' nodes are the texts of the firings, in
+/// order.
 ///
 /// # Errors
 /// `AllocError` where there is no memory. Then `out` is as it was.

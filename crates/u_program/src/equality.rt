@@ -1,4 +1,7 @@
 //! Equality of programs.
+//!
+//! Programs are compared part by part, which takes no memory. A program has one text, so equality of texts
+//! is what the comparison decides.
 ghost use Rattle.std.specs.Prelude.{◌≡◌, ◌↔◌, IsTrue};
 ghost use Rattle.std.specs.Cmp.{partial_equiv_from_equiv};
 ghost use Rattle.std.specs.Cmp.Lexicographic.{on_texts_equal};
@@ -69,9 +72,10 @@ impl PartialEq for Program {
 
     ghost laws = { partial_equiv_from_equiv (on_texts_equal text_of) };
 
-    /// Whether the programs have one version and equal blocks in the same order, so that their texts are
-    /// the same.
-    /// Takes no memory.
+    /// Whether the texts of the programs are the same. Takes no memory.
+    ///
+    /// Promise programs-are-equal: two programs are equal exactly if their versions and all parts of their
+    /// blocks are.
     fn eq(&self, other: &Program) -> bool {
         let left = self.blocks();
         let right = other.blocks();

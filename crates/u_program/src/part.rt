@@ -14,7 +14,7 @@ use u_name::BlockName;
 
 /// Whole blocks, and one that may go on.
 #[derive(Drop)]
-pub struct Part {
+pub struct PartialProgram {
     /// The blocks before the last one, which all have statements.
     pub done: Vec<Block>,
     /// The last block, which may have none yet.
@@ -42,10 +42,15 @@ impl<T: Drop> From<AllocFailed<T>> for LineFault {
     }
 }
 
-impl Part {
+impl PartialProgram {
     /// The part with the line that begins a block.
     #[tactic(auto, using(crate::proofs::Steps::block_closed, crate::proofs::Steps::block_over, crate::proofs::Steps::block_taken))]
-    fn with_block(self, alloc: Global, version: Version, name: BlockName) -> Result<Part, LineFault>
+    fn with_block(
+        self,
+        alloc: Global,
+        version: Version,
+        name: BlockName,
+    ) -> Result<PartialProgram, LineFault>
         requires part { IsPart (limits_of version) self.done.items self.last }
         ensures { MatchResult result
             (λ new. IsPart (limits_of version) new.done.items new.last
@@ -56,7 +61,7 @@ impl Part {
     {
         // Brings in that the block's name is one: 1 to 16 letters, digits and `_`.
         let _ = name.as_bytes();
-        let Part { mut done, last } = self;
+        let PartialProgram { mut done, last } = self;
         if last.statements().len() == 0 {
             return Err(LineFault::Bad);
         }
@@ -64,7 +69,7 @@ impl Part {
             return Err(LineFault::TooMany);
         }
         done.push(last)?;
-        Ok(Part {
+        Ok(PartialProgram {
             done,
             last: Block::new(alloc, name),
         })
@@ -72,7 +77,12 @@ impl Part {
 
     /// The part with the line of a loop.
     #[tactic(auto, using(crate::proofs::Steps::loop_wrong, crate::proofs::Steps::loop_over, crate::proofs::Steps::loop_taken))]
-    fn with_loop(self, version: Version, number: u32, held_by: u8) -> Result<Part, LineFault>
+    fn with_loop(
+        self,
+        version: Version,
+        number: u32,
+        held_by: u8,
+    ) -> Result<PartialProgram, LineFault>
         requires part { IsPart (limits_of version) self.done.items self.last }
         requires line { IsLine version (variants.Loop number held_by) }
         ensures { MatchResult result
@@ -83,7 +93,7 @@ impl Part {
             (header version ∷ part_lines version self.done.items self.last)
             (loop_line number held_by)) }
     {
-        let Part { done, last } = self;
+        let PartialProgram { done, last } = self;
         if last.statements().len() != 0 {
             return Err(LineFault::Bad);
         }
@@ -94,7 +104,7 @@ impl Part {
             return Err(LineFault::TooMany);
         }
         let last = last.with_loop(held_by)?;
-        Ok(Part { done, last })
+        Ok(PartialProgram { done, last })
     }
 
     /// The part with the line of a statement.
@@ -104,7 +114,7 @@ impl Part {
         version: Version,
         number: u32,
         statement: Statement,
-    ) -> Result<Part, LineFault>
+    ) -> Result<PartialProgram, LineFault>
         requires part { IsPart (limits_of version) self.done.items self.last }
         requires line { IsLine version (variants.Statement number statement) }
         ensures { MatchResult result
@@ -116,7 +126,7 @@ impl Part {
             (header version ∷ part_lines version self.done.items self.last)
             (statement_line version number statement)) }
     {
-        let Part { done, last } = self;
+        let PartialProgram { done, last } = self;
         if number as usize != last.statements().len() + 1 {
             return Err(LineFault::Bad);
         }
@@ -127,12 +137,17 @@ impl Part {
             return Err(LineFault::TooMany);
         }
         let last = last.with(statement)?;
-        Ok(Part { done, last })
+        Ok(PartialProgram { done, last })
     }
 
     /// The part with one more line, which says why where it may not go on so.
     #[tactic(auto, using(crate::proofs::LineLaws::line_sound, crate::proofs::Steps::no_line))]
-    pub fn with_line(self, alloc: Global, version: Version, text: &[u8]) -> Result<Part, LineFault>
+    pub fn with_line(
+        self,
+        alloc: Global,
+        version: Version,
+        text: &[u8],
+    ) -> Result<PartialProgram, LineFault>
         requires part { IsPart (limits_of version) self.done.items self.last }
         ensures { MatchResult result
             (λ new. IsPart (limits_of version) new.done.items new.last
@@ -155,7 +170,7 @@ impl Part {
 
     /// The part that one line behind the header begins.
     #[tactic(auto, using(crate::proofs::Whole::first_part))]
-    pub fn first(alloc: Global, version: Version, text: &[u8]) -> Result<Part, LineFault>
+    pub fn first(alloc: Global, version: Version, text: &[u8]) -> Result<PartialProgram, LineFault>
         ensures { MatchResult result
             (λ new. IsPart (limits_of version) new.done.items new.last
             × (part_lines version new.done.items new.last
@@ -172,7 +187,7 @@ impl Part {
             Line::Loop(_, _) => return Err(LineFault::Bad),
             Line::Statement(_, _) => return Err(LineFault::Bad),
         };
-        Ok(Part {
+        Ok(PartialProgram {
             done: Vec::new(alloc),
             last: Block::new(alloc, name),
         })
@@ -183,7 +198,7 @@ impl Part {
         requires { IsProgram (limits_of version) (self.done.items ++ (self.last ∷ [])) }
         ensures { IfOk result (λ p. p ≡ program version (self.done.items ++ (self.last ∷ []))) }
     {
-        let Part { mut done, last } = self;
+        let PartialProgram { mut done, last } = self;
         done.push(last)?;
         Ok(Program::new(version, done))
     }

@@ -1,4 +1,10 @@
 //! Programs: blocks of numbered statements.
+//!
+//! Contracts see a program as a record of its version and its blocks, so one reader, one writer and one
+//! rule serve both versions. How many arguments an `apply` has, and which parameter a `param` is, are types
+//! of a few values, so no statement has more than five ports. The line of a loop names the loop that holds
+//! it, an earlier one or 0, so loops nest without circles. `lift` takes the program, and so takes no
+//! memory.
 ghost use Rattle.std.specs.Prelude.{◌≡◌, ◌++◌, ◌∷◌, [], length, IfOk};
 ghost use Rattle.u_program.specs.Limits.{IsProgram, the_limits, limits_of, count_of, place_of};
 ghost use Rattle.u_program.specs.Parts.{statement, block, program};
@@ -315,8 +321,9 @@ impl Program {
         Program { version, blocks }
     }
 
-    /// The same blocks as a program of version 2, which runs alike. A program of version 2 is returned as
-    /// it is.
+    /// The program as one of version 2, which runs alike. A program of version 2 is returned as it is.
+    ///
+    /// Promise programs-are-lifted: it has version 2 and the same blocks.
     #[tactic(auto, using(crate::proofs::Wide::within_all))]
     pub fn lift(self) -> Program
         ensures { result ≡ program versions.Two self.blocks }
@@ -335,6 +342,8 @@ impl Program {
     }
 
     /// Its blocks, in the order of the text.
+    ///
+    /// Promise programs-in-limits: they lie within the limits of the program's version.
     #[tactic(auto, using(crate::proofs::Wide::within_all))]
     pub fn blocks(&self) -> &[Block]
         ensures blocks { result.now ≡ self.now.blocks }

@@ -1,4 +1,7 @@
 //! Why bytes are not the text of a program.
+//!
+//! A list of 17 destinations has too many only if all of them are right. If one is wrong, the line is not
+//! allowed.
 ghost use Rattle.std.specs.Prelude.{◌≡◌};
 
 use std::alloc::{AllocError, AllocFailed};

@@ -8,8 +8,8 @@ ghost use Rattle.u_base.specs.Pieces.{words};
 use crate::kind_words::{has_list, has_otherwise, kind_word, plain_kinds};
 use crate::program::{Arguments, Constant, Destination, Kind, Parameter, Statement, Version};
 use std::alloc::{AllocFailed, Global};
-use u_name::BlockName;
 use u_base::{BadWord, Words, after, number_at, number_word, number0_word, signed_word};
+use u_name::BlockName;
 use u_value::{BinaryOperator, UnaryOperator};
 
 /// Why a line was not read: it is of no allowed form, or there is no memory.

@@ -1,4 +1,7 @@
 //! The text of a program, read.
+//!
+//! As long as all lines with a newline are allowed, whatever stands after the last newline makes the text
+//! cut short.
 ghost use Rattle.std.specs.Prelude.{◌≡◌, ◌<◌, ◌∷◌, [], length, MatchOption, MatchResult};
 ghost use Rattle.u_program.specs.declared.read_error.ReadError.TheVariants as errors;
 ghost use Rattle.u_program.specs.declared.program.Version.{Version};
@@ -7,7 +10,7 @@ ghost use Rattle.u_program.specs.Text.{header};
 ghost use Rattle.u_program.specs.Begun.{IsRead};
 ghost use Rattle.u_program.specs.Answer.{IsTextOf, IsReadError, fault_at};
 
-use crate::part::{LineFault, Part};
+use crate::part::{LineFault, PartialProgram};
 use crate::program::{Program, Version};
 use crate::read_error::ReadError;
 use std::alloc::Global;
@@ -16,12 +19,11 @@ use u_base::cut;
 /// The program whose text the bytes are. Each program has one text, which `Program::write_text`
 /// writes, so the two are inverse to each other.
 ///
-/// A line ends with a newline. Lines are judged from the first one, and the first that no program
-/// could have there is named: by `BadLine`, or by `TooMany` where the line is right but for the number
-/// of blocks (64), of loops of a block (99), of statements of a block (999) or of destinations of a
-/// list (16). Where no such line is found, and the bytes are no program's text, the answer is
-/// `Truncated`, whatever stands behind the last newline. The text of a program is refused for want of
-/// memory alone.
+/// A line ends with a newline. Lines are judged from the first one, and the first that no program could have
+/// there is named: by `BadLine`, or by `TooMany` where the line is right but for the number of blocks (64),
+/// of loops of a block (99), of statements of a block (999) or of destinations of a list (16). Where no such
+/// line is found, and the bytes are no program's text, the answer is `Truncated`, whatever stands behind the
+/// last newline.
 ///
 /// The first line is `u-program 1` or `u-program 2` and says the version. `block NAME` begins a block.
 /// Behind it stand the lines of its loops, `loop NUMBER HELD_BY`, where `HELD_BY` is 0 or the number of
@@ -32,6 +34,12 @@ use u_base::cut;
 /// place of a `param` (2 to 4), which version 2 has; other kinds have none. `apply`, `store` and `end`
 /// list no destinations. Source of the language: Arvind and Gostelow 1982, of its structures Arvind and
 /// Nikhil 1990; the text is this project's profile.
+///
+/// Promise programs-are-read: what is read has the bytes as its text, and the text of a program is refused
+/// only if there is no memory.
+///
+/// Promise first-bad-line: an error names the first line that no program can have there, and `Truncated` is
+/// returned only if there is none.
 #[tactic(auto, using(crate::proofs::Same::read_back))]
 pub fn read(alloc: Global, bytes: &[u8]) -> Result<Program, ReadError>
     ensures answer { MatchResult result (λ program. IsTextOf bytes.now program)
@@ -86,7 +94,7 @@ fn read_blocks(
     let Some((second, after_second)) = cut(after_first, b'\n') else {
         return Err(ReadError::Truncated);
     };
-    let mut part = match Part::first(alloc, version, second) {
+    let mut part = match PartialProgram::first(alloc, version, second) {
         Ok(part) => part,
         Err(fault) => return Err(at_line(fault, 2)),
     };

@@ -261,7 +261,9 @@ impl Program {
         Ok(())
     }
 
-    /// Appends the program's text. `read` of that text gives an equal program, and a program that
+    /// Appends the program's text.
+    ///
+    /// Promise programs-are-written: `read` of what is appended gives an equal program, and a program that
     /// was read is written as the bytes that it was read from.
     ///
     /// # Errors

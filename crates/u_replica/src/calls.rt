@@ -1,4 +1,6 @@
 //! Lists of calls of one replica, and what holds after each list.
+//!
+//! A call that merges lends the other replica, so a list can't name the replica itself.
 ghost use Rattle.std.specs.Prelude.{◌≡◌, IfOk, OnErr};
 ghost use Rattle.u_machine.specs.State.{IsSettled};
 ghost use Rattle.u_replica.specs.ReplicaState.{HoldsAlways};
@@ -46,6 +48,9 @@ impl<'a> Replica<'a> {
     }
 
     /// Makes the calls of the list one after another, and returns what each of them answered.
+    ///
+    /// Promise lists-of-replica-calls: after every list of calls nothing is lost, no mark counts less, and
+    /// number and life are the same.
     ///
     /// # Errors
     /// `AllocError` where there is no memory for the answers; then no call is made.

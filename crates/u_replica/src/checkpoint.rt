@@ -1,4 +1,7 @@
 //! Checkpoints of a replica: the firings that it has taken, as a text.
+//!
+//! The parked firings are listed after the applied ones. So a replica that takes the list applies what it
+//! can in the same order, and parks the rest.
 ghost use Rattle.std.specs.Prelude.{◌≡◌, ◌++◌, ◌∷◌, [], map, length, OnOk, OnErr};
 ghost use Rattle.u_rule.specs.FiringText.{firing_text};
 ghost use Rattle.u_base.specs.Appending.{Extends};
@@ -8,11 +11,11 @@ ghost use Rattle.u_replica.specs.Checkpoints.{AreFirings};
 
 use std::alloc::{AllocError, AllocFailed};
 use thiserror::Error;
+use u_base::{cut_back, push_long};
 use u_delta::{Firings, all_in_range, in_range, write_firings};
 use u_machine::Parked;
 use u_program::Version;
 use u_rule::Firing;
-use u_base::{cut_back, push_long};
 
 /// Whether all of a checkpoint was there.
 #[derive(Clone, Copy, Debug, PartialEq, Eq)]

@@ -21,12 +21,12 @@ use crate::firing_lines::fire_lines;
 use crate::listed_lines::fire_listed;
 use crate::onlooker::Onlooker;
 use std::alloc::Global;
+use u_base::{after_all, long_word};
 use u_delta::{Ahead, Firings, look_ahead};
 use u_machine::Machine;
 use u_name::KeptContext;
 use u_program::Version;
 use u_rule::{Firing, TextError};
-use u_base::{after_all, long_word};
 
 /// Whether the line is the last one of a checkpoint of so many firings.
 fn is_count_line(line: &[u8], count: u64) -> bool
@@ -258,14 +258,16 @@ pub(crate) fn read_behind_fired<S: Onlooker>(
 /// Returns the checkpoint that the bytes are, or that they are the front of. It is read for a job
 /// whose program has the version.
 ///
-/// A checkpoint is its first line, a line for each firing, and the line `end COUNT`, where `COUNT`
-/// is how many firings there are, each with a newline behind it. The first line is `u-history 1` or
-/// `u-history 2`: a job of version 1 reads the first of these alone, and a job of version 2 reads
-/// both, with the same firings behind them. `write_checkpoint` writes it, and of that text the
-/// firings come back, and the ending is `Whole`. Where the text was cut
-/// anywhere before its last byte, the ending is `Torn`, and the firings are those whose lines are
-/// there with their newline; what stands behind the last newline is dropped, whatever it is. The
-/// front of a checkpoint's text is refused for want of memory alone.
+/// A checkpoint is its first line, a line for each firing, and the line `end COUNT`, where `COUNT` is how
+/// many firings there are, each with a newline behind it. The first line is `u-history 1` or `u-history 2`: a
+/// job of version 1 reads the first of these alone, and a job of version 2 reads both, with the same firings
+/// behind them. `write_checkpoint` writes it, and of that text the firings come back, and the ending is
+/// `Whole`. Where the text was cut anywhere before its last byte, the ending is `Torn`, and the firings are
+/// those whose lines are there with their newline; what stands behind the last newline is dropped, whatever
+/// it is.
+///
+/// Promise checkpoints-are-read: unless memory runs out, `Whole` is returned exactly if the bytes are a
+/// checkpoint, and `Torn` exactly if they begin one and do not end it.
 ///
 /// # Errors
 /// Lines are judged from the first one. `TooLong` where a line has more than 32,768 bytes,

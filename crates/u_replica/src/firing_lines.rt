@@ -3,6 +3,9 @@
 //! A checkpoint of a run has its firings in the order in which one machine fired them. So a machine that
 //! fires knows which firing the next line has, and compares the line with it. Where a line is another one,
 //! it is read, and those behind it too.
+//!
+//! Contracts let bodies through that fire none of these lines: then all of them are read. The firings that are
+//! taken are the same, and only what it costs changes.
 ghost use Rattle.std.specs.Prelude.{◌≡◌, ◌<◌, ◌≤◌, IfOk, OnOk, MatchOption, length};
 ghost use Rattle.u_machine.specs.State.{IsSettled};
 ghost use Rattle.u_machine.specs.Calls.{IsFresh, Runs};

@@ -1,4 +1,7 @@
 //! The marks of a replica.
+//!
+//! No mark counts more than 1,000,000 firings: a delta that would end beyond that is taken, and moves no
+//! mark.
 ghost use Rattle.std.specs.Prelude.{◌≡◌, ◌≤◌, true, false, MatchOption};
 ghost use Rattle.u_name.specs.Context.{IsBetween};
 ghost use Rattle.u_replica.specs.Marking.{fresh_marks, mark_of, end_of, moved, is_heeded, marks_after, AreMarks};

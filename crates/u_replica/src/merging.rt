@@ -1,4 +1,7 @@
 //! Taking all that another machine took.
+//!
+//! Whether there is room is counted first, without memory, since no machine took a firing twice. So want of
+//! room is answered before want of memory.
 ghost use Rattle.std.specs.Prelude.{◌≡◌, ◌↔◌, IfOk, IsTrue};
 ghost use Rattle.u_replica.specs.Merging.{all_of, MergeAnswer};
 

@@ -4,6 +4,8 @@
 //! replica holds is fixed by the set of firings that it took. A replica asks a peer for what it lacks
 //! of the peer's log, and its marks say how much it has. Where a replica starts again from a
 //! checkpoint it lives its next life, and what its peers' marks count of an earlier life is void.
+//!
+//! A delta's receiver and an ask's asked number are not looked at: whoever delivers a message sees to them.
 ghost use Rattle.std.specs.Prelude.{◌≡◌, ◌≤◌, IfOk, IsOk, OnOk};
 ghost use Rattle.u_name.specs.Context.{IsBetween};
 ghost use Rattle.u_machine.specs.State.{IsSettled};
@@ -219,9 +221,9 @@ impl<'a> Replica<'a> {
         }
     }
 
-    /// The part of the replica's log that the asker lacks: what the log has behind the firings that the
-    /// asker has of this life, and the log from its front where the asker knows another life. It brings
-    /// copies of at most 4,096 firings. Who is asked is not looked at.
+    /// The part of the replica's log that the asker lacks. Who is asked is not looked at.
+    ///
+    /// Promise ask-and-answer: it is what `delta` returns of the replica's log for the mark of the ask.
     ///
     /// # Errors
     /// `AllocError` where there is no memory.
@@ -239,10 +241,11 @@ impl<'a> Replica<'a> {
         )
     }
 
-    /// Takes the firings of the delta. Then the mark for its sender moves where the delta goes on from
-    /// what the mark counts, or begins a later life: it counts up to the delta's end. A delta whose
-    /// sender is no other replica's number, or that ends behind the log's 1,000,000th firing, moves no
-    /// mark. For whom the delta is meant is not looked at.
+    /// Takes the firings of the delta. A delta whose sender is no other replica's number, or that ends behind
+    /// the log's 1,000,000th firing, moves no mark. For whom the delta is meant is not looked at.
+    ///
+    /// Promise receive: the sender's mark moves only if the delta goes on from what it counts or begins a
+    /// later life, and then to the delta's end.
     ///
     /// # Errors
     /// As `take_all`; no mark moves then.
@@ -254,10 +257,12 @@ impl<'a> Replica<'a> {
         Ok(())
     }
 
-    /// Takes all that the other replica took, its applied firings in their order and then its parked
-    /// ones. The replica is then the least upper bound of the two: what it took is the union, and its
-    /// history is the least that has both histories and all that its firings give which are enabled
+    /// Takes all that the other replica took, its applied firings in their order and then its parked ones.
+    /// Its history is then the least that has both histories and all that its firings give which are enabled
     /// over it. No mark moves.
+    ///
+    /// Promise merge-of-replicas: the replica is then the least upper bound of the two, and what it took is
+    /// the union of what the two took.
     ///
     /// # Errors
     /// `OtherJob` exactly where the other replica runs another program or runs it on another argument;
@@ -272,6 +277,9 @@ impl<'a> Replica<'a> {
     }
 
     /// Makes a call of the replica's machine, and returns its answer.
+    ///
+    /// Promise calls-of-a-replica: each such call is that of the replica's machine, with its promises, and
+    /// changes nothing else.
     pub fn obey_machine(&mut self, command: &Command) -> Reply
         ensures answer { Does self.old.machine command.now result self.new.machine }
         ensures alone { ChangesMachine self.old self.new }
@@ -279,9 +287,10 @@ impl<'a> Replica<'a> {
         self.machine.obey(command)
     }
 
-    /// The checkpoint of the replica: the text of its applied firings in their order, then of its
-    /// parked ones. Its first line is `u-history 1` where the job's program has version 1, and
-    /// `u-history 2` where it has version 2.
+    /// The checkpoint of the replica. Its first line is `u-history 1` where the job's program has version 1,
+    /// and `u-history 2` where it has version 2.
+    ///
+    /// Promise save: it has exactly the applied firings in their order and then the parked ones.
     ///
     /// # Errors
     /// `AllocError` where there is no memory.
@@ -311,10 +320,14 @@ impl<'a> Replica<'a> {
     /// and takes the same firings behind them; for a job of version 1 `u-history 2` is no line of a
     /// checkpoint.
     ///
-    /// Of what `write_checkpoint` wrote of any firings of this job, with a first line that the job reads,
-    /// the replica takes exactly these; so of what `save` returned for this job it takes what the saved
-    /// one took, and of a front of that the first ones. Then it is refused for want of room or of memory
-    /// alone.
+    /// Of what `write_checkpoint` wrote of any firings of this job, with a first line that the job reads, the
+    /// replica takes exactly these. Then it is refused for want of room or of memory alone.
+    ///
+    /// Promise restore: of what `save` returned for the job exactly what the saved replica took is taken, and
+    /// of a front of that the first firings.
+    ///
+    /// Promise restore-of-other-bytes: of other bytes exactly the firings that are read are taken, or the
+    /// first wrong line or firing that is none of the job is named.
     ///
     /// # Errors
     /// `BadLine` and `TooLong` with the first line, counted from 1, that no checkpoint which the job reads
@@ -385,6 +398,9 @@ impl<'a> Replica<'a> {
     }
 
     /// What holds of each replica, after all calls. It does nothing, and callers cite its clause.
+    ///
+    /// Promise replica-always: its machine keeps the promise of one machine, its number is 1 to 8, its life
+    /// at least 1, and no mark counts more than 1000000 firings.
     pub fn holds(&self)
         ensures { HoldsAlways self.now }
     {

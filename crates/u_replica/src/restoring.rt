@@ -1,4 +1,6 @@
 //! Replicas that start again from a checkpoint.
+//!
+//! The life is given by the caller, who alone knows which lives were lived.
 ghost use Rattle.std.specs.Prelude.{◌≡◌, ◌≤◌};
 ghost use Rattle.u_replica.specs.Restoring.{error_of_reading, error_of_taking, refusal_behind, FitsBehind};
 

@@ -7,9 +7,9 @@ ghost use Rattle.u_value.specs.Values.{value_text};
 ghost use Rattle.u_rule.specs.FiringText.{values_text, firing_text};
 
 use std::alloc::{AllocError, Global};
+use u_base::{long_number0_at, signed_at};
 use u_name::{Context, Name, behind_text};
 use u_rule::Firing;
-use u_base::{long_number0_at, signed_at};
 use u_value::Value;
 
 /// A context with its text. Neighbours in a checkpoint mostly stand in one context, so that its text is written

@@ -18,8 +18,8 @@ use crate::reading::{TextError, spaced_name, spaced_value};
 use crate::shared_written::SharedWritten;
 use crate::values::Values;
 use std::alloc::{AllocError, Global};
-use u_name::{Front, KeptContext, Name, front_name_beside};
 use u_base::{after, after_all};
+use u_name::{Front, KeptContext, Name, front_name_beside};
 use u_value::{Value, front_value};
 
 /// What stands behind a value of a firing, where another may come: the end, with the write if there
@@ -408,6 +408,9 @@ fn whole(firing: Firing, bytes: &[u8], rest: &[u8]) -> Result<Firing, TextError>
 impl Firing {
     /// Returns the firing whose text the bytes are: `f NAME VALUE..` with one value for each
     /// port, and ` by WRITER VALUE` behind them where it has a write.
+    ///
+    /// Promise firings-are-read: what is read has the bytes as its text, and the text of a firing is refused
+    /// only if there is no memory.
     ///
     /// # Errors
     /// `BadText` where the bytes are no firing's text: it holds the offset where the longest front of

@@ -2,6 +2,9 @@
 //!
 //! Contexts are those of Arvind and Gostelow (1982): a loop and a call each make one. That a place
 //! is judged by the program alone, and not by the run so far, is this project's profile.
+//!
+//! It is a function of the context, by recursion: a loop's context fits if the place that entered it does,
+//! a call's if the place of its `apply` does. Whether a run ever comes there is not asked.
 ghost use Rattle.std.specs.Prelude.{◌≡◌, IfSome};
 ghost use Rattle.std.specs.Option.{option_copied};
 ghost use Rattle.u_program.specs.Limits.{IsBlockOf, IsStatement, the_limits};

@@ -5,6 +5,10 @@
 //! have a greatest, and that a fault is given beyond, is this project's profile, and that an `apply`
 //! of several arguments sends each to its own statement. Structures are those of Arvind and Nikhil
 //! (1990), which `alloc` makes, `store` writes and `fetch` reads.
+//!
+//! How many arguments a call has is tested as it fires, since a procedure is a value. The fault `arity`
+//! comes after `kind` and before `deep`. `leave` and `end` have no fault for a context of the wrong shape:
+//! those branches are proved to be out of reach.
 ghost use Rattle.std.specs.Prelude.{◌≡◌, ◌≤◌, ◌∷◌, [], length, true, Ok, IfOk, IfSome, MatchResult, None};
 ghost use Rattle.u_name.specs.Context.{IsBetween};
 ghost use Rattle.u_program.specs.Limits.{IsStatement, IsKind, the_limits};

@@ -1,4 +1,7 @@
 //! Names and tokens by reference: what they are made of, without being made.
+//!
+//! A token that a firing gives is not made before it enters. The history looks its activity up by these
+//! parts, and the name is made only if the token wakes a firing.
 ghost use Rattle.std.specs.Prelude.{◌≡◌, IfOk};
 ghost use Rattle.u_name.specs.Context.{IsBetween};
 ghost use Rattle.u_rule.specs.Parts.{token, most_ports};

@@ -16,8 +16,8 @@ use crate::entry::Entry;
 use crate::parts::{Fault, MOST_PORTS, Token, Write};
 use std::alloc::{AllocError, Global};
 use thiserror::Error;
-use u_name::{Cell, Front, Name, front_name};
 use u_base::{after, after_all, number0_at};
+use u_name::{Cell, Front, Name, front_name};
 use u_value::{FaultKind, Value, front_value};
 
 /// Why no entry, or no firing, is read.
@@ -298,6 +298,9 @@ fn front_entry(alloc: Global, bytes: &[u8]) -> Result<Front<'_, Entry>, AllocErr
 impl Entry {
     /// Returns the entry whose text the bytes are: `t NAME PORT VALUE`, `w CELL WRITER VALUE`,
     /// `x NAME KIND` or `a VALUE`.
+    ///
+    /// Promise entries-are-read: what is read has the bytes as its text, and the text of an entry is refused
+    /// only if there is no memory.
     ///
     /// # Errors
     /// `BadText` where the bytes are no entry's text: it holds the offset where the longest front of

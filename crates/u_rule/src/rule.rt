@@ -85,6 +85,8 @@ fn is_firing_at(program: &Program, statement: &Statement, firing: &Firing) -> bo
 /// Whether it is a firing of the job: an activity that fits, with one value for each port of its
 /// statement, and a write exactly where the statement is a `fetch` and its values name a cell. Where the
 /// program is of version 1, each initiation in it is at most 4294967295, in its values and its write too.
+///
+/// Promise what-is-a-firing: the answer is true exactly if it is a firing of the job as the rule defines it.
 #[tactic(auto, unfolding(crate::specs::Rule::is_firing_of))]
 pub fn is_firing(job: &Job, firing: &Firing) -> bool
     ensures { result ≡ is_firing_of job.now firing.now }
@@ -187,10 +189,15 @@ pub fn start(job: &Job) -> Entry
     Entry::Token(Token::new(activity, 1, Value::Int(job.argument())))
 }
 
-/// The entries that a firing of the job gives: its value at each destination, in their order, what
-/// begins a call or brings back its result, the write of a `store`, the answer from `end` in the root,
-/// or the one fault. They stand in the order of entries, each once, and each token lies where the job
-/// has a port for it.
+/// The entries that a firing of the job gives: its value at each destination, in their order, what begins a
+/// call or brings back its result, the write of a `store`, the answer from `end` in the root, or the one
+/// fault. They stand in the order of entries, each once.
+///
+/// Promise needs-and-gives: what is returned is exactly what the firing gives by the rule, which has a line
+/// for each kind of statement.
+///
+/// Promise tokens-fit: every token is for a statement and a port that the program has, and its context,
+/// region and initiation fit.
 ///
 /// # Errors
 /// `NotAFiring` exactly where it is no firing of the job. `NoMemory` where there is no memory.
@@ -268,8 +275,10 @@ fn add_tokens(tokens: &mut Vec<Entry>, activity: &Name, values: &[Value]) -> Res
     Ok(())
 }
 
-/// The entries that a firing of the job needs: the token of its value at each port, from port 1 on,
-/// and the write that it reads. They stand in the order of entries, each once.
+/// The entries that a firing of the job needs: the token of its value at each port, from port 1 on, and the
+/// write that it reads.
+///
+/// Promise needs-in-order: `needs` and `gives` return entries in their order, each once.
 ///
 /// # Errors
 /// `NotAFiring` exactly where it is no firing of the job. `NoMemory` where there is no memory.

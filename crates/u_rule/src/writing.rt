@@ -130,6 +130,8 @@ impl Entry {
     /// Appends the text of the entry: `t NAME PORT VALUE`, `w CELL WRITER VALUE`, `x NAME KIND` or
     /// `a VALUE`.
     ///
+    /// Promise entries-are-written: exactly the text is appended that `Entry::read` reads as this entry.
+    ///
     /// # Errors
     /// `AllocError` where there is no memory. Then `out` is as it was.
     #[tactic(auto, using(u_base::proofs::AppendingLaws::extends_cut))]

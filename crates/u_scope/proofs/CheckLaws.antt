@@ -1,6 +1,6 @@
 -- When a source is allowed, and when it is refused.
 use Rattle.std.proofs.Common.{◌≡◌, List, [], ◌∷◌, map, Result, Ok, Err, MatchResult, inl, inr, refl, sym, ◌∙◌}
-use Rattle.u_source.specs.declared.place.Place.{Place}
+use Rattle.u_source.specs.declared.place.Position.{Position}
 use Rattle.u_source.specs.Sources.{SourceParts}
 use Rattle.u_scope.specs.declared.check_error.CheckError.{CheckError}
 use Rattle.u_scope.specs.declared.check_error.CheckError.TheVariants.{Refused, NoMemory}
@@ -24,7 +24,7 @@ pub means_once : (s : SourceParts) (ms ns : List Meaning) → IsChecked s ms →
 means_once s ms ns a b = map_once ms ns (a.meanings.means ∙ sym b.meanings.means)
 
 -- a source that is allowed is not refused
-pub not_refused : (s : SourceParts) (ms : List Meaning) (p : Place) (why : CheckProblem) → IsChecked s ms → IsCheckError s (Refused p why) → ⊥
+pub not_refused : (s : SourceParts) (ms : List Meaning) (p : Position) (why : CheckProblem) → IsChecked s ms → IsCheckError s (Refused p why) → ⊥
 not_refused s ms p why a (inl h) =
     let none = a.meanings.allowed h.first.number h.first.inside in
     let some = h.first.there in

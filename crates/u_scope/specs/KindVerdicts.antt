@@ -1,7 +1,7 @@
 -- The first clash of a source.
 use Rattle.std.specs.Prelude.{◌≡◌, ◌<◌, ◌≤◌, ℕ, List, [], ◌∷◌, length, take, drop, reverse, Option, Some, None}
 use Rattle.u_source.specs.declared.form.Node.{Node}
-use Rattle.u_source.specs.declared.place.Place.{Place}
+use Rattle.u_source.specs.declared.place.Position.{Position}
 use Rattle.u_source.specs.Sources.{SourceParts}
 use Rattle.u_source.specs.Tokens.{TokenParts}
 use Rattle.u_scope.specs.declared.checked.Meaning.{Meaning}
@@ -53,7 +53,7 @@ abbrev pub HasNoClash : SourceParts → List Meaning → Type 0
 HasNoClash s ms = IsFirstOf s.tokens ms s.nodes None
 
 -- a value of the source is of another kind than it has to be, and no token before that place shows another one
-pub record IsClashing (s : SourceParts) (ms : List Meaning) (p : Place) (why : KindProblem) : Type 0 where
+pub record IsClashing (s : SourceParts) (ms : List Meaning) (p : Position) (why : KindProblem) : Type 0 where
   pub clash : Clash
   pub first : IsFirstOf s.tokens ms s.nodes (Some clash)
   pub place : p ≡ place_at s.tokens clash.token

@@ -1,7 +1,7 @@
--- Checked and signs that stand at a token.
+-- CheckedSource and signs that stand at a token.
 use Rattle.std.specs.Prelude.{ℕ, List, [], ◌∷◌, drop, Option, Some, None}
 use Rattle.u_source.specs.declared.mark.Mark.TheVariants as mark
-use Rattle.u_source.specs.declared.place.Place.{Place}
+use Rattle.u_source.specs.declared.place.Position.{Position}
 use Rattle.u_source.specs.declared.token.Word.{Word}
 use Rattle.u_source.specs.declared.token.Word.TheVariants.{Name, Mark}
 use Rattle.u_source.specs.Tokens.{TokenParts}
@@ -33,7 +33,7 @@ abbrev pub sign_behind : List TokenParts → ℕ → ℕ → Sign
 sign_behind ts n k = sign_at (drop n ts) k
 
 -- the name that a token is, and its line
-abbrev pub named_word : Word → Place → Option Named
+abbrev pub named_word : Word → Position → Option Named
 named_word (Name x) p = Some (record { name = x; line = p.line })
 named_word w p = None
 

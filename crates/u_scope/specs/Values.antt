@@ -6,15 +6,15 @@ use Rattle.u_source.specs.declared.form.Node.{Node}
 use Rattle.u_scope.specs.declared.check_error.CheckProblem.{CheckProblem}
 use Rattle.u_scope.specs.declared.check_error.CheckProblem.TheVariants as problem_is
 use Rattle.u_scope.specs.declared.values.Breach.{Breach}
-use Rattle.u_scope.specs.declared.values.Part.{Part}
-use Rattle.u_scope.specs.declared.values.Part.TheVariants as part
+use Rattle.u_scope.specs.declared.values.ValueRole.{ValueRole}
+use Rattle.u_scope.specs.declared.values.ValueRole.TheVariants as part
 use Rattle.u_scope.specs.declared.values.Reached.{Reached}
 use Rattle.u_scope.specs.declared.values.Reached.TheVariants.{Block, Last, Whole, Else, Inside}
 use Rattle.u_scope.specs.declared.values.Way.{Way}
 use Rattle.u_scope.specs.declared.values.Way.TheVariants.{On, End}
 
 -- what nodes of a form have to do with values
-abbrev pub part_of : Form → Part
+abbrev pub part_of : Form → ValueRole
 part_of form.AddItem = part.Item
 part_of form.AddValue = part.Last
 part_of form.Block = part.Block
@@ -29,7 +29,7 @@ part_of form.AddProcedure = part.Procedure
 part_of f = part.Other
 
 -- past a block: that of a procedure has a value, the side of an `if` goes with it, and that of a loop has none
-abbrev pub past_block : Part → Way
+abbrev pub past_block : ValueRole → Way
 past_block part.Procedure = End true
 past_block part.NoElse = On Else
 past_block part.Else = On Else
@@ -38,7 +38,7 @@ past_block p = End false
 
 -- past an `if` or a loop: as an item it has no value, the last item of a block goes with the block, what stands
 -- behind `else` goes with its `if`, and else there is a value
-abbrev pub past_whole : Part → Way
+abbrev pub past_whole : ValueRole → Way
 past_whole part.Item = End false
 past_whole part.Last = On Last
 past_whole part.Else = On Else
@@ -49,12 +49,12 @@ past_else zero = On Else
 past_else (suc n) = On (Inside n)
 
 -- past a node inside of an `else`, inside of n others
-abbrev pub past_inside : ℕ → Part → Way
+abbrev pub past_inside : ℕ → ValueRole → Way
 past_inside n part.Otherwise = On (Inside (suc n))
 past_inside n part.Else = past_else n
 past_inside n p = On (Inside n)
 
-abbrev pub past : Reached → Part → Way
+abbrev pub past : Reached → ValueRole → Way
 past Block p = past_block p
 past Last p = On Block
 past Whole p = past_whole p
@@ -71,17 +71,17 @@ is_wanted r [] = false
 is_wanted r (n ∷ ns) = elim (past r (part_of n.form)) [ On q ↦ is_wanted q ns | End b ↦ b ]
 
 -- what the last node before a place has to do with values, looking back
-abbrev pub part_last : List Node → Part
+abbrev pub part_last : List Node → ValueRole
 part_last [] = part.Other
 part_last (n ∷ ns) = part_of n.form
 
 -- what ends with this may be an item
-abbrev pub may_be_item : Part → Bool
+abbrev pub may_be_item : ValueRole → Bool
 may_be_item part.If = true
 may_be_item part.Loop = true
 may_be_item p = false
 
-abbrev pub block_by : Part → ℕ → ℕ → Bool → Bool → Option Breach
+abbrev pub block_by : ValueRole → ℕ → ℕ → Bool → Bool → Option Breach
 block_by part.Last token end wanted item = cond (wanted || item) None (Some (record { token = end; problem = problem_is.Nowhere }))
 block_by p token end wanted item = cond wanted (Some (record { token = token; problem = problem_is.ValueExpected })) None
 
@@ -93,7 +93,7 @@ block_breach token wanted (n ∷ ns) = block_by (part_of n.form) token n.token w
 abbrev pub breach_unless : Bool → ℕ → CheckProblem → Option Breach
 breach_unless there token p = cond there None (Some (record { token = token; problem = p }))
 
-abbrev pub breach_by : Part → Part → List Node → Node → List Node → Option Breach
+abbrev pub breach_by : ValueRole → ValueRole → List Node → Node → List Node → Option Breach
 breach_by part.Block l before n behind = block_breach n.token (is_wanted Block behind) before
 breach_by part.If part.NoElse before n behind = breach_unless (not (is_wanted Whole behind)) n.token problem_is.NoElse
 breach_by part.Loop part.NoGive before n behind = breach_unless (not (is_wanted Whole behind)) n.token problem_is.NoGive

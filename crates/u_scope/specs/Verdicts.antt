@@ -1,7 +1,7 @@
 -- What the nodes of a source mean, and the first name that is not allowed.
 use Rattle.std.specs.Prelude.{◌≡◌, ◌⊎◌, ℕ, zero, suc, ◌-◌, Bool, true, false, nat_le, List, [], ◌∷◌, ◌++◌, map, length, take, drop, reverse, Option, Some, None, Ok, Err, codes}
 use Rattle.u_source.specs.declared.form.Node.{Node}
-use Rattle.u_source.specs.declared.place.Place.{Place}
+use Rattle.u_source.specs.declared.place.Position.{Position}
 use Rattle.u_source.specs.Places.{start}
 use Rattle.u_source.specs.Sources.{SourceParts}
 use Rattle.u_source.specs.Tokens.{TokenParts}
@@ -44,16 +44,16 @@ abbrev pub verdicts_with : List TokenParts → List Entry → List Node → ℕ 
 verdicts_with ts ps nodes zero = []
 verdicts_with ts ps nodes (suc k) = verdicts_with ts ps nodes k ++ verdict_with ts ps nodes k ∷ []
 
-abbrev pub place_next : List TokenParts → Place
+abbrev pub place_next : List TokenParts → Position
 place_next [] = start
 place_next (t ∷ ts) = t.place
 
 -- the place of the token with the number n
-abbrev pub place_at : List TokenParts → ℕ → Place
+abbrev pub place_at : List TokenParts → ℕ → Position
 place_at ts n = place_next (drop n ts)
 
 -- the place of the last token, or of the first byte where there is none
-abbrev pub place_last : List TokenParts → Place
+abbrev pub place_last : List TokenParts → Position
 place_last ts = place_at ts (length ts - 1)
 
 abbrev pub token_next : List Node → ℕ
@@ -120,14 +120,14 @@ abbrev pub refusal : List TokenParts → Breach → CheckError
 refusal ts b = Refused (place_at ts b.token) b.problem
 
 -- a node of a source is not allowed, and no token before that place shows another one
-pub record IsRefused (s : SourceParts) (p : Place) (why : CheckProblem) : Type 0 where
+pub record IsRefused (s : SourceParts) (p : Position) (why : CheckProblem) : Type 0 where
   pub breach : Breach
   pub first : IsLeast (breach_in s) (length s.nodes) (Some breach)
   pub place : p ≡ place_at s.tokens breach.token
   pub problem : why ≡ breach.problem
 
 -- all is allowed, but that no procedure is `main`
-pub record IsMainless (s : SourceParts) (p : Place) (why : CheckProblem) : Type 0 where
+pub record IsMainless (s : SourceParts) (p : Position) (why : CheckProblem) : Type 0 where
   pub allowed : IsLeast (breach_in s) (length s.nodes) None
   pub main : has_main s.tokens (procedures s.nodes) ≡ false
   pub problem : why ≡ NoMain

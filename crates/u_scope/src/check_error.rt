@@ -5,7 +5,7 @@ use std::alloc::AllocFailed;
 use std::fmt;
 use thiserror::Error;
 use u_name::BlockName;
-use u_source::Place;
+use u_source::Position;
 
 /// Why a name is not allowed where it stands.
 #[derive(Clone, Copy, PartialEq, Eq)]
@@ -128,7 +128,7 @@ impl fmt::Debug for CheckProblem {
 pub enum CheckError {
     /// The first name that is not allowed, by its place, and why.
     #[error("source line {} column {}: {}", .0.line, .0.column, .1)]
-    Refused(Place, CheckProblem),
+    Refused(Position, CheckProblem),
     /// There is no memory left.
     #[error("no memory")]
     NoMemory,

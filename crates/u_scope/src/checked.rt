@@ -1,4 +1,7 @@
 //! What the names of a source mean.
+//!
+//! Of all rules that are broken, the one whose token comes first is told; after that no name is looked at.
+//! Names are looked for one by one, from the last one back: a procedure has at most 999 statements.
 ghost use Rattle.std.specs.Prelude.{◌≡◌, ◌≢◌, ◌++◌, ◌+◌, ◌<◌, ◌≤◌, [], ◌∷◌, Ok, None, List, take, length, reverse, MatchResult, IfOk};
 ghost use Rattle.u_scope.specs.declared.check_error.CheckError.TheVariants as errors;
 ghost use Rattle.u_scope.specs.declared.checked.Meaning.{Meaning};
@@ -15,7 +18,7 @@ use crate::values::{Breach, breach_between, first_of};
 use std::alloc::{AllocFailed, Global};
 use std::marker::Model;
 use u_name::BlockName;
-use u_source::{Node, Place, Source, Token};
+use u_source::{Node, Position, Source, Token};
 
 /// What a node means.
 #[derive(Clone, Copy, Debug, PartialEq, Eq)]
@@ -32,11 +35,11 @@ pub enum Meaning {
 
 /// What each node of a source means.
 #[derive(Drop)]
-pub struct Checked {
+pub struct CheckedSource {
     meanings: Vec<Meaning>,
 }
 
-impl Model for Checked {
+impl Model for CheckedSource {
     ghost use Rattle.std.specs.Prelude.{List};
     ghost use Rattle.u_scope.specs.declared.checked.Meaning.{Meaning};
 
@@ -46,17 +49,17 @@ impl Model for Checked {
 }
 
 /// The place of the token with this number, or of the first byte where there is none.
-fn place_at(tokens: &[Token], number: usize) -> Place
+fn place_at(tokens: &[Token], number: usize) -> Position
     ensures { result ≡ place_at tokens.now number }
 {
     match tokens.get(number) {
         Some(token) => token.place(),
-        None => Place::start(),
+        None => Position::start(),
     }
 }
 
 /// The place of the last token, or of the first byte where there is none.
-fn place_last(tokens: &[Token]) -> Place
+fn place_last(tokens: &[Token]) -> Position
     ensures { result ≡ place_last tokens.now }
 {
     place_at(tokens, tokens.len().saturating_sub(1))
@@ -213,7 +216,7 @@ fn refusal(tokens: &[Token], breach: Breach) -> CheckError
 }
 
 /// Looks at all nodes, and then for `main`.
-fn check_source(alloc: Global, source: &Source) -> Result<Checked, CheckError>
+fn check_source(alloc: Global, source: &Source) -> Result<CheckedSource, CheckError>
     ensures { MatchResult result (λ checked. IsChecked source.now checked)
         (λ error. IsCheckError source.now error) }
 {
@@ -228,12 +231,12 @@ fn check_source(alloc: Global, source: &Source) -> Result<Checked, CheckError>
     if !has_main(tokens, &procedures) {
         return Err(CheckError::Refused(place_last(tokens), CheckProblem::NoMain));
     }
-    Ok(Checked {
+    Ok(CheckedSource {
         meanings: walked.meanings,
     })
 }
 
-impl Checked {
+impl CheckedSource {
     /// What the names of this source mean.
     ///
     /// A name is known from behind its definition to the end of its block; a parameter, in its procedure; a variable
@@ -245,10 +248,19 @@ impl Checked {
     /// that is used as one; no other block does, save that it may end with an `if` or a loop. What is used as a
     /// value has its `else`, or its `give`.
     ///
+    /// Promise names-are-checked: unless memory runs out, a source is accepted exactly if no node breaks a
+    /// rule of names or values and there is a `main`.
+    ///
+    /// Promise first-breach-of-a-source: an error has a rule that is broken and the token that shows it,
+    /// before which no token shows another.
+    ///
+    /// Promise what-a-name-means: what a name means is a node that gives this name its meaning in a scope
+    /// that has not ended, or the procedure of this name.
+    ///
     /// # Errors
     /// `Refused` with the first token that breaks a rule, and which one; that there is no `main` is told last, at
     /// the last token. `NoMemory` where there is no memory.
-    pub fn check(alloc: Global, source: &Source) -> Result<Checked, CheckError>
+    pub fn check(alloc: Global, source: &Source) -> Result<CheckedSource, CheckError>
         ensures answer { MatchResult result (λ checked. IsChecked source.now checked)
             (λ error. IsCheckError source.now error) }
         ensures back { (ms : List Meaning) → IsChecked source.now ms

@@ -1,4 +1,7 @@
 //! The first clash of a source.
+//!
+//! Kinds are looked at once all names are allowed, since a name that means nothing has no kind. A clash is
+//! told at the value that is found.
 ghost use Rattle.std.specs.Prelude.{◌≡◌, reverse, MatchResult};
 ghost use Rattle.u_scope.specs.Verdicts.{place_at};
 ghost use Rattle.u_scope.specs.Kinds.{meaning_at};
@@ -8,17 +11,17 @@ ghost use Rattle.u_scope.specs.declared.kind_error.KindError.TheVariants as erro
 use crate::clash::{Clash, clash_of, first_of};
 use crate::kind_error::KindError;
 use crate::kinded::{Kinded, kind_of};
-use crate::{Checked, Meaning};
+use crate::{CheckedSource, Meaning};
 use std::alloc::Global;
-use u_source::{Node, Place, Source, Token};
+use u_source::{Node, Position, Source, Token};
 
 /// The place of the token with this number, or of the first byte where there is none.
-fn place_at(tokens: &[Token], number: usize) -> Place
+fn place_at(tokens: &[Token], number: usize) -> Position
     ensures { result ≡ place_at tokens.now number }
 {
     match tokens.get(number) {
         Some(token) => token.place(),
-        None => Place::start(),
+        None => Position::start(),
     }
 }
 
@@ -90,10 +93,16 @@ fn first_clash(
 /// an index, a call, the test of an `if` or a loop, or the limits of a `for`. The next value of a loop variable has to
 /// be of the kind of the variable.
 ///
+/// Promise kinds-are-checked: unless memory runs out, a source is accepted exactly if no value clashes with
+/// what is wanted of it.
+///
+/// Promise first-clash-of-a-source: an error has a clash, its two kinds and the token that shows it, before
+/// which no token shows another.
+///
 /// # Errors
 /// `Refused` with the first token that shows a value of another kind, or the variable that gets one, and with the two
 /// kinds. `NoMemory` where there is no memory.
-pub fn check_kinds(alloc: Global, source: &Source, checked: &Checked) -> Result<(), KindError>
+pub fn check_kinds(alloc: Global, source: &Source, checked: &CheckedSource) -> Result<(), KindError>
     ensures answer { MatchResult result (λ _. HasNoClash source.now checked.now)
         (λ error. IsKindError source.now checked.now error) }
     ensures back { HasNoClash source.now checked.now

@@ -1,4 +1,6 @@
 //! What stands behind a name.
+//!
+//! The `next` of a variable is looked for ahead. One in a block inside of the loop's own is not counted.
 ghost use Rattle.std.specs.Prelude.{◌≡◌, ◌≤◌, false, length};
 ghost use Rattle.u_scope.specs.Counting.{commas, given, has_next, behind_block, is_loops};
 ghost use Rattle.u_scope.specs.Finding.{is_declared};

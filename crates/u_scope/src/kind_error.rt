@@ -6,7 +6,7 @@ use std::alloc::AllocFailed;
 use std::fmt;
 use thiserror::Error;
 use u_name::BlockName;
-use u_source::Place;
+use u_source::Position;
 
 /// What clashes at a place.
 #[derive(Clone, Copy, PartialEq, Eq)]
@@ -46,7 +46,7 @@ impl fmt::Debug for KindProblem {
 pub enum KindError {
     /// The first clash, by its place, and which one.
     #[error("source line {} column {}: {}", .0.line, .0.column, .1)]
-    Refused(Place, KindProblem),
+    Refused(Position, KindProblem),
     /// There is no memory left.
     #[error("no memory")]
     NoMemory,

@@ -1,4 +1,7 @@
 //! What is known of the kinds of a source's nodes.
+//!
+//! An `if` has a kind if both sides have the same one. A loop variable has the kind of the value that it
+//! begins with. A node stands after its parts, so they are found by going back over whole trees.
 ghost use Rattle.std.specs.Prelude.{◌≡◌, ◌≤◌, length, reverse};
 ghost use Rattle.u_source.specs.Trees.{children};
 ghost use Rattle.u_scope.specs.Kinds.{origin_of, without_trees, part_kind, kind_meant, kind_by};

@@ -1,4 +1,4 @@
-//! What the names of a source mean and where values are wanted (`Checked::check`), and the kinds of its
+//! What the names of a source mean and where values are wanted (`CheckedSource::check`), and the kinds of its
 //! values with the first place where two of them clash (`check_kinds`).
 #![tactic(auto)]
 
@@ -17,7 +17,7 @@ mod spot;
 mod values;
 
 pub use check_error::{CheckError, CheckProblem};
-pub use checked::{Checked, Meaning};
+pub use checked::{CheckedSource, Meaning};
 pub use checking::check_kinds;
 pub use clash::name_at;
 pub use kind::Kind;

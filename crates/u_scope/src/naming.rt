@@ -1,10 +1,10 @@
-//! Checked and signs that stand at a token.
+//! CheckedSource and signs that stand at a token.
 ghost use Rattle.std.specs.Prelude.{◌≡◌, drop};
 ghost use Rattle.u_base.specs.WholeWords.{is};
 ghost use Rattle.u_scope.specs.Naming.{sign_of, sign_at, sign_behind, named_word, named_at, named_behind};
 
 use u_name::BlockName;
-use u_source::{Mark, Place, Token, Word};
+use u_source::{Mark, Position, Token, Word};
 
 /// The signs and keywords that show what a name beside them is.
 #[derive(Clone, Copy)]
@@ -73,7 +73,7 @@ pub(crate) fn sign_behind(tokens: &[Token], number: usize, steps: usize) -> Sign
 }
 
 /// The name that a token is.
-fn named_word(word: Word, place: Place) -> Option<Named>
+fn named_word(word: Word, place: Position) -> Option<Named>
     ensures { result ≡ named_word word place }
 {
     match word {

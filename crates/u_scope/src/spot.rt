@@ -1,4 +1,7 @@
 //! What a name means where it stands, and why it is not allowed there.
+//!
+//! What a name is shows at the tokens beside it and at the node after it. So names are judged one after
+//! another, and nothing goes up and down the tree.
 ghost use Rattle.std.specs.Prelude.{◌≡◌};
 ghost use Rattle.u_scope.specs.Finding.{named};
 ghost use Rattle.u_scope.specs.Meanings.{here, role, role_by, event_next, is_main, is_shown_by, is_over, own_name, parameters, procedure_meaning, defined, variable_meaning, next_meaning, next_by, called, used, why_unknown, judged, meaning};

@@ -1,4 +1,7 @@
 //! Where a value is wanted, and where there is one.
+//!
+//! `if`, `loop` and `for` tell of values at their own words. That a block lacks its value is told at the
+//! brace that opens it.
 ghost use Rattle.std.specs.Prelude.{◌≡◌, ◌<◌, ◌+◌, ◌^◌, length, reverse};
 ghost use Rattle.u_scope.specs.Values.{part_of, part_last, past_block, past_whole, past_inside, past, inside_of, is_wanted, may_be_item, block_breach, breach_unless, breach_between, before, first_of};
 
@@ -7,7 +10,7 @@ use u_source::{Form, Node};
 
 /// What a node has to do with values.
 #[derive(Clone, Copy)]
-pub(crate) enum Part {
+pub(crate) enum ValueRole {
     /// An item ends which has no value.
     Item,
     /// The last item of a block ends, which may have a value.
@@ -66,59 +69,59 @@ pub(crate) struct Breach {
 }
 
 /// What nodes of a form have to do with values.
-fn part_of(form: Form) -> Part
+fn part_of(form: Form) -> ValueRole
     ensures { result ≡ part_of form }
 {
     match form {
-        Form::AddItem => Part::Item,
-        Form::AddValue => Part::Last,
-        Form::Block => Part::Block,
-        Form::If => Part::If,
-        Form::NoElse => Part::NoElse,
-        Form::Otherwise => Part::Otherwise,
-        Form::Else => Part::Else,
-        Form::Loop => Part::Loop,
-        Form::For => Part::Loop,
-        Form::NoGive => Part::NoGive,
-        Form::AddProcedure => Part::Procedure,
-        _ => Part::Other,
+        Form::AddItem => ValueRole::Item,
+        Form::AddValue => ValueRole::Last,
+        Form::Block => ValueRole::Block,
+        Form::If => ValueRole::If,
+        Form::NoElse => ValueRole::NoElse,
+        Form::Otherwise => ValueRole::Otherwise,
+        Form::Else => ValueRole::Else,
+        Form::Loop => ValueRole::Loop,
+        Form::For => ValueRole::Loop,
+        Form::NoGive => ValueRole::NoGive,
+        Form::AddProcedure => ValueRole::Procedure,
+        _ => ValueRole::Other,
     }
 }
 
 /// Past a block: that of a procedure has a value, the side of an `if` goes with it, and that of a loop has none.
-fn past_block(part: Part) -> Way
+fn past_block(part: ValueRole) -> Way
     ensures { result ≡ past_block part }
 {
     match part {
-        Part::Procedure => Way::End(true),
-        Part::NoElse => Way::On(Reached::Else),
-        Part::Else => Way::On(Reached::Else),
-        Part::Otherwise => Way::On(Reached::Inside(0)),
+        ValueRole::Procedure => Way::End(true),
+        ValueRole::NoElse => Way::On(Reached::Else),
+        ValueRole::Else => Way::On(Reached::Else),
+        ValueRole::Otherwise => Way::On(Reached::Inside(0)),
         _ => Way::End(false),
     }
 }
 
 /// Past an `if` or a loop: as an item it has no value, the last item of a block goes with the block, what stands
 /// behind `else` goes with its `if`, and else there is a value.
-fn past_whole(part: Part) -> Way
+fn past_whole(part: ValueRole) -> Way
     ensures { result ≡ past_whole part }
 {
     match part {
-        Part::Item => Way::End(false),
-        Part::Last => Way::On(Reached::Last),
-        Part::Else => Way::On(Reached::Else),
+        ValueRole::Item => Way::End(false),
+        ValueRole::Last => Way::On(Reached::Last),
+        ValueRole::Else => Way::On(Reached::Else),
         _ => Way::End(true),
     }
 }
 
 /// Past a node inside of an `else`, inside of so many others.
-fn past_inside(inside: usize, part: Part) -> Way
+fn past_inside(inside: usize, part: ValueRole) -> Way
     requires { inside + 1 < 2 ^ 64 }
     ensures { result ≡ past_inside inside part }
 {
     match part {
-        Part::Otherwise => Way::On(Reached::Inside(inside + 1)),
-        Part::Else => {
+        ValueRole::Otherwise => Way::On(Reached::Inside(inside + 1)),
+        ValueRole::Else => {
             if inside == 0 {
                 Way::On(Reached::Else)
             } else {
@@ -130,7 +133,7 @@ fn past_inside(inside: usize, part: Part) -> Way
 }
 
 /// Past a node.
-fn past(reached: Reached, part: Part) -> Way
+fn past(reached: Reached, part: ValueRole) -> Way
     requires { inside_of reached + 1 < 2 ^ 64 }
     ensures { result ≡ past reached part }
 {
@@ -161,20 +164,20 @@ fn is_wanted(reached: Reached, nodes: &[Node]) -> bool
 }
 
 /// What the last of these nodes has to do with values.
-fn part_last(nodes: &[Node]) -> Part
+fn part_last(nodes: &[Node]) -> ValueRole
     ensures { result ≡ part_last (reverse nodes.now) }
 {
     match nodes.split_last() {
         Some((node, _)) => part_of(node.form),
-        None => Part::Other,
+        None => ValueRole::Other,
     }
 }
 
 /// Whether what ends with this may be an item.
-fn may_be_item(part: Part) -> bool
+fn may_be_item(part: ValueRole) -> bool
     ensures { result ≡ may_be_item part }
 {
-    matches!(part, Part::If | Part::Loop)
+    matches!(part, ValueRole::If | ValueRole::Loop)
 }
 
 /// What is not allowed at the end of a block, where these nodes stand before its end, the last of which ends its
@@ -186,7 +189,7 @@ fn block_breach(token: usize, wanted: bool, before: &[Node]) -> Option<Breach>
         return None;
     };
     match part_of(last.form) {
-        Part::Last => {
+        ValueRole::Last => {
             if wanted || may_be_item(part_last(others)) {
                 None
             } else {
@@ -225,13 +228,17 @@ pub(crate) fn breach_between(before: &[Node], node: Node, behind: &[Node]) -> Op
     ensures { result ≡ breach_between (reverse before.now) node behind.now }
 {
     match (part_of(node.form), part_last(before)) {
-        (Part::Block, _) => block_breach(node.token, is_wanted(Reached::Block, behind), before),
-        (Part::If, Part::NoElse) => breach_unless(
+        (ValueRole::Block, _) => block_breach(
+            node.token,
+            is_wanted(Reached::Block, behind),
+            before,
+        ),
+        (ValueRole::If, ValueRole::NoElse) => breach_unless(
             !is_wanted(Reached::Whole, behind),
             node.token,
             CheckProblem::NoElse,
         ),
-        (Part::Loop, Part::NoGive) => breach_unless(
+        (ValueRole::Loop, ValueRole::NoGive) => breach_unless(
             !is_wanted(Reached::Whole, behind),
             node.token,
             CheckProblem::NoGive,

@@ -119,6 +119,8 @@ impl<V: ExactOrd + Hash + Drop> Column<V> {
 
     /// Puts the pair in. Returns whether it was new.
     ///
+    /// Promise values-by-number: the set has afterwards exactly the pairs that it had and this one.
+    ///
     /// # Errors
     /// `AllocFailed` with the value where there is no memory; the set stays as it was.
     pub fn put(&mut self, number: usize, value: V) -> Result<bool, AllocFailed<V>>

@@ -113,6 +113,8 @@ impl<K: ExactOrd + Hash + Drop, V: ExactOrd + Hash + Drop> KeyedSet<K, V> {
 
     /// Puts the pair in. Returns whether it was new.
     ///
+    /// Promise keyed-sets: the set has afterwards exactly the pairs that it had and this one.
+    ///
     /// # Errors
     /// `AllocFailed` with the pair where there is no memory; the set stays as it was.
     pub fn insert(&mut self, key: K, value: V) -> Result<bool, AllocFailed<(K, V)>>

@@ -1,4 +1,6 @@
 //! Sets that are put in order where they are listed.
+//!
+//! It has the interface of `OrderedSet` over another table. A trait would state the clauses a third time.
 ghost use Rattle.std.specs.Prelude.{◌≡◌, ◌↔◌, ◌+◌, [], OnOk, OnErr, IfOk, IfErr, Contains, IsTrue, length, map};
 ghost use Rattle.std.specs.Map.Iter.{deref};
 ghost use Rattle.indexmap.specs.IndexSet.{IsUnique};
@@ -77,6 +79,8 @@ impl<K: ExactOrd + Hash + Drop> ListedSet<K> {
     }
 
     /// References to the keys, in ascending order.
+    ///
+    /// Promise sets-in-order: exactly the keys of the set are returned, each once.
     ///
     /// # Errors
     /// `AllocError` where there is no memory.

@@ -1,4 +1,8 @@
 //! Sets that are kept in order.
+//!
+//! A run parks one firing at a time, puts a few among the ready ones and takes the least out; a short list
+//! does that without a node of the tree. An item alone that comes before all keys moves from the list that
+//! it lies in (`insert_last_of`), since a call by value moves a firing twice.
 ghost use Rattle.std.specs.Prelude.{◌≡◌, ◌↔◌, ◌+◌, ◌<◌, ◌≤◌, ◌++◌, [], ◌∷◌, reverse, OnOk, OnErr, IfOk, IfErr, IfSome, IfNone, Contains, IsTrue, IsFalse, length, slice_get};
 ghost use Rattle.std.specs.Option.{option_copied};
 ghost use Rattle.std.specs.Iterator.{at_most};
@@ -180,6 +184,8 @@ impl<K: ExactOrd + Drop> OrderedSet<K> {
 
     /// Puts the key in. Returns whether it was new.
     ///
+    /// Promise sets-gain-one-item: the set has afterwards exactly what it had and the key.
+    ///
     /// # Errors
     /// `AllocFailed` with the key where there is no memory; the set stays as it was.
     pub fn insert(&mut self, key: K) -> Result<bool, AllocFailed<K>>
@@ -241,6 +247,8 @@ impl<K: ExactOrd + Drop> OrderedSet<K> {
     }
 
     /// Takes the key out. Returns whether it was there.
+    ///
+    /// Promise sets-lose-one-item: the set has afterwards exactly what it had, without the key.
     pub fn remove(&mut self, key: &K) -> bool
         ensures without { IsWithout self.old key.now self.new }
         ensures was { IsTrue result ↔ Contains self.old key.now }

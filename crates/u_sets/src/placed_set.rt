@@ -75,7 +75,9 @@ impl<K: ExactOrd + Hash + Drop> PlacedSet<K> {
         self.keys.as_slice()
     }
 
-    /// Puts the key in; a new one goes last. Returns its place, and whether it was new.
+    /// Puts the key in. Returns its place, and whether it was new.
+    ///
+    /// Promise placed-sets: a new key gets the place after all others, and every other key keeps its place.
     ///
     /// # Errors
     /// `AllocFailed` with the key where there is no memory; the set stays as it was.

@@ -10,8 +10,8 @@ use crate::splitting::Splitter;
 use crate::taking::take_line;
 use std::alloc::Global;
 use std::io::Write;
-use u_machine::Machine;
 use u_base::cut;
+use u_machine::Machine;
 
 /// The open line ends with these bytes. Answers whether it is empty.
 fn end_line<N: Write>(

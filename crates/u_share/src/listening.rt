@@ -1,4 +1,6 @@
 //! The turns of a member: it fires, reads what is there, and takes the lines.
+//!
+//! All is done in one thread, so what a member read and printed is said of its reader and its writer.
 ghost use Rattle.std.specs.Prelude.{◌≡◌, ◌≤◌, ◌<◌, ◌+◌, ◌-◌, ◌^◌, OnOk, length};
 ghost use Rattle.u_share.specs.Lines.{IsBegun};
 ghost use Rattle.u_share.specs.Notices.{Tells};

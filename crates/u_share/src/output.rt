@@ -1,4 +1,6 @@
 //! Bytes that are written out whole.
+//!
+//! They are whole lines, 4,096 bytes at most, so that a member that is killed cuts no line on a pipe.
 ghost use Rattle.std.specs.Prelude.{◌≡◌, ◌≤◌, OnOk, OnErr, length, drop};
 ghost use Rattle.std.specs.Io.KnownBytes.{Appends, Keeps};
 ghost use Rattle.u_share.specs.Outputs.{WritesFront};

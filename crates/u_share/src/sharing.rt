@@ -48,13 +48,25 @@ fn take_part<R: Read, W: Write, N: Write>(
     }
 }
 
-/// Takes part in a run of the job, as a member of the bus: fires, reads what is there, takes the firings
-/// of the lines that ended, and again, until nothing is ready or the input ends; and then fires all that
-/// is left. Each firing of its own is printed once, as a line of its text. A line that is not empty and
-/// no firing of the job is skipped, and a notice of it is written.
+/// Takes part in a run of the job, as a member of the bus: fires, reads what is there, takes the firings of
+/// the lines that ended, and again, until nothing is ready or the input ends; and then fires all that is
+/// left. Each firing of its own is printed as a line of its text. A line that is not empty and no firing of
+/// the job is skipped, and a notice of it is written.
 ///
-/// The machine that is returned took the firings of the job among the lines, and those that were
-/// printed. Nothing is ready in it, and its history is the whole one of the job.
+/// Promise member-takes: the machine took exactly the firings of the job among the lines of all bytes that
+/// were read, and those that it printed.
+///
+/// Promise member-prints: each firing of its own is printed once, was the least ready one as it was fired,
+/// and is one that some run makes.
+///
+/// Promise member-is-whole: if a machine is returned, nothing is ready in it, and its history is the job's
+/// whole one, whatever was read.
+///
+/// Promise member-tells: exactly the lines that are not empty and no firing of the job are told of, in order,
+/// each with its number and its fault.
+///
+/// Promise member-stops: after an error the same is true of what was read till then, and a front of the
+/// output is written.
 ///
 /// # Errors
 /// `Full` where there is no room for a firing that is ready, or for one that was read. `NotReadable` where
@@ -91,9 +103,11 @@ pub fn share<'a, R: Read, W: Write, N: Write>(
     }
 }
 
-/// What holds of two members of one job that ended with nothing ready, whatever they read: they hold the
-/// same history, and applied as many firings, so their reports differ by what is parked alone. It
-/// does nothing, and callers cite its clause.
+/// What holds of two members. Their reports differ by what is parked alone. It does nothing, and callers cite
+/// its clause.
+///
+/// Promise members-agree: two members of one job that ended with nothing ready have the same history and
+/// applied as many firings, whatever they read.
 pub fn agree(one: &Machine<'_>, other: &Machine<'_>)
     ensures { Agree one.now other.now }
 {

@@ -1,6 +1,6 @@
 -- A text has its tokens once: no two lists of them, and none where one cannot be read.
 use Rattle.std.proofs.Common.{◌≡◌, ℕ, List, [], ◌∷◌, take, drop, refl, sym, ◌∙◌, ap, subst, Result, Ok, Err, MatchResult, Vec, Global}
-use Rattle.u_source.specs.declared.place.Place.{Place}
+use Rattle.u_source.specs.declared.place.Position.{Position}
 use Rattle.u_source.specs.declared.source_error.Problem.{Problem}
 use Rattle.u_source.specs.declared.source_error.Problem.TheVariants.{BadByte}
 use Rattle.u_source.specs.declared.source_error.SourceError.{SourceError}
@@ -16,14 +16,14 @@ unfolding token_at
 no_token = refl
 
 -- where nothing but blanks and comments stand, no token is next
-pub none_next : (p : Place) (bs : List ℕ) (t : TokenParts) (q : Place) (rest : List ℕ) → IsGap bs → IsNext p bs t q rest → ⊥
+pub none_next : (p : Position) (bs : List ℕ) (t : TokenParts) (q : Position) (rest : List ℕ) → IsGap bs → IsNext p bs t q rest → ⊥
 none_next p bs t q rest g n =
     let e : token_at (behind_gap bs) ≡ Err BadByte = ap token_at g ∙ no_token in
     let h : token_at (behind_gap bs) ≡ Ok (t.word, n.len) = n.there in
     cc
 
 -- one token is next at most
-pub record Same (t u : TokenParts) (q r : Place) (bs cs : List ℕ) : Type 0 where
+pub record Same (t u : TokenParts) (q r : Position) (bs cs : List ℕ) : Type 0 where
   pub token : t ≡ u
   pub place : q ≡ r
   pub rest : bs ≡ cs
@@ -34,7 +34,7 @@ found x = Ok x
 found_once : (x y : Word × ℕ) → found x ≡ found y → x ≡ y
 found_once x y h = cc
 
-pub next_once : (p : Place) (bs : List ℕ) (t u : TokenParts) (q r : Place) (cs ds : List ℕ) → IsNext p bs t q cs → IsNext p bs u r ds → Same t u q r cs ds
+pub next_once : (p : Position) (bs : List ℕ) (t u : TokenParts) (q r : Position) (cs ds : List ℕ) → IsNext p bs t q cs → IsNext p bs u r ds → Same t u q r cs ds
 next_once p bs t u q r cs ds n m =
     let h : token_at (behind_gap bs) ≡ Ok (t.word, n.len) = n.there in
     let k : token_at (behind_gap bs) ≡ Ok (u.word, m.len) = m.there in
@@ -50,7 +50,7 @@ next_once p bs t u q r cs ds n m =
     record { token = e; place = n.after ∙ f ∙ sym m.after; rest = n.rest ∙ g ∙ sym m.rest }
 
 -- the same tokens are read
-pub reads_once : (p : Place) (bs : List ℕ) (ts us : List TokenParts) (q r : Place) (cs ds : List ℕ) → Reads p bs ts q cs → IsGap cs → Reads p bs us r ds → IsGap ds → ts ≡ us
+pub reads_once : (p : Position) (bs : List ℕ) (ts us : List TokenParts) (q r : Position) (cs ds : List ℕ) → Reads p bs ts q cs → IsGap cs → Reads p bs us r ds → IsGap ds → ts ≡ us
 reads_once p bs [] [] q r cs ds h g k f = refl
 reads_once p bs [] (u ∷ us) q r cs ds h g k f = absurd (none_next p bs u k.0 k.1 (subst IsGap h.1 g) k.2)
 reads_once p bs (t ∷ ts) [] q r cs ds h g k f = absurd (none_next p bs t h.0 h.1 (subst IsGap k.1 f) h.2)
@@ -61,7 +61,7 @@ reads_once p bs (t ∷ ts) (u ∷ us) q r cs ds h g k f =
     ap (λ x. x ∷ ts) s.token ∙ ap (λ xs. u ∷ xs) e
 
 -- no reading gets stuck where another comes to the end
-pub never_stuck : (p : Place) (bs : List ℕ) (ts us : List TokenParts) (q r : Place) (cs ds : List ℕ) (z : Place) (problem : Problem) → Reads p bs ts q cs → IsGap cs → Reads p bs us r ds → IsStuck r ds z problem → ⊥
+pub never_stuck : (p : Position) (bs : List ℕ) (ts us : List TokenParts) (q r : Position) (cs ds : List ℕ) (z : Position) (problem : Problem) → Reads p bs ts q cs → IsGap cs → Reads p bs us r ds → IsStuck r ds z problem → ⊥
 never_stuck p bs [] [] q r cs ds z problem h g k f = f.more (subst IsGap (h.1 ∙ sym k.1) g)
 never_stuck p bs [] (u ∷ us) q r cs ds z problem h g k f = none_next p bs u k.0 k.1 (subst IsGap h.1 g) k.2
 never_stuck p bs (t ∷ ts) [] q r cs ds z problem h g k f =
@@ -77,7 +77,7 @@ never_stuck p bs (t ∷ ts) (u ∷ us) q r cs ds z problem h g k f =
 pub same_tokens : (bytes : List ℕ) (ts us : List TokenParts) → AreTokens bytes ts → AreTokens bytes us → ts ≡ us
 same_tokens bytes ts us a b = reads_once start bytes ts us a.place b.place a.rest b.rest a.reads a.whole b.reads b.whole
 
-pub not_both : (bytes : List ℕ) (ts : List TokenParts) (z : Place) (problem : Problem) → AreTokens bytes ts → IsNoToken bytes z problem → ⊥
+pub not_both : (bytes : List ℕ) (ts : List TokenParts) (z : Position) (problem : Problem) → AreTokens bytes ts → IsNoToken bytes z problem → ⊥
 not_both bytes ts z problem a b = never_stuck start bytes ts b.tokens a.place b.place a.rest b.rest z problem a.reads a.whole b.reads b.stuck
 
 -- a text that has tokens is answered by them, or by want of memory

@@ -1,11 +1,11 @@
 -- Tokens read one behind another.
 use Rattle.std.proofs.Common.{ℕ, List, [], ◌∷◌, ◌++◌, refl, subst}
-use Rattle.u_source.specs.declared.place.Place.{Place}
+use Rattle.u_source.specs.declared.place.Position.{Position}
 use Rattle.u_source.specs.Tokens.{TokenParts}
 use Rattle.u_source.specs.Lexing.{IsNext, Reads}
 
 -- one token more
-pub reads_more : (p : Place) (bs : List ℕ) (ts : List TokenParts) (q : Place) (cs : List ℕ) (t : TokenParts) (r : Place) (ds : List ℕ) → Reads p bs ts q cs → IsNext q cs t r ds → Reads p bs (ts ++ (t ∷ [])) r ds
+pub reads_more : (p : Position) (bs : List ℕ) (ts : List TokenParts) (q : Position) (cs : List ℕ) (t : TokenParts) (r : Position) (ds : List ℕ) → Reads p bs ts q cs → IsNext q cs t r ds → Reads p bs (ts ++ (t ∷ [])) r ds
 reads_more p bs [] q cs t r ds h n =
     let m : IsNext p bs t r ds = subst (λ x. IsNext x bs t r ds) h.0 (subst (λ x. IsNext q x t r ds) h.1 n) in
     (r, ds, m, (refl, refl))

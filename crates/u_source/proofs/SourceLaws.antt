@@ -2,7 +2,7 @@
 use Rattle.std.proofs.Common.{◌≡◌, ℕ, inl, inr, List, take, drop, ◌++◌, refl, sym, ◌∙◌, ap, subst, Result, Ok, Err, MatchResult}
 use Rattle.std.proofs.lemmas.List.{take-append-drop}
 use Rattle.u_source.specs.declared.part.Stop.{Stop}
-use Rattle.u_source.specs.declared.place.Place.{Place}
+use Rattle.u_source.specs.declared.place.Position.{Position}
 use Rattle.u_source.specs.declared.source_error.Found.{Found}
 use Rattle.u_source.specs.declared.source_error.Problem.{Problem}
 use Rattle.u_source.specs.declared.source_error.SourceError.{SourceError}
@@ -22,7 +22,7 @@ source_once bytes r s h k =
     let nodes : r.nodes ≡ s.nodes = syntax_once r.tokens r.nodes s.nodes h.syntax syntax in
     ap (λ x. source x r.nodes) tokens ∙ ap (λ x. source s.tokens x) nodes
 
-not_refused : (bytes : List ℕ) (s : SourceParts) (q : Place) (problem : Problem) → IsSource bytes s → IsNoSource bytes q problem → ⊥
+not_refused : (bytes : List ℕ) (s : SourceParts) (q : Position) (problem : Problem) → IsSource bytes s → IsNoSource bytes q problem → ⊥
 not_refused bytes s q problem h e =
     let tokens : e.tokens ≡ s.tokens = same_tokens bytes e.tokens s.tokens e.are h.tokens in
     let whole : s.tokens ≡ take e.number e.tokens ++ drop e.number e.tokens = sym tokens ∙ sym (take-append-drop e.number e.tokens) in
@@ -36,7 +36,7 @@ source_back bytes (Err (Refused q problem)) (inr e) s k = absurd (not_refused by
 source_back bytes (Err NoMemory) h s k = refl
 
 -- a refusal, where the same tokens go by several names
-pub refused : (bytes : List ℕ) (ts us vs ws : List TokenParts) (n : ℕ) (why : Stop) (q : Place) (f : Found) (problem : Problem) → AreTokens bytes ts → us ≡ ts → vs ≡ ts → ws ≡ ts → IsStuckAt us n why → q ≡ place_next bytes (drop n vs) → f ≡ found (drop n ws) → problem ≡ problem_of why f → IsNoSource bytes q problem
+pub refused : (bytes : List ℕ) (ts us vs ws : List TokenParts) (n : ℕ) (why : Stop) (q : Position) (f : Found) (problem : Problem) → AreTokens bytes ts → us ≡ ts → vs ≡ ts → ws ≡ ts → IsStuckAt us n why → q ≡ place_next bytes (drop n vs) → f ≡ found (drop n ws) → problem ≡ problem_of why f → IsNoSource bytes q problem
 refused bytes ts us vs ws n why q f problem are u v w stuck place name reason =
     let here : IsStuckAt ts n why = subst (λ x. IsStuckAt x n why) u stuck in
     record {

@@ -1,7 +1,7 @@
 -- The tokens of a text.
 use Rattle.std.specs.Prelude.{◌≡◌, ◌≢◌, ◌≤◌, ◌<◌, ℕ, ◌+◌, List, [], ◌∷◌, length, take, drop, Option, Some, None, Result, Ok, Err}
 use Rattle.u_source.specs.declared.lexing.Lexer.{Lexer}
-use Rattle.u_source.specs.declared.place.Place.{Place}
+use Rattle.u_source.specs.declared.place.Position.{Position}
 use Rattle.u_source.specs.Tokens.{TokenParts}
 use Rattle.u_source.specs.declared.source_error.Problem.{Problem}
 use Rattle.u_source.specs.declared.source_error.SourceError.{SourceError}
@@ -14,11 +14,11 @@ abbrev pub behind_gap : List ℕ → List ℕ
 behind_gap bs = drop (gap bs) bs
 
 -- the place of the first byte behind them
-abbrev pub place_of_next : Place → List ℕ → Place
+abbrev pub place_of_next : Position → List ℕ → Position
 place_of_next p bs = place_after p (take (gap bs) bs)
 
 -- behind blanks and comments the token t stands, then the others, which begin at the place q
-pub record IsNext (p : Place) (bs : List ℕ) (t : TokenParts) (q : Place) (others : List ℕ) : Type 0 where
+pub record IsNext (p : Position) (bs : List ℕ) (t : TokenParts) (q : Position) (others : List ℕ) : Type 0 where
   pub len : ℕ
   pub there : token_at (behind_gap bs) ≡ Ok (t.word, len)
   pub place : t.place ≡ place_of_next p bs
@@ -26,9 +26,9 @@ pub record IsNext (p : Place) (bs : List ℕ) (t : TokenParts) (q : Place) (othe
   pub rest : others ≡ drop len (behind_gap bs)
 
 -- these tokens stand one behind another at the front, then the rest, which begins at the place q
-abbrev pub Reads : Place → List ℕ → List TokenParts → Place → List ℕ → Type 0
+abbrev pub Reads : Position → List ℕ → List TokenParts → Position → List ℕ → Type 0
 Reads p bs [] q rest = (q ≡ p) × (rest ≡ bs)
-Reads p bs (t ∷ ts) q rest = (p' : Place) × (bs' : List ℕ) × IsNext p bs t p' bs' × Reads p' bs' ts q rest
+Reads p bs (t ∷ ts) q rest = (p' : Position) × (bs' : List ℕ) × IsNext p bs t p' bs' × Reads p' bs' ts q rest
 
 -- nothing but blanks and comments
 abbrev pub IsGap : List ℕ → Type 0
@@ -36,13 +36,13 @@ IsGap bs = behind_gap bs ≡ []
 
 -- these are the tokens of the text
 pub record AreTokens (bytes : List ℕ) (ts : List TokenParts) : Type 0 where
-  pub place : Place
+  pub place : Position
   pub rest : List ℕ
   pub reads : Reads start bytes ts place rest
   pub whole : IsGap rest
 
 -- no token can be read next, for this reason, at the place q
-pub record IsStuck (p : Place) (bs : List ℕ) (q : Place) (problem : Problem) : Type 0 where
+pub record IsStuck (p : Position) (bs : List ℕ) (q : Position) (problem : Problem) : Type 0 where
   pub more : behind_gap bs ≢ []
   pub there : token_at (behind_gap bs) ≡ Err problem
   pub place : q ≡ place_of_next p bs
@@ -61,9 +61,9 @@ IsStep old new (Err (Refused q problem)) = (new ≡ old) × IsStuck old.place ol
 IsStep old new (Err NoMemory) = ⊥
 
 -- this is the first place where no token can be read, and why
-pub record IsNoToken (bytes : List ℕ) (q : Place) (problem : Problem) : Type 0 where
+pub record IsNoToken (bytes : List ℕ) (q : Position) (problem : Problem) : Type 0 where
   pub tokens : List TokenParts
-  pub place : Place
+  pub place : Position
   pub rest : List ℕ
   pub reads : Reads start bytes tokens place rest
   pub stuck : IsStuck place rest q problem

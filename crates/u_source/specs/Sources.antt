@@ -3,7 +3,7 @@ use Rattle.std.specs.Prelude.{◌≡◌, ℕ, ◌⊎◌, List, [], ◌∷◌, dr
 use Rattle.u_source.specs.declared.form.Node.{Node}
 use Rattle.u_source.specs.declared.part.Stop.{Stop}
 use Rattle.u_source.specs.declared.part.Stop.TheVariants as stop
-use Rattle.u_source.specs.declared.place.Place.{Place}
+use Rattle.u_source.specs.declared.place.Position.{Position}
 use Rattle.u_source.specs.declared.source_error.Found.{Found}
 use Rattle.u_source.specs.declared.source_error.Found.TheVariants as found_as
 use Rattle.u_source.specs.declared.source_error.Problem.{Problem}
@@ -50,12 +50,12 @@ problem_of stop.Nowhere f = Nowhere
 problem_of stop.TooDeep f = TooDeep
 
 -- the place of the token that stands next, or of the text's end
-abbrev pub place_next : List ℕ → List TokenParts → Place
+abbrev pub place_next : List ℕ → List TokenParts → Position
 place_next bytes [] = place_after start bytes
 place_next bytes (t ∷ ts) = t.place
 
 -- the bytes have tokens, and this is the first one with which no source goes on, and why
-pub record IsNoSource (bytes : List ℕ) (q : Place) (problem : Problem) : Type 0 where
+pub record IsNoSource (bytes : List ℕ) (q : Position) (problem : Problem) : Type 0 where
   pub tokens : List TokenParts
   pub are : AreTokens bytes tokens
   pub number : ℕ

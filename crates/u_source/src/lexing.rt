@@ -8,12 +8,12 @@ ghost use Rattle.u_source.specs.Tokens.{TokenParts};
 ghost use Rattle.u_source.specs.Lexing.{AreTokens, IsLexError, IsStep};
 
 use crate::mark::{keyword, sign};
-use crate::place::Place;
+use crate::place::Position;
 use crate::source_error::{Problem, SourceError};
 use crate::token::{Token, Word};
 use std::alloc::Global;
-use u_name::BlockName;
 use u_base::long_word;
+use u_name::BlockName;
 
 /// How many bytes of blanks and comments stand at the front.
 fn gap_len(bytes: &[u8]) -> usize
@@ -149,7 +149,7 @@ fn token_at(bytes: &[u8]) -> Result<(Word, usize), Problem>
 #[derive(Drop)]
 pub struct Lexer<'a> {
     /// The place of its first byte.
-    pub place: Place,
+    pub place: Position,
     /// Its bytes.
     pub rest: &'a [u8],
 }
@@ -186,6 +186,12 @@ impl<'a> Lexer<'a> {
 /// does `#` with the rest of its line. Each text has its tokens once. The notation is this project's own, in
 /// the family of Id, SISAL and Val.
 ///
+/// Promise tokens-of-a-source: exactly the tokens of the text are returned: each the longest that stands
+/// next, and only blanks and comments between them.
+///
+/// Promise no-token: a text that has tokens is refused only if there is no memory, and of another the first
+/// place without a token is named.
+///
 /// # Errors
 /// `Refused` with the first place where no token can be read, which is that of a whole word or sign, and
 /// why; it comes only of a text that has no tokens. `NoMemory` where there is no memory.
@@ -207,7 +213,7 @@ fn read_all(alloc: Global, bytes: &[u8]) -> Result<Vec<Token>, SourceError>
 {
     let mut tokens = Vec::new(alloc);
     let mut lexer = Lexer {
-        place: Place::start(),
+        place: Position::start(),
         rest: bytes,
     };
     while let Some(token) = lexer.next()? {

@@ -16,7 +16,7 @@ mod token;
 pub use form::{Form, Node};
 pub use lexing::tokens;
 pub use mark::Mark;
-pub use place::Place;
+pub use place::Position;
 pub use source::Source;
 pub use source_error::{Expected, Found, Problem, SourceError};
 pub use token::{Token, Word};

@@ -1,4 +1,7 @@
 //! Syntax trees of tokens.
+//!
+//! One loop with a stack reads by one token of lookahead, and no function calls itself. Only nesting has a
+//! limit, in which a minus counts too; a chain of operators or of items has none.
 ghost use Rattle.std.specs.Prelude.{◌≡◌, ◌≤◌, ◌<◌, ◌^◌, ◌++◌, Ok, Err, Some, None, length, drop, IfOk, MatchResult, option_to_list};
 ghost use Rattle.u_source.specs.Derivations.{kind_of, kind_next, placed, all_placed, IsSyntax};
 ghost use Rattle.u_source.specs.Progress.{Follows, Fails, IsFailure};

@@ -4,23 +4,23 @@ ghost use Rattle.u_source.specs.Places.{start, place_after};
 
 /// A place in a text: a byte of it, or its end. Lines are counted from 1, and so are the bytes of a line.
 #[derive(Clone, Copy, Debug, PartialEq, Eq)]
-pub struct Place {
+pub struct Position {
     /// The line, from 1.
     pub line: usize,
     /// The byte in its line, from 1.
     pub column: usize,
 }
 
-impl Place {
+impl Position {
     /// The place of a text's first byte.
-    pub fn start() -> Place
+    pub fn start() -> Position
         ensures { result ≡ start }
     {
-        Place { line: 1, column: 1 }
+        Position { line: 1, column: 1 }
     }
 
     /// The place behind these bytes, the first of which stands at this place.
-    pub(crate) fn after(self, bytes: &[u8]) -> Place
+    pub(crate) fn after(self, bytes: &[u8]) -> Position
         requires line { self.line + length bytes.now < 2 ^ 64 }
         requires column { self.column + length bytes.now < 2 ^ 64 }
         ensures value { result ≡ place_after self bytes.now }
@@ -31,12 +31,12 @@ impl Place {
         let mut rest = bytes;
         while let Some((byte, others)) = rest.split_first() {
             if *byte == b'\n' {
-                place = Place {
+                place = Position {
                     line: place.line + 1,
                     column: 1,
                 };
             } else {
-                place = Place {
+                place = Position {
                     line: place.line,
                     column: place.column + 1,
                 };

@@ -1,4 +1,7 @@
 //! The rules of the grammar.
+//!
+//! The laws hold of any table. What depends on this one are finite checks: weights by which the loop ends
+//! (`Measure`), the sorts of nodes (`OneTree`), and what may follow a part (`Soonest`).
 ghost use Rattle.std.specs.Prelude.{◌≡◌};
 ghost use Rattle.u_source.specs.Rules.{symbols};
 

@@ -9,7 +9,7 @@ use crate::form::Node;
 use crate::lexing::tokens;
 use crate::parsing::{Failure, parse};
 use crate::part::Stop;
-use crate::place::Place;
+use crate::place::Position;
 use crate::source_error::{Found, Problem, SourceError};
 use crate::token::{Token, Word};
 use std::alloc::Global;
@@ -69,12 +69,12 @@ fn problem_of(stop: Stop, found: Found) -> Problem
 }
 
 /// The place of the token with this number, or of the end of the text.
-fn place_of(bytes: &[u8], tokens: &[Token], number: usize) -> Place
+fn place_of(bytes: &[u8], tokens: &[Token], number: usize) -> Position
     ensures { result ≡ place_next bytes.now (drop number tokens.now) }
 {
     match tokens.get(number) {
         Some(token) => token.place(),
-        None => Place::start().after(bytes),
+        None => Position::start().after(bytes),
     }
 }
 
@@ -96,6 +96,12 @@ fn read_source(alloc: Global, bytes: &[u8]) -> Result<Source, SourceError>
 
 impl Source {
     /// The source that these bytes are, by the grammar of this project's own notation.
+    ///
+    /// Promise source-read: what is read is the source that the bytes are, its one syntax tree, and a source
+    /// is refused only if there is no memory.
+    ///
+    /// Promise no-source: bytes that have tokens and are no source are refused at the first token with which
+    /// no source goes on.
     ///
     /// # Errors
     /// `Refused` with the first place where no token can be read, or else with the first token with which no

@@ -2,7 +2,7 @@
 ghost use Rattle.std.specs.Prelude.{◌≡◌};
 
 use crate::mark::Mark;
-use crate::place::Place;
+use crate::place::Position;
 use std::alloc::AllocFailed;
 use std::fmt;
 use thiserror::Error;
@@ -108,7 +108,7 @@ pub enum Problem {
 pub enum SourceError {
     /// The first place where something is not allowed, and what.
     #[error("source line {} column {}: {}", .0.line, .0.column, .1)]
-    Refused(Place, Problem),
+    Refused(Position, Problem),
     /// There is no memory left.
     #[error("no memory")]
     NoMemory,

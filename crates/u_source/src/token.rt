@@ -3,7 +3,7 @@ ghost use Rattle.std.specs.Prelude.{◌≡◌};
 ghost use Rattle.u_source.specs.Tokens.{token};
 
 use crate::mark::Mark;
-use crate::place::Place;
+use crate::place::Position;
 use std::marker::Model;
 use u_name::BlockName;
 
@@ -22,7 +22,7 @@ pub enum Word {
 #[derive(Drop)]
 pub struct Token {
     word: Word,
-    place: Place,
+    place: Position,
 }
 
 impl Model for Token {
@@ -35,7 +35,7 @@ impl Model for Token {
 
 impl Token {
     /// A token that is this word, the first byte of which stands at this place.
-    pub(crate) fn new(word: Word, place: Place) -> Token
+    pub(crate) fn new(word: Word, place: Position) -> Token
         ensures { result ≡ token word place }
     {
         Token { word, place }
@@ -48,8 +48,10 @@ impl Token {
         self.word
     }
 
-    /// The place of its first byte.
-    pub fn place(&self) -> Place
+    /// Where it stands.
+    ///
+    /// Promise places-of-tokens: it is the line and the column of the token's first byte, both from 1.
+    pub fn place(&self) -> Position
         ensures { result ≡ self.now.place }
     {
         self.place

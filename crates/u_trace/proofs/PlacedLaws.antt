@@ -9,7 +9,7 @@ use Rattle.u_trace.specs.Places.{place_of, IsPut}
 use Rattle.u_trace.specs.TokenKeys.{token_key, key_eq}
 use Rattle.u_trace.specs.TokenPlaces.{first_of, first_at, place_or, place_among, IsPlaced}
 use Rattle.u_trace.specs.declared.firsts.Firsts.{Firsts}
-use Rattle.u_trace.specs.declared.firsts.Placed.{Placed}
+use Rattle.u_trace.specs.declared.firsts.ValueAt.{ValueAt}
 use Rattle.u_trace.specs.declared.places.Places.{Places}
 use Rattle.u_trace.specs.declared.token_key.TokenKey.{TokenKey}
 use Rattle.u_trace.proofs.Lists.{same_or_not}
@@ -34,17 +34,17 @@ module _ {X : Type 0} where
   get_there (y ∷ xs) (suc i) x l = get_there xs i x (omega (arith, l))
 
 -- an empty slot more changes nothing
-pub empty_slot : (xs : List (Option Placed)) (n : ℕ) → in_slot (slice_get (xs ++ None ∷ []) n) ≡ in_slot (slice_get xs n)
+pub empty_slot : (xs : List (Option ValueAt)) (n : ℕ) → in_slot (slice_get (xs ++ None ∷ []) n) ≡ in_slot (slice_get xs n)
 empty_slot [] zero = refl
 empty_slot [] (suc n) = refl
 empty_slot (x ∷ xs) zero = refl
 empty_slot (x ∷ xs) (suc n) = empty_slot xs n
 
 -- the place of the first value, and of another
-pub place_first : (first : Placed) (v : Value) (other : Option ℕ) → value_eq first.value v ≡ true → place_or (Some first) v other ≡ Some first.place
+pub place_first : (first : ValueAt) (v : Value) (other : Option ℕ) → value_eq first.value v ≡ true → place_or (Some first) v other ≡ Some first.place
 place_first first v other e = ap (λ (b : Bool). if b then Some first.place else other) e
 
-pub place_other : (first : Placed) (v : Value) (other : Option ℕ) → value_eq first.value v ≡ false → place_or (Some first) v other ≡ other
+pub place_other : (first : ValueAt) (v : Value) (other : Option ℕ) → value_eq first.value v ≡ false → place_or (Some first) v other ≡ other
 place_other first v other e = ap (λ (b : Bool). if b then Some first.place else other) e
 
 pub place_itself : (v : Value) (p : ℕ) (other : Option ℕ) → place_or (Some (record { value = v; place = p })) v other ≡ Some p
@@ -60,7 +60,7 @@ module _ (columns : List Firsts) (port : ℕ) (new : Firsts) where
 
   -- one that has the same
   pub columns_still : port < length columns → ((n : ℕ) → first_in new n ≡ first_at columns port n) → (others : Places TokenKey) (k : TokenKey) → place_among (set columns port new) others k ≡ place_among columns others k
-  columns_still l same others k = ap (λ (f : Option Placed). place_or f k.value (place_of key_eq others k)) (elim (same_or_not port k.port) [
+  columns_still l same others k = ap (λ (f : Option ValueAt). place_or f k.value (place_of key_eq others k)) (elim (same_or_not port k.port) [
     | inl e ↦ subst (λ (q : ℕ). first_at (set columns port new) q k.activity ≡ first_at columns q k.activity) e (column_here l k.activity ∙ same k.activity)
     | inr apart ↦ column_elsewhere k.port k.activity apart
   ])
@@ -76,7 +76,7 @@ columns_none (c ∷ cs) none zero n = none 0 c (omega arith) n
 columns_none (c ∷ cs) none (suc p) n = columns_none cs (λ i f l m. none (suc i) f (omega (arith, l)) m) p n
 
 pub placed_none : (columns : List Firsts) (others : Places TokenKey) → ((p n : ℕ) → first_at columns p n ≡ None) → ((k : TokenKey) → place_of key_eq others k ≡ None) → (k : TokenKey) → place_among columns others k ≡ None
-placed_none columns others none rest k = ap (λ (f : Option Placed). place_or f k.value (place_of key_eq others k)) (none k.port k.activity) ∙ rest k
+placed_none columns others none rest k = ap (λ (f : Option ValueAt). place_or f k.value (place_of key_eq others k)) (none k.port k.activity) ∙ rest k
 
 pub on_both : {T E : Type 0} (r : Result T E) {P Q R : Type 0} → OnOk r P → OnOk r Q → (P → Q → R) → OnOk r R
 on_both (Ok x) p q f = f p q
@@ -87,7 +87,7 @@ module _ (columns : List Firsts) (others : Places TokenKey) (n port : ℕ) (v : 
   -- the first value at its port
   pub placed_first : (new : Firsts) → port < length columns → first_at columns port n ≡ None → first_in new n ≡ Some (record { value = v; place = p }) → ((m : ℕ) → (n ≡ m → ⊥) → first_in new m ≡ first_at columns port m) → IsPlaced (place_among columns others) (token_key n port v) p (place_among (set columns port new) others)
   placed_first new l none here apart = record {
-    here = ap (λ (f : Option Placed). place_or f v (place_of key_eq others (token_key n port v))) (column_here columns port new l n ∙ here) ∙ place_itself v p (place_of key_eq others (token_key n port v));
+    here = ap (λ (f : Option ValueAt). place_or f v (place_of key_eq others (token_key n port v))) (column_here columns port new l n ∙ here) ∙ place_itself v p (place_of key_eq others (token_key n port v));
     others = λ k other. over k other (same_or_not port k.port) (same_or_not n k.activity);
   }
     where
@@ -103,14 +103,14 @@ module _ (columns : List Firsts) (others : Places TokenKey) (n port : ℕ) (v : 
           let is : token_key n port k.value ≡ k = ap (λ (x : ℕ). token_key x port k.value) f ∙ ap (λ (x : ℕ). token_key k.activity x k.value) e in
           subst (λ (x : TokenKey). place_among (set columns port new) others x ≡ place_among columns others x) is
           (let o = place_of key_eq others (token_key n port k.value) in
-          ap (λ (f : Option Placed). place_or f k.value o) (column_here columns port new l n ∙ here)
+          ap (λ (f : Option ValueAt). place_or f k.value o) (column_here columns port new l n ∙ here)
           ∙ other_value k.value (λ q. other (q ∙ is)) o
-          ∙ sym (ap (λ (f : Option Placed). place_or f k.value o) none))
+          ∙ sym (ap (λ (f : Option ValueAt). place_or f k.value o) none))
 
       over : (k : TokenKey) → (token_key n port v ≡ k → ⊥) → (port ≡ k.port) ⊎ (port ≡ k.port → ⊥) → (n ≡ k.activity) ⊎ (n ≡ k.activity → ⊥) → place_among (set columns port new) others k ≡ place_among columns others k
       over k other (inl e) (inl f) = here_too k other e f
-      over k other (inl e) (inr f) = ap (λ (g : Option Placed). place_or g k.value (place_of key_eq others k)) (subst (λ (q : ℕ). first_at (set columns port new) q k.activity ≡ first_at columns q k.activity) e (column_here columns port new l k.activity ∙ apart k.activity f))
-      over k other (inr e) f = ap (λ (g : Option Placed). place_or g k.value (place_of key_eq others k)) (column_elsewhere columns port new k.port k.activity e)
+      over k other (inl e) (inr f) = ap (λ (g : Option ValueAt). place_or g k.value (place_of key_eq others k)) (subst (λ (q : ℕ). first_at (set columns port new) q k.activity ≡ first_at columns q k.activity) e (column_here columns port new l k.activity ∙ apart k.activity f))
+      over k other (inr e) f = ap (λ (g : Option ValueAt). place_or g k.value (place_of key_eq others k)) (column_elsewhere columns port new k.port k.activity e)
 
   -- where the column stands at that place
   pub placed_at : (i : ℕ) (new : Firsts) → i ≡ port → i < length columns → first_at columns i n ≡ None → first_in new n ≡ Some (record { value = v; place = p }) → ((m : ℕ) → (n ≡ m → ⊥) → first_in new m ≡ first_at columns i m) → IsPlaced (place_among columns others) (token_key n port v) p (place_among (set columns i new) others)
@@ -119,15 +119,15 @@ module _ (columns : List Firsts) (others : Places TokenKey) (n port : ℕ) (v : 
       (placed_first new (subst (λ (j : ℕ). j < length columns) e l) (subst (λ (j : ℕ). first_at columns j n ≡ None) e none) here (λ m q. subst (λ (j : ℕ). first_in new m ≡ first_at columns j m) e (apart m q)))
 
   -- another value there
-  pub placed_other : (first : Placed) (new : Places TokenKey) → first_at columns port n ≡ Some first → place_among columns others (token_key n port v) ≡ None → IsPut key_eq others (token_key n port v) p new → IsPlaced (place_among columns others) (token_key n port v) p (place_among columns new)
+  pub placed_other : (first : ValueAt) (new : Places TokenKey) → first_at columns port n ≡ Some first → place_among columns others (token_key n port v) ≡ None → IsPut key_eq others (token_key n port v) p new → IsPlaced (place_among columns others) (token_key n port v) p (place_among columns new)
   placed_other first new is none put = record {
     here = at (value_eq first.value v) refl;
     others = λ k other. ap (λ (o : Option ℕ). place_or (first_at columns k.port k.activity) k.value o) (put.others k other);
   }
     where
       at : (b : Bool) → value_eq first.value v ≡ b → place_among columns new (token_key n port v) ≡ Some p
-      at true e = (let h : Some first.place ≡ None = sym (ap (λ (f : Option Placed). place_or f v (place_of key_eq others (token_key n port v))) is ∙ place_first first v (place_of key_eq others (token_key n port v)) e) ∙ none in absurd (cc))
-      at false e = ap (λ (f : Option Placed). place_or f v (place_of key_eq new (token_key n port v))) is ∙ place_other first v (place_of key_eq new (token_key n port v)) e ∙ put.here
+      at true e = (let h : Some first.place ≡ None = sym (ap (λ (f : Option ValueAt). place_or f v (place_of key_eq others (token_key n port v))) is ∙ place_first first v (place_of key_eq others (token_key n port v)) e) ∙ none in absurd (cc))
+      at false e = ap (λ (f : Option ValueAt). place_or f v (place_of key_eq new (token_key n port v))) is ∙ place_other first v (place_of key_eq new (token_key n port v)) e ∙ put.here
 
 pub others_still : (columns : List Firsts) (old new : Places TokenKey) → ((k : TokenKey) → place_of key_eq new k ≡ place_of key_eq old k) → (k : TokenKey) → place_among columns new k ≡ place_among columns old k
 others_still columns old new same k = ap (λ (o : Option ℕ). place_or (first_at columns k.port k.activity) k.value o) (same k)

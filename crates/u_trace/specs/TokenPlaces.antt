@@ -6,21 +6,21 @@ use Rattle.u_trace.specs.Firsts.{first_in, value_eq}
 use Rattle.u_trace.specs.Places.{place_of}
 use Rattle.u_trace.specs.TokenKeys.{key_eq}
 use Rattle.u_trace.specs.declared.firsts.Firsts.{Firsts}
-use Rattle.u_trace.specs.declared.firsts.Placed.{Placed}
+use Rattle.u_trace.specs.declared.firsts.ValueAt.{ValueAt}
 use Rattle.u_trace.specs.declared.places.Places.{Places}
 use Rattle.u_trace.specs.declared.token_key.TokenKey.{TokenKey}
 use Rattle.u_trace.specs.declared.token_places.TokenPlaces.{TokenPlaces}
 
-abbrev pub first_of : Option Firsts → ℕ → Option Placed
+abbrev pub first_of : Option Firsts → ℕ → Option ValueAt
 first_of None n = None
 first_of (Some firsts) n = first_in firsts n
 
 -- the first value at a port of the activity that has the number
-abbrev pub first_at : List Firsts → ℕ → ℕ → Option Placed
+abbrev pub first_at : List Firsts → ℕ → ℕ → Option ValueAt
 first_at columns port n = first_of (slice_get columns port) n
 
 -- the place of the first value, if that is v, and else the other place
-abbrev pub place_or : Option Placed → Value → Option ℕ → Option ℕ
+abbrev pub place_or : Option ValueAt → Value → Option ℕ → Option ℕ
 place_or None v other = other
 place_or (Some first) v other = if value_eq first.value v then Some first.place else other
 

@@ -1,4 +1,7 @@
 //! What a history waits for.
+//!
+//! An activity waits only if it has a token. If a port clashes, each pair of values of a `fetch` counts, so
+//! one reader may wait for several cells.
 ghost use Rattle.std.specs.Prelude.{Contains, IfOk};
 ghost use Rattle.u_trace.specs.Waits.{AreWaits};
 ghost use Rattle.u_trace.specs.Still.{AreStill};
@@ -18,13 +21,19 @@ pub struct Waiting {
     pub reads: Vec<DeferredRead>,
 }
 
-/// What the history waits for: all activities of the job that have a token there at some port and
-/// none at another, and all reads whose activities have a structure and an index there that name a
-/// cell without a write. An activity whose statement the program does not have has no ports, so it
+/// What the history waits for. An activity whose statement the program does not have has no ports, so it
 /// waits for nothing.
 ///
-/// Nothing that is listed can fire: no firing of an activity that waits has all that it needs in the
-/// history, and none by which a deferred read's activity reads that cell.
+/// No firing of an activity that waits has all that it needs in the history, and none by which a deferred
+/// read's activity reads that cell.
+///
+/// Promise waiting-activities: exactly the activities are listed that have a token at some port and none at
+/// another, in order, each once.
+///
+/// Promise deferred-reads: exactly the reads are listed whose activity has the structure and the index of a
+/// cell without a write, in order, each once.
+///
+/// Promise what-waits-stays: nothing that is listed can fire over the history.
 ///
 /// # Errors
 /// `AllocError` where there is no memory.

@@ -1,4 +1,8 @@
 //! What is to blame for several values at a port: a cell that was written twice.
+//!
+//! The cell is looked for among what the two stories give, and not in the whole history: stories are runs
+//! of their own, so in a determinate program they have a cell with two writes. Of several values the two
+//! least are taken, so the answer is fixed by the log.
 ghost use Rattle.std.specs.Prelude.{◌≡◌, IfOk};
 ghost use Rattle.u_rule.specs.Rule.{system_of};
 ghost use Rattle.u_rule.specs.Parts.{token, most_ports};
@@ -113,12 +117,14 @@ fn blame_in(
     }
 }
 
-/// What is to blame for the two least values at that port, 1 to 5, of the activity. Of the applied
-/// firings the stories of the two tokens are joined, one behind the other. The answer is the least
-/// cell that has two pairs of a writer and a value among what these firings give, with its two least
-/// pairs, and with the first of these firings that gives the write of each. It is `None` where no cell
-/// has two pairs there, which is never so if the program is strict or determinate. That a cell is
-/// blamed, and which one, is this project's profile.
+/// What is to blame for the two least values at that port, 1 to 5, of the activity. Of the applied firings
+/// the stories of the two tokens are joined, one behind the other. It is `None` where no cell has two writes
+/// there. That a cell is blamed, and which one, is this project's profile.
+///
+/// Promise blame: the answer is the least cell with two writes in the two stories, with its two least writes
+/// and the first firings that give these.
+///
+/// Promise blame-finds: if the program is strict or determinate, the answer is never `None`.
 ///
 /// # Errors
 /// `NotClashed` exactly where the applied firings hold fewer than two values at the port; a value does

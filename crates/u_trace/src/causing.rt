@@ -110,8 +110,10 @@ fn causes_among(
     Ok(found)
 }
 
-/// All firings of the job whose needs lie in the history and that give the entry, in order and each
-/// once. Nothing gives the start token of a job, so for it there are none.
+/// What can give the entry. Nothing gives the start token of a job, so for it there are none.
+///
+/// Promise causes: exactly the firings of the job are returned that give the entry and whose needs lie in the
+/// history, in order, each once.
 ///
 /// # Errors
 /// `NotHeld` exactly where the entry is not in the history. `NoMemory` where there is no memory.

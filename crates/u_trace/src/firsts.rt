@@ -7,14 +7,14 @@ use u_value::Value;
 
 /// A value with a place.
 #[derive(Drop)]
-pub(crate) struct Placed {
+pub(crate) struct ValueAt {
     /// The value.
     pub(crate) value: Value,
     /// The place.
     pub(crate) place: usize,
 }
 
-impl Placed {
+impl ValueAt {
     /// Whether that is the value.
     pub(crate) fn is_of(&self, value: &Value) -> bool
         ensures { result ≡ value_eq self.now.value value.now }
@@ -26,7 +26,7 @@ impl Placed {
 /// A value with a place for each of some numbers. They stand in a list, so that nothing is looked for.
 #[derive(Drop)]
 pub(crate) struct Firsts {
-    slots: Vec<Option<Placed>>,
+    slots: Vec<Option<ValueAt>>,
 }
 
 impl Firsts {
@@ -40,7 +40,7 @@ impl Firsts {
     }
 
     /// The value of the number with its place, if it has one.
-    pub(crate) fn at(&self, number: usize) -> Option<&Placed>
+    pub(crate) fn at(&self, number: usize) -> Option<&ValueAt>
         ensures some { IfSome result (λ p. first_in self.now number ≡ Some p.now) }
         ensures none { IfNone result (first_in self.now number ≡ None) }
     {
@@ -63,7 +63,7 @@ impl Firsts {
     ///
     /// # Errors
     /// `AllocError` where there is no memory; all numbers have what they had.
-    pub(crate) fn put(&mut self, number: usize, placed: Placed) -> Result<(), AllocError>
+    pub(crate) fn put(&mut self, number: usize, placed: ValueAt) -> Result<(), AllocError>
         ensures here { OnOk result (first_in self.new number ≡ Some placed) }
         ensures others { OnOk result
             ((n : ℕ) → (number ≡ n → ⊥) → first_in self.new n ≡ first_in self.old n) }

@@ -8,7 +8,7 @@ ghost use Rattle.u_trace.specs.Stories.{IsStory};
 ghost use Rattle.u_trace.specs.Blames.{JoinsStories};
 
 use crate::givers::givers_of;
-use crate::telling::told;
+use crate::telling::applied_story;
 use std::alloc::{AllocError, Global};
 use u_check::Job;
 use u_rule::{Entry, Firing};
@@ -31,8 +31,8 @@ pub(crate) fn joined_stories(
         (λ v. JoinsStories (system_of job.now) log.now one.now other.now v.items) }
 {
     let givers = givers_of(alloc, job, log)?;
-    let mut joined = told(alloc, job, log, &givers, one)?;
-    let mut behind = told(alloc, job, log, &givers, other)?;
+    let mut joined = applied_story(alloc, job, log, &givers, one)?;
+    let mut behind = applied_story(alloc, job, log, &givers, other)?;
     joined.append(&mut behind)?;
     Ok(joined)
 }

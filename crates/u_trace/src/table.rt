@@ -1,4 +1,8 @@
 //! The places of the givers of entries, where a token is found by its activity's number.
+//!
+//! The first value that a port gets stands at its activity's number; others at that port, of which there
+//! are few, are found by their hashes. Most activities lie beside the one before, so few names are hashed,
+//! and no token is copied.
 ghost use Rattle.std.specs.Prelude.{length};
 ghost use Rattle.u_trace.specs.Numbers.{HaveOneNumber, LieUnder};
 ghost use Rattle.u_trace.specs.TokenPlaces.{HaveColumns};

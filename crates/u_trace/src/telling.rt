@@ -1,4 +1,7 @@
 //! The applied firings that an entry rests on.
+//!
+//! After want of memory a history may have an entry whose giver is not applied yet. It has causes and no
+//! story.
 ghost use Rattle.std.specs.Prelude.{◌≡◌, ◌↔◌, ◌⊎◌, IfOk, IsTrue, IsSome};
 ghost use Rattle.u_rule.specs.Rule.{system_of, start_of};
 ghost use Rattle.u_base.specs.Firing.{Derivation};
@@ -34,7 +37,7 @@ fn is_known(job: &Job, givers: &Givers, entry: &Entry) -> Result<bool, AllocErro
 ///
 /// # Errors
 /// `AllocError` where there is no memory.
-pub(crate) fn told(
+pub(crate) fn applied_story(
     alloc: Global,
     job: &Job,
     log: &[Firing],
@@ -69,14 +72,18 @@ fn story_of(
     if !known {
         return Err(TraceError::NotHeld);
     }
-    let found = told(alloc, job, log, &givers, entry)?;
+    let found = applied_story(alloc, job, log, &givers, entry)?;
     Ok(found)
 }
 
-/// The story of the entry: of the applied firings of the machine, in the order in which they were
-/// applied, the giver of the entry, and with each firing the givers of all that it needs, where the
-/// giver of an entry is the first that was applied and gives it. The start token has no giver, and
-/// its story is empty.
+/// The story of the entry, of the applied firings of the machine. The giver of an entry is the first that was
+/// applied and gives it. The start token has no giver, and its story is empty.
+///
+/// Promise story: it has the entry's giver, and with each firing the givers of all that it needs, and no
+/// others, in the order of the log.
+///
+/// Promise story-is-least: it is a run of its own whose last firing gives the entry, and none can be left out
+/// with these givers.
 ///
 /// # Errors
 /// `NotHeld` where the entry is not the start token, and no applied firing gives it; also where it is

@@ -7,7 +7,7 @@ ghost use Rattle.u_trace.specs.TokenKeys.{token_key, key_eq};
 ghost use Rattle.u_trace.specs.TokenPlaces.{place_under, IsPlaced, HaveColumns};
 ghost use Rattle.u_trace.specs.declared.token_key.TokenKey.{TokenKey};
 
-use crate::firsts::{Firsts, Placed};
+use crate::firsts::{Firsts, ValueAt};
 use crate::places::Places;
 use crate::token_key::TokenKey;
 use std::alloc::{AllocError, Global};
@@ -122,7 +122,7 @@ impl TokenPlaces {
     {
         let column = usize::from(port);
         match self.columns[column].at(number) {
-            None => self.columns[column].put(number, Placed { value, place }),
+            None => self.columns[column].put(number, ValueAt { value, place }),
             Some(_) => {
                 let key = TokenKey {
                     activity: number,

@@ -112,6 +112,8 @@ impl Waiting {
     /// Appends a line `waits NAME has PORT.. lacks PORT..` for each activity that waits, and behind
     /// them a line `reads NAME CELL` for each deferred read, with NAME the reader's.
     ///
+    /// Promise text-of-what-waits: exactly the lines of both lists are appended.
+    ///
     /// # Errors
     /// `AllocError` where there is no memory. Then `out` is as it was.
     #[tactic(auto, using(u_base::proofs::AppendingLaws::extends_cut))]

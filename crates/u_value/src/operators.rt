@@ -1,4 +1,7 @@
 //! Operators on values.
+//!
+//! The kinds of the operands are tested before all else, so `div` of `true` and 0 gives `kind`. `rem` of
+//! the least number by -1 overflows as `div` does, so both fault for the same operands.
 ghost use Rattle.std.specs.Prelude.{◌≡◌, int_div, int_rem, MatchResult, OnOk, Ok, Err};
 ghost use Rattle.u_value.specs.Division.{IsDivision};
 ghost use Rattle.u_value.specs.Operators.{applied1, applied2, chosen, divided, number_or_overflow};
@@ -58,6 +61,9 @@ pub fn apply1(operator: UnaryOperator, a: &Value) -> Result<Value, FaultKind>
 }
 
 /// What the operator gives.
+///
+/// Promise operators: the result is the exact one over whole numbers, or the fault `Kind` before every other,
+/// then `Zero`, then `Overflow`.
 ///
 /// # Errors
 /// `Kind` where the operator does not take operands of those kinds, whatever they are. Else

@@ -12,8 +12,8 @@ use crate::reference::Reference;
 use crate::value::Value;
 use std::alloc::{AllocError, Global};
 use thiserror::Error;
-use u_name::{Front, Name, front_block, front_name};
 use u_base::{after, after_all, number0_at, signed_at};
+use u_name::{Front, Name, front_block, front_name};
 
 /// Why no value is read.
 #[derive(Debug, Drop, PartialEq, Eq, Error)]
@@ -141,6 +141,9 @@ pub fn front_value(alloc: Global, bytes: &[u8]) -> Result<Front<'_, Value>, Allo
 impl Value {
     /// The value whose text the bytes are. A refusal's offset is where the longest front of a value's
     /// text ends.
+    ///
+    /// Promise values-are-read: what is read has the bytes as its text, and the text of a value is refused
+    /// only if there is no memory.
     pub fn read(alloc: Global, bytes: &[u8]) -> Result<Value, ValueTextError>
         ensures { MatchResult result (λ value. IsValueOf bytes.now value)
             (λ error. IsValueErrorOf bytes.now error) }

@@ -1,4 +1,7 @@
 //! References to structures.
+//!
+//! What is longer than a word lies behind a count of owners, so a value takes 16 bytes of whatever kind it
+//! is. `Reference::new` may find no memory; copies take none.
 ghost use Rattle.std.specs.Prelude.{◌≡◌, ◌≤◌, ◌++◌, IfOk, OnOk, OnErr};
 ghost use Rattle.std.proofs.Common.{rules};
 ghost use Rattle.std.specs.Cmp.{partial_order_from_own_ties};
@@ -15,8 +18,8 @@ use std::cmp::Ordering;
 use std::hash::{Hash, Hasher};
 use std::marker::Model;
 use std::sync::Arc;
-use u_name::Name;
 use u_base::{cut_back, push_behind};
+use u_name::Name;
 
 /// A structure: the name of the activity that made it, and its length, 0 to 1000000. Copies share both.
 /// References are ordered by name, and then by length.

@@ -7,8 +7,8 @@ use crate::procedure::Procedure;
 use crate::reference::Reference;
 use std::alloc::AllocError;
 use std::cmp::Ordering;
-use u_name::BlockName;
 use u_base::{cut_back, push_signed};
+use u_name::BlockName;
 
 /// A value, as a token carries one. The kinds come in this order, and then the values by number,
 /// false before true, the bytes of the block's name, and the reference's name and length. A value takes two
@@ -27,6 +27,8 @@ pub enum Value {
 
 impl Value {
     /// By kind, and then by the value, as `cmp`.
+    ///
+    /// Promise values-in-order: the order is total, and only equal values compare as equal.
     #[tactic(auto, using(crate::specs::ExactOrders::derived_value_cmp))]
     pub fn compare(&self, other: &Value) -> Ordering
         ensures { result ≡ value_cmp self.now other.now }

@@ -1,4 +1,6 @@
 //! What may happen in a world.
+//!
+//! Each event owns what it brings, so a list can be kept, repeated and cut.
 use u_rule::Firing;
 
 /// One event. Replicas are numbered from 1, messages from 0 in the order in which they were sent.

@@ -1,4 +1,7 @@
 //! What an event does in a world.
+//!
+//! A replica is taken out of the list while it merges another one, and put back: two of one list can't be
+//! lent for writing and reading at once.
 ghost use Rattle.std.specs.Prelude.{◌≡◌, length};
 ghost use Rattle.u_name.specs.Context.{IsBetween};
 ghost use Rattle.u_replica.specs.Merging.{MergeAnswer};

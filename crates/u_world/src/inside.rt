@@ -1,4 +1,7 @@
 //! What a world is made of.
+//!
+//! A message that is kept is what was sent, so a delta has copies of its firings, which share their
+//! contexts. A place in the sender's log would be void once the sender starts again.
 ghost use Rattle.std.specs.Prelude.{◌≡◌, ◌↔◌, IfOk, IsTrue};
 ghost use Rattle.u_name.specs.Context.{IsBetween};
 ghost use Rattle.u_world.specs.WorldState.{fresh_world, At, Has};

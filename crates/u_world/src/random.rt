@@ -1,4 +1,7 @@
 //! Random lists of events, each fixed by a seed.
+//!
+//! No event brings a firing from elsewhere, so a list depends on its seed and the number of replicas, and
+//! not on the job.
 ghost use Rattle.std.specs.Prelude.{◌≡◌, IfOk, length};
 ghost use Rattle.u_name.specs.Context.{IsBetween};
 ghost use Rattle.u_world.specs.Random.{words_of, words_after, another, random_event, sent_after, random_list, NoneIsBad};
@@ -94,11 +97,14 @@ fn send(event: &Event, asks: &mut Vec<bool>) -> Result<(), AllocError>
     Ok(())
 }
 
-/// The list of `count` random events that the seed stands for, in a world of so many replicas, 1 to 8. A
-/// new world of as many finds none of them that cannot be done. There are no Take and no Bytes.
+/// The list of `count` random events that the seed stands for, in a world of so many replicas, 1 to 8. There
+/// are no Take and no Bytes.
 ///
 /// Of eight events three fire, one asks, two deliver a message that was sent before, one merges, and one
 /// saves or starts again. Where there is no other replica, or no message, the replica fires instead.
+///
+/// Promise random-events: a seed stands for one list of exactly `count` events, each of which a new world of
+/// as many replicas can do.
 ///
 /// # Errors
 /// `AllocError` where there is no memory.

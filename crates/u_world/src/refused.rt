@@ -1,4 +1,7 @@
 //! Why an event does not happen.
+//!
+//! To take what is no firing of the job is a bad event, and settles the replica as its `take` does. A
+//! restart is never refused for want of room: what was saved was taken under the same limit.
 ghost use Rattle.std.specs.Prelude.{◌≡◌};
 ghost use Rattle.u_world.specs.Refusals.{of_fire, of_take, of_list, of_merge, of_restore, error_at};
 ghost use Rattle.u_world.specs.declared.refused.Refused.TheVariants as refusals;

@@ -3,6 +3,8 @@
 //! After every list of events the history of a replica is fixed by the set of firings that it took. It is
 //! the history of one run of the job, a merge is the least upper bound of two replicas, and where a
 //! replica finds nothing ready it holds the history of the whole job.
+//!
+//! A replica can be taken out of its world, to go on alone: no event fires until nothing is ready.
 ghost use Rattle.std.specs.Prelude.{◌≡◌, IfOk, length};
 ghost use Rattle.u_name.specs.Context.{IsBetween};
 ghost use Rattle.u_world.specs.WorldState.{fresh_world, At, Has};
@@ -84,6 +86,19 @@ impl<'a> World<'a> {
     }
 
     /// What holds of each world, after all events. It does nothing, and callers cite its clauses.
+    ///
+    /// Promise fixed-by-the-set: a replica's history is fixed by the set of firings that it took: it is the
+    /// closure of that set.
+    ///
+    /// Promise one-run: the applied firings of a replica are one run of the job, and its history is what that
+    /// run holds.
+    ///
+    /// Promise quiet-is-whole: if nothing is ready, the history is all that any run of the job derives.
+    ///
+    /// Promise marks-are-honest: what a mark counts of a peer's log the replica took, after restarts too.
+    ///
+    /// Promise exchanged-in-full: two replicas that have heard all of each other, and park nothing, took the
+    /// same firings.
     pub fn holds(&self)
         ensures is { IsWorld self.now }
         ensures headline { KeepsTheHeadline self.now }
@@ -92,8 +107,10 @@ impl<'a> World<'a> {
         let _ = &self.inside;
     }
 
-    /// Two replicas of one job that took the same firings hold the same history, whatever worlds they
-    /// are in. It does nothing, and callers cite its clause.
+    /// What holds of the replicas of two worlds. It does nothing, and callers cite its clause.
+    ///
+    /// Promise equal-sets-equal-histories: two settled replicas of one job that took the same firings have
+    /// the same history, the very list, in whatever worlds they are.
     pub fn agrees_with(&self, other: &World<'_>)
         ensures { AgreeOnSets self.now other.now }
     {
@@ -102,6 +119,24 @@ impl<'a> World<'a> {
     }
 
     /// Lets the events happen, one after another.
+    ///
+    /// Promise events-in-order: each event does what the call of its replica says; the first that does not
+    /// happen is named, and later ones are not looked at.
+    ///
+    /// Promise merge-is-least: after each merge the replica took the union of what the two took, and is their
+    /// least upper bound.
+    ///
+    /// Promise save-restart: a restart makes the replica's next life, which took the firings of the complete
+    /// lines of what was kept and knows nothing of its peers.
+    ///
+    /// Promise forged-bytes: of bytes that are the text of a delta the firings are taken and no mark moves;
+    /// other bytes change nothing.
+    ///
+    /// Promise rounds-catch-up: after n rounds with no other event of the two, the asker's mark counts 4096 n
+    /// firings more of the other's log, or all of it.
+    ///
+    /// Promise rounds-keep-up: with other events between the rounds but no restart it counts as many more, or
+    /// as far as the log went at first.
     ///
     /// # Errors
     /// `BadEvent`, `Full` and `NoMemory` with the place of the first event that does not happen. Those

@@ -1,5 +1,5 @@
 use Rattle.std.proofs.Common.{◌≡◌, ℕ, arith, sym, Option, subst}
-use Rattle.u_determinate.specs.declared.verdict.Place.{Place}
+use Rattle.u_determinate.specs.declared.verdict.MeetingPoint.{MeetingPoint}
 use Rattle.u_determinate.specs.declared.verdict.Determinacy.TheVariants.{Determinate, Meets}
 use Rattle.u_determinate.specs.Findings.{AreFindings, IsFirstFound}
 use Rattle.u_determinate.proofs.FirstMeetings.{KeptKinds, meeting_in, none_found, next_kind, first_answer, determinate, answer_exact}
@@ -14,7 +14,7 @@ loop-meeting-preserved c =
     let i = c.loop-meeting.meeting-index in
     let fs = c.deref.result.now in
     let are = subst (AreFindings p) (sym c.deref.ensures.value) c.in_ok-findings.ensures in
-    next_kind p i c.loop-meeting-test.true c.loop-meeting.invariant (none_found p fs are (meeting_in i) (subst (λ (o : Option Place). IsFirstFound fs (meeting_in i) o) c.in_default.is c.first_of.ensures))
+    next_kind p i c.loop-meeting-test.true c.loop-meeting.invariant (none_found p fs are (meeting_in i) (subst (λ (o : Option MeetingPoint). IsFirstFound fs (meeting_in i) o) c.in_default.is c.first_of.ensures))
 
 pub returns-clause-answer : goal.returns-clause-answer
 returns-clause-answer c =
@@ -32,7 +32,7 @@ returns-in-Some-clause-answer c =
     let i = c.loop-meeting.meeting-index in
     let fs = c.deref.result.now in
     let are = subst (AreFindings p) (sym c.deref.ensures.value) c.in_ok-findings.ensures in
-    first_answer p fs are i c.in-Some.place c.loop-meeting-test.true c.loop-meeting.invariant (subst (λ (o : Option Place). IsFirstFound fs (meeting_in i) o) c.in-Some.is c.first_of.ensures)
+    first_answer p fs are i c.in-Some.place c.loop-meeting-test.true c.loop-meeting.invariant (subst (λ (o : Option MeetingPoint). IsFirstFound fs (meeting_in i) o) c.in-Some.is c.first_of.ensures)
 
 pub returns-in-Some-clause-exact : goal.returns-in-Some-clause-exact
 returns-in-Some-clause-exact c =
@@ -40,4 +40,4 @@ returns-in-Some-clause-exact c =
     let i = c.loop-meeting.meeting-index in
     let fs = c.deref.result.now in
     let are = subst (AreFindings p) (sym c.deref.ensures.value) c.in_ok-findings.ensures in
-    answer_exact p (Meets c.in-Some.place) (first_answer p fs are i c.in-Some.place c.loop-meeting-test.true c.loop-meeting.invariant (subst (λ (o : Option Place). IsFirstFound fs (meeting_in i) o) c.in-Some.is c.first_of.ensures))
+    answer_exact p (Meets c.in-Some.place) (first_answer p fs are i c.in-Some.place c.loop-meeting-test.true c.loop-meeting.invariant (subst (λ (o : Option MeetingPoint). IsFirstFound fs (meeting_in i) o) c.in-Some.is c.first_of.ensures))

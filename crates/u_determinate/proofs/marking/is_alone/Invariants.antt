@@ -1,4 +1,4 @@
-use Rattle.u_determinate.proofs.Ports.{Before, IsThat}
+use Rattle.u_determinate.proofs.PortLaws.{Before, IsThat}
 use Rattle.u_determinate.proofs.marking.is_alone.Given as goal
 
 abbrev pub invariant-loop-other : goal.invariant-loop-other

@@ -1,4 +1,4 @@
-use Rattle.u_determinate.proofs.Ports.{Before, IsElsewhere}
+use Rattle.u_determinate.proofs.PortLaws.{Before, IsElsewhere}
 use Rattle.u_determinate.proofs.marking.only_link.Given as goal
 
 abbrev pub invariant-loop-link : goal.invariant-loop-link

@@ -5,7 +5,7 @@ use Rattle.u_rule.specs.declared.parts.Written.{Written}
 use Rattle.u_rule.specs.EntryOrder.{write_of}
 use Rattle.u_rule.specs.declared.entry.Entry.{Entry}
 use Rattle.u_rule.specs.declared.entry.Entry.TheVariants as kinds
-use Rattle.u_history.specs.declared.place.Place.TheVariants as places
+use Rattle.u_history.specs.declared.place.MeetingPlace.TheVariants as places
 use Rattle.u_history.specs.Orders.{written_order}
 use Rattle.u_history.specs.Outcomes.{lent}
 use Rattle.u_history.specs.Places.{IsAt}

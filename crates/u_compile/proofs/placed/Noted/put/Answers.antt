@@ -1,7 +1,7 @@
 use Rattle.std.proofs.Common.{◌≡◌, ℕ, ◌+◌, List, [], ◌∷◌, ◌++◌, length, true, cond, sym, ap, ◌∙◌, subst}
 use Rattle.u_compile.specs.Drafts.{DraftParts, draft}
 use Rattle.u_compile.specs.Graphs.{GraphParts, graph}
-use Rattle.u_compile.specs.Scoped.{PlaceParts}
+use Rattle.u_compile.specs.Scoped.{GuardedRegionParts}
 use Rattle.u_compile.specs.Placed.{PlacedParts, NoteParts, note, placed, IsPlaced, FitsIn, opens, IsLastFull}
 use Rattle.u_compile.proofs.PlacedLaws.{put_placed}
 use Rattle.u_compile.proofs.placed.Noted.put.Goals as goal
@@ -25,7 +25,7 @@ invariant_of-self-in-Ok c =
     let is-new : c.put.new.self ≡ new =
     c.in-Ok.ensures.1 ∙ (ap (λ (r : ℕ). graph g.loops (g.statements ++ (draft r kind c.in-Ok.added ∷ [])) g.links) c.region-2.ensures ∙ ap (λ (n : ℕ). graph g.loops (g.statements ++ (draft at.region kind n ∷ [])) g.links) c.in-Ok.ensures.0) in
     let notes : c.push.new.self.items ≡ s.notes.items ++ (note at c.args.control ∷ []) =
-    c.in_ok-push.ensures.items ∙ ap (λ (v : NoteParts). s.notes.items ++ (v ∷ [])) (c.new-note.ensures ∙ ap (λ (v : PlaceParts). note v c.args.control) c.in_ok-copy.ensures) in
+    c.in_ok-push.ensures.items ∙ ap (λ (v : NoteParts). s.notes.items ++ (v ∷ [])) (c.new-note.ensures ∙ ap (λ (v : GuardedRegionParts). note v c.args.control) c.in_ok-copy.ensures) in
     let waits : c.unfinished_with-unfinished.result ≡ cond (opens kind) (length g.statements + 1) s.unfinished =
     c.unfinished_with-unfinished.ensures ∙ (ap (λ (n : ℕ). cond (opens kind) (n + 1) c.args.self.now.unfinished) many ∙ ap (λ (p : PlacedParts). cond (opens kind) (length g.statements + 1) p.unfinished) (sym c.self.view_is)) in
     subst (λ (v : GraphParts). IsPlaced (placed v c.push.new.self.items s.arounds.items s.tests.items c.unfinished_with-unfinished.result)) (sym is-new)

@@ -2,7 +2,7 @@ use Rattle.std.proofs.Common.{◌≡◌, ℕ, List, [], ◌∷◌, ◌++◌, inl
 use Rattle.u_program.specs.declared.program.Kind.TheVariants.{Next}
 use Rattle.u_compile.specs.Drafts.{DraftParts, draft}
 use Rattle.u_compile.specs.Graphs.{GraphParts, graph}
-use Rattle.u_compile.specs.Scoped.{PlaceParts}
+use Rattle.u_compile.specs.Scoped.{GuardedRegionParts}
 use Rattle.u_compile.specs.Placed.{PlacedParts, NoteParts, note, placed, IsPlaced, FitsIn, IsLastFull}
 use Rattle.u_compile.proofs.PlacedLaws.{statement_placed}
 use Rattle.u_compile.proofs.placed.Noted.put_next.Goals as goal
@@ -22,6 +22,6 @@ invariant_of-self-in-Ok c =
     let new = graph g.loops (g.statements ++ (x ∷ [])) g.links in
     let is-new : c.put_next.new.self ≡ new = c.in-Ok.ensures.1 ∙ ap (λ (r : ℕ). graph g.loops (g.statements ++ (draft r Next enter ∷ [])) g.links) c.region-2.ensures in
     let notes : c.push.new.self.items ≡ s.notes.items ++ (note at 0 ∷ []) =
-    c.in_ok-push.ensures.items ∙ ap (λ (v : NoteParts). s.notes.items ++ (v ∷ [])) (c.new-note.ensures ∙ ap (λ (v : PlaceParts). note v 0) c.in_ok-copy.ensures) in
+    c.in_ok-push.ensures.items ∙ ap (λ (v : NoteParts). s.notes.items ++ (v ∷ [])) (c.new-note.ensures ∙ ap (λ (v : GuardedRegionParts). note v 0) c.in_ok-copy.ensures) in
     subst (λ (v : GraphParts). IsPlaced (placed v c.push.new.self.items s.arounds.items s.tests.items s.unfinished)) (sym is-new)
     (subst (λ (v : List NoteParts). IsPlaced (placed new v s.arounds.items s.tests.items s.unfinished)) (sym notes) well)

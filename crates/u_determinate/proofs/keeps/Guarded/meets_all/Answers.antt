@@ -5,7 +5,7 @@ use Rattle.u_determinate.specs.declared.incoming.Link.{Link}
 use Rattle.u_determinate.specs.Determinate.{MayMeet}
 use Rattle.u_determinate.specs.Flow.{arc_of}
 use Rattle.u_determinate.proofs.Links.{link}
-use Rattle.u_determinate.proofs.Ports.{before_more}
+use Rattle.u_determinate.proofs.PortLaws.{before_more}
 use Rattle.u_determinate.proofs.keeps.Guarded.meets_all.Goals as goal
 use Rattle.u_determinate.proofs.keeps.Guarded.meets_all.Goals.{else-other-one-via-then-other-one+else-not-may_meet, else-other-one-via-else-other-one}
 

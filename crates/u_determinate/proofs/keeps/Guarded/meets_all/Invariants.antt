@@ -1,7 +1,7 @@
 use Rattle.std.proofs.Common.{◌≡◌}
 use Rattle.u_determinate.specs.Determinate.{MayMeet}
 use Rattle.u_determinate.specs.Flow.{arc_of}
-use Rattle.u_determinate.proofs.Ports.{Before}
+use Rattle.u_determinate.proofs.PortLaws.{Before}
 use Rattle.u_determinate.proofs.keeps.Guarded.meets_all.Given as goal
 
 abbrev pub invariant-loop-other : goal.invariant-loop-other

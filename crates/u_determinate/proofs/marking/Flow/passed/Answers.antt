@@ -2,7 +2,7 @@ use Rattle.std.proofs.Common.{◌+◌, length, List, Bool, true, sym, subst}
 use Rattle.u_determinate.specs.Guards.{PassedOn}
 use Rattle.u_determinate.specs.Flow.{Marked, Swept}
 use Rattle.u_determinate.proofs.Rounds.{passed_more}
-use Rattle.u_determinate.proofs.Ports.{passed_within, written}
+use Rattle.u_determinate.proofs.PortLaws.{passed_within, written}
 use Rattle.u_determinate.proofs.Sweeps.{Settling, settling_first, settling_more, settled}
 use Rattle.u_determinate.proofs.marking.Flow.passed.Goals as goal
 

@@ -2,7 +2,7 @@ use Rattle.std.proofs.Common.{refl, sym, ◌∙◌, subst}
 use Rattle.std.proofs.lemmas.Bool.{false≢true}
 use Rattle.std.proofs.lemmas.Option.{slice_get_read}
 use Rattle.u_determinate.specs.Flow.{AreLinks, IsMarked}
-use Rattle.u_determinate.proofs.Ports.{takes_one, takes_none}
+use Rattle.u_determinate.proofs.PortLaws.{takes_one, takes_none}
 use Rattle.u_determinate.proofs.marking.Flow.takes_marked.Goals as goal
 
 pub returns-in-Some-only_link : goal.returns-in-Some-only_link

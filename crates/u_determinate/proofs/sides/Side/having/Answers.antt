@@ -2,7 +2,7 @@ use Rattle.std.proofs.Common.{◌+◌, length, List, Bool, true, sym, subst}
 use Rattle.u_determinate.specs.Guards.{StatementOf}
 use Rattle.u_determinate.specs.Flow.{Marked, Swept}
 use Rattle.u_determinate.proofs.Rounds.{guards_more}
-use Rattle.u_determinate.proofs.Ports.{written}
+use Rattle.u_determinate.proofs.PortLaws.{written}
 use Rattle.u_determinate.proofs.SidesLaws.{guards_within}
 use Rattle.u_determinate.proofs.Sweeps.{Settling, settling_first, settling_more, settled}
 use Rattle.u_determinate.proofs.sides.Side.having.Goals as goal

@@ -1,7 +1,7 @@
 use Rattle.std.proofs.Common.{◌≡◌}
 use Rattle.u_determinate.specs.Guards.{ArcOf}
 use Rattle.u_determinate.specs.Flow.{IsMarked, arc_of}
-use Rattle.u_determinate.proofs.Ports.{Before}
+use Rattle.u_determinate.proofs.PortLaws.{Before}
 use Rattle.u_determinate.proofs.sides.Side.links_have.Given as goal
 
 abbrev pub invariant-loop-link : goal.invariant-loop-link

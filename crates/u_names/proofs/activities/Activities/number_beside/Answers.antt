@@ -22,22 +22,22 @@ invariant_of-self-2 c =
     ap (λ (n : ℕ). c.args.statement - n) c.behind_of-behind.ensures.value in
     let l = c.if-len-ge-MOST_GROUPS.false in
     let n = c.len.ensures in
-    more_leaders c.self.inside.leaders c.id_beside.new.self (beside c.args.near.now (leader c.args.statement))
-    (subst (λ (n : ℕ). GoesLast c.self.inside.leaders (beside c.args.near.now n) c.id_beside.new.self) first c.in_ok-place.ensures.ok) c.in_ok-place.ensures.distinct
+    more_leaders c.self.inside.leaders c.number_beside.new.self (beside c.args.near.now (leader c.args.statement))
+    (subst (λ (n : ℕ). GoesLast c.self.inside.leaders (beside c.args.near.now n) c.number_beside.new.self) first c.in_ok-place.ensures.ok) c.in_ok-place.ensures.distinct
     (first_is c.args.statement c.requires.0 c.requires.1) (omega (arith, l, n)) c.self.invariant
 
 pub overflow_mul-result : goal.overflow_mul-result
 overflow_mul-result c =
     let l = c.if-len-ge-MOST_GROUPS.false in
     let n = c.len.ensures in
-    let p = new_small c.self.inside.leaders c.id_beside.new.self _ c.in_ok-place.place _ c.in_ok-place.ensures.ok c.in_ok-place.ensures.number (omega (arith, l, n)) in
+    let p = new_small c.self.inside.leaders c.number_beside.new.self _ c.in_ok-place.place _ c.in_ok-place.ensures.ok c.in_ok-place.ensures.number (omega (arith, l, n)) in
     omega (arith, p)
 
 pub overflow_add-result : goal.overflow_add-result
 overflow_add-result c =
     let l = c.if-len-ge-MOST_GROUPS.false in
     let n = c.len.ensures in
-    let p = new_small c.self.inside.leaders c.id_beside.new.self _ c.in_ok-place.place _ c.in_ok-place.ensures.ok c.in_ok-place.ensures.number (omega (arith, l, n)) in
+    let p = new_small c.self.inside.leaders c.number_beside.new.self _ c.in_ok-place.place _ c.in_ok-place.ensures.ok c.in_ok-place.ensures.number (omega (arith, l, n)) in
     let q = c.from.ensures in
     let r = c.behind_of-behind.ensures.below in
     omega (arith, p, q, r)
@@ -47,11 +47,11 @@ returns-clause-number c =
     let first : c.args.statement - c.behind_of-behind.result ≡ leader c.args.statement =
     ap (λ (n : ℕ). c.args.statement - n) c.behind_of-behind.ensures.value in
     let far : c.from.result ≡ behind c.args.statement = c.from.ensures ∙ c.behind_of-behind.ensures.value in
-    subst (λ (n : ℕ). slice_get (groups c.id_beside.new.self) (3 * c.in_ok-place.place + n) ≡ Some (beside c.args.near.now c.args.statement)) (sym far)
-    (number_in c.id_beside.new.self (beside c.args.near.now c.args.statement) c.in_ok-place.place c.requires.0 (c.in_ok-place.ensures.number ∙ ap (λ (n : ℕ). Some (beside c.args.near.now n)) first))
+    subst (λ (n : ℕ). slice_get (groups c.number_beside.new.self) (3 * c.in_ok-place.place + n) ≡ Some (beside c.args.near.now c.args.statement)) (sym far)
+    (number_in c.number_beside.new.self (beside c.args.near.now c.args.statement) c.in_ok-place.place c.requires.0 (c.in_ok-place.ensures.number ∙ ap (λ (n : ℕ). Some (beside c.args.near.now n)) first))
 
 pub returns-clause-grows : goal.returns-clause-grows
-returns-clause-grows c = subst (λ (bs : List Activity). Grows bs (groups c.id_beside.new.self)) c.self.view_is (groups_grow c.self.inside.leaders c.id_beside.new.self _ c.in_ok-place.ensures.ok)
+returns-clause-grows c = subst (λ (bs : List Activity). Grows bs (groups c.number_beside.new.self)) c.self.view_is (groups_grow c.self.inside.leaders c.number_beside.new.self _ c.in_ok-place.ensures.ok)
 
 pub returns-clause-distinct : goal.returns-clause-distinct
-returns-clause-distinct c = let i = invariant_of-self-2 c in groups_distinct c.id_beside.new.self i.first i.distinct
+returns-clause-distinct c = let i = invariant_of-self-2 c in groups_distinct c.number_beside.new.self i.first i.distinct
