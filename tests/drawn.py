@@ -1,153 +1,199 @@
 #!/usr/bin/env python3
-"""Writes the picture that `u draw` is to print of a program on standard input, from the program's text
-alone, by a second program that shares nothing with the first."""
+"""Says what is wrong with the pictures of runs, of stories and of worlds of a program.
+
+A picture that `u draw FILE ARG` prints has to show the firings that `save` and `trace` print, what each of them
+needs, and as many entries as `run` counts. One that `u world FILE ARG --draw` prints has to show, row by row, the
+random events that the seed stands for, made here anew, with the ways of their messages; and the firings that it
+counts have to be those that `world` counts.
+
+    tests/drawn.py FILE
+
+U_BINARY is the program that is run.
+"""
+import re
 import sys
 
-FAMILIES = {
-    "begin param end": "#d9ead3",
-    "enter next last leave": "#dbe7f6",
-    "select switch": "#fff2cc",
-    "apply back": "#eadcf4",
-    "alloc store fetch": "#fce5cd",
-}
-FILL = {kind: fill for kinds, fill in FAMILIES.items() for kind in kinds.split()}
-PORTS = dict.fromkeys("and or add sub mul div rem lt le eq switch fetch".split(), 2)
-PORTS.update(select=3, store=3)
-EXITS = {
-    "switch": {"tailport": "t:s", "color": "#2e7d32"},
-    "next": {"color": "#3569b0", "penwidth": "1.4", "constraint": "false"},
-}
-FONT = {"fontname": "Helvetica", "fontsize": "11"}
+from running import call
+
+RUNS = (("3", "60"), ("2", "2000"))
+WORLDS = ((2, 1, 60), (3, 7, 200), (8, 11, 100), (1, 5, 30))
+NAME = r'"((?:[^"\\]|\\.)*)"'
+MASK, TIMES = 2 ** 64 - 1, 6364136223846793005
+NODE = re.compile(r'  "(\d+)\.(\d+)" \[ pos="(\d+),-(\d+)!"(?: tooltip="(.*?)")?(?: label="(.*?)")? .*\];')
+ARC = re.compile(r'  "(\d+)\.(\d+)" -> "(\d+)\.(\d+)" \[(?: label="(\d+) new")? (\w+)="(\w+)" .*\];')
 
 
-def quoted(text):
-    return '"' + text.replace("\\", "\\\\").replace('"', '\\"') + '"'
+def parts(lines):
+    """The names of the nodes, and the arcs, of a picture of firings."""
+    arcs = [re.fullmatch(rf"  {NAME} -> {NAME} \[.*\];", line) for line in lines]
+    nodes = [re.search(rf"^  (?:subgraph {NAME} {{ )*{NAME} \[ .* \];(?: }})*$", line)
+             for line, arc in zip(lines, arcs) if not arc]
+    return [node[2] for node in nodes if node], [(arc[1], arc[2]) for arc in arcs if arc]
 
 
-def listed(attributes):
-    return " [" + "".join(f" {key}={quoted(value)}" for key, value in attributes.items()) + " ];"
+def needs(firing):
+    """The nodes of what a firing needs: its tokens, and the cell that it reads."""
+    own, _, write = firing.partition(" by ")
+    _, name, *values = own.split(" ")
+    tokens = [f"t {name} {port} {value}" for port, value in enumerate(values, 1)]
+    return tokens + ([f"{values[0][1:].rpartition('#')[0]}[{values[1]}]"] if write else [])
 
 
-def arc(start, end, attributes):
-    return f"  {quoted(start)} -> {quoted(end)}{listed(attributes)}"
+def firing_faults(lines, firings):
+    """What is wrong with the picture of these firings."""
+    nodes, arcs = parts(lines)
+    if [node for node in nodes if node.startswith("f ")] != firings:
+        yield "other firings"
+    if [arc for arc in arcs if arc[1].startswith("f ")] != [(need, it) for it in firings for need in needs(it)]:
+        yield "other needs"
+    if len(set(nodes)) != len(nodes) or not {end for arc in arcs for end in arc} <= set(nodes):
+        yield "an arc without a node, or a node twice"
+    given = {arc[1] for arc in arcs}
+    if sum(node not in given for node in nodes if not node.startswith("f ")) != 1:
+        yield "something but the argument is given by no firing"
 
 
-class Statement:
-    def __init__(self, line):
-        words = line.split(" ")
-        behind = words.index("->")
-        tail = words[behind + 1 :]
-        slash = tail.index("/") if "/" in tail else len(tail)
-        self.line, self.number, self.region = line, words[0], int(words[1])
-        self.kind, self.words = words[2], words[2:behind]
-        self.to, self.otherwise = tail[:slash], tail[slash + 1 :]
-
-    def shared(self):
-        return self.kind != "switch" and len(self.to) > 1
-
-    def goes_to(self, block):
-        if self.kind == "enter":
-            return int(self.words[1])
-        return block.holder(self.region) if self.kind == "leave" else self.region
-
-    def ports(self):
-        if self.kind == "apply":
-            return 1 + (int(self.words[2]) if len(self.words) > 2 else 1)
-        return PORTS.get(self.kind, 1)
-
-    def label(self):
-        ports = self.ports()
-        middle = " ".join([self.number, *self.words])
-        if ports == 1:
-            return "<i1>" + middle
-        cells = "|".join(f"<i{port}>{port}" for port in range(1, ports + 1))
-        return "{{" + cells + "}|" + middle + ("|{<t>T|<f>F}}" if self.kind == "switch" else "}")
+def entries_of(lines):
+    """How many entries a picture shows: what is no firing, and each write of a cell after its first."""
+    nodes, arcs = parts(lines)
+    cells = {node for node in nodes if node.endswith("]") and node[0] in "-("}
+    return sum(not node.startswith("f ") for node in nodes) + len({arc for arc in arcs if arc[1] in cells}) - len(cells)
 
 
-class Block:
-    def __init__(self, name):
-        self.name, self.loops, self.statements = name, [], []
-
-    def holder(self, region):
-        return int(self.loops[region - 1].split(" ")[2]) if 0 < region <= len(self.loops) else 0
-
-    def within(self, region, text):
-        names = []
-        while region:
-            names.insert(0, f"cluster_{self.name}.L{region}")
-            region = self.holder(region)
-        names.insert(0, "cluster_" + self.name)
-        return "  " + "".join(f"subgraph {quoted(name)} {{ " for name in names) + text + " }" * len(names)
-
-    def statement(self, destination):
-        return f"{self.name}.{destination.split('.')[0]}"
-
-    def point(self, to):
-        return " ".join([self.name, *to])
-
-    def arcs(self, start, exits, to):
-        for it in to:
-            yield arc(start, self.statement(it), {**exits, "headport": f"i{it.split('.')[1]}:n"})
-
-    def clusters(self):
-        line = "block " + self.name
-        style = {"labeljust": "l", "style": "rounded", "color": "#888888"}
-        yield self.within(0, "graph" + listed({"label": line, "tooltip": line, **style}))
-        style = {"labeljust": "l", "style": "rounded,filled", "color": "#9db8dd", "fillcolor": "#f4f8fd"}
-        for number, line in enumerate(self.loops, 1):
-            yield self.within(number, "graph" + listed({"label": f"loop {number}", "tooltip": line, **style}))
-
-    def nodes(self):
-        for it in self.statements:
-            name = self.statement(it.number)
-            seen = {"id": name, "tooltip": it.line, "label": it.label()}
-            yield self.within(it.region, quoted(name) + listed({**seen, "fillcolor": FILL.get(it.kind, "#ffffff")}))
-
-    def list_arcs(self, it, behind):
-        exits = EXITS.get(it.kind, {"tailport": "s"})
-        same = [other for other in self.statements if other.shared() and other.to == it.to]
-        if not it.shared() or len(same) < 2:
-            yield from self.arcs(self.statement(it.number), exits, it.to)
-            return
-        if sum(other in same for other in behind) == 1:
-            look = {"shape": "point", "width": "0.07", "style": "solid"}
-            yield self.within(it.goes_to(self), quoted(self.point(it.to)) + listed(look))
-            yield from self.arcs(self.point(it.to), {}, it.to)
-        look = exits if it.kind == "next" else {**exits, "arrowhead": "none"}
-        yield arc(self.statement(it.number), self.point(it.to), look)
-
-    def all_arcs(self):
-        for place, it in enumerate(self.statements, 1):
-            name = self.statement(it.number)
-            yield from self.list_arcs(it, self.statements[place:])
-            yield from self.arcs(name, {"tailport": "f:s", "color": "#c62828"}, it.otherwise)
-            if it.kind == "apply":
-                look = {"style": "dashed", "color": "#7b3fa0", "label": "  result"}
-                yield arc(name, self.statement(it.words[1]), {"tailport": "s", "headport": "i1:n", **look})
+def run_faults(file, argument, firings):
+    words = [file, argument, "--firings", firings]
+    drawn, run, whole = call(["draw", *words]), call(["run", *words]), call(["run", file, argument])
+    lines = drawn.out.splitlines()
+    log = [line for line in call(["save", *words]).out.splitlines() if line.startswith("f ")]
+    yield from firing_faults(lines, log)
+    if drawn.status != run.status or f"entries {entries_of(lines)}" not in run.out.splitlines():
+        yield "another status, or other entries"
+    left = int(re.search(r"^firings (\d+)$", whole.out, re.M)[1]) - len(log)
+    if drawn.error != (f"u: the picture leaves out {left} firings\n" if left else ""):
+        yield f"said: {drawn.error}"
 
 
-def blocks_of(text):
-    blocks = []
-    for line in text.split("\n")[1:-1]:
-        word = line.split(" ")[0]
-        if word == "block":
-            blocks.append(Block(line.split(" ")[1]))
-        elif word == "loop":
-            blocks[-1].loops.append(line)
+def story_faults(file, argument):
+    for answer in re.findall(r"^answer (.*)$", call(["run", file, argument]).out, re.M):
+        told = call(["trace", file, argument, f"a {answer}"]).out.splitlines()
+        start = next(place for place, it in enumerate(told) if it.startswith("story "))
+        drawn = call(["draw", file, argument, f"a {answer}"])
+        if drawn.status != 0 or drawn.error:
+            yield f"the story of {answer}: {drawn.error}"
+        for fault in firing_faults(drawn.out.splitlines(), told[start + 1:]):
+            yield f"the story of {answer}: {fault}"
+
+
+def turned(state):
+    """A word of PCG XSH RR 64/32."""
+    word, turn = ((state >> 18 ^ state) >> 27) & 0xFFFFFFFF, state >> 59
+    return (word >> turn | word << (32 - turn)) & 0xFFFFFFFF
+
+
+def random_words(seed):
+    """The words of the generator with that seed."""
+    begun = []
+    for _ in range(4):
+        seed = (seed * TIMES + 11634580027462260723) & MASK
+        begun.append(turned(seed))
+    step = begun[2] | begun[3] << 32 | 1
+    state = ((begun[0] | begun[1] << 32) + step) * TIMES + step & MASK
+    while True:
+        yield turned(state)
+        state = state * TIMES + step & MASK
+
+
+def random_events(replicas, seed, count):
+    """Of each event: the words that its row begins with, its replica, and where what comes was sent, if
+    something comes. A row and a replica say where."""
+    drawn, sent = random_words(seed), []
+    for row in range(1, count + 1):
+        kind, replica, other, pick = (next(drawn) for _ in range(4))
+        kind, replica = kind % 8, 1 + replica % replicas
+        if replicas > 1:
+            other = 1 + (replica + other % (replicas - 1)) % replicas
+        if kind == 3 and replicas > 1:
+            sent.append((True, row, replica, other))
+            yield f"asks {other}", replica, None
+        elif kind in (4, 5) and sent:
+            is_ask, place, sender, receiver = sent[pick % len(sent)]
+            if is_ask:
+                sent.append((False, row, receiver, sender))
+            yield "answers" if is_ask else "takes ", receiver, (place, sender)
+        elif kind == 6 and replicas > 1:
+            yield "merges ", replica, (row, other)
+        elif kind == 7:
+            yield "saves" if pick % 2 == 0 else "starts again, with ", replica, None
         else:
-            blocks[-1].statements.append(Statement(line))
-    return blocks
+            yield "fires ", replica, None
 
 
-def main():
-    print("digraph u {")
-    print("  graph" + listed({"rankdir": "TB", "newrank": "true", "nodesep": "0.35", "ranksep": "0.45", **FONT}))
-    print("  node" + listed({"shape": "Mrecord", "style": "filled", **FONT, "margin": "0.09,0.04", "height": "0.3"}))
-    print("  edge" + listed({"arrowsize": "0.6", "fontname": "Helvetica", "fontsize": "9"}))
-    for block in blocks_of(sys.stdin.read()):
-        for line in [*block.clusters(), *block.nodes(), *block.all_arcs()]:
-            print(line)
-    print("}")
+def read_world(lines):
+    """The nodes by row and replica, and the arcs, each with how it looks, of a picture of a world."""
+    nodes, arcs = {}, []
+    for line in lines[4:-1]:
+        node, arc = NODE.fullmatch(line), ARC.fullmatch(line)
+        if node:
+            row, replica, across, down = map(int, node.groups()[:4])
+            assert (across, down) == (11 * replica, row) and (row, replica) not in nodes, line
+            nodes[row, replica] = (node[5], node[6], "#f4c7c3" in line)
+        else:
+            arcs.append(((int(arc[1]), int(arc[2])), (int(arc[3]), int(arc[4])), arc[7], int(arc[5] or 0)))
+    return nodes, arcs
 
 
-main()
+def event_faults(lines, replicas, events, counts):
+    """What is wrong with the lines of the picture of these events."""
+    nodes, arcs = read_world(lines)
+    last = len(events) + 1
+    taken = dict.fromkeys(range(1, replicas + 1), 0)
+    wanted = [((0, it), (last, it), "none", 0) for it in taken]
+    for replica in taken:
+        if nodes.pop((0, replica), ["", ""])[1] != f"replica {replica}" or not nodes.pop((last, replica), None):
+            yield f"no column of replica {replica}"
+    for row, (said, replica, origin) in enumerate(events, 1):
+        full, label, is_red = nodes.pop((row, replica), ("", None, False))
+        label = label or ""
+        if not label.startswith(said) or said == "saves" != label:
+            yield f"row {row} is {label!r} and not {said!r}"
+        if is_red != said.startswith("starts") or (label != full and said != "fires "):
+            yield f"row {row} looks otherwise"
+        new = int((re.search(r" (\d+) new", label) or [0, 0])[1])
+        if said.startswith("starts"):
+            has, had = map(int, re.findall(r"\d+", label))
+            if had != taken[replica]:
+                yield f"row {row} had {had} and not {taken[replica]}"
+            taken[replica] = has
+        taken[replica] += (said == "fires " and label != "fires nothing") + new
+        if said == "merges ":
+            nodes.pop(origin, None)
+        if origin:
+            look = "dashed" if said == "answers" else "bold" if new else "dotted"
+            wanted.append((origin, (row, replica), look, new))
+    if nodes or sorted(arcs) != sorted(wanted):
+        yield f"other arcs or nodes: {nodes} {set(arcs) ^ set(wanted)}"
+    if list(taken.values()) != counts:
+        yield f"{taken} firings and not {counts}"
+
+
+def world_faults(file, replicas, seed, events):
+    words = ["world", file, "2", "--replicas", str(replicas), "--seed", str(seed), "--events", str(events)]
+    told, drawn = call(words), call([*words, "--draw"])
+    if (drawn.status, drawn.error) != (told.status, ""):
+        yield f"another status: {drawn.error}"
+    rows = [line.split() for line in told.out.splitlines() if line.startswith("replica ")]
+    counts = [int(row[3]) + int(row[5]) for row in rows]
+    yield from event_faults(drawn.out.splitlines(), replicas, list(random_events(replicas, seed, events)), counts)
+
+
+def main(file):
+    for run in RUNS:
+        for fault in [*run_faults(file, *run), *story_faults(file, run[0])]:
+            print(f"{file} {run[0]}: {fault}")
+    for world in WORLDS:
+        for fault in world_faults(file, *world):
+            print(f"{file} 2, replicas, seed and events {world}: {fault}")
+
+
+if __name__ == "__main__":
+    main(sys.argv[1])

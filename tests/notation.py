@@ -5,12 +5,11 @@
     tests/notation.py FILE ARG      says what comes of it for an argument, in the words of the report of a run
 
 ARG is a number, with `n` for a minus. The exit status is 0 for one answer, 2 for a file that is refused, 3 for
-another verdict and 4 where the evaluation would take more than --steps steps.
+another verdict and 4 where the evaluation would take more than ten million steps.
 """
-import argparse
 import sys
-import threading
 
+from running import in_deep_thread
 from sources.checking import check
 from sources.evaluating import TooLong, evaluate
 from sources.tokens import Refused
@@ -26,14 +25,14 @@ def say(outcome):
     return 0 if outcome.verdict == "answer" else 3
 
 
-def run(asked):
+def run(path, argument=None):
     try:
-        with open(asked.file, "rb") as file:
+        with open(path, "rb") as file:
             procedures = check(file.read())
-        if asked.argument is None:
-            print("source")
-            return 0
-        return say(evaluate(procedures, int(asked.argument.replace("n", "-")), asked.steps))
+        if argument is not None:
+            return say(evaluate(procedures, int(argument.replace("n", "-")), 10000000))
+        print("source")
+        return 0
     except Refused as refused:
         print(f"u: {refused}", file=sys.stderr)
         return 2
@@ -42,20 +41,7 @@ def run(asked):
         return 4
 
 
-def main():
-    parser = argparse.ArgumentParser(description=__doc__.split("\n")[0])
-    parser.add_argument("file", metavar="FILE", help="the source")
-    parser.add_argument("argument", metavar="ARG", nargs="?", help="the argument of `main`")
-    parser.add_argument("--steps", type=int, default=10000000, help="how many steps it may take")
-    return run(parser.parse_args())
-
-
 if __name__ == "__main__":
-    # A long sum is a deep tree.
-    sys.setrecursionlimit(1000000)
-    threading.stack_size(512 << 20)
-    status = []
-    thread = threading.Thread(target=lambda: status.append(main()))
-    thread.start()
-    thread.join()
-    sys.exit(status[0] if status else 5)
+    if len(sys.argv) not in (2, 3):
+        sys.exit(__doc__)
+    sys.exit(in_deep_thread(run, *sys.argv[1:]))

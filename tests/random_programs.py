@@ -7,27 +7,31 @@ last line is 'N passed, M failed': a program passes if all of this holds of it. 
 of the programs are strict, or determinate, or clash, with and without a clash of a cell, since then it shows
 little.
 
-    tests/random_programs.py [--seed S] [--programs N] [--jobs J]
+    tests/random_programs.py [--seed S] [--programs N]
 
-The same seed makes the same programs. U_BINARY is the program that is run, by default crates/u/out/u.
+The same seed makes the same programs. U_BINARY is the program that is run.
 """
-import argparse
 import collections
-import concurrent.futures
-import os
-import random
-import subprocess
-import sys
+import contextlib
 
-TOP = os.path.dirname(os.path.dirname(os.path.abspath(__file__)))
-BINARY = os.environ.get("U_BINARY", os.path.join(TOP, "crates/u/out/u"))
+import running
+from running import Wrong
+
 # How many firings a run has at most, and how many ports of one report are blamed.
-FIRINGS = 2000
-BLAMED = 3
+FIRINGS, BLAMED = 2000, 3
 NUMBERS = ("add", "sub", "mul", "div", "rem")
 TESTS = ("lt", "le", "eq")
 PORTS = {"select": 3, "store": 3, "switch": 2, "fetch": 2, "apply": 2}
 PORTS.update((kind, 2) for kind in NUMBERS + TESTS + ("and", "or"))
+# The least share of the programs, in a hundred, that has to be in each class.
+LEAST = {
+    "strict": 20,
+    "determinate, not strict": 15,
+    "determinate, one answer": 20,
+    "neither, and clashes without a cell": 5,
+    "determinate, a cell clashes": 10,
+    "determinate, a cell clashes, and a port": 5,
+}
 
 # A value: the place of the statement that gives it, the list that it is sent by (1 on false), and its type.
 Value = collections.namedtuple("Value", "statement side type")
@@ -36,11 +40,11 @@ Value = collections.namedtuple("Value", "statement side type")
 class Block:
     """A block in the making: its loops by the regions that hold them, and its statements."""
 
-    def __init__(self, name, chance, sides, twice):
-        self.name, self.chance = name, chance
+    def __init__(self, name, chance, sides, twice, procedures):
+        self.name, self.chance, self.procedures = name, chance, procedures
         # Whether sides of a `switch` may meet in a port, and how often a cell is stored twice.
         self.sides, self.twice = sides, twice
-        self.loops, self.statements, self.procedures = [], [], []
+        self.loops, self.statements = [], []
 
     def add(self, kind, region, *inputs, type="number"):
         """Adds a statement that takes these values, and returns what it gives."""
@@ -60,9 +64,8 @@ class Block:
 
     def number(self, region, values):
         """A number: one that is there, or a constant."""
-        if self.chance.random() < 0.3:
-            return self.constant(region, values)
-        return self.pick(values, "number") or self.constant(region, values)
+        there = None if self.chance.random() < 0.3 else self.pick(values, "number")
+        return there or self.constant(region, values)
 
     def constant(self, region, values, least=-3, most=5):
         kind = f"const {self.chance.randint(least, most)}"
@@ -76,22 +79,14 @@ class Block:
         lines = [f"block {self.name}"]
         lines += [f"loop {number} {holder}" for number, holder in enumerate(self.loops, 1)]
         for number, (kind, region, lists) in enumerate(self.statements, 1):
-            words = [str(number), str(region), kind.split("#")[0], "->"]
-            if kind.startswith("apply"):
-                words[2] = f"apply {int(kind.split('#')[1]) + 1}"
-            words += destinations(lists[0])
-            if kind == "switch":
-                words += ["/"] + destinations(lists[1])
-            lines.append(" ".join(words))
+            sent = ["".join(f" {place + 1}.{port}" for place, port in sorted(set(ports))) for ports in lists]
+            lines.append(f"{number} {region} {kind} ->{sent[0]}" + (f" /{sent[1]}" if kind == "switch" else ""))
         return "\n".join(lines) + "\n"
 
-
-def destinations(sent):
-    return [f"{place + 1}.{port}" for place, port in sorted(set(sent))]
-
-
-def ports_of(kind):
-    return PORTS.get(kind.split(" ")[0].split("#")[0], 1)
+    def place_of(self, *kinds):
+        """The place of a statement of one of these kinds. An IndexError is raised if there is none."""
+        words = [kind.split(" ")[0] for kind, _, _ in self.statements]
+        return self.chance.choice([place for place, word in enumerate(words) if word in kinds])
 
 
 def operate(block, region, values, depth):
@@ -161,8 +156,8 @@ def loop(block, region, values, depth):
         back = block.add("next", inner, sent)
         block.send(back, head.statement, 1)
     if block.sides and block.chance.random() < 0.2:
-        test = block.add("not", inner, block.add("not", inner, test, type="truth"), type="truth") \
-            if block.chance.random() < 0.3 else block.add("pass", inner, test, type="truth")
+        for kind in ("not", "not") if block.chance.random() < 0.3 else ("pass",):
+            test = block.add(kind, inner, test, type="truth")
     handed = block.add("switch", inner, heads[-1], test).statement
     last = block.add("last", inner, Value(handed, 1, "number"))
     values.append(block.add("leave", inner, last))
@@ -170,7 +165,7 @@ def loop(block, region, values, depth):
 
 def apply(block, region, procedure, argument):
     back = block.add("back", region)
-    block.add(f"apply#{back.statement}", region, procedure, argument)
+    block.add(f"apply {back.statement + 1}", region, procedure, argument)
     return back
 
 
@@ -213,183 +208,128 @@ def extend(block, region, values, depth):
     block.chance.choice(ways if depth < 3 else ways[:5])(block, region, values, depth)
 
 
-def make_block(name, chance, sides, twice, procedures, size):
-    block = Block(name, chance, sides, twice)
-    block.procedures = procedures
+def fill(block, size):
+    """Adds all that a block has, from its `begin` to its `end`."""
     values = [block.add("begin", 0)]
     for _ in range(size):
         extend(block, 0, values, 0)
     numbers = [value for value in values if value.type == "number"][-3:]
     result = numbers.pop()
     for number in numbers:
-        if chance.random() < 0.7:
+        if block.chance.random() < 0.7:
             result = block.add("add", 0, result, number)
     block.add("end", 0, result)
-    return block
 
 
-def fed(block, region):
-    """The places of the statements of a region to which something can be sent."""
-    return [place for place, (kind, own, _) in enumerate(block.statements)
-            if own == region and kind not in ("begin", "back", "leave")]
+def send_more(block):
+    """Sends a value to one port more."""
+    senders = [(region, lists) for kind, region, lists in block.statements
+               if lists[0] and kind.split(" ")[0] not in ("last", "enter", "leave")]
+    region, lists = block.chance.choice(senders)
+    to = block.chance.choice([place for place, (kind, own, _) in enumerate(block.statements)
+                              if own == region and kind not in ("begin", "back", "leave")])
+    lists[0].append((to, block.chance.randint(1, PORTS.get(block.statements[to][0].split(" ")[0], 1))))
 
 
-def spoil(block, chance):
-    """Changes the block a little, so that it need not keep its promise."""
-    place = chance.randrange(len(block.statements))
-    kind, region, lists = block.statements[place]
-    way = chance.randrange(7)
-    senders = [place for place, (kind, _, lists) in enumerate(block.statements)
-               if lists[0] and kind != "last" and not kind.startswith(("enter", "leave"))]
-    if way <= 1 and senders:
-        sender = chance.choice(senders)
-        to = chance.choice(fed(block, block.statements[sender][1]))
-        block.statements[sender][2][0].append((to, chance.randint(1, ports_of(block.statements[to][0]))))
-    elif way == 2:
-        switches = [lists for kind, _, lists in block.statements if kind == "switch"]
-        if switches:
-            lists = chance.choice(switches)
-            lists[0][:], lists[1][:] = lists[1][:], lists[0][:]
-    elif way == 3:
-        nexts = [statement for statement in block.statements if statement[0] == "next"]
-        if nexts:
-            chance.choice(nexts)[0] = "pass"
-    elif way == 4:
-        value = Value(chance.choice([place for place, (kind, own, _) in enumerate(block.statements)
-                                     if own == 0 and kind.split(" ")[0] in NUMBERS + ("pass", "begin", "const")]), 0, "number")
-        block.add("end", 0, value)
-    elif way == 5:
-        calls = [place for place, (kind, _, _) in enumerate(block.statements) if kind.startswith("apply")]
-        if calls:
-            call = chance.choice(calls)
-            kind, region, _ = block.statements[call]
-            block.statements.append([kind, region, ([], [])])
-            again = len(block.statements) - 1
-            for _, _, lists in block.statements:
-                for sent in lists:
-                    sent += [(again, port) for to, port in sent if to == call]
-    else:
-        switches = [(place, lists) for place, (kind, _, lists) in enumerate(block.statements) if kind == "switch"]
-        if switches:
-            place, lists = chance.choice(switches)
-            both = [(side, sent) for side in range(2) for sent in lists[side]]
-            if both:
-                side, sent = chance.choice(both)
-                lists[1 - side].append(sent)
+def turn_switch(block):
+    lists = block.statements[block.place_of("switch")][2]
+    lists[0][:], lists[1][:] = lists[1][:], lists[0][:]
+
+
+def stay_in_turn(block):
+    block.statements[block.place_of("next")][0] = "pass"
+
+
+def end_again(block):
+    kinds = NUMBERS + ("pass", "begin", "const")
+    places = [place for place, (kind, own, _) in enumerate(block.statements)
+              if own == 0 and kind.split(" ")[0] in kinds]
+    block.add("end", 0, Value(block.chance.choice(places), 0, "number"))
+
+
+def apply_again(block):
+    """Calls a second time what is called, with the same argument and back to the same place."""
+    call = block.place_of("apply")
+    again = block.add(*block.statements[call][:2]).statement
+    for _, _, lists in block.statements:
+        for sent in lists:
+            sent += [(again, port) for to, port in sent if to == call]
+
+
+def send_on_both(block):
+    """Sends on both sides of a `switch` what one side sends."""
+    lists = block.statements[block.place_of("switch")][2]
+    side, sent = block.chance.choice([(side, sent) for side in range(2) for sent in lists[side]])
+    lists[1 - side].append(sent)
+
+
+# What may be done to a block, so that it need not keep its promise.
+SPOILT = (send_more, send_more, turn_switch, stay_in_turn, end_again, apply_again, send_on_both)
 
 
 def make_program(chance):
     """A random program's text."""
-    sides = chance.random() < 0.6
-    twice = chance.choice((0, 0.4, 0.9))
-    blocks = []
-    for name in ("one", "two")[:chance.choice((0, 1, 1, 2))]:
-        names = [block.name for block in blocks]
-        blocks.append(make_block(name, chance, sides, twice, names, chance.randint(0, 2)))
-    blocks.append(make_block("main", chance, sides, twice, [block.name for block in blocks], chance.randint(1, 6)))
+    sides, twice, blocks = chance.random() < 0.6, chance.choice((0, 0.4, 0.9)), []
+    for name in [*("one", "two")[:chance.choice((0, 1, 1, 2))], "main"]:
+        block = Block(name, chance, sides, twice, [block.name for block in blocks])
+        blocks.append(block)
+        fill(block, chance.randint(1, 6) if name == "main" else chance.randint(0, 2))
     if chance.random() < 0.4:
         for _ in range(chance.randint(1, 2)):
-            spoil(blocks[-1] if chance.random() < 0.8 else chance.choice(blocks), chance)
+            block = blocks[-1] if chance.random() < 0.8 else chance.choice(blocks)
+            # Nothing takes this number; without it the seeds would stand for other programs.
+            chance.randrange(len(block.statements))
+            way = SPOILT[chance.randrange(len(SPOILT))]
+            # The block may have no statement that the change is for.
+            with contextlib.suppress(IndexError):
+                way(block)
     return "u-program 1\n" + "".join(block.text() for block in blocks)
 
 
-def call_program(words, program):
-    """The exit status, and the lines of standard output and standard error."""
-    done = subprocess.run([BINARY] + words, input=program, capture_output=True, text=True, close_fds=False)
-    return done.returncode, done.stdout.splitlines(), done.stderr
+def make(chance):
+    """A random program and an argument."""
+    program = make_program(chance)
+    return program, chance.choice(("0", "1", "2", "3", "5", "n1", "n2"))
 
 
 def judge(program, argument, counts):
-    """What is wrong with what is said of a program, or None. Counts the classes that it belongs to."""
-    status, said, fault = call_program(["check", "stdin", "--strict", "--determinate"], program)
-    if status != 0:
+    """Raises what is wrong with what is said of a program. Counts the classes that it belongs to."""
+    done = running.call(["check", "stdin", "--strict", "--determinate"], program)
+    if done.status != 0:
         counts["refused"] += 1
-        return None if status == 2 and fault.startswith("u: ") else f"check ends with {status}: {fault}"
-    strict, determinate = said[1] == "strict", said[2] == "determinate"
-    status, report, fault = call_program(["run", "stdin", argument, "--firings", str(FIRINGS)], program)
-    if status not in (0, 3, 4):
-        return f"run ends with {status}: {fault}"
-    first = collections.Counter(line.split(" ")[0] for line in report)
-    ports = sorted({tuple(line.split(" ")[1:3]) for line in report if line.startswith("port ")})
-    clashes = bool(ports) or first["answer"] > 1
-    counts["strict"] += strict
-    counts["determinate, not strict"] += determinate and not strict
-    counts["neither"] += not determinate
-    counts["neither, and clashes without a cell"] += not determinate and clashes and not first["cell"]
-    counts["determinate, a cell clashes"] += determinate and first["cell"] > 0
-    counts["determinate, a cell clashes, and a port"] += determinate and first["cell"] > 0 and clashes
-    counts["determinate, one answer"] += determinate and first["answer"] == 1 and not first["cell"]
-    counts["paused"] += status == 4
+        if done.status != 2 or not done.error.startswith("u: "):
+            raise Wrong(f"check ends with {done.status}: {done.error}")
+        return
+    strict, determinate = (said == word for said, word in zip(done.out.splitlines()[1:], ("strict", "determinate")))
+    done = running.call(["run", "stdin", argument, "--firings", str(FIRINGS)], program)
+    if done.status not in (0, 3, 4):
+        raise Wrong(f"run ends with {done.status}: {done.error}")
+    lines = [line.split(" ") for line in done.out.splitlines()]
+    first = collections.Counter(words[0] for words in lines)
+    ports = sorted({tuple(words[1:3]) for words in lines if words[0] == "port"})
+    clashes, cell = bool(ports) or first["answer"] > 1, first["cell"] > 0
+    counts.update({
+        "strict": strict,
+        "determinate, not strict": determinate and not strict,
+        "neither": not determinate,
+        "neither, and clashes without a cell": not determinate and clashes and not cell,
+        "determinate, a cell clashes": determinate and cell,
+        "determinate, a cell clashes, and a port": determinate and cell and clashes,
+        "determinate, one answer": determinate and first["answer"] == 1 and not cell,
+        "paused": done.status == 4,
+    })
     if strict and not determinate:
-        return "it is strict and not determinate"
+        raise Wrong("it is strict and not determinate")
     if not determinate:
-        return None
-    if clashes and not first["cell"]:
-        return "it is determinate and clashes without a cell"
+        return
+    if clashes and not cell:
+        raise Wrong("it is determinate and clashes without a cell")
     for name, port in ports[:BLAMED]:
-        status, blamed, fault = call_program(["blame", "stdin", argument, name, port], program)
-        if status != 0 or "no cell" in blamed:
-            return f"blame {name} {port} ends with {status}: {blamed} {fault}"
+        done = running.call(["blame", "stdin", argument, name, port], program)
+        if done.status != 0 or "no cell" in done.out.splitlines():
+            raise Wrong(f"blame {name} {port} ends with {done.status}: {done.out} {done.error}")
         counts["blamed"] += 1
-    return None
-
-
-def judge_some(seed, places):
-    """The counts of these programs, and what is wrong with the first one of which something is."""
-    counts, wrong = collections.Counter(), []
-    for place in places:
-        chance = random.Random(f"{seed} {place}")
-        program = make_program(chance)
-        argument = chance.choice(("0", "1", "2", "3", "5", "n1", "n2"))
-        fault = judge(program, argument, counts)
-        counts["passed"] += not fault
-        counts["failed"] += bool(fault)
-        if fault and not wrong:
-            wrong.append(f"program {place} of seed {seed}, with {argument}: {fault}\n{program}")
-    return counts, wrong
-
-
-# The least share of the programs, in a hundred, that has to be in each class.
-LEAST = {
-    "strict": 20,
-    "determinate, not strict": 15,
-    "determinate, one answer": 20,
-    "neither, and clashes without a cell": 5,
-    "determinate, a cell clashes": 10,
-    "determinate, a cell clashes, and a port": 5,
-}
-
-
-def main():
-    parser = argparse.ArgumentParser(description=__doc__.split("\n")[0])
-    parser.add_argument("--seed", type=int, default=1, help="another seed makes other programs")
-    parser.add_argument("--programs", type=int, default=10000, help="how many programs")
-    parser.add_argument("--jobs", type=int, default=os.cpu_count(), help="how many side by side")
-    parser.add_argument("--show", type=int, help="print the program of that number, and do nothing else")
-    asked = parser.parse_args()
-    if asked.show is not None:
-        print(make_program(random.Random(f"{asked.seed} {asked.show}")), end="")
-        return 0
-    if not os.access(BINARY, os.X_OK):
-        print(f"{BINARY} is not there: build it first, by ./u --prove or by rt ci", file=sys.stderr)
-        print("0 passed, 1 failed")
-        return 1
-    counts, wrong = collections.Counter(), []
-    with concurrent.futures.ProcessPoolExecutor(asked.jobs) as pool:
-        parts = [range(first, asked.programs, asked.jobs) for first in range(asked.jobs)]
-        for some, faults in pool.map(judge_some, [asked.seed] * asked.jobs, parts):
-            counts.update(some)
-            wrong += faults
-    for fault in wrong[:3]:
-        print(f"FAILED: {fault}")
-    for name in sorted(set(counts) - {"passed", "failed"}):
-        print(f"{counts[name]:7d} {name}")
-    few = [name for name, least in LEAST.items() if counts[name] * 100 < least * asked.programs]
-    for name in few:
-        print(f"FAILED: of {asked.programs} programs only {counts[name]} are: {name}")
-    print(f"{counts['passed']} passed, {counts['failed'] + len(few)} failed")
-    return 1 if counts["failed"] or few else 0
 
 
 if __name__ == "__main__":
-    sys.exit(main())
+    running.judge_random(__doc__, {"program": make}, judge, LEAST, 10000)

@@ -5,10 +5,11 @@ shows a clash of kinds. Of an accepted one each node of a name, a `next`, a vari
 `refers` the declaration that it means, or the node of a procedure.
 """
 from .parsing import parse
-from .tokens import Refused
+from .tokens import Refused, refuse
 
 PROCEDURES = 64
 CONSTANTS = ("number", "negative", "true", "false")
+WHOLE = ("if", "loop", "for")
 
 
 class Declaration:
@@ -17,10 +18,10 @@ class Declaration:
     Where it is a definition that gives another name to a constant, `constant` is a node of that constant.
     """
 
-    __slots__ = ("name", "form", "kind", "constant")
+    __slots__ = ("name", "kind", "constant")
 
-    def __init__(self, name, form, kind=None, constant=None):
-        self.name, self.form, self.kind, self.constant = name, form, kind, constant
+    def __init__(self, name):
+        self.name, self.kind, self.constant = name, None, None
 
 
 def is_atom(node):
@@ -29,13 +30,7 @@ def is_atom(node):
 
 def constant_of(node):
     """The node of the constant that an atom is, or None."""
-    if node.form in CONSTANTS:
-        return node
-    if node.form == "name":
-        if isinstance(node.refers, Declaration):
-            return node.refers.constant
-        return node
-    return None
+    return node.refers.constant if isinstance(node.refers, Declaration) else node
 
 
 def is_choice(node):
@@ -45,29 +40,41 @@ def is_choice(node):
         not side.parts[0] and side.parts[1] is not None and is_atom(side.parts[1]) for side in (then, other))
 
 
-class Names:
-    """Goes through one source and keeps what is not allowed of its names and values."""
+def variables_of(loop):
+    return loop.parts[3] if loop.form == "for" else loop.parts[0]
 
-    def __init__(self, procedures, tokens):
-        self.procedures, self.tokens, self.errors = procedures, tokens, []
-        self.closing = closing_braces(tokens)
-        self.by_name = {}
-        for procedure in procedures:
-            self.by_name.setdefault(procedure.name.text, procedure)
-        # The declarations of the procedure that is gone through, as they end, and all that it will have.
-        self.ended, self.coming = [], []
+
+class Faults:
+    """Goes through a source and keeps what is not allowed."""
+
+    def __init__(self):
+        self.found = []
 
     def refuse(self, token, text):
-        self.errors.append((token.number, len(self.errors), token, text))
+        self.found.append((token.number, len(self.found), token, text))
+
+    def tell_first(self):
+        if self.found:
+            refuse(*min(self.found)[2:])
+
+
+class Names(Faults):
+    """Names and values."""
+
+    def __init__(self, procedures, tokens):
+        super().__init__()
+        self.procedures, self.tokens = procedures, tokens
+        self.closing = closing_braces(tokens)
+        self.by_name = {procedure.name.text: procedure for procedure in reversed(procedures)}
+        # The declarations of the procedure that is gone through, as they end, and all that it will have.
+        self.ended, self.coming = [], []
 
     def source(self):
         for number, procedure in enumerate(self.procedures):
             self.procedure(number, procedure)
-        if self.errors:
-            _, _, token, text = min(self.errors, key=lambda error: error[:2])
-            raise Refused(token.line, token.column, text)
+        self.tell_first()
         if "main" not in self.by_name:
-            line, column = (self.tokens[-2].line, self.tokens[-2].column) if len(self.tokens) > 1 else (1, 1)
+            line, column = self.tokens[-2][-2:] if len(self.tokens) > 1 else (1, 1)
             raise Refused(line, column, "no procedure `main`")
 
     def procedure(self, number, node):
@@ -82,39 +89,35 @@ class Names:
         self.ended, self.coming = [], list(parameters)
         collect(block, self.coming)
         known = {}
-        node.refers = [self.declare(parameter, "parameter", known) for parameter in parameters]
-        self.block(block, known, True, None)
+        node.refers = [self.declare(parameter, known) for parameter in parameters]
+        self.block(block, known, True)
 
-    def declare(self, name, form, known):
+    def declare(self, name, known):
         """Adds a declaration to those that are known, if it is allowed."""
         if name.text in self.by_name:
             self.refuse(name, f"`{name.text}` is a procedure")
         elif name.text in known:
             self.refuse(name, f"`{name.text}` is defined already in line {known[name.text].name.line}")
-        declaration = Declaration(name, form)
-        known[name.text] = declaration
+        known[name.text] = Declaration(name)
         self.ended.append(name)
-        return declaration
+        return known[name.text]
 
     def use(self, node, known):
         name = node.name
-        if name.text in self.by_name:
-            node.refers = self.by_name[name.text]
-        elif name.text in known:
-            node.refers = known[name.text]
-        else:
-            self.refuse(name, self.why_unknown(name.text))
+        node.refers = self.by_name.get(name.text) or known.get(name.text)
+        if node.refers is None:
+            self.refuse(name, f"`{name.text}` {self.why_unknown(name.text)}")
 
     def why_unknown(self, name):
         for earlier in reversed(self.ended):
             if earlier.text == name:
-                return f"`{name}` of line {earlier.line} is not known here"
+                return f"of line {earlier.line} is not known here"
         for later in self.coming[len(self.ended):]:
             if later.text == name:
-                return f"`{name}` is defined later, in line {later.line}"
-        return f"`{name}` is not known"
+                return f"is defined later, in line {later.line}"
+        return "is not known"
 
-    def block(self, node, known, wanted, loop):
+    def block(self, node, known, wanted, loop=None):
         """Checks a block: whether its value is wanted, and the loop whose own block it is."""
         items, value = node.parts
         known = dict(known)
@@ -123,7 +126,7 @@ class Names:
         if value is None:
             if wanted:
                 self.refuse(node.token, "value expected at the end of the block")
-        elif value.form in ("if", "loop", "for"):
+        elif value.form in WHOLE:
             self.whole(value, known, wanted)
         else:
             self.value(value, known)
@@ -131,74 +134,63 @@ class Names:
                 self.refuse(self.closing[node.token.number], "value goes nowhere")
 
     def item(self, node, known, loop):
-        if node.form == "define":
-            self.value(node.parts[0], known)
-            node.refers = self.declare(node.name, "define", known)
-            if is_atom(node.parts[0]):
-                node.refers.constant = constant_of(node.parts[0])
-        elif node.form == "next":
+        if node.form == "next":
             self.next(node, loop)
-            self.value(node.parts[0], known)
-        elif node.form in ("if", "loop", "for"):
+        if node.form in WHOLE:
             self.whole(node, known, False)
         else:
             for part in node.parts:
                 self.value(part, known)
+        if node.form == "define":
+            node.refers = self.declare(node.name, known)
+            if is_atom(node.parts[0]):
+                node.refers.constant = constant_of(node.parts[0])
 
     def next(self, node, loop):
+        name, (variables, seen) = node.name.text, loop or ({}, {})
+        node.refers = variables.get(name)
         if loop is None:
             self.refuse(node.name, "`next` stands outside a loop's own block")
-            return
-        name = node.name.text
-        variables, seen = loop
-        if name not in variables:
+        elif name not in variables:
             self.refuse(node.name, f"`{name}` is no variable of this loop")
-            return
-        node.refers = variables[name]
-        if name in seen:
+        elif name in seen:
             self.refuse(node.name, f"second `next {name}`, the first is in line {seen[name]}")
         else:
             seen[name] = node.name.line
 
     def whole(self, node, known, wanted):
         """Checks an `if` or a loop, whose value is wanted or not."""
-        if node.form == "if":
-            control, then, other = node.parts
-            self.value(control, known)
-            self.block(then, known, wanted, None)
-            if other is None:
-                if wanted:
-                    self.refuse(node.token, "`if` without `else` gives no value")
-            elif other.form == "if":
-                self.whole(other, known, wanted)
-            else:
-                self.block(other, known, wanted, None)
-        else:
+        if node.form != "if":
             self.loop(node, known)
             if wanted and node.parts[-1] is None:
                 self.refuse(node.token, "loop without `give` gives no value")
+            return
+        control, then, other = node.parts
+        self.value(control, known)
+        self.block(then, known, wanted)
+        if other is not None:
+            (self.whole if other.form == "if" else self.block)(other, known, wanted)
+        elif wanted:
+            self.refuse(node.token, "`if` without `else` gives no value")
 
     def loop(self, node, known):
-        counts = node.form == "for"
-        variables = node.parts[3] if counts else node.parts[0]
         block, given = node.parts[-2:]
         inside, own, seen = dict(known), {}, {}
-        if counts:
+        if node.form == "for":
             counter, start, limit = node.parts[:3]
             self.value(start, known)
             self.value(limit, known)
-            counter.refers = own[counter.name.text] = self.declare(counter.name, "counter", inside)
+            counter.refers = own[counter.name.text] = self.declare(counter.name, inside)
             seen[counter.name.text] = counter.name.line
         having = {item.name.text for item in block.parts[0] if item.form == "next"}
-        for variable in variables:
+        for variable in variables_of(node):
             name = variable.name
             self.value(variable.parts[0], known)
             twice = name.text in self.by_name or name.text in inside
-            variable.refers = self.declare(name, "variable", inside)
+            variable.refers = own[name.text] = self.declare(name, inside)
             if not twice and name.text not in having:
                 self.refuse(name, f"loop variable `{name.text}` has no `next`")
-            own[name.text] = variable.refers
-        if not counts:
+        if node.form == "loop":
             self.value(node.parts[1], inside)
         self.block(block, inside, False, (own, seen))
         if given is not None:
@@ -207,7 +199,7 @@ class Names:
     def value(self, node, known):
         if node.form == "name":
             self.use(node, known)
-        elif node.form in ("if", "loop", "for"):
+        elif node.form in WHOLE:
             self.whole(node, known, True)
         else:
             for part in node.parts:
@@ -238,108 +230,86 @@ def closing_braces(tokens):
     """For the number of each `{` the token of the `}` that closes it."""
     closing, open_braces = {}, []
     for token in tokens:
-        if token.kind == "sign" and token.text == "{":
+        if token.text == "{":
             open_braces.append(token.number)
-        elif token.kind == "sign" and token.text == "}" and open_braces:
+        elif token.text == "}":
             closing[open_braces.pop()] = token
     return closing
 
-
-# Kinds.
 
 NUMBER, TRUTH, PROCEDURE, STRUCTURE = "a number", "a truth value", "a procedure", "a structure"
 # For each form the kinds that its parts have to be of, and the kind of its value.
 OPERATORS = {sign: ((NUMBER, NUMBER), NUMBER) for sign in "+-*/%"}
 OPERATORS.update({sign: ((NUMBER, NUMBER), TRUTH) for sign in ("<", "<=", ">", ">=", "==", "!=")})
 OPERATORS.update({sign: ((TRUTH, TRUTH), TRUTH) for sign in ("and", "or")})
+OPERATORS.update({sign: ((), NUMBER) for sign in ("number", "negative")})
+OPERATORS.update({sign: ((), TRUTH) for sign in ("true", "false")})
 OPERATORS.update({
     "not": ((TRUTH,), TRUTH), "negate": ((NUMBER,), NUMBER), "array": ((NUMBER,), STRUCTURE),
-    "length": ((STRUCTURE,), NUMBER), "index": ((STRUCTURE, NUMBER), None)})
+    "length": ((STRUCTURE,), NUMBER), "index": ((STRUCTURE, NUMBER), None),
+    "call": ((PROCEDURE, None, None, None, None), None),
+    "write": ((None, None), None), "statement": ((None,), None)})
 
 
-class Kinds:
-    """Goes through a source whose names are allowed, and keeps what clashes."""
-
-    def __init__(self):
-        self.clashes = []
-
-    def refuse(self, token, text):
-        self.clashes.append((token.number, len(self.clashes), token, text))
+class Kinds(Faults):
+    """Kinds of a source whose names are allowed."""
 
     def source(self, procedures):
         for procedure in procedures:
-            self.block(procedure.parts[1])
-        if self.clashes:
-            _, _, token, text = min(self.clashes, key=lambda clash: clash[:2])
-            raise Refused(token.line, token.column, text)
+            self.side(procedure.parts[1])
+        self.tell_first()
 
     def want(self, node, expected):
-        """The kind of a value, which has to be the expected one where it is known."""
+        """Goes through a value that has to be of a kind, if that is known, or else of any."""
         found = self.value(node)
-        if found is not None and found != expected:
+        if None not in (found, expected) and found != expected:
             self.refuse(node.token, f"{expected} expected, {found} found")
-        return found
 
     def value(self, node):
         """The kind of the value of a node, or None where it is not known."""
         if node.form == "name":
             return node.refers.kind if isinstance(node.refers, Declaration) else PROCEDURE
-        if node.form in ("number", "negative"):
-            return NUMBER
-        if node.form in ("true", "false"):
-            return TRUTH
-        if node.form == "call":
-            self.want(node.parts[0], PROCEDURE)
-            for argument in node.parts[1:]:
-                self.value(argument)
-            return None
-        if node.form == "if":
-            return self.conditional(node)
-        if node.form in ("loop", "for"):
-            return self.loop(node)
+        if node.form in WHOLE:
+            return self.side(node) if node.form == "if" else self.loop(node)
         wanted, kind = OPERATORS[node.form]
         for part, expected in zip(node.parts, wanted):
             self.want(part, expected)
         return kind
-
-    def block(self, node):
-        items, value = node.parts
-        for item in items:
-            self.item(item)
-        return None if value is None else self.value(value)
 
     def item(self, node):
         if node.form == "define":
             node.refers.kind = self.value(node.parts[0])
         elif node.form == "next":
             begins, goes_on = node.refers.kind, self.value(node.parts[0])
-            if begins is not None and goes_on is not None and begins != goes_on:
+            if None not in (begins, goes_on) and begins != goes_on:
                 self.refuse(node.name, f"`{node.name.text}` begins as {begins} and goes on as {goes_on}")
         else:
-            for part in node.parts if node.form in ("write", "statement") else [node]:
-                self.value(part)
+            self.value(node)
 
-    def conditional(self, node):
-        control, then, other = node.parts
-        self.want(control, TRUTH)
-        kind = self.block(then)
-        if other is None:
-            return None
-        return kind if kind == (self.conditional(other) if other.form == "if" else self.block(other)) else None
+    def side(self, node):
+        """The kind of the value of a block or an `if`, or None where there is none or it is not known."""
+        if node.form == "if":
+            control, then, other = node.parts
+            self.want(control, TRUTH)
+            kinds = [self.side(side) for side in (then, other) if side is not None]
+            return kinds[0] if len(kinds) > 1 and kinds[0] == kinds[1] else None
+        items, value = node.parts
+        for item in items:
+            self.item(item)
+        return None if value is None else self.value(value)
 
     def loop(self, node):
-        variables = node.parts[3] if node.form == "for" else node.parts[0]
         if node.form == "for":
             counter, start, limit = node.parts[:3]
             self.want(start, NUMBER)
             self.want(limit, NUMBER)
             counter.refers.kind = NUMBER
-        for variable in variables:
+        for variable in variables_of(node):
             variable.refers.kind = self.value(variable.parts[0])
         if node.form == "loop":
             self.want(node.parts[1], TRUTH)
         block, given = node.parts[-2:]
-        self.block(block)
+        self.side(block)
         return None if given is None else self.value(given)
 
 

@@ -1,5 +1,6 @@
 """Random sources, and what may be done to one so that it need not be one any more."""
 import collections
+import re
 
 # A name in a random source: its kind as the checker knows it, or None; the kind that it is likely to have; and of a
 # structure its likely length, of a procedure the number of its parameters.
@@ -46,7 +47,7 @@ class Maker:
 
     def fresh(self, here):
         """A word that is no name here."""
-        taken = {name.text for name in here.names} | {name.text for name in self.procedures} | {"main"}
+        taken = {name.text for name in here.names + self.procedures} | {"main"}
         while True:
             word = self.chance.choice(WORDS)
             if self.often(0.1):
@@ -58,32 +59,29 @@ class Maker:
                 if word not in taken:
                     return word
 
-    def names_of(self, here, kind, size=None):
-        """The names here that may stand where this kind is wanted."""
-        wrong = self.often(self.wrong)
-        return [name for name in here.names
-                if name.kind in (kind, None) and (name.likely == kind or (wrong and name.kind is None))
-                and (size is None or name.likely != "procedure" or name.size == size or self.often(self.wrong))]
+    def name(self, here, kind, likely, size=None):
+        """A new name here."""
+        here.names.append(Name(self.fresh(here), kind, likely, size))
+        return here.names[-1].text
 
     def pick(self, here, kind):
-        names = self.names_of(here, kind)
+        """One of the newer names here that may stand where this kind is wanted."""
+        wrong = self.often(self.wrong)
+        names = [name for name in here.names if name.kind in (kind, None)
+                 and (name.likely == kind or (wrong and name.kind is None))]
         return self.chance.choice(names[-6:]) if names else None
 
     # Values: the text of an expression, and its kind as the checker knows it.
 
     def value(self, here, kind, depth=0):
-        ways = {"number": self.number, "truth": self.truth, "structure": self.structure,
-                "procedure": self.procedure}
-        return ways[kind](here, depth)
+        return getattr(self, kind)(here, depth)
 
     def waiting(self, here):
         """Items that give a name to a value that never comes: of any kind, as far as the checker knows."""
         if not self.never:
             return []
-        word = self.fresh(here)
-        here.names.append(Name(word, None, "never", None))
-        text = self.chance.choice(("(array 1)[0]", "(array 2)[1]", "(array 1)[1]", "if true { (array 1)[0] } else { 5 }"))
-        return [f"{word} = {text};"]
+        texts = ("(array 1)[0]", "(array 2)[1]", "(array 1)[1]", "if true { (array 1)[0] } else { 5 }")
+        return [f"{self.name(here, None, 'never')} = {self.chance.choice(texts)};"]
 
     def atom(self, here, kind):
         waiting = [name for name in here.names if name.likely == "never"]
@@ -96,11 +94,8 @@ class Maker:
             if self.often(0.02):
                 return self.chance.choice(FAR), "number"
             return str(self.number_in(-2, 5)), "number"
-        if kind == "truth":
-            return self.chance.choice(("true", "false")), "truth"
-        if kind == "procedure" and self.procedures:
-            return self.chance.choice(self.procedures).text, "procedure"
-        return None
+        names = {"truth": ["true", "false"], "procedure": [name.text for name in self.procedures]}.get(kind)
+        return (self.chance.choice(names), kind) if names else None
 
     def number(self, here, depth):
         self.room -= 1
@@ -154,8 +149,8 @@ class Maker:
         text, takes = called.text, called.size
         held = [name for name in here.names if name.likely == "procedure"]
         if held and self.often(0.5):
-            name = self.chance.choice(held)
-            text, takes = name.text, name.size or 1
+            text, _, _, takes = self.chance.choice(held)
+            takes = takes or 1
             if self.often(self.wrong):
                 takes = self.number_in(1, 4)
         arguments = [self.argument(here, depth) for _ in range(takes)]
@@ -239,8 +234,7 @@ class Maker:
     # Items.
 
     def items(self, here, count):
-        made = [self.item(here) for _ in range(count)]
-        return [line for line in made if line is not None]
+        return [line for line in [self.item(here) for _ in range(count)] if line is not None]
 
     def item(self, here):
         self.room -= 1
@@ -257,9 +251,7 @@ class Maker:
         made = self.value(here, kind)
         if made is None:
             return None
-        word = self.fresh(here)
-        here.names.append(Name(word, made[1], kind, self.size_of(here, made[0], kind)))
-        return f"{word} = {made[0]};"
+        return f"{self.name(here, made[1], kind, self.size_of(here, made[0], kind))} = {made[0]};"
 
     def probe(self, here):
         """A fault `zero` as often as a number comes."""
@@ -268,12 +260,7 @@ class Maker:
         text = f"({made[0]})" if made is not None else self.chance.choice(names).text if names else "1"
         if made is not None and made[1] not in ("number", None):
             return None
-        return f"{self.fresh_probe(here)} = {text} / 0;"
-
-    def fresh_probe(self, here):
-        word = self.fresh(here)
-        here.names.append(Name(word, "number", "probe", None))
-        return word
+        return f"{self.name(here, 'number', 'probe')} = {text} / 0;"
 
     def size_of(self, here, text, kind):
         """The likely length of a structure or number of parameters of a procedure that is given a name."""
@@ -289,8 +276,7 @@ class Maker:
         lines = [f"{word} = array {size};"]
         if self.often(0.3) and here.loops < 2:
             inside = here.inside(1)
-            counter = self.fresh(inside)
-            inside.names.append(Name(counter, "number", "number", None))
+            counter = self.name(inside, "number", "number")
             items = self.items(inside, self.number_in(0, 1))
             items.append(f"{word}[{counter}] = {self.number(inside, 2)[0]};")
             lines.append(f"for {counter} in 0 .. {size} {self.braces(inside, items)}")
@@ -308,8 +294,7 @@ class Maker:
         return f"{name.text}[{self.index(here, name, 2)}] = {self.number(here, 2)[0]};"
 
     def call_item(self, here):
-        made = self.deep_call(here) if self.often(0.1) else None
-        made = made or self.call(here, 1)
+        made = (self.deep_call(here) if self.often(0.1) else None) or self.call(here, 1)
         return f"{made[0]};" if made is not None else None
 
     def deep_call(self, here):
@@ -452,16 +437,8 @@ PIECES = ("def if else loop while for in next give array length and or not true 
 
 
 def words_of(text):
-    """The text cut into words, signs and what stands between them."""
-    words, at = [], 0
-    while at < len(text):
-        end = at + 1
-        if text[at].isalnum() or text[at] == "_":
-            while end < len(text) and (text[end].isalnum() or text[end] == "_"):
-                end += 1
-        words.append(text[at:end])
-        at = end
-    return words
+    """The text cut into words, and each sign and what else stands between them."""
+    return re.findall(r"\w+|\W", text)
 
 
 def cut(words, chance):

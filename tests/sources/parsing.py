@@ -24,16 +24,19 @@ from .tokens import read_tokens, refuse, shown
 LEVELS = 60
 MOST = 4
 COMPARISONS = ("<", "<=", ">", ">=", "==", "!=")
+# Operators between two parts, those that bind less first. All but the comparisons group to the left.
+ROWS = (("or",), ("and",), COMPARISONS, ("+", "-"), ("*", "/", "%"))
+TEST = 2
 
 
 class Node:
     """A node of a syntax tree. `refers` is what a name means, once the names are checked."""
 
-    __slots__ = ("form", "token", "parts", "value", "name", "refers", "kind")
+    __slots__ = ("form", "token", "parts", "value", "name", "refers")
 
     def __init__(self, form, token, *parts, value=None, name=None):
         self.form, self.token, self.parts = form, token, parts
-        self.value, self.name, self.refers, self.kind = value, name, None, None
+        self.value, self.name, self.refers = value, name, None
 
 
 class Parser:
@@ -46,21 +49,27 @@ class Parser:
         return self.tokens[self.at]
 
     def sees(self, *signs):
-        token = self.next()
-        return token.kind == "sign" and token.text in signs
+        return self.next().kind == "sign" and self.next().text in signs
 
     def take(self):
         self.at += 1
         return self.tokens[self.at - 1]
 
+    def takes(self, sign):
+        """Whether the next token is that sign, which is then taken."""
+        return self.sees(sign) and bool(self.take())
+
+    def refuse_next(self, expected):
+        refuse(self.next(), f"{expected} expected, {shown(self.next())} found")
+
     def expect(self, sign):
         if not self.sees(sign):
-            refuse(self.next(), f"`{sign}` expected, {shown(self.next())} found")
+            self.refuse_next(f"`{sign}`")
         return self.take()
 
     def expect_name(self):
         if self.next().kind != "name":
-            refuse(self.next(), f"a name expected, {shown(self.next())} found")
+            self.refuse_next("a name")
         return self.take()
 
     def deepen(self, level):
@@ -69,6 +78,16 @@ class Parser:
             refuse(self.next(), "nested too deep")
         return level + 1
 
+    def some(self, what, read, *level):
+        """At most four, with commas between them."""
+        found = [read(*level)]
+        while self.sees(","):
+            if len(found) == MOST:
+                refuse(self.next(), f"more than 4 {what}")
+            self.take()
+            found.append(read(*level))
+        return found
+
     # Procedures, blocks and items.
 
     def source(self):
@@ -76,32 +95,23 @@ class Parser:
         while self.sees("def"):
             procedures.append(self.procedure())
         if self.next().kind != "end":
-            refuse(self.next(), f"`def` expected, {shown(self.next())} found")
+            self.refuse_next("`def`")
         return procedures
 
     def procedure(self):
         first = self.expect("def")
         name = self.expect_name()
         self.expect("(")
-        parameters = [self.expect_name()]
-        while self.sees(","):
-            if len(parameters) == MOST:
-                refuse(self.next(), "more than 4 parameters")
-            self.take()
-            parameters.append(self.expect_name())
+        parameters = self.some("parameters", self.expect_name)
         self.expect(")")
         return Node("procedure", first, parameters, self.block(0), name=name)
 
     def block(self, level):
-        first = self.expect("{")
-        items = []
-        while not self.sees("}"):
+        first, items, value = self.expect("{"), [], None
+        while value is None and not self.sees("}"):
             value = self.item(items, level)
-            if value is not None:
-                self.take()
-                return Node("block", first, items, value)
-        self.take()
-        return Node("block", first, items, None)
+        self.expect("}")
+        return Node("block", first, items, value)
 
     def item(self, items, level):
         """Reads an item, or a value and up to the `}` behind it, and returns the value."""
@@ -112,12 +122,11 @@ class Parser:
             items.append(Node("next", first, self.expression(level), name=name))
             self.expect(";")
         elif self.sees("if", "loop", "for"):
-            whole = self.conditional(level) if self.sees("if") else self.loop(level)
+            whole = self.whole(level)
             if self.sees("}"):
                 return whole
             items.append(whole)
-            if self.sees(";"):
-                self.take()
+            self.takes(";")
         elif self.next().kind in ("name", "number") or self.sees("true", "false", "("):
             return self.beginning(items, level)
         else:
@@ -130,38 +139,37 @@ class Parser:
         is_enclosed = self.sees("(")
         primary = self.primary(level)
         front = self.postfix(primary, level)
-        if is_enclosed and front is primary:
-            # In parentheses alone nothing is a name to define, a cell to write or a call whose value goes nowhere.
-            return self.last(self.operators(front, level))
-        if self.sees("=") and front.form in ("name", "index"):
+        # In parentheses alone nothing is a name to define, a cell to write or a call whose value goes nowhere.
+        form = None if is_enclosed and front is primary else front.form
+        if self.sees("=") and form in ("name", "index"):
             equals = self.take()
             value = self.expression(level)
             self.expect(";")
-            items.append(Node("define", equals, value, name=name) if front.form == "name"
+            items.append(Node("define", equals, value, name=name) if form == "name"
                          else Node("write", equals, front, value))
-            return None
-        if self.sees(";") and front.form == "call":
-            self.take()
+        elif form == "call" and self.takes(";"):
             items.append(Node("statement", front.token, front))
-            return None
-        return self.last(self.operators(front, level))
+        else:
+            return self.last(self.expression(level, front))
+        return None
 
     def last(self, value):
         if self.sees(";"):
             refuse(self.next(), "value goes nowhere")
         if not self.sees("}"):
-            self.expect("}")
+            self.refuse_next("`}`")
         return value
 
     # `if` and loops.
 
+    def whole(self, level):
+        return self.conditional(level) if self.sees("if") else self.loop(level)
+
     def conditional(self, level):
         inner = self.deepen(level)
         first = self.expect("if")
-        control, then = self.expression(inner), self.block(inner)
-        other = None
-        if self.sees("else"):
-            self.take()
+        control, then, other = self.expression(inner), self.block(inner), None
+        if self.takes("else"):
             other = self.conditional(inner) if self.sees("if") else self.block(inner)
         return Node("if", first, control, then, other)
 
@@ -169,18 +177,17 @@ class Parser:
         inner = self.deepen(level)
         first = self.take()
         if first.text == "for":
-            name = self.expect_name()
+            counter = Node("counter", first, name=self.expect_name())
             self.expect("in")
             start = self.expression(inner)
             self.expect("..")
-            limit = self.expression(inner)
-            counter = Node("counter", first, name=name)
-            variables = self.variables([], inner)
-            return Node("for", first, counter, start, limit, variables, self.block(inner), self.given(inner))
-        variables = self.variables([self.variable(first, inner)], inner)
-        self.expect("while")
-        test = self.expression(inner)
-        return Node("loop", first, variables, test, self.block(inner), self.given(inner))
+            front = [counter, start, self.expression(inner), self.variables([], inner)]
+        else:
+            front = [self.variables([self.variable(first, inner)], inner)]
+            self.expect("while")
+            front.append(self.expression(inner))
+        block = self.block(inner)
+        return Node(first.text, first, *front, block, self.expression(inner) if self.takes("give") else None)
 
     def variables(self, variables, level):
         while self.sees(","):
@@ -192,94 +199,55 @@ class Parser:
         self.expect("=")
         return Node("variable", first, self.expression(level), name=name)
 
-    def given(self, level):
-        if not self.sees("give"):
-            return None
-        self.take()
-        return self.expression(level)
+    # Expressions.
 
-    # Expressions, by how tightly their operators bind.
-
-    def expression(self, level):
-        return self.operators(None, level)
-
-    def operators(self, front, level):
-        """An expression, or what follows its first unary where that was read already."""
-        return self.row(("or",), self.conjunction, front, level)
-
-    def row(self, signs, part, front, level):
-        """Parts with operators between them, which group to the left."""
-        left = part(front, level)
-        while self.sees(*signs):
+    def expression(self, level, front=None, row=0):
+        """An expression of operators of this row and of those that bind more. `front` is its first unary, where
+        that was read already."""
+        if row == len(ROWS):
+            return self.unary(level) if front is None else front
+        if row == TEST and front is None and self.sees("not"):
+            inner = self.deepen(level)
+            return Node("not", self.take(), self.expression(inner, None, TEST))
+        left = self.expression(level, front, row + 1)
+        while self.sees(*ROWS[row]):
             sign = self.take()
-            left = Node(sign.text, sign, left, part(None, level))
+            left = Node(sign.text, sign, left, self.expression(level, None, row + 1))
+            if row == TEST:
+                break
         return left
 
-    def conjunction(self, front, level):
-        return self.row(("and",), self.test, front, level)
-
-    def test(self, front, level):
-        if front is None and self.sees("not"):
-            inner = self.deepen(level)
-            sign = self.take()
-            return Node("not", sign, self.test(None, inner))
-        left = self.sum(front, level)
-        if not self.sees(*COMPARISONS):
-            return left
+    def unary(self, level):
+        if not self.sees("-", "array", "length"):
+            return self.postfix(self.primary(level), level)
+        inner = self.deepen(level)
         sign = self.take()
-        return Node(sign.text, sign, left, self.sum(None, level))
-
-    def sum(self, front, level):
-        return self.row(("+", "-"), self.term, front, level)
-
-    def term(self, front, level):
-        return self.row(("*", "/", "%"), self.unary, front, level)
-
-    def unary(self, front, level):
-        if front is not None:
-            return front
-        if self.sees("-"):
-            inner = self.deepen(level)
+        if sign.text != "-":
+            return Node(sign.text, sign, self.unary(inner))
+        behind = self.next()
+        if behind.kind == "number":
             self.take()
-            behind = self.next()
-            if behind.kind == "number":
-                self.take()
-                return self.postfix(Node("negative", behind, value=-int(behind.text)), inner)
-            return Node("negate", behind, self.unary(None, inner))
-        if self.sees("array", "length"):
-            inner = self.deepen(level)
-            sign = self.take()
-            return Node(sign.text, sign, self.unary(None, inner))
-        return self.postfix(self.primary(level), level)
+            return self.postfix(Node("negative", behind, value=-int(behind.text)), inner)
+        return Node("negate", behind, self.unary(inner))
 
     def postfix(self, value, level):
         while self.sees("[", "("):
             inner = self.deepen(level)
             sign = self.take()
-            first = self.expression(inner)
             if sign.text == "[":
-                value = Node("index", sign, value, first)
+                value = Node("index", sign, value, self.expression(inner))
                 self.expect("]")
             else:
-                value = Node("call", sign, value, *self.arguments([first], inner))
+                value = Node("call", sign, value, *self.some("arguments", self.expression, inner))
                 self.expect(")")
         return value
-
-    def arguments(self, arguments, level):
-        while self.sees(","):
-            if len(arguments) == MOST:
-                refuse(self.next(), "more than 4 arguments")
-            self.take()
-            arguments.append(self.expression(level))
-        return arguments
 
     def primary(self, level):
         token = self.next()
         if token.kind == "number":
             if int(token.text) == 2 ** 63:
                 refuse(token, "number out of range")
-            self.take()
-            return Node("number", token, value=int(token.text))
+            return Node("number", self.take(), value=int(token.text))
         if token.kind == "name":
             return Node("name", self.take(), name=token)
         if self.sees("true", "false"):
@@ -290,11 +258,9 @@ class Parser:
             value = self.expression(inner)
             self.expect(")")
             return value
-        if self.sees("if"):
-            return self.conditional(level)
-        if self.sees("loop", "for"):
-            return self.loop(level)
-        refuse(token, f"an expression expected, {shown(token)} found")
+        if not self.sees("if", "loop", "for"):
+            self.refuse_next("an expression")
+        return self.whole(level)
 
 
 def parse(source):

@@ -1,12 +1,10 @@
 """The tokens of a source, and the error that a source is refused with."""
 import collections
+import re
 
 KEYWORDS = set("def if else loop while for in next give array length and or not true false".split())
-# The longer signs stand before those that they begin with.
-SIGNS = (".. <= >= == != ( ) { } [ ] , ; = + - * / % < >").split()
-LETTERS = set("abcdefghijklmnopqrstuvwxyz")
-DIGITS = set("0123456789")
-WORD = LETTERS | DIGITS | {"_"}
+# What a source is made of: its lines, spaces and comments, words, signs, and bytes that are not allowed.
+PIECE = re.compile(r"\n|[ \t]+|#[^\n]*|(?P<word>[a-z0-9_]+)|(?P<sign>\.\.|[<>=!]=|[-(){}\[\],;=+*/%<>])|(?P<other>.)")
 LONGEST_NAME = 16
 LARGEST = 2 ** 63
 
@@ -19,7 +17,6 @@ class Refused(Exception):
 
     def __init__(self, line, column, text):
         super().__init__(f"source line {line} column {column}: {text}")
-        self.line, self.column, self.text = line, column, text
 
 
 def refuse(token, text):
@@ -29,55 +26,38 @@ def refuse(token, text):
 
 def shown(token):
     """A token as an error names it."""
-    if token.kind == "name":
-        return f"the name `{token.text}`"
-    if token.kind == "number":
-        return f"the number {token.text}"
+    if token.kind in ("name", "number"):
+        return f"the name `{token.text}`" if token.kind == "name" else f"the number {token.text}"
     return "the end" if token.kind == "end" else f"`{token.text}`"
 
 
-def word_kind(word, line, column):
-    """The kind of a token that begins with a letter, a digit or a `_`."""
-    if word[0] in LETTERS:
+def word_kind(word):
+    """The kind of a word, and why it is refused, or None."""
+    if word[0].isalpha():
         if word in KEYWORDS:
-            return "sign"
-        if len(word) > LONGEST_NAME:
-            raise Refused(line, column, "name has more than 16 bytes")
-        return "name"
-    if word[0] not in DIGITS:
-        raise Refused(line, column, "byte not allowed")
-    if not DIGITS.issuperset(word) or (word[0] == "0" and word != "0"):
-        raise Refused(line, column, "number not allowed")
-    if int(word) > LARGEST:
-        raise Refused(line, column, "number out of range")
-    return "number"
+            return "sign", None
+        return "name", "name has more than 16 bytes" if len(word) > LONGEST_NAME else None
+    if word[0] == "_":
+        return "name", "byte not allowed"
+    if not word.isdigit() or (word[0] == "0" and word != "0"):
+        return "number", "number not allowed"
+    return "number", "number out of range" if int(word) > LARGEST else None
 
 
 def read_tokens(source):
     """The tokens of a source, which is bytes, and behind them one of the kind `end`."""
     text = source.decode("latin-1")
-    tokens, at, line, start = [], 0, 1, 0
-    while at < len(text):
-        column = at - start + 1
-        if text[at] == "\n":
-            at, line, start = at + 1, line + 1, at + 1
-        elif text[at] in " \t":
-            at += 1
-        elif text[at] == "#":
-            while at < len(text) and text[at] != "\n":
-                at += 1
-        else:
-            end = at
-            while end < len(text) and text[end] in WORD:
-                end += 1
-            if end > at:
-                kind = word_kind(text[at:end], line, column)
-            else:
-                sign = next((sign for sign in SIGNS if text.startswith(sign, at)), None)
-                if sign is None:
-                    raise Refused(line, column, "byte not allowed")
-                kind, end = "sign", at + len(sign)
-            tokens.append(Token(len(tokens), kind, text[at:end], line, column))
-            at = end
-    tokens.append(Token(len(tokens), "end", "", line, at - start + 1))
-    return tokens
+    tokens, line, start = [], 1, 0
+    for found in PIECE.finditer(text):
+        kind, fault = found.lastgroup, None
+        if found[0] == "\n":
+            line, start = line + 1, found.end()
+        if kind == "word":
+            kind, fault = word_kind(found[0])
+        elif kind == "other":
+            fault = "byte not allowed"
+        if kind:
+            tokens.append(Token(len(tokens), kind, found[0], line, found.start() - start + 1))
+        if fault:
+            refuse(tokens[-1], fault)
+    return tokens + [Token(len(tokens), "end", "", line, len(text) - start + 1)]
