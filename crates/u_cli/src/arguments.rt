@@ -105,7 +105,9 @@ pub fn script<'a>(alloc: Global) -> Result<Arg<'a>, AllocError> {
         .value_name("PATH")
         .help("The file of the events, one a line, in place of random ones")
         .action(ArgAction::Set)
-        .conflicts_with_all(&["seed", "events", "draw"])
+        .conflicts_with("seed")?
+        .conflicts_with("events")?
+        .conflicts_with("draw")
 }
 
 /// How many firings there are at most.
