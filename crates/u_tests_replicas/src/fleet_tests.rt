@@ -29,8 +29,9 @@ const MEETING: &[Fleet] = &[(2, 8, 100, Script::Meeting, Look::Held)];
 /// A worker that waits takes what the other one published meanwhile, and goes on from there.
 const AHEAD: &[Fleet] = &[(2, 8, 1, Script::Ahead, Look::FourOfSecond)];
 
-/// Worker 1 of two publishes two firings of the sum from 3 in its first round: no others are in its share.
-const ALONE: &[Fleet] = &[(2, 1, 100, Script::Once(0, Turn::Stop), Look::TwoOfFirst)];
+/// Worker 1 of two publishes two firings of the sum from 3 in its first round: no others are in its share. Both
+/// are stopped then, so worker 2 has published nothing that worker 1 could take.
+const ALONE: &[Fleet] = &[(2, 1, 100, Script::Stop, Look::TwoOfFirst)];
 
 /// The fleets of a list. A proof that calls this knows none of them, and so is short.
 fn listed(list: &'static [Fleet]) -> Trial<'static> {

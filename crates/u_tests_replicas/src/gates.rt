@@ -66,6 +66,8 @@ pub enum Script {
     Once(u32, Turn),
     /// `Restart` to worker 1 after its second round, and `Stop` after its third.
     RestartThenStop,
+    /// `Stop` to each worker after its first round.
+    Stop,
     /// `Go`. Each of two workers waits for the other one after its first round.
     Meeting,
     /// `Stop` to worker 2 after its second round. Worker 1 waits after its first round until worker 2 has
@@ -131,6 +133,7 @@ impl Gate for Scripted {
             Script::Once(at, turn) if worker == 1 && round == at => turn,
             Script::RestartThenStop if worker == 1 && round == 1 => Turn::Restart,
             Script::RestartThenStop if worker == 1 && round == 2 => Turn::Stop,
+            Script::Stop => Turn::Stop,
             Script::Meeting => {
                 self.meet(worker, round);
                 Turn::Go
