@@ -1,15 +1,16 @@
 //! The destinations of a block that lead to one port.
 use std::alloc::{AllocError, Global};
-use u_check::{ports_of, statement_at};
 use u_program::{Block, Destination, Kind, Statement};
 
-/// A port of a statement of a block.
+/// A port of a statement of a block: the statement's number and the port's, from 1.
 #[derive(Clone, Copy)]
-pub struct StatementPort {
-    /// The statement's number, from 1.
-    pub statement: usize,
-    /// The port's number, from 1.
-    pub port: usize,
+pub struct StatementPort(pub usize, pub usize);
+
+impl StatementPort {
+    /// Whether the destination is that port.
+    fn is(self, to: &Destination) -> bool {
+        usize::from(to.statement) == self.0 && usize::from(to.port) == self.1
+    }
 }
 
 /// A destination that leads to a port, by where it stands.
@@ -28,60 +29,45 @@ pub fn statement_of(block: &Block, number: usize) -> Option<&Statement> {
     block.statements().get(number.wrapping_sub(1))
 }
 
-/// How many ports the statement of that number has.
-pub fn port_count(block: &Block, number: usize) -> usize {
-    match statement_of(block, number) {
-        Some(statement) => ports_of(statement.kind()),
-        None => 0,
-    }
+/// The kind of the statement of that number, if there is one.
+pub fn kind_of(block: &Block, number: usize) -> Option<&Kind> {
+    statement_of(block, number).map(|statement| statement.kind())
 }
 
-/// Adds those destinations of the list that are the port: `first` is the list's first destination.
-fn add_list(
+/// Whether some statement of the block sends to the port.
+pub fn is_fed(block: &Block, to: StatementPort) -> bool {
+    block.statements().iter().any(|statement| {
+        let sent = statement.destinations().iter();
+        sent.chain(statement.otherwise())
+            .any(|destination| to.is(destination))
+    })
+}
+
+/// Adds those destinations of the statement of that number that are the port.
+fn add_sources(
     sources: &mut Vec<Source>,
-    list: &[Destination],
     to: StatementPort,
-    first: Source,
+    number: usize,
+    statement: &Statement,
 ) -> Result<(), AllocError> {
-    for (i, destination) in list.iter().enumerate() {
-        if usize::from(destination.statement) == to.statement
-            && usize::from(destination.port) == to.port
-        {
+    let on_true = statement.destinations();
+    for (i, destination) in on_true.iter().chain(statement.otherwise()).enumerate() {
+        if to.is(destination) {
+            let on_false = i >= on_true.len();
             sources.push(Source {
-                statement: first.statement,
-                on_false: first.on_false,
-                words: first.words.saturating_add(i),
+                statement: number,
+                on_false,
+                words: i.saturating_add(usize::from(on_false)),
             })?;
         }
     }
     Ok(())
 }
 
-/// Adds those destinations of the statement of that number that are the port.
-fn add_statement(
-    sources: &mut Vec<Source>,
-    statement: &Statement,
-    number: usize,
-    to: StatementPort,
-) -> Result<(), AllocError> {
-    let on_true = Source {
-        statement: number,
-        on_false: false,
-        words: 0,
-    };
-    add_list(sources, statement.destinations(), to, on_true)?;
-    let on_false = Source {
-        statement: number,
-        on_false: true,
-        words: statement.destinations().len().saturating_add(1),
-    };
-    add_list(sources, statement.otherwise(), to, on_false)
-}
-
 /// The destinations that lead to the port, in the order of the text.
 ///
 /// # Errors
-/// `AllocError` where there is no memory.
+/// `AllocError` if there is no memory.
 pub fn sources_of(
     alloc: Global,
     block: &Block,
@@ -89,51 +75,22 @@ pub fn sources_of(
 ) -> Result<Vec<Source>, AllocError> {
     let mut sources = Vec::new(alloc);
     for (i, statement) in block.statements().iter().enumerate() {
-        add_statement(&mut sources, statement, i + 1, to)?;
+        add_sources(&mut sources, to, i + 1, statement)?;
     }
     Ok(sources)
-}
-
-/// Whether the destination is one of an `enter`.
-fn is_of_enter(block: &Block, source: &Source) -> bool {
-    match statement_of(block, source.statement) {
-        Some(statement) => matches!(statement.kind(), Kind::Enter(_)),
-        None => false,
-    }
-}
-
-/// Whether the destination is one of a `next`.
-fn is_of_next(block: &Block, source: &Source) -> bool {
-    match statement_of(block, source.statement) {
-        Some(statement) => matches!(statement.kind(), Kind::Next),
-        None => false,
-    }
 }
 
 /// Whether the destinations are several, and not just one of an `enter` and one of a `next`.
 pub fn are_many(block: &Block, sources: &[Source]) -> bool {
     match sources {
         [] | [_] => false,
-        [one, other] => {
-            !(is_of_enter(block, one) && is_of_next(block, other)
-                || is_of_next(block, one) && is_of_enter(block, other))
-        }
+        [one, other] => !matches!(
+            (
+                kind_of(block, one.statement),
+                kind_of(block, other.statement)
+            ),
+            (Some(Kind::Enter(_)), Some(Kind::Next)) | (Some(Kind::Next), Some(Kind::Enter(_)))
+        ),
         _ => true,
     }
-}
-
-/// The numbers of the statements that name the `back` of that number, in the order of the text.
-///
-/// # Errors
-/// `AllocError` where there is no memory.
-pub fn calls_of(alloc: Global, block: &Block, number: usize) -> Result<Vec<usize>, AllocError> {
-    let mut calls = Vec::new(alloc);
-    for (i, statement) in block.statements().iter().enumerate() {
-        if let Kind::Apply(named, _) = statement.kind() {
-            if usize::from(*named) == number {
-                calls.push(i + 1)?;
-            }
-        }
-    }
-    Ok(calls)
 }

@@ -7,17 +7,10 @@ ghost use Rattle.u_explain.specs.Accepted.{IsAccepted};
 use crate::lines::{tell_cut_short, tell_line};
 use crate::telling_breach::tell_rule;
 use std::alloc::{AllocError, Global};
-use u_check::{Refused, check};
+use u_check::check;
 use u_program::{Program, ReadError, read};
 
-/// What is told of a program that breaks a rule.
-fn rule_text(alloc: Global, bytes: &[u8], refused: &Refused) -> Result<Vec<u8>, AllocError> {
-    let mut out = Vec::new(alloc);
-    tell_rule(&mut out, bytes, &refused.program, &refused.breach)?;
-    Ok(out)
-}
-
-/// What is told of a program's text that was read: nothing where it breaks no rule.
+/// What is told of a program's text that was read: nothing if it breaks no rule.
 fn program_text(
     alloc: Global,
     bytes: &[u8],
@@ -29,28 +22,24 @@ fn program_text(
         Ok(_) => return Ok(None),
         Err(refused) => refused,
     };
-    match rule_text(alloc, bytes, &refused) {
-        Ok(text) => Ok(Some(text)),
-        Err(error) => Err(error),
-    }
+    let mut out = String::new(alloc);
+    tell_rule(&mut out, bytes, &refused.program, &refused.breach)?;
+    Ok(Some(out.into_bytes()))
 }
 
 /// What is told of a text that was not read.
 fn error_text(alloc: Global, bytes: &[u8], error: ReadError) -> Result<Vec<u8>, AllocError>
     ensures { IfOk result (λ _. error ≡ errors.NoMemory → ⊥) }
 {
-    let mut out = Vec::new(alloc);
-    let told = match error {
+    let mut out = String::new(alloc);
+    match error {
         ReadError::BadLine(number) | ReadError::TooMany(number) => {
-            tell_line(&mut out, bytes, number)
+            tell_line(&mut out, bytes, number)?
         }
-        ReadError::Truncated => tell_cut_short(&mut out, alloc, bytes),
+        ReadError::Truncated => tell_cut_short(&mut out, alloc, bytes)?,
         ReadError::NoMemory => return Err(AllocError),
-    };
-    match told {
-        Ok(()) => Ok(out),
-        Err(error) => Err(error),
     }
+    Ok(out.into_bytes())
 }
 
 /// Why the bytes are no program that the checker takes, for people: some lines of text, each with its
@@ -66,7 +55,7 @@ fn error_text(alloc: Global, bytes: &[u8], error: ReadError) -> Result<Vec<u8>, 
 /// no rule, unless memory runs out.
 ///
 /// # Errors
-/// `AllocError` where there is no memory.
+/// `AllocError` if there is no memory.
 pub fn explain(alloc: Global, bytes: &[u8]) -> Result<Option<Vec<u8>>, AllocError>
     ensures { IfOk result (λ text. IsNone text ↔ IsAccepted bytes.now) }
 {

@@ -39,7 +39,6 @@ mod telling_sources;
 mod tests_of_loops;
 mod text_place;
 mod words;
-mod words_of_kinds;
 
 pub use explaining::explain;
 pub use line_causes::Refused;

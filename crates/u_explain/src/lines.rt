@@ -9,8 +9,8 @@ ghost use Rattle.u_explain.specs.Places.{IsPlace, IsAllowed};
 use crate::expected::expected_behind;
 use crate::line_causes::{Refused, tell_cause};
 use crate::scanning::behind_lines;
-use crate::source::show_marked;
-use crate::telling::{Piece, say, tell};
+use crate::source::Marked;
+use crate::telling::{Quoted, Told};
 use crate::telling_expected::tell_expected;
 use crate::text_place::{TextPlace, line_left};
 use std::alloc::{AllocError, Global};
@@ -62,63 +62,21 @@ pub fn refused_at(bytes: &[u8], number: usize) -> Refused<'_>
     }
 }
 
-/// The word for a byte.
-fn name_of(byte: u8) -> &'static str {
-    match byte {
-        b' ' => "a space",
-        b'\t' => "a tab",
-        b'\r' => "a carriage return",
-        b'!'..=b'~' => "the byte ",
-        _ => "a byte that is no printable ASCII, ",
-    }
-}
-
 /// What stands at the offset.
-fn tell_found(out: &mut Vec<u8>, refused: &Refused<'_>) -> Result<(), AllocError> {
-    say(out, "found: ")?;
-    let Some(byte) = refused.line.get(refused.offset) else {
-        if refused.is_ended {
-            return say(out, "the end of the line\n");
-        }
-        return say(out, "the end of the file\n");
-    };
-    tell(out, &[Piece::Words(name_of(*byte))])?;
-    if !matches!(*byte, b' ' | b'\t' | b'\r') {
-        tell(out, &[Piece::Quoted(&[*byte])])?;
+fn tell_found(out: &mut String, it: &Refused<'_>) -> Told {
+    match it.byte() {
+        None if it.is_ended => out.push_str("found: the end of the line\n"),
+        None => out.push_str("found: the end of the file\n"),
+        Some(b' ') => out.push_str("found: a space\n"),
+        Some(b'\t') => out.push_str("found: a tab\n"),
+        Some(b'\r') => out.push_str("found: a carriage return\n"),
+        Some(byte @ b'!'..=b'~') => writeln!(out, "found: the byte {}", Quoted(&[byte])),
+        Some(byte) => writeln!(
+            out,
+            "found: a byte that is no printable ASCII, {}",
+            Quoted(&[byte])
+        ),
     }
-    say(out, "\n")
-}
-
-/// The line with the mark, what was expected, what stands there, and the cause.
-fn tell_refused(out: &mut Vec<u8>, refused: &Refused<'_>) -> Result<(), AllocError> {
-    show_marked(out, refused.number, refused.line, refused.offset)?;
-    let front = match refused.line.get(..refused.offset) {
-        Some(front) => front,
-        None => refused.line,
-    };
-    let expected = expected_behind(refused.place, front);
-    say(out, "expected: ")?;
-    tell_expected(out, refused.place, &expected)?;
-    say(out, "\n")?;
-    tell_found(out, refused)?;
-    say(out, "cause: ")?;
-    if refused.is_ended || refused.offset < refused.line.len() {
-        tell_cause(out, refused, &expected)?;
-    } else {
-        say(out, "the file ends inside of its last line")?;
-    }
-    say(out, "\n")
-}
-
-/// Appends what is told of the line of that number, which is not allowed there. Lines count from 1.
-///
-/// # Errors
-/// `AllocError` where there is no memory.
-pub fn tell_line(out: &mut Vec<u8>, bytes: &[u8], number: usize) -> Result<(), AllocError> {
-    if number == 0 {
-        return Ok(());
-    }
-    tell_refused(out, &refused_at(bytes, number))
 }
 
 /// What a place of a file that ends there lacks.
@@ -132,20 +90,43 @@ fn lack_of(place: TextPlace) -> &'static str {
     }
 }
 
-/// The line that is missing, where each line that is there is allowed.
-fn tell_missing(out: &mut Vec<u8>, missing: &Refused<'_>) -> Result<(), AllocError> {
-    show_marked(out, missing.number, b"", 0)?;
-    let expected = expected_behind(missing.place, b"");
-    say(out, "expected: ")?;
-    tell_expected(out, missing.place, &expected)?;
-    tell(
+/// The line with the mark, what was expected, what stands there, and the cause.
+fn tell_refused(out: &mut String, it: &Refused<'_>) -> Told {
+    let Refused {
+        number,
+        line,
+        offset,
+        ..
+    } = *it;
+    write!(
         out,
-        &[
-            Piece::Words("\nfound: the end of the file\ncause: "),
-            Piece::Words(lack_of(missing.place)),
-            Piece::Words("\n"),
-        ],
-    )
+        "{}",
+        Marked {
+            number,
+            line,
+            offset
+        }
+    )?;
+    let expected = expected_behind(it.place, line.get(..offset).unwrap_or(line));
+    out.push_str("expected: ")?;
+    tell_expected(out, it.place, &expected)?;
+    out.push_str("\n")?;
+    tell_found(out, it)?;
+    out.push_str("cause: ")?;
+    match it.byte() {
+        None if !it.is_ended && line.is_empty() => out.push_str(lack_of(it.place))?,
+        None if !it.is_ended => out.push_str("the file ends inside of its last line")?,
+        _ => tell_cause(out, it, &expected)?,
+    }
+    out.push_str("\n")
+}
+
+/// Appends what is told of the line of that number, which is not allowed there. Lines count from 1.
+pub fn tell_line(out: &mut String, bytes: &[u8], number: usize) -> Told {
+    if number == 0 {
+        return Ok(());
+    }
+    tell_refused(out, &refused_at(bytes, number))
 }
 
 /// Whether the text lacks nothing but a newline in its last line.
@@ -153,35 +134,27 @@ fn lacks_newline(alloc: Global, bytes: &[u8]) -> Result<bool, AllocError> {
     let mut ended = Vec::from_slice(alloc, bytes)?;
     ended.push(b'\n')?;
     match read(alloc, &ended) {
-        Ok(_) => Ok(true),
-        Err(ReadError::Truncated) => Ok(true),
+        Ok(_) | Err(ReadError::Truncated) => Ok(true),
         Err(ReadError::NoMemory) => Err(AllocError),
         Err(_) => Ok(false),
     }
 }
 
-/// A last line without its newline.
-fn tell_unended(out: &mut Vec<u8>, last: &Refused<'_>, lacks: bool) -> Result<(), AllocError> {
-    if lacks {
-        show_marked(out, last.number, last.line, last.line.len())?;
-        return say(
-            out,
-            "expected: a newline at the end of the last line\nfound: the end of the file\ncause: \
-                the last line has no newline; each line ends with one, the last line too\n",
-        );
-    }
-    tell_refused(out, last)
-}
-
 /// Appends what is told of a text that is cut short: each line that ends with a newline is allowed.
-///
-/// # Errors
-/// `AllocError` where there is no memory.
-pub fn tell_cut_short(out: &mut Vec<u8>, alloc: Global, bytes: &[u8]) -> Result<(), AllocError> {
+pub fn tell_cut_short(out: &mut String, alloc: Global, bytes: &[u8]) -> Told {
     let last = refused_at(bytes, bytes.len() + 1);
-    if last.line.is_empty() {
-        return tell_missing(out, &last);
+    let Refused { number, line, .. } = last;
+    if line.is_empty() || !lacks_newline(alloc, bytes)? {
+        return tell_refused(out, &last);
     }
-    let lacks = lacks_newline(alloc, bytes)?;
-    tell_unended(out, &last, lacks)
+    let marked = Marked {
+        number,
+        line,
+        offset: line.len(),
+    };
+    write!(
+        out,
+        "{marked}expected: a newline at the end of the last line\nfound: the end of the file\ncause: the \
+            last line has no newline; each line ends with one, the last line too\n"
+    )
 }

@@ -2,7 +2,7 @@
 use crate::arcs::statement_of;
 use std::alloc::{AllocError, Global};
 use u_check::held_by;
-use u_program::{Block, Destination, Kind, Statement};
+use u_program::{Block, Kind, Statement};
 
 /// The most regions that lie in one another: a block has 99 loops at most.
 const DEEPEST: usize = 100;
@@ -40,38 +40,24 @@ fn mark(marks: &mut [bool], number: usize) -> bool {
     false
 }
 
-/// Marks the statements of the list. Whether one of them was not marked.
-fn mark_list(marks: &mut [bool], list: &[Destination]) -> bool {
-    let mut more = false;
-    for destination in list {
-        if mark(marks, usize::from(destination.statement)) {
-            more = true;
-        }
-    }
-    more
-}
-
 /// Marks what the statement sends to, and the `back` that it names. Whether any was not marked.
 fn mark_behind(marks: &mut [bool], statement: &Statement) -> bool {
-    let on_true = mark_list(marks, statement.destinations());
-    let on_false = mark_list(marks, statement.otherwise());
-    let back = match statement.kind() {
+    let mut more = match statement.kind() {
         Kind::Apply(named, _) => mark(marks, usize::from(*named)),
         _ => false,
     };
-    on_true || on_false || back
+    for sent in statement.destinations().iter().chain(statement.otherwise()) {
+        more |= mark(marks, usize::from(sent.statement));
+    }
+    more
 }
 
 /// Marks what the marked statements send to within one turn. Whether any was not marked.
 fn sweep(marks: &mut [bool], block: &Block, region: u8) -> bool {
     let mut more = false;
     for (i, statement) in block.statements().iter().enumerate() {
-        let marked = match marks.get(i + 1) {
-            Some(marked) => *marked,
-            None => false,
-        };
-        if marked && stays(block, region, statement) && mark_behind(marks, statement) {
-            more = true;
+        if marks.get(i + 1) == Some(&true) && stays(block, region, statement) {
+            more |= mark_behind(marks, statement);
         }
     }
     more

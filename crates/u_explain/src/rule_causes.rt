@@ -1,11 +1,11 @@
 //! Why a statement breaks a rule, in a sentence, and the other place that is involved.
-use crate::breaking::{DestinationAt, unfed_port};
+use crate::arcs::{StatementPort, is_fed};
+use crate::breaking::DestinationAt;
 use crate::scanning::BlockLine;
-use crate::telling::{Piece, say, tell};
-use crate::words_of_kinds::{article_of, behind_arrow, push_statement};
-use std::alloc::AllocError;
+use crate::spot::behind_arrow;
+use crate::telling::{Article, Count, Named, Quoted, Region, Told};
 use u_check::{Rule, held_by, ports_of, statement_at};
-use u_program::{Block, Constant, Kind, Statement, kind_word};
+use u_program::{Block, Constant, Destination, Kind, Parameter, Statement, kind_word};
 
 /// A statement that breaks a rule.
 #[derive(Clone, Copy)]
@@ -16,562 +16,267 @@ pub struct Breaking<'a> {
     pub number: usize,
     /// The statement.
     pub statement: &'a Statement,
-    /// The destination that breaks the rule, where one does.
+    /// The destination that breaks the rule, if one does.
     pub sent: Option<DestinationAt>,
 }
 
-/// The words for a region: `region 0`, or `loop 2`.
-fn push_region(out: &mut Vec<u8>, region: u8) -> Result<(), AllocError> {
-    if region == 0 {
-        return say(out, "region 0, outside of all loops");
+impl<'a> Breaking<'a> {
+    /// The statement of that number of the block.
+    fn at(&self, number: u16) -> Option<&'a Statement> {
+        statement_at(self.block.statements(), number)
     }
-    tell(
-        out,
-        &[
-            Piece::Words("region "),
-            Piece::Number(usize::from(region)),
-            Piece::Words(", loop "),
-            Piece::Number(usize::from(region)),
-        ],
-    )
-}
 
-/// How many of a thing there are: `no loops`, `1 loop`, `2 loops`.
-fn push_count(out: &mut Vec<u8>, count: usize, what: &str) -> Result<(), AllocError> {
-    if count == 0 {
-        return tell(
-            out,
-            &[Piece::Words("no "), Piece::Words(what), Piece::Words("s")],
-        );
+    /// The region that holds the loop of that number of the block.
+    fn held_by(&self, number: u8) -> Option<u8> {
+        held_by(self.block.loops(), number)
     }
-    tell(
-        out,
-        &[Piece::Number(count), Piece::Words(" "), Piece::Words(what)],
-    )?;
-    if count > 1 {
-        say(out, "s")?;
+
+    /// How many statements the block has.
+    fn statements(&self) -> Count {
+        Count(self.block.statements().len(), "statement")
     }
-    Ok(())
+
+    /// How many loops the block has.
+    fn loops(&self) -> Count {
+        Count(self.block.loops().len(), "loop")
+    }
+
+    /// The first port of the statement to which nothing sends; 0, if there is none.
+    fn unfed_port(&self) -> usize {
+        for port in 1..6 {
+            let to = StatementPort(self.number, port);
+            if port <= ports_of(self.statement.kind()) && !is_fed(self.block, to) {
+                return port;
+            }
+        }
+        0
+    }
+
+    /// The statement for which a `param` breaks rule 17, if it is not for its own place: the first one
+    /// between the `begin` and it that is no `param`.
+    fn ahead(&self) -> Option<(usize, &'a Statement)> {
+        let number = match (self.statement.kind(), self.statement.region()) {
+            (Kind::Param(parameter), 0) => usize::from(parameter.place()),
+            _ => 0,
+        };
+        for (i, other) in self.block.statements().iter().enumerate().skip(1) {
+            if i + 1 < number && number == self.number && !matches!(other.kind(), Kind::Param(_)) {
+                return Some((i + 1, other));
+            }
+        }
+        None
+    }
 }
 
 /// Rule 3.
-fn tell_begin(out: &mut Vec<u8>, it: &Breaking<'_>) -> Result<(), AllocError> {
-    if it.number != 1 {
-        return tell(
+fn tell_begin(out: &mut String, it: &Breaking<'_>) -> Told {
+    let region = it.statement.region();
+    match (it.number, it.statement.kind()) {
+        (1, Kind::Begin) => write!(
             out,
-            &[
-                Piece::Words("statement "),
-                Piece::Number(it.number),
-                Piece::Words(" is a `begin` too; only statement 1 is one"),
-            ],
-        );
-    }
-    if matches!(it.statement.kind(), Kind::Begin) {
-        return tell(
+            "the `begin` stands in region {region}; it belongs in region 0"
+        ),
+        (1, kind) => write!(
             out,
-            &[
-                Piece::Words("the `begin` stands in region "),
-                Piece::Number(usize::from(it.statement.region())),
-                Piece::Words("; it belongs in region 0"),
-            ],
-        );
-    }
-    tell(
-        out,
-        &[
-            Piece::Words("statement 1 of the block is "),
-            Piece::Words(article_of(it.statement.kind())),
-            Piece::Quoted(kind_word(it.statement.kind())),
-            Piece::Words(", and not a `begin`"),
-        ],
-    )
-}
-
-/// Rule 4.
-fn tell_region(out: &mut Vec<u8>, it: &Breaking<'_>) -> Result<(), AllocError> {
-    tell(
-        out,
-        &[
-            Piece::Words("there is no loop "),
-            Piece::Number(usize::from(it.statement.region())),
-            Piece::Words(": the block has "),
-        ],
-    )?;
-    push_count(out, it.block.loops().len(), "loop")
-}
-
-/// `the destination 9.1`, with what it is.
-fn push_sent(out: &mut Vec<u8>, sent: &DestinationAt) -> Result<(), AllocError> {
-    tell(
-        out,
-        &[
-            Piece::Words("the destination `"),
-            Piece::Number(usize::from(sent.destination.statement)),
-            Piece::Words("."),
-            Piece::Number(usize::from(sent.destination.port)),
-            Piece::Words("`"),
-        ],
-    )
-}
-
-/// Rule 5.
-fn tell_missing(
-    out: &mut Vec<u8>,
-    it: &Breaking<'_>,
-    sent: &DestinationAt,
-) -> Result<(), AllocError> {
-    push_sent(out, sent)?;
-    let number = sent.destination.statement;
-    match statement_at(it.block.statements(), number) {
-        None => {
-            tell(
-                out,
-                &[
-                    Piece::Words(" leads nowhere: there is no statement "),
-                    Piece::Number(usize::from(number)),
-                    Piece::Words(", as the block has "),
-                ],
-            )?;
-            push_count(out, it.block.statements().len(), "statement")
-        }
-        Some(target) => {
-            tell(
-                out,
-                &[
-                    Piece::Words(" names port "),
-                    Piece::Number(usize::from(sent.destination.port)),
-                    Piece::Words(", and "),
-                ],
-            )?;
-            push_statement(out, usize::from(number), target)?;
-            say(out, ", has ")?;
-            push_count(out, ports_of(target.kind()), "port")
-        }
+            "statement 1 of the block is {}, and not a `begin`",
+            Article(kind)
+        ),
+        (number, _) => write!(
+            out,
+            "statement {number} is a `begin` too; only statement 1 is one"
+        ),
     }
 }
 
-/// The destination, and what the statement there is.
-fn tell_target(
-    out: &mut Vec<u8>,
-    it: &Breaking<'_>,
-    sent: &DestinationAt,
-) -> Result<(), AllocError> {
-    push_sent(out, sent)?;
-    let number = sent.destination.statement;
-    say(out, " is ")?;
-    if let Some(target) = statement_at(it.block.statements(), number) {
-        push_statement(out, usize::from(number), target)?;
+/// Rule 7, if the loop is not there or not held by the region.
+fn tell_enter(out: &mut String, it: &Breaking<'_>, number: u8) -> Told {
+    match it.held_by(number) {
+        None => write!(
+            out,
+            "there is no loop {number} to enter: the block has {}",
+            it.loops()
+        ),
+        Some(holder) => write!(
+            out,
+            "loop {number} is entered from region {holder}, which holds it, and this `enter` stands in {}",
+            Region(it.statement.region())
+        ),
     }
-    Ok(())
-}
-
-/// The destination, and the region of the statement there.
-fn tell_target_region(
-    out: &mut Vec<u8>,
-    it: &Breaking<'_>,
-    sent: &DestinationAt,
-) -> Result<(), AllocError> {
-    push_sent(out, sent)?;
-    let number = sent.destination.statement;
-    say(out, " lies in ")?;
-    match statement_at(it.block.statements(), number) {
-        Some(target) => push_region(out, target.region()),
-        None => say(out, "no region"),
-    }
-}
-
-/// Rule 6.
-fn tell_takes(
-    out: &mut Vec<u8>,
-    it: &Breaking<'_>,
-    sent: &DestinationAt,
-) -> Result<(), AllocError> {
-    tell_target(out, it, sent)?;
-    say(
-        out,
-        ", whose value comes from a call and from no destination",
-    )
-}
-
-/// Rule 7, where the loop is not there or not held by the region.
-fn tell_enter(out: &mut Vec<u8>, it: &Breaking<'_>) -> Result<(), AllocError> {
-    let number = match it.statement.kind() {
-        Kind::Enter(number) => *number,
-        _ => 0,
-    };
-    match held_by(it.block.loops(), number) {
-        None => {
-            tell(
-                out,
-                &[
-                    Piece::Words("there is no loop "),
-                    Piece::Number(usize::from(number)),
-                    Piece::Words(" to enter: the block has "),
-                ],
-            )?;
-            push_count(out, it.block.loops().len(), "loop")
-        }
-        Some(holder) => {
-            tell(
-                out,
-                &[
-                    Piece::Words("loop "),
-                    Piece::Number(usize::from(number)),
-                    Piece::Words(" is entered from region "),
-                    Piece::Number(usize::from(holder)),
-                    Piece::Words(", which holds it, and this `enter` stands in "),
-                ],
-            )?;
-            push_region(out, it.statement.region())
-        }
-    }
-}
-
-/// Rule 7, of a destination.
-fn tell_entered(
-    out: &mut Vec<u8>,
-    it: &Breaking<'_>,
-    sent: &DestinationAt,
-) -> Result<(), AllocError> {
-    tell_target_region(out, it, sent)?;
-    say(out, ", and not in the loop that is entered")
 }
 
 /// Rule 8.
-fn tell_apply(out: &mut Vec<u8>, it: &Breaking<'_>) -> Result<(), AllocError> {
-    let number = match it.statement.kind() {
-        Kind::Apply(number, _) => *number,
-        _ => 0,
-    };
-    tell(
-        out,
-        &[
-            Piece::Words("the `apply` names statement "),
-            Piece::Number(usize::from(number)),
-        ],
-    )?;
-    match statement_at(it.block.statements(), number) {
-        None => {
-            say(out, ", which is not there: the block has ")?;
-            push_count(out, it.block.statements().len(), "statement")
-        }
+fn tell_apply(out: &mut String, it: &Breaking<'_>, number: u16) -> Told {
+    write!(out, "the `apply` names statement {number}")?;
+    let own = Region(it.statement.region());
+    match it.at(number) {
+        None => write!(
+            out,
+            ", which is not there: the block has {}",
+            it.statements()
+        ),
         Some(target) if matches!(target.kind(), Kind::Back) => {
-            say(out, ", a `back` in ")?;
-            push_region(out, target.region())?;
-            say(out, ", and stands itself in ")?;
-            push_region(out, it.statement.region())
+            let region = Region(target.region());
+            write!(out, ", a `back` in {region}, and stands itself in {own}")
         }
-        Some(target) => tell(
+        Some(target) => write!(
             out,
-            &[
-                Piece::Words(", which is "),
-                Piece::Words(article_of(target.kind())),
-                Piece::Quoted(kind_word(target.kind())),
-                Piece::Words(" and not a `back`"),
-            ],
+            ", which is {} and not a `back`",
+            Article(target.kind())
         ),
     }
-}
-
-/// Rule 10.
-fn tell_constant(out: &mut Vec<u8>, it: &Breaking<'_>) -> Result<(), AllocError> {
-    match it.statement.kind() {
-        Kind::Const(Constant::Proc(name)) => tell(
-            out,
-            &[
-                Piece::Words("no block is called "),
-                Piece::Quoted(name.as_bytes()),
-            ],
-        ),
-        _ => Ok(()),
-    }
-}
-
-/// Rule 12.
-fn tell_last(out: &mut Vec<u8>, it: &Breaking<'_>, sent: &DestinationAt) -> Result<(), AllocError> {
-    tell_target(out, it, sent)?;
-    if matches!(it.statement.kind(), Kind::Last) {
-        return say(out, ", and a `last` sends to `leave` alone");
-    }
-    tell(
-        out,
-        &[
-            Piece::Words(", to which only a `last` sends, and the sender is "),
-            Piece::Words(article_of(it.statement.kind())),
-            Piece::Quoted(kind_word(it.statement.kind())),
-        ],
-    )
-}
-
-/// Rule 13.
-fn tell_leave(
-    out: &mut Vec<u8>,
-    it: &Breaking<'_>,
-    sent: &DestinationAt,
-) -> Result<(), AllocError> {
-    tell_target_region(out, it, sent)?;
-    tell(
-        out,
-        &[
-            Piece::Words("; the `leave` stands in loop "),
-            Piece::Number(usize::from(it.statement.region())),
-        ],
-    )?;
-    match held_by(it.block.loops(), it.statement.region()) {
-        Some(holder) => tell(
-            out,
-            &[
-                Piece::Words(", which region "),
-                Piece::Number(usize::from(holder)),
-                Piece::Words(" holds, and sends there alone"),
-            ],
-        ),
-        None => Ok(()),
-    }
-}
-
-/// Rule 15.
-fn tell_crossing(
-    out: &mut Vec<u8>,
-    it: &Breaking<'_>,
-    sent: &DestinationAt,
-) -> Result<(), AllocError> {
-    tell_target_region(out, it, sent)?;
-    tell(
-        out,
-        &[
-            Piece::Words(", and the sender, "),
-            Piece::Words(article_of(it.statement.kind())),
-            Piece::Quoted(kind_word(it.statement.kind())),
-            Piece::Words(", in "),
-        ],
-    )?;
-    push_region(out, it.statement.region())
-}
-
-/// The place among the parameters of its block that a `param` says; of other kinds, 0.
-fn place_of(kind: &Kind) -> usize {
-    match kind {
-        Kind::Param(parameter) => usize::from(parameter.place()),
-        _ => 0,
-    }
-}
-
-/// The first statement between the `begin` and the statement that is no `param`, if there is one.
-fn first_between(it: &Breaking<'_>) -> Option<usize> {
-    for (i, statement) in it.block.statements().iter().enumerate() {
-        let number = i + 1;
-        if number >= it.number {
-            return None;
-        }
-        if number > 1 && !matches!(statement.kind(), Kind::Param(_)) {
-            return Some(number);
-        }
-    }
-    None
-}
-
-/// The statement for which a `param` breaks rule 17, where it is not for its own place.
-fn ahead_of(it: &Breaking<'_>) -> Option<usize> {
-    if it.statement.region() != 0 || place_of(it.statement.kind()) != it.number {
-        return None;
-    }
-    first_between(it)
 }
 
 /// Rule 17.
-fn tell_param(out: &mut Vec<u8>, it: &Breaking<'_>) -> Result<(), AllocError> {
-    let place = place_of(it.statement.kind());
-    if place != it.number {
-        return tell(
+fn tell_param(out: &mut String, it: &Breaking<'_>, parameter: Parameter) -> Told {
+    let (place, number) = (parameter.place(), it.number);
+    if usize::from(place) != number {
+        return write!(
             out,
-            &[
-                Piece::Words("this `param "),
-                Piece::Number(place),
-                Piece::Words("` is statement "),
-                Piece::Number(it.number),
-                Piece::Words("; it belongs at statement "),
-                Piece::Number(place),
-            ],
+            "this `param {place}` is statement {number}; it belongs at statement {place}"
         );
     }
-    if it.statement.region() != 0 {
-        return tell(
+    match (it.statement.region(), it.ahead()) {
+        (0, Some((number, other))) => {
+            let named = Named(number, Some(other));
+            write!(out, "{named}, stands before it, and is no `param`")
+        }
+        (0, None) => Ok(()),
+        (region, _) => write!(
             out,
-            &[
-                Piece::Words("the `param` stands in region "),
-                Piece::Number(usize::from(it.statement.region())),
-                Piece::Words("; it belongs in region 0"),
-            ],
+            "the `param` stands in region {region}; it belongs in region 0"
+        ),
+    }
+}
+
+/// The cause if a destination breaks the rule.
+fn tell_sent(out: &mut String, rule: Rule, it: &Breaking<'_>, sent: Destination) -> Told {
+    let (number, port) = (sent.statement, sent.port);
+    write!(out, "the destination `{number}.{port}`")?;
+    let Some(target) = it.at(number) else {
+        let all = it.statements();
+        return write!(
+            out,
+            " leads nowhere: there is no statement {number}, as the block has {all}"
         );
-    }
-    let Some(number) = ahead_of(it) else {
-        return Ok(());
     };
-    let Some(other) = it.block.statements().get(number.wrapping_sub(1)) else {
-        return Ok(());
-    };
-    push_statement(out, number, other)?;
-    say(out, ", stands before it, and is no `param`")
-}
-
-/// Rule 18.
-fn tell_main_param(out: &mut Vec<u8>, it: &Breaking<'_>) -> Result<(), AllocError> {
-    tell(
-        out,
-        &[
-            Piece::Words(
-                "the argument of the program comes to the `begin` of `main`, and this `param ",
-            ),
-            Piece::Number(place_of(it.statement.kind())),
-            Piece::Words("` asks for another one"),
-        ],
-    )
-}
-
-/// Rule 16.
-fn tell_unfed(out: &mut Vec<u8>, it: &Breaking<'_>) -> Result<(), AllocError> {
-    let port = match unfed_port(it.block, it.number, it.statement.kind()) {
-        Some(port) => port,
-        None => 0,
-    };
-    tell(
-        out,
-        &[
-            Piece::Words("nothing feeds port "),
-            Piece::Number(port),
-            Piece::Words(" of the "),
-            Piece::Quoted(kind_word(it.statement.kind())),
-            Piece::Words(": no destination of the block is `"),
-            Piece::Number(it.number),
-            Piece::Words("."),
-            Piece::Number(port),
-            Piece::Words("`"),
-        ],
-    )
-}
-
-/// The cause where a destination breaks the rule.
-fn tell_sent(
-    out: &mut Vec<u8>,
-    rule: Rule,
-    it: &Breaking<'_>,
-    sent: &DestinationAt,
-) -> Result<(), AllocError> {
-    match rule {
-        Rule::DestinationExists => tell_missing(out, it, sent),
-        Rule::BeginAndBackTakeNothing => tell_takes(out, it, sent),
-        Rule::EnterReachesItsLoop => tell_entered(out, it, sent),
-        Rule::LastSendsToLeave => tell_last(out, it, sent),
-        Rule::LeaveSendsOut => tell_leave(out, it, sent),
-        _ => tell_crossing(out, it, sent),
+    let named = Named(usize::from(number), Some(target));
+    let lies = Region(target.region());
+    let own = it.statement.region();
+    let sender = Article(it.statement.kind());
+    match (rule, it.statement.kind()) {
+        (Rule::DestinationExists, _) => {
+            let ports = Count(ports_of(target.kind()), "port");
+            write!(out, " names port {port}, and {named}, has {ports}")
+        }
+        (Rule::BeginAndBackTakeNothing, _) => write!(
+            out,
+            " is {named}, whose value comes from a call and from no destination"
+        ),
+        (Rule::EnterReachesItsLoop, _) => {
+            write!(out, " lies in {lies}, and not in the loop that is entered")
+        }
+        (Rule::LastSendsToLeave, Kind::Last) => {
+            write!(out, " is {named}, and a `last` sends to `leave` alone")
+        }
+        (Rule::LastSendsToLeave, _) => write!(
+            out,
+            " is {named}, to which only a `last` sends, and the sender is {sender}"
+        ),
+        (Rule::LeaveSendsOut, _) => {
+            let holder = it.held_by(own).unwrap_or(0);
+            write!(
+                out,
+                " lies in {lies}; the `leave` stands in loop {own}, which region "
+            )?;
+            write!(out, "{holder} holds, and sends there alone")
+        }
+        _ => write!(
+            out,
+            " lies in {lies}, and the sender, {sender}, in {}",
+            Region(own)
+        ),
     }
 }
 
-/// The cause where the statement itself breaks the rule.
-fn tell_itself(out: &mut Vec<u8>, rule: Rule, it: &Breaking<'_>) -> Result<(), AllocError> {
-    match rule {
-        Rule::BeginComesFirst => tell_begin(out, it),
-        Rule::RegionExists => tell_region(out, it),
-        Rule::EnterReachesItsLoop => tell_enter(out, it),
-        Rule::ApplyNamesBack => tell_apply(out, it),
-        Rule::BackIsNamed => tell(
+/// The cause if the statement itself breaks the rule.
+fn tell_itself(out: &mut String, rule: Rule, it: &Breaking<'_>) -> Told {
+    let (number, region) = (it.number, it.statement.region());
+    let word = Quoted(kind_word(it.statement.kind()));
+    match (rule, it.statement.kind()) {
+        (Rule::BeginComesFirst, _) => tell_begin(out, it),
+        (Rule::RegionExists, _) => write!(
             out,
-            &[
-                Piece::Words("no `apply` of the block names statement "),
-                Piece::Number(it.number),
-            ],
+            "there is no loop {region}: the block has {}",
+            it.loops()
         ),
-        Rule::ConstantNamesBlock => tell_constant(out, it),
-        Rule::LoopStatementsInLoops => tell(
+        (Rule::EnterReachesItsLoop, Kind::Enter(entered)) => tell_enter(out, it, *entered),
+        (Rule::ApplyNamesBack, Kind::Apply(named, _)) => tell_apply(out, it, *named),
+        (Rule::BackIsNamed, _) => {
+            write!(out, "no `apply` of the block names statement {number}")
+        }
+        (Rule::ConstantNamesBlock, Kind::Const(Constant::Proc(name))) => {
+            write!(out, "no block is called {}", Quoted(name.as_bytes()))
+        }
+        (Rule::LoopStatementsInLoops, _) => {
+            write!(out, "this {word} stands in region 0, outside of all loops")
+        }
+        (Rule::EndInOuterRegion, _) => write!(out, "this `end` stands in loop {region}"),
+        (Rule::ParamsComeInOrder, Kind::Param(parameter)) => tell_param(out, it, *parameter),
+        (Rule::MainTakesOne, Kind::Param(parameter)) => write!(
             out,
-            &[
-                Piece::Words("this "),
-                Piece::Quoted(kind_word(it.statement.kind())),
-                Piece::Words(" stands in region 0, outside of all loops"),
-            ],
+            "the argument of the program comes to the `begin` of `main`, and this `param {}` asks for \
+                another one",
+            parameter.place()
         ),
-        Rule::EndInOuterRegion => tell(
-            out,
-            &[
-                Piece::Words("this `end` stands in loop "),
-                Piece::Number(usize::from(it.statement.region())),
-            ],
-        ),
-        Rule::ParamsComeInOrder => tell_param(out, it),
-        Rule::MainTakesOne => tell_main_param(out, it),
-        _ => tell_unfed(out, it),
+        _ => {
+            let port = it.unfed_port();
+            write!(out, "nothing feeds port {port} of the {word}: ")?;
+            write!(out, "no destination of the block is `{number}.{port}`")
+        }
     }
 }
 
 /// Appends the cause for which the statement breaks the rule, without a line's end.
-///
-/// # Errors
-/// `AllocError` where there is no memory.
-pub fn tell_breach(out: &mut Vec<u8>, rule: Rule, it: &Breaking<'_>) -> Result<(), AllocError> {
-    match &it.sent {
-        Some(sent) => tell_sent(out, rule, it, sent),
+pub fn tell_breach(out: &mut String, rule: Rule, it: &Breaking<'_>) -> Told {
+    match it.sent {
+        Some(sent) => tell_sent(out, rule, it, sent.destination),
         None => tell_itself(out, rule, it),
     }
 }
 
 /// The index of the word of the statement's line under which the mark stands.
 pub fn marked_word(rule: Rule, it: &Breaking<'_>) -> usize {
-    if let Some(sent) = &it.sent {
-        return sent.words.saturating_add(behind_arrow(it.statement.kind()));
-    }
-    match rule {
-        Rule::RegionExists | Rule::LoopStatementsInLoops | Rule::EndInOuterRegion => 1,
-        Rule::ApplyNamesBack | Rule::ConstantNamesBlock => 3,
-        Rule::EnterReachesItsLoop if held_by(it.block.loops(), entered(it)).is_none() => 3,
-        Rule::EnterReachesItsLoop => 1,
+    match (&it.sent, rule, it.statement.kind()) {
+        (Some(sent), _, kind) => sent.words.saturating_add(behind_arrow(kind)),
+        (_, Rule::RegionExists | Rule::LoopStatementsInLoops | Rule::EndInOuterRegion, _) => 1,
+        (_, Rule::ApplyNamesBack | Rule::ConstantNamesBlock, _) => 3,
+        (_, Rule::EnterReachesItsLoop, Kind::Enter(number)) if it.held_by(*number).is_none() => 3,
+        (_, Rule::EnterReachesItsLoop, _) => 1,
         _ => 2,
     }
 }
 
-/// The loop that the statement enters, or 0.
-fn entered(it: &Breaking<'_>) -> u8 {
-    match it.statement.kind() {
-        Kind::Enter(number) => *number,
-        _ => 0,
-    }
-}
-
-/// The other line of the block that is involved, where there is one.
+/// The other line of the block that is involved, if there is one.
 pub fn other_place(rule: Rule, it: &Breaking<'_>) -> Option<BlockLine> {
-    if let Some(sent) = &it.sent {
-        return match statement_at(it.block.statements(), sent.destination.statement) {
-            Some(_) => Some(BlockLine::Statement(usize::from(sent.destination.statement))),
-            None => None,
-        };
-    }
-    match (rule, it.statement.kind()) {
-        (Rule::EnterReachesItsLoop, Kind::Enter(number)) => {
-            match held_by(it.block.loops(), *number) {
-                Some(_) => Some(BlockLine::Loop(usize::from(*number))),
-                None => None,
-            }
+    let number = match (&it.sent, rule, it.statement.kind()) {
+        (Some(sent), _, _) => sent.destination.statement,
+        (_, Rule::ApplyNamesBack, Kind::Apply(named, _)) => *named,
+        (_, Rule::BeginComesFirst, _) if it.number != 1 => 1,
+        (_, Rule::ParamsComeInOrder, _) => return Some(BlockLine::Statement(it.ahead()?.0)),
+        (_, Rule::EnterReachesItsLoop, Kind::Enter(entered)) => {
+            it.held_by(*entered)?;
+            return Some(BlockLine::Loop(usize::from(*entered)));
         }
-        (Rule::ApplyNamesBack, Kind::Apply(number, _)) => {
-            match statement_at(it.block.statements(), *number) {
-                Some(_) => Some(BlockLine::Statement(usize::from(*number))),
-                None => None,
-            }
-        }
-        (Rule::BeginComesFirst, _) if it.number != 1 => Some(BlockLine::Statement(1)),
-        (Rule::ParamsComeInOrder, _) => match ahead_of(it) {
-            Some(number) => Some(BlockLine::Statement(number)),
-            None => None,
-        },
-        _ => None,
-    }
+        _ => return None,
+    };
+    it.at(number)?;
+    Some(BlockLine::Statement(usize::from(number)))
 }
 
 /// The index of the word of the other line under which the mark stands.
 pub fn other_word(rule: Rule, part: BlockLine) -> usize {
     match (rule, part) {
         (_, BlockLine::Loop(_)) => 2,
-        (_, BlockLine::Block) => 1,
         (Rule::EnterReachesItsLoop | Rule::LeaveSendsOut | Rule::OwnRegion, _) => 1,
         _ => 2,
     }

@@ -60,35 +60,21 @@ pub enum BlockLine {
 
 /// Whether the place stands right behind that line of the block of that number.
 fn is_behind(place: TextPlace, block: usize, part: BlockLine) -> bool {
-    match (place, part) {
-        (
-            TextPlace::Inside {
-                blocks,
-                loops,
-                statements,
-                ..
-            },
-            BlockLine::Block,
-        ) => blocks as usize == block && loops == 0 && statements == 0,
-        (
-            TextPlace::Inside {
-                blocks,
-                loops,
-                statements,
-                ..
-            },
-            BlockLine::Loop(number),
-        ) => blocks as usize == block && loops as usize == number && statements == 0,
-        (
-            TextPlace::Inside {
-                blocks,
-                statements,
-                ..
-            },
-            BlockLine::Statement(number),
-        ) => blocks as usize == block && statements as usize == number,
-        _ => false,
-    }
+    let TextPlace::Inside {
+        blocks,
+        loops,
+        statements,
+        ..
+    } = place
+    else {
+        return false;
+    };
+    let is_there = match part {
+        BlockLine::Block => loops == 0 && statements == 0,
+        BlockLine::Loop(number) => loops as usize == number && statements == 0,
+        BlockLine::Statement(number) => statements as usize == number,
+    };
+    blocks as usize == block && is_there
 }
 
 /// The number of that line of a program's text, from 1, and the line.

@@ -2,127 +2,85 @@
 //!
 //! A byte that is no printable ASCII is shown as `\t`, `\r` or `\xNN`, so the mark stands under it on any
 //! terminal.
-ghost use Rattle.std.specs.Prelude.{◌≤◌};
-
-use crate::telling::{Piece, is_plain, push_all_shown, tell};
+use crate::telling::Shown;
 use std::alloc::AllocError;
+use std::fmt;
 
-/// The most bytes of a line that are shown, and how many of them stand before the mark.
+/// The most bytes of a line that are shown.
 const SHOWN: usize = 72;
 
+/// How many of them stand before the mark at most.
 const BEFORE: usize = 48;
 
-/// How many columns the byte takes where it is shown.
-fn columns_of(byte: u8) -> usize
-    ensures least { 1 ≤ result }
-    ensures most { result ≤ 4 }
-{
-    if is_plain(byte) {
-        return 1;
-    }
+/// A line with its number, and below it a mark `^` under the byte at the offset, or behind the line's last
+/// byte. Of a line of more than 72 bytes at most 72 are shown, 48 of them before the mark at most.
+#[derive(Clone, Copy)]
+pub struct Marked<'a> {
+    /// The line's number.
+    pub number: usize,
+    /// The line, without its newline.
+    pub line: &'a [u8],
+    /// How many bytes stand before the mark, at most.
+    pub offset: usize,
+}
+
+/// As many spaces as the byte takes columns when it is shown.
+fn blank_of(byte: u8) -> &'static str {
     match byte {
-        b'\\' | b'\t' | b'\r' => 2,
-        _ => 4,
+        b'\\' | b'\t' | b'\r' => "  ",
+        b' '..=b'~' => " ",
+        _ => "    ",
     }
 }
 
-/// Appends as many spaces as the bytes take columns where they are shown.
-fn push_columns(out: &mut Vec<u8>, bytes: &[u8]) -> Result<(), AllocError> {
-    for byte in bytes {
-        for _ in 0..columns_of(*byte) {
-            out.push(b' ')?;
+impl fmt::Display for Marked<'_> {
+    fn fmt<W: fmt::Write>(&self, f: &mut fmt::Formatter<W>) -> fmt::Result {
+        let (number, length) = (self.number, self.line.len());
+        let at = self.offset.min(length);
+        let is_long = length > SHOWN;
+        let start = if is_long {
+            at.saturating_sub(BEFORE)
+        } else {
+            0
+        };
+        let end = if length - start > SHOWN {
+            start + SHOWN
+        } else {
+            length
+        };
+        let shown = &self.line[start..end];
+        let space = if shown.is_empty() { "" } else { " " };
+        let before = if start > 0 { "..." } else { "" };
+        let behind = if end < length { "..." } else { "" };
+        writeln!(f, "line {number} |{space}{before}{}{behind}", Shown(shown))?;
+        let margin = 6 + number.checked_ilog10().unwrap_or(0) as usize;
+        let dots = before.len();
+        write!(f, "{:margin$} | {:dots$}", "", "")?;
+        for byte in &self.line[start..at] {
+            f.write_str(blank_of(*byte))?;
         }
+        f.write_str("^\n")
     }
-    Ok(())
-}
-
-/// How many digits the number has.
-fn digits_of(number: usize) -> usize {
-    let mut digits = 1;
-    let mut rest = number;
-    while rest >= 10 {
-        rest /= 10;
-        digits += 1;
-    }
-    digits
-}
-
-/// Appends `line NUMBER | ` and the line: of a long one what stands around the mark, between dots.
-fn push_line(
-    out: &mut Vec<u8>,
-    number: usize,
-    shown: &[u8],
-    has_more_before: bool,
-    has_more_behind: bool,
-) -> Result<(), AllocError> {
-    tell(
-        out,
-        &[
-            Piece::Words("line "),
-            Piece::Number(number),
-            Piece::Words(" |"),
-        ],
-    )?;
-    if !shown.is_empty() {
-        out.push(b' ')?;
-    }
-    if has_more_before {
-        out.extend_from_slice(b"...")?;
-    }
-    push_all_shown(out, shown)?;
-    if has_more_behind {
-        out.extend_from_slice(b"...")?;
-    }
-    out.push(b'\n')?;
-    Ok(())
-}
-
-/// Appends the line of the mark, which stands behind these bytes.
-fn push_mark(
-    out: &mut Vec<u8>,
-    number: usize,
-    before: &[u8],
-    has_more_before: bool,
-) -> Result<(), AllocError> {
-    out.extend_from_slice(b"     ")?;
-    for _ in 0..digits_of(number) {
-        out.push(b' ')?;
-    }
-    out.extend_from_slice(b" | ")?;
-    if has_more_before {
-        out.extend_from_slice(b"   ")?;
-    }
-    push_columns(out, before)?;
-    out.extend_from_slice(b"^\n")
 }
 
 /// Appends the line with its number, and below it a mark `^` under the byte at the offset: behind
-/// the line's last byte where the offset is the line's length or above. A byte that is no printable
+/// the line's last byte if the offset is the line's length or above. A byte that is no printable
 /// ASCII is shown as an escape, and the mark is under the escape's first byte. Of a line of more
 /// than 72 bytes at most 72 are shown, 48 of them before the mark at most.
 ///
 /// # Errors
-/// `AllocError` where there is no memory.
+/// `AllocError` if there is no memory.
 pub fn show_marked(
     out: &mut Vec<u8>,
     number: usize,
     line: &[u8],
     offset: usize,
 ) -> Result<(), AllocError> {
-    let at = if offset <= line.len() {
-        offset
-    } else {
-        line.len()
-    };
-    let mut start = 0;
-    if line.len() > SHOWN && at > BEFORE {
-        start = at - BEFORE;
+    let shown = Marked {
+        number,
+        line,
+        offset,
     }
-    let mut end = line.len();
-    if end - start > SHOWN {
-        end = start + SHOWN;
-    }
-    let behind = end < line.len();
-    push_line(out, number, &line[start..end], start > 0, behind)?;
-    push_mark(out, number, &line[start..at], start > 0)
+    .to_string(*out.allocator())?;
+    out.extend_from_slice(shown.as_bytes())
 }

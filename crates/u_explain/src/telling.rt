@@ -1,97 +1,97 @@
-//! Sentences, made of words, numbers and bytes of a program's text.
+//! Parts of sentences: bytes of a program's text, statements and counts.
 use std::alloc::AllocError;
-use u_base::push_long;
+use std::fmt;
+use u_program::{Kind, Statement, kind_word};
 
-/// A piece of a sentence.
-#[derive(Clone, Copy)]
-pub enum Piece<'a> {
-    /// These words.
-    Words(&'a str),
-    /// A number, without leading zeros.
-    Number(usize),
-    /// Bytes of a program's text between backquotes, those that are no printable ASCII as escapes.
-    Quoted(&'a [u8]),
-}
+/// The answer of what appends to a text: `AllocError` if there is no memory.
+pub type Told = Result<(), AllocError>;
 
 /// The most bytes of a program's text that a sentence quotes.
 const QUOTED: usize = 24;
 
-/// The two digits of a byte, base 16.
-fn push_hexadecimal(out: &mut Vec<u8>, byte: u8) -> Result<(), AllocError> {
-    const DIGITS: [u8; 16] = *b"0123456789ABCDEF";
-    out.push(DIGITS[usize::from(byte / 16)])?;
-    out.push(DIGITS[usize::from(byte % 16)])?;
-    Ok(())
-}
+/// Bytes as they are shown: printable ASCII as itself; a backslash, a tab and a carriage return as
+/// `\\`, `\t` and `\r`; every other byte as `\x` and two digits, base 16.
+#[derive(Clone, Copy)]
+pub struct Shown<'a>(pub &'a [u8]);
 
-/// Whether the byte is shown as it is: printable ASCII, but no backslash.
-pub fn is_plain(byte: u8) -> bool {
-    matches!(byte, b' '..=b'~') && byte != b'\\'
-}
-
-/// Appends the byte as it is shown: printable ASCII as itself; a backslash, a tab and a carriage
-/// return as `\\`, `\t` and `\r`; every other byte as `\x` and two digits, base 16.
-pub fn push_shown(out: &mut Vec<u8>, byte: u8) -> Result<(), AllocError> {
-    if is_plain(byte) {
-        out.push(byte)?;
-        return Ok(());
+impl fmt::Display for Shown<'_> {
+    fn fmt<W: fmt::Write>(&self, f: &mut fmt::Formatter<W>) -> fmt::Result {
+        for byte in self.0 {
+            match *byte {
+                b'\\' => f.write_str("\\\\")?,
+                b'\t' => f.write_str("\\t")?,
+                b'\r' => f.write_str("\\r")?,
+                plain @ b' '..=b'~' => f.write_char(char::from(plain))?,
+                other => write!(f, "\\x{other:02X}")?,
+            }
+        }
+        Ok(())
     }
-    match byte {
-        b'\\' => out.extend_from_slice(b"\\\\"),
-        b'\t' => out.extend_from_slice(b"\\t"),
-        b'\r' => out.extend_from_slice(b"\\r"),
-        _ => {
-            out.extend_from_slice(b"\\x")?;
-            push_hexadecimal(out, byte)
+}
+
+/// Bytes between backquotes, as they are shown; of a long text its first bytes and three dots.
+#[derive(Clone, Copy)]
+pub struct Quoted<'a>(pub &'a [u8]);
+
+impl fmt::Display for Quoted<'_> {
+    fn fmt<W: fmt::Write>(&self, f: &mut fmt::Formatter<W>) -> fmt::Result {
+        match self.0.get(..QUOTED) {
+            Some(front) if self.0.len() > QUOTED => write!(f, "`{}...`", Shown(front)),
+            _ => write!(f, "`{}`", Shown(self.0)),
         }
     }
 }
 
-/// Appends the bytes as they are shown, one by one.
-pub fn push_all_shown(out: &mut Vec<u8>, bytes: &[u8]) -> Result<(), AllocError> {
-    for byte in bytes {
-        push_shown(out, *byte)?;
-    }
-    Ok(())
-}
+/// A kind with its article: `an add`, with backquotes around the word.
+#[derive(Clone, Copy)]
+pub struct Article<'a>(pub &'a Kind);
 
-/// Appends the bytes between backquotes; of a long text its first bytes and three dots.
-fn push_quoted(out: &mut Vec<u8>, bytes: &[u8]) -> Result<(), AllocError> {
-    out.push(b'`')?;
-    if bytes.len() <= QUOTED {
-        push_all_shown(out, bytes)?;
-    } else {
-        push_all_shown(out, &bytes[..QUOTED])?;
-        out.extend_from_slice(b"...")?;
-    }
-    out.push(b'`')?;
-    Ok(())
-}
-
-/// Appends one piece of a sentence.
-fn push_piece(out: &mut Vec<u8>, piece: Piece<'_>) -> Result<(), AllocError> {
-    match piece {
-        Piece::Words(words) => out.extend_from_slice(words.as_bytes()),
-        Piece::Number(number) => push_long(out, number as u64),
-        Piece::Quoted(bytes) => push_quoted(out, bytes),
+impl fmt::Display for Article<'_> {
+    fn fmt<W: fmt::Write>(&self, f: &mut fmt::Formatter<W>) -> fmt::Result {
+        let word = kind_word(self.0);
+        match word.first() {
+            Some(b'a' | b'e' | b'o') => write!(f, "an {}", Quoted(word)),
+            _ => write!(f, "a {}", Quoted(word)),
+        }
     }
 }
 
-/// Appends the words.
-///
-/// # Errors
-/// `AllocError` where there is no memory.
-pub fn say(out: &mut Vec<u8>, words: &str) -> Result<(), AllocError> {
-    out.extend_from_slice(words.as_bytes())
+/// A statement by its number and its kind: `statement 2, an add`. Nothing, if it is not there.
+#[derive(Clone, Copy)]
+pub struct Named<'a>(pub usize, pub Option<&'a Statement>);
+
+impl fmt::Display for Named<'_> {
+    fn fmt<W: fmt::Write>(&self, f: &mut fmt::Formatter<W>) -> fmt::Result {
+        match self.1 {
+            Some(statement) => { write!(f, "statement {}, {}", self.0, Article(statement.kind())) }
+            None => Ok(()),
+        }
+    }
 }
 
-/// Appends the pieces of a sentence.
-///
-/// # Errors
-/// `AllocError` where there is no memory. Then a part of the sentence may stand there.
-pub fn tell(out: &mut Vec<u8>, pieces: &[Piece<'_>]) -> Result<(), AllocError> {
-    for piece in pieces {
-        push_piece(out, *piece)?;
+/// How many of a thing there are: `no loops`, `1 loop`, `2 loops`.
+#[derive(Clone, Copy)]
+pub struct Count(pub usize, pub &'static str);
+
+impl fmt::Display for Count {
+    fn fmt<W: fmt::Write>(&self, f: &mut fmt::Formatter<W>) -> fmt::Result {
+        match self.0 {
+            0 => write!(f, "no {}s", self.1),
+            1 => write!(f, "1 {}", self.1),
+            count => write!(f, "{count} {}s", self.1),
+        }
     }
-    Ok(())
+}
+
+/// A region in a sentence: `region 2, loop 2`.
+#[derive(Clone, Copy)]
+pub struct Region(pub u8);
+
+impl fmt::Display for Region {
+    fn fmt<W: fmt::Write>(&self, f: &mut fmt::Formatter<W>) -> fmt::Result {
+        match self.0 {
+            0 => f.write_str("region 0, outside of all loops"),
+            region => write!(f, "region {region}, loop {region}"),
+        }
+    }
 }

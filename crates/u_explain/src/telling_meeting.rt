@@ -1,122 +1,77 @@
 //! What is told of a program that is not determinate.
-use crate::arcs::calls_of;
 use crate::scanning::BlockLine;
 use crate::spot::Spot;
-use crate::telling::{Piece, say, tell};
+use crate::telling::Told;
 use crate::telling_sources::{Why, tell_ports};
 use std::alloc::{AllocError, Global};
 use u_check::Checked;
 use u_determinate::{Meeting, MeetingPoint};
-use u_program::{Block, Kind, Statement};
+use u_program::{Kind, Statement};
 
 /// What a determinate program keeps, so that this meets nowhere.
 fn sentence_of_meeting(meeting: Meeting) -> &'static str {
     match meeting {
-        Meeting::Arcs =>
-            "of the destinations that lead to one port, one at most brings it a value\n",
-        Meeting::Ends => "a block has one `end` at most\n",
-        Meeting::Calls => "one `apply` at most names a `back`\n",
-        Meeting::Turns => "no turn of a loop has a `next` that fires and a `last` that does\n",
+        Meeting::Arcs => "of the destinations that lead to one port, one at most brings it a value",
+        Meeting::Ends => "a block has one `end` at most",
+        Meeting::Calls => "one `apply` at most names a `back`",
+        Meeting::Turns => "no turn of a loop has a `next` that fires and a `last` that does",
     }
 }
 
-/// The first `end` of the block: its number, from 1; where it has none, 0.
-fn first_end(block: &Block) -> usize {
-    for (i, statement) in block.statements().iter().enumerate() {
-        if matches!(statement.kind(), Kind::End) {
-            return i + 1;
+/// Whether the statement meets that of the spot: it is an `end` as that one, an `apply` that names its
+/// `back`, or a `last` in the loop of its `next`.
+fn meets(spot: &Spot<'_>, statement: &Statement) -> bool {
+    let Some(own) = spot.statement() else {
+        return false;
+    };
+    match (own.kind(), statement.kind()) {
+        (Kind::End, Kind::End) => true,
+        (Kind::Back, Kind::Apply(named, _)) => usize::from(*named) == spot.number,
+        (Kind::Next, Kind::Last) => statement.region() == own.region(),
+        _ => false,
+    }
+}
+
+/// The numbers of the statements that meet that of the spot.
+fn meeting_of(alloc: Global, spot: &Spot<'_>) -> Result<Vec<usize>, AllocError> {
+    let mut numbers = Vec::new(alloc);
+    for (i, statement) in spot.block.statements().iter().enumerate() {
+        if meets(spot, statement) {
+            numbers.push(i + 1)?;
         }
     }
-    0
+    Ok(numbers)
 }
 
-/// Appends that the statement is an `end` and not the first of its block.
-///
-/// # Errors
-/// `AllocError` where there is no memory.
-pub fn tell_second_end(out: &mut Vec<u8>, spot: &Spot<'_>) -> Result<(), AllocError> {
-    let first = first_end(spot.block);
-    spot.show(out, BlockLine::Statement(spot.number), 2)?;
-    tell(
-        out,
-        &[
-            Piece::Words("cause: statement "),
-            Piece::Number(first),
-            Piece::Words(
-                " is an `end` already; with two of them a call of the block may have two results\n",
-            ),
-        ],
-    )?;
-    spot.see(out, &[first])
-}
-
-/// Appends that several `apply`s name the statement, a `back`.
-///
-/// # Errors
-/// `AllocError` where there is no memory.
-pub fn tell_calls(out: &mut Vec<u8>, alloc: Global, spot: &Spot<'_>) -> Result<(), AllocError> {
-    let calls = calls_of(alloc, spot.block, spot.number)?;
-    spot.show(out, BlockLine::Statement(spot.number), 2)?;
-    tell(
-        out,
-        &[
-            Piece::Words("cause: "),
-            Piece::Number(calls.len()),
-            Piece::Words(" statements `apply "),
-            Piece::Number(spot.number),
-            Piece::Words("` name this `back`, and the result of each of their calls comes to it\n"),
-        ],
-    )?;
-    spot.see(out, &calls)
-}
-
-/// Whether the statement is a `last` in that region.
-fn is_last_of(statement: &Statement, region: u8) -> bool {
-    matches!(statement.kind(), Kind::Last) && statement.region() == region
-}
-
-/// The numbers of the `last`s of the region.
-fn lasts_of(alloc: Global, block: &Block, region: u8) -> Result<Vec<usize>, AllocError> {
-    let mut lasts = Vec::new(alloc);
-    for (i, statement) in block.statements().iter().enumerate() {
-        if is_last_of(statement, region) {
-            lasts.push(i + 1)?;
-        }
-    }
-    Ok(lasts)
-}
-
-/// A `next` that may fire in a turn in which a `last` does.
-fn tell_turns(out: &mut Vec<u8>, alloc: Global, spot: &Spot<'_>) -> Result<(), AllocError> {
-    let lasts = lasts_of(alloc, spot.block, spot.region())?;
-    spot.show(out, BlockLine::Statement(spot.number), 2)?;
-    tell(
-        out,
-        &[
-            Piece::Words("cause: this `next` may fire in a turn of loop "),
-            Piece::Number(usize::from(spot.region())),
-            Piece::Words(
-                " in which a `last` does, and then the loop goes on and ends as well; a `next` takes its value \
-                    from one list of a `switch`, and a `last` from the other one, by the same control\n",
-            ),
-        ],
-    )?;
-    spot.see(out, &lasts)
-}
-
-/// Appends what meets at the place.
-fn tell_place(
-    out: &mut Vec<u8>,
-    alloc: Global,
-    spot: &Spot<'_>,
-    meeting: Meeting,
-) -> Result<(), AllocError> {
+/// Appends what meets at the statement, if it is not at its ports: that an `end` stands before it, that
+/// several `apply`s name it, a `back`, or that a `last` may fire in its turn, which is that of a `next`.
+pub fn tell_met(out: &mut String, alloc: Global, spot: &Spot<'_>, meeting: Meeting) -> Told {
+    let numbers = meeting_of(alloc, spot)?;
+    let (number, count, region) = (spot.number, numbers.len(), spot.region());
+    let first = numbers.first().copied().unwrap_or(0);
+    spot.show(out, BlockLine::Statement(number), 2)?;
     match meeting {
-        Meeting::Arcs => tell_ports(out, alloc, spot, Why::NotApart),
-        Meeting::Ends => tell_second_end(out, spot),
-        Meeting::Calls => tell_calls(out, alloc, spot),
-        Meeting::Turns => tell_turns(out, alloc, spot),
+        Meeting::Calls => writeln!(
+            out,
+            "cause: {count} statements `apply {number}` name this `back`, and the result of each of their \
+                calls comes to it"
+        )?,
+        Meeting::Turns => writeln!(
+            out,
+            "cause: this `next` may fire in a turn of loop {region} in which a `last` does, and then the \
+                loop goes on and ends as well; a `next` takes its value from one list of a `switch`, and a \
+                `last` from the other one, by the same control"
+        )?,
+        _ => writeln!(
+            out,
+            "cause: statement {first} is an `end` already; with two of them a call of the block may have \
+                two results"
+        )?,
     }
+    if meeting == Meeting::Ends {
+        return spot.see(out, &[first]);
+    }
+    spot.see(out, &numbers)
 }
 
 /// Why a program is not determinate, for people: some lines of text, each with its newline. `bytes` are
@@ -128,25 +83,22 @@ fn tell_place(
 /// statement than a `next`, it says so.
 ///
 /// # Errors
-/// `AllocError` where there is no memory.
+/// `AllocError` if there is no memory.
 pub fn explain_meeting(
     alloc: Global,
     bytes: &[u8],
     checked: &Checked,
     place: MeetingPoint,
 ) -> Result<Vec<u8>, AllocError> {
-    let mut out = Vec::new(alloc);
-    say(&mut out, "determinate: ")?;
-    say(&mut out, sentence_of_meeting(place.meeting))?;
-    let blocks = checked.program().blocks();
-    if let Some(block) = blocks.get(place.block.wrapping_sub(1)) {
-        let spot = Spot {
-            bytes,
-            block_number: place.block,
-            block,
-            number: place.at,
-        };
-        tell_place(&mut out, alloc, &spot, place.meeting)?;
+    let mut out = String::new(alloc);
+    writeln!(out, "determinate: {}", sentence_of_meeting(place.meeting))?;
+    match (
+        Spot::new(bytes, checked.program(), place.block, place.at),
+        place.meeting,
+    ) {
+        (Some(spot), Meeting::Arcs) => tell_ports(&mut out, alloc, &spot, Why::NotApart)?,
+        (Some(spot), meeting) => tell_met(&mut out, alloc, &spot, meeting)?,
+        (None, _) => {}
     }
-    Ok(out)
+    Ok(out.into_bytes())
 }
