@@ -21,6 +21,7 @@
 #   members     one prints a million firings, one takes them from a pipe, the best of three: three
 #               times as long as a run, and one and a half times its memory
 #   instructions of a firing, if valgrind is there: at most 2,600
+#   looks       the first at a copy of the sources may take four minutes, and the next, which is kept, a second
 set -u
 export LC_ALL=C
 
@@ -272,6 +273,18 @@ counted() {
     at_most $((instructions / firings)) 2600 "a firing of $1 took more than 2600 instructions"
 }
 
+# Times two looks at a copy of the sources: the first is built, and the next is kept.
+timed_looks() {
+    local binary=$temp/copy/u limit
+    mkdir -- "$temp/copy" && tar -C "$top" --exclude=out -cf - u crates crates.txt | tar -C "$temp/copy" -xf -
+    for limit in 240 1; do
+        measure run "$top/programs/double.ul" 4
+        row "$limit seconds" "$(seconds "$spent")"
+        [ "$status" -eq 0 ] || fail "a look ended with status $status"
+        at_most "$spent" $((limit * 1000000)) "a look took more than $limit seconds"
+    done
+}
+
 page_head
 hashing
 heading 'run of' firings seconds 'times plain hashing' memory
@@ -310,4 +323,7 @@ if command -v valgrind >/dev/null; then
     counted nested 47
     counted fibonacci 14
 fi
+
+heading 'look that may take' seconds
+timed_looks
 exit "$failed"
