@@ -1,8 +1,8 @@
 #!/usr/bin/env bash
-# Tries the tests of fleets in u_tests_replicas on wrong bodies of u_fleet that no contract refuses:
-# tests/gates/TEST/NAME.edit is a change of u_fleet, of the form of the edits in crates/u_fleet/must-fail, with
-# which TEST has to fail. Without a change each TEST has to pass. It runs the sources by `rt try`, two minutes or
-# more for each change, and is no part of the gate. The last line is 'N passed, M failed'.
+# Tries the tests of u_tests_replicas on wrong bodies of u_fleet and u_share that their headlines let through:
+# tests/gates/TEST/NAME.edit is a change of the form of the edits in must-fail, with paths below crates/, with which
+# TEST has to fail. Without a change each TEST has to pass. It runs the sources by `rt try`, two minutes or more for
+# each change, and is no part of the gate. The last line is 'N passed, M failed'.
 set -u
 export LC_ALL=C
 
@@ -13,7 +13,7 @@ trap 'rm -rf -- "$room"' EXIT
 passed=0
 failed=0
 
-# Copies the crates, and changes u_fleet by the edit, if there is one.
+# Copies the crates, and changes them by the edit, if there is one.
 copy_crates() {
     rm -rf -- "$room/crates"
     : >"$room/said"
@@ -25,7 +25,7 @@ copy_crates() {
             [ ! -d "$crate/$part" ] || cp -R -- "$crate/$part" "$room/$crate/"
         done
     done
-    [ -z "${1-}" ] || tests/apply_edit.py "$1" "$room/crates/u_fleet" || exit 1
+    [ -z "${1-}" ] || tests/apply_edit.py "$1" "$room/crates" || exit 1
 }
 
 # Runs the tests of the copy, and leaves what they say in $room/said.

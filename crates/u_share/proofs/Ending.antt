@@ -12,11 +12,9 @@ use Rattle.u_rule.specs.Rule.{system_of}
 use Rattle.u_rule.specs.declared.firing.Firing.{Firing}
 use Rattle.u_machine.specs.State.{State, Taken}
 use Rattle.u_machine.specs.Calls.{firing_le}
-use Rattle.u_share.specs.Lines.{longest, first_of, IsBegun, IsLineOf, IsAmong}
-use Rattle.u_share.specs.Notices.{IsTold, AreTold}
-use Rattle.u_share.specs.Members.{Member, member, Gains, IsKnownFrom, WasNext, AreFired, Goes}
-use Rattle.u_share.specs.Taking.{Stays, IsNoRoomForLine, TakeLineAnswer}
-use Rattle.u_share.specs.Hearing.{IsStop, IsToldBy, Stops, HearAnswer}
+use Rattle.u_share.specs.Lines.{longest, first_of, IsLineOf, IsAmong, IsTold, AreTold}
+use Rattle.u_share.specs.Headline.{Member, member, Gains, IsKnownFrom, WasNext, AreFired, Goes, IsNoRoomForLine}
+use Rattle.u_share.specs.Calls.{IsBegun, Stays, TakeLineAnswer, IsStopAtLine, StopsAtLine, HearAnswer}
 use Rattle.u_share.specs.declared.fault.ShareFault.{ShareFault}
 use Rattle.u_share.specs.declared.fault.ShareFault.TheVariants as faults
 use Rattle.u_share.proofs.Pieces.{free_of, free_append, free_take, pieces_are_free, pieces_join}
@@ -27,17 +25,17 @@ use Rattle.u_share.proofs.Going.{gains_same, next_same, goes_on}
 
 -- the next firings, where no line was read
 fired_alone : (old : State) (fs : List Firing) → EachPlace (IsNextFrom (system_of old.job) firing_le (Taken old)) fs → AreFired old [] fs
-fired_alone old fs each k f at =
-    (0, omega arith, next_same (system_of old.job) firing_le (Taken old) (IsKnownFrom old []) (take k fs) (take k fs) f to back (each k f at))
+fired_alone old fs each =
+    ((λ n. 0), (λ n. omega arith), (λ n. omega arith), λ k f at. next_same (system_of old.job) firing_le (Taken old) (IsKnownFrom old []) (take k fs) (take k fs) f (to (take k fs)) (back (take k fs)) (each k f at))
   where
-    to : (g : Firing) → Taken old g ⊎ Contains (take k fs) g → IsKnownFrom old [] g ⊎ Contains (take k fs) g
-    to g (inl t) = inl (inl t)
-    to g (inr c) = inr c
+    to : (ds : List Firing) (g : Firing) → Taken old g ⊎ Contains ds g → IsKnownFrom old [] g ⊎ Contains ds g
+    to ds g (inl t) = inl (inl t)
+    to ds g (inr c) = inr c
 
-    back : (g : Firing) → IsKnownFrom old [] g ⊎ Contains (take k fs) g → Taken old g ⊎ Contains (take k fs) g
-    back g (inl (inl t)) = inl t
-    back g (inl (inr m)) = absurd (among_none old.job g m)
-    back g (inr c) = inr c
+    back : (ds : List Firing) (g : Firing) → IsKnownFrom old [] g ⊎ Contains ds g → Taken old g ⊎ Contains ds g
+    back ds g (inl (inl t)) = inl t
+    back ds g (inl (inr m)) = absurd (among_none old.job g m)
+    back ds g (inr c) = inr c
 
 -- a step in which no line ends
 pub goes_within : (old new : Member) (bs r : List ℕ) (fs : List Firing) → pieces 10 (old.begun ++ bs) ≡ ([], r) → Gains old.machine (Contains fs) new.machine → EachPlace (IsNextFrom (system_of old.machine.job) firing_le (Taken old.machine)) fs → new.begun ≡ first_of r → new.ended ≡ old.ended → Goes old bs fs [] new
@@ -114,7 +112,7 @@ goes_line old new last kept text n h f k gains told count =
     record {
       gains = subst (λ (xs : List (List ℕ)). Gains old.machine (λ g. IsAmong old.machine.job xs g ⊎ Contains [] g) new) (sym ls)
           (gains_same old.machine new (IsLineOf old.machine.job kept) (λ g. IsAmong old.machine.job ((old.begun ++ last) ∷ []) g ⊎ Contains [] g) gains to back);
-      fires = EachPlace-nil (WasNext old.machine (lines (old.begun ++ (last ++ 10 ∷ []))));
+      fires = ((λ n. 0), (λ n. omega arith), (λ n. omega arith), EachPlace-nil (WasNext old.machine (lines (old.begun ++ (last ++ 10 ∷ []))) (λ n. 0)));
       tells = subst (λ (xs : List (List ℕ)). AreTold old.machine.job (old.ended + 1) xs text) (sym ls)
           (text, [], told_alike old.machine.job (old.ended + 1) kept (old.begun ++ last) text alike told, refl, sym (append-nil text));
       begun = ap first_of (sym r);
@@ -133,36 +131,32 @@ goes_line old new last kept text n h f k gains told count =
 
 -- where it stops
 
-pub stops_here : (m : Member) (bytes : List ℕ) (fault : ShareFault) → IsBegun m.begun → IsStop m bytes fault → Stops m bytes [] [] fault
-stops_here m bytes fault h s = record { front = []; rest = bytes; told = []; mid = m; cut = refl; goes = goes_nothing m h; stop = s; tells = inl refl }
+stops_here : (m : Member) (bytes : List ℕ) (fault : ShareFault) → IsBegun m.begun → IsStopAtLine m bytes fault → StopsAtLine m bytes [] fault
+stops_here m bytes fault h s = record { front = []; rest = bytes; mid = m; cut = refl; goes = goes_nothing m h; stop = s }
 
-pub stops_full : (old : Member) (new : State) (last kept : List ℕ) → IsBegun old.begun → pieces 10 last ≡ ([], last) → kept ≡ first_of (old.begun ++ last) → Stays old.machine new → IsNoRoomForLine new kept → Stops old (last ++ 10 ∷ []) [] [] faults.Full
+stops_full : (old : Member) (new : State) (last kept : List ℕ) → IsBegun old.begun → pieces 10 last ≡ ([], last) → kept ≡ first_of (old.begun ++ last) → Stays old.machine new → IsNoRoomForLine new kept → StopsAtLine old (last ++ 10 ∷ []) [] faults.Full
 stops_full old new last kept h f k stays (g, p, full) = record {
   front = [];
   rest = last ++ 10 ∷ [];
-  told = [];
   mid = member new old.begun old.ended;
   cut = refl;
   goes = goes_stays old new h stays;
-  stop = inr (record {
-    line = old.begun ++ last;
-    others = [];
-    next = ap (λ p. p.0) (line_ends old.begun last h f);
-    full = (g, line_alike new.job kept (old.begun ++ last) g (ap first_of k ∙ first_twice (old.begun ++ last)) p, full);
-  });
-  tells = inl refl;
+  stop = (
+    old.begun ++ last,
+    [],
+    ap (λ p. p.0) (line_ends old.begun last h f),
+    (g, line_alike new.job kept (old.begun ++ last) g (ap first_of k ∙ first_twice (old.begun ++ last)) p, full),
+  );
 }
 
-pub stops_untold : (old : Member) (new : State) (last kept text : List ℕ) → IsBegun old.begun → pieces 10 last ≡ ([], last) → kept ≡ first_of (old.begun ++ last) → Gains old.machine (IsLineOf old.machine.job kept) new → IsTold old.machine.job (old.ended + 1) kept text → Stops old (last ++ 10 ∷ []) [] text faults.NotWritten
+stops_untold : (old : Member) (new : State) (last kept text : List ℕ) → IsBegun old.begun → pieces 10 last ≡ ([], last) → kept ≡ first_of (old.begun ++ last) → Gains old.machine (IsLineOf old.machine.job kept) new → IsTold old.machine.job (old.ended + 1) kept text → StopsAtLine old (last ++ 10 ∷ []) text faults.NotWritten
 stops_untold old new last kept text h f k gains told = record {
   front = last ++ 10 ∷ [];
   rest = [];
-  told = text;
   mid = member new [] (old.ended + 1);
   cut = sym (append-nil (last ++ 10 ∷ []));
   goes = goes_line old new last kept text (old.ended + 1) h f k gains told refl;
   stop = tt;
-  tells = inl refl;
 }
 
 -- what a line's end answers
@@ -191,43 +185,33 @@ line_done old new last kept line next count n before after is_empty h f k e c a 
 
 -- a stop behind a step
 
-longer_stop : (m : Member) (bytes more : List ℕ) (fault : ShareFault) → IsStop m bytes fault → IsStop m (bytes ++ more) fault
-longer_stop m bytes more faults.Full (inl s) = inl s
-longer_stop m bytes more faults.Full (inr s) =
-    inr (record {
-      line = s.line;
-      others = s.others ++ (pieces 10 ((pieces 10 (m.begun ++ bytes)).1 ++ more)).0;
-      next = ap (λ (x : List ℕ). lines x) (sym (append_assoc m.begun bytes more)) ∙ ap (λ p. p.0) (pieces_join 10 (m.begun ++ bytes) more) ∙ ap (λ (ls : List (List ℕ)). ls ++ (pieces 10 ((pieces 10 (m.begun ++ bytes)).1 ++ more)).0) s.next;
-      full = s.full;
-    })
-longer_stop m bytes more faults.NotReadable s = tt
+longer_stop : (m : Member) (bytes more : List ℕ) (fault : ShareFault) → IsStopAtLine m bytes fault → IsStopAtLine m (bytes ++ more) fault
+longer_stop m bytes more faults.Full (line, others, next, full) = (
+  line,
+  others ++ (pieces 10 ((pieces 10 (m.begun ++ bytes)).1 ++ more)).0,
+  ap (λ (x : List ℕ). lines x) (sym (append_assoc m.begun bytes more)) ∙ ap (λ p. p.0) (pieces_join 10 (m.begun ++ bytes) more) ∙ ap (λ (ls : List (List ℕ)). ls ++ (pieces 10 ((pieces 10 (m.begun ++ bytes)).1 ++ more)).0) next,
+  full,
+)
+longer_stop m bytes more faults.NotReadable s = absurd s
 longer_stop m bytes more faults.NotWritten s = tt
 longer_stop m bytes more faults.NoMemory s = tt
 
-pub stops_longer : (old : Member) (bytes more : List ℕ) (fs : List Firing) (t : List ℕ) (fault : ShareFault) → Stops old bytes fs t fault → Stops old (bytes ++ more) fs t fault
-stops_longer old bytes more fs t fault s = record {
+pub stops_longer : (old : Member) (bytes more told : List ℕ) (fault : ShareFault) → StopsAtLine old bytes told fault → StopsAtLine old (bytes ++ more) told fault
+stops_longer old bytes more told fault s = record {
   front = s.front;
   rest = s.rest ++ more;
-  told = s.told;
   mid = s.mid;
   cut = ap (λ (x : List ℕ). x ++ more) s.cut ∙ append_assoc s.front s.rest more;
   goes = s.goes;
   stop = longer_stop s.mid s.rest more fault s.stop;
-  tells = s.tells;
 }
 
-pub stops_behind : (a b : Member) (bs bs' : List ℕ) (fs fs' : List Firing) (t t' : List ℕ) (fault : ShareFault) → Goes a bs fs t b → Stops b bs' fs' t' fault → Stops a (bs ++ bs') (fs ++ fs') (t ++ t') fault
-stops_behind a b bs bs' fs fs' t t' fault p s = record {
+pub stops_behind : (a b : Member) (bs bs' t t' : List ℕ) (fault : ShareFault) → Goes a bs [] t b → StopsAtLine b bs' t' fault → StopsAtLine a (bs ++ bs') (t ++ t') fault
+stops_behind a b bs bs' t t' fault p s = record {
   front = bs ++ s.front;
   rest = s.rest;
-  told = t ++ s.told;
   mid = s.mid;
   cut = ap (λ (x : List ℕ). bs ++ x) s.cut ∙ sym (append_assoc bs s.front s.rest);
-  goes = goes_on a b s.mid bs s.front fs fs' t s.told p s.goes;
+  goes = goes_on a b s.mid bs s.front [] [] t t' p s.goes;
   stop = s.stop;
-  tells = told s.tells;
 }
-  where
-    told : IsToldBy s.mid s.told t' → IsToldBy s.mid (t ++ s.told) (t ++ t')
-    told (inl e) = inl (ap (λ (x : List ℕ). t ++ x) e)
-    told (inr e) = inr (ap (λ (x : List ℕ). t ++ x) e ∙ sym (append_assoc t s.told _))

@@ -6,8 +6,8 @@ use Rattle.u_machine.specs.State.{State}
 use Rattle.u_machine.specs.Calls.{Fires}
 use Rattle.u_machine.specs.declared.answer.Ran.TheVariants as ran
 use Rattle.u_machine.proofs.Runs.{Fires-nil}
-use Rattle.u_share.specs.Members.{text_of}
-use Rattle.u_share.specs.Bursts.{FireNextAnswer, Prints, PutAnswer, BurstWith}
+use Rattle.u_share.specs.Lines.{text_of}
+use Rattle.u_share.specs.Calls.{FireNextAnswer, Prints, PutAnswer, BurstWith}
 use Rattle.u_share.specs.declared.fault.ShareFault.{ShareFault}
 use Rattle.u_share.proofs.Turned.{applies_same}
 use Rattle.u_share.proofs.Printing.{prints_none, next_fails, next_quiet, put_fails, put_fired}

@@ -1,7 +1,9 @@
 -- How a member goes on, step after step.
-use Rattle.std.specs.Prelude.{◌≡◌, ℕ, suc, ◌+◌, List, [], ◌∷◌, ◌++◌, ◌⊎◌, length, take, slice_get, Some, Contains, refl}
+use Rattle.std.specs.Prelude.{◌≡◌, ℕ, suc, ◌+◌, ◌-◌, ◌≤◌, ◌<◌, List, [], ◌∷◌, ◌++◌, ◌⊎◌, length, take, slice_get, Some, Contains, refl}
 use Rattle.std.proofs.Common.{sym, ◌∙◌, ap, subst, inl, inr, arith, append_assoc, append-nil, length-append}
-use Rattle.std.proofs.lemmas.List.{take-append-le, take-map}
+use Rattle.std.proofs.lemmas.Bool.{cases_lt}
+use Rattle.std.proofs.lemmas.List.{take-append-le, take-map, length-take}
+use Rattle.std.proofs.lemmas.Option.{slice_get_within}
 use Rattle.std.proofs.Math.Seq.{take-append-add}
 use Rattle.std.proofs.lemmas.List.Elements.{Contains-append_left, Contains-append_right, Contains-append_cases}
 use Rattle.u_base.specs.Pieces.{pieces, lines}
@@ -14,9 +16,8 @@ use Rattle.u_rule.specs.Rule.{system_of}
 use Rattle.u_rule.specs.declared.firing.Firing.{Firing}
 use Rattle.u_machine.specs.State.{State, Taken}
 use Rattle.u_machine.specs.Calls.{firing_le}
-use Rattle.u_share.specs.Lines.{longest, first_of, IsAmong}
-use Rattle.u_share.specs.Notices.{AreTold}
-use Rattle.u_share.specs.Members.{Member, Gains, IsKnownFrom, WasNext, AreFired, Goes}
+use Rattle.u_share.specs.Lines.{longest, first_of, IsAmong, AreTold}
+use Rattle.u_share.specs.Headline.{Member, Gains, IsKnownFrom, WasNext, AreFired, Goes}
 use Rattle.u_share.proofs.Fronts.{fronts, fronts_length, pieces_go_on}
 use Rattle.u_share.proofs.Seen.{among_alike, tells_alike, tells_append, among_left, among_right, among_cases}
 
@@ -54,13 +55,55 @@ each_append {F} P fs (g ∷ gs) a b =
     subst (EachPlace P) (append_assoc fs (g ∷ []) gs)
     (each_append P (fs ++ g ∷ []) gs (EachPlace-push P fs g a (subst (λ (xs : List F). P xs g) (append-nil fs) (b 0 g refl))) (λ k f e. subst (λ (xs : List F). P xs f) (sym (append_assoc fs (g ∷ []) (take k gs))) (b (suc k) f e)))
 
--- of firings that were next once some of the first lines were read
-was_next_more : (old : State) (ls rest : List (List ℕ)) (done : List Firing) (f : Firing) → WasNext old ls done f → WasNext old (ls ++ rest) done f
-was_next_more old ls rest done f (n, l, p) = (
-  n,
-  omega (arith, l, length-append ls rest),
-  subst (λ (xs : List (List ℕ)). IsNextFrom (system_of old.job) firing_le (IsKnownFrom old xs) done f) (sym (take-append-le n ls rest l)) p,
-)
+-- it is next once so many of the lines were read
+abbrev NextAt : State → List (List ℕ) → List Firing → Firing → ℕ → Type 0
+NextAt old lines done f n = IsNextFrom (system_of old.job) firing_le (IsKnownFrom old (take n lines)) done f
+
+next_more : (old : State) (ls rest : List (List ℕ)) (done : List Firing) (f : Firing) (n : ℕ) → n ≤ length ls → NextAt old ls done f n → NextAt old (ls ++ rest) done f n
+next_more old ls rest done f n l p =
+    subst (λ (xs : List (List ℕ)). IsNextFrom (system_of old.job) firing_le (IsKnownFrom old xs) done f) (sym (take-append-le n ls rest l)) p
+
+-- how many lines were read: r says it of the first firings, so many, and s of those behind them, by the lines behind the first ones
+module _ (many before : ℕ) (r s : ℕ → ℕ) where
+  abbrev pick : (n m : ℕ) → (m < many) ⊎ (many ≤ m) → ℕ
+  pick n m (inl l) = r n
+  pick n m (inr l) = before + s (n - many)
+
+  abbrev counts : ℕ → ℕ
+  counts n = pick n n (cases_lt n many)
+
+  below : (n : ℕ) → n < many → counts n ≡ r n
+  below n l = at (cases_lt n many)
+    where
+      at : (c : (n < many) ⊎ (many ≤ n)) → pick n n c ≡ r n
+      at (inl p) = refl
+      at (inr p) = absurd (omega (arith, l, p))
+
+  behind : (k n : ℕ) → n ≡ many + k → counts n ≡ before + s k
+  behind k n e = at (cases_lt n many)
+    where
+      at : (c : (n < many) ⊎ (many ≤ n)) → pick n n c ≡ before + s k
+      at (inl p) = absurd (omega (arith, e, p))
+      at (inr p) = let m : n - many ≡ k = omega (arith, e) in ap (λ (i : ℕ). before + s i) m
+
+  rises : ((n : ℕ) → r n ≤ r (n + 1)) → ((n : ℕ) → r n ≤ before) → ((n : ℕ) → s n ≤ s (n + 1)) → (n : ℕ) → counts n ≤ counts (n + 1)
+  rises rr rb sr n = at (cases_lt n many) (cases_lt (n + 1) many)
+    where
+      at : (c : (n < many) ⊎ (many ≤ n)) (d : (n + 1 < many) ⊎ (many ≤ n + 1)) → pick n n c ≤ pick (n + 1) (n + 1) d
+      at (inl p) (inl q) = rr n
+      at (inl p) (inr q) = let b = rb n in omega (arith, b)
+      at (inr p) (inl q) = absurd (omega (arith, p, q))
+      at (inr p) (inr q) =
+          let m : n + 1 - many ≡ n - many + 1 = omega (arith, p) in
+          let l : s (n - many) ≤ s (n + 1 - many) = subst (λ (i : ℕ). s (n - many) ≤ s i) (sym m) (sr (n - many)) in
+          omega (arith, l)
+
+  within : (most : ℕ) → ((n : ℕ) → r n ≤ before) → ((n : ℕ) → s n ≤ most) → (n : ℕ) → counts n ≤ before + most
+  within most rb sb n = at (cases_lt n many)
+    where
+      at : (c : (n < many) ⊎ (many ≤ n)) → pick n n c ≤ before + most
+      at (inl p) = let b = rb n in omega (arith, b)
+      at (inr p) = let b = sb (n - many) in omega (arith, b)
 
 -- and of those that were next behind them
 module _ (a b : State) (ls : List (List ℕ)) (fs : List Firing) (p : Gains a (λ f. IsAmong a.job ls f ⊎ Contains fs f) b) where
@@ -84,22 +127,38 @@ module _ (a b : State) (ls : List (List ℕ)) (fs : List Firing) (p : Gains a (�
   known_back xs ys gs e g (inr c) =
       elim (Contains-append_cases fs gs g c) [ inl k ↦ inl (inl ((p.taken g).1 (inr (inr k)))) | inr k ↦ inr k ]
 
-  was_next_behind : (xs ys : List (List ℕ)) (done : List Firing) (f : Firing) → fronts (longest + 1) xs ≡ fronts (longest + 1) ys → WasNext b xs done f → WasNext a (ls ++ ys) (fs ++ done) f
-  was_next_behind xs ys done f e (n, l, q) =
+  next_behind : (xs ys : List (List ℕ)) (done : List Firing) (f : Firing) (n : ℕ) → fronts (longest + 1) xs ≡ fronts (longest + 1) ys → NextAt b xs done f n → NextAt a (ls ++ ys) (fs ++ done) f (length ls + n)
+  next_behind xs ys done f n e q =
       let few : fronts (longest + 1) (take n xs) ≡ fronts (longest + 1) (take n ys) =
       sym (take-map (take (longest + 1)) n xs) ∙ ap (λ (zs : List (List ℕ)). take n zs) e ∙ take-map (take (longest + 1)) n ys in
       let moved : IsNextFrom (system_of a.job) firing_le (IsKnownFrom b (take n xs)) done f =
-      subst (λ (j : JobParts). IsNextFrom (system_of j) firing_le (IsKnownFrom b (take n xs)) done f) p.job q in (
-        length ls + n,
-        omega (arith, l, length-append ls ys, fronts_length (longest + 1) xs ys e),
-        subst (λ (zs : List (List ℕ)). IsNextFrom (system_of a.job) firing_le (IsKnownFrom a zs) (fs ++ done) f) (sym (take-append-add ls ys n))
-            (next_same (system_of a.job) firing_le (IsKnownFrom b (take n xs)) (IsKnownFrom a (ls ++ take n ys)) done (fs ++ done) f (known_to (take n xs) (take n ys) done few) (known_back (take n xs) (take n ys) done few) moved),
-      )
+      subst (λ (j : JobParts). IsNextFrom (system_of j) firing_le (IsKnownFrom b (take n xs)) done f) p.job q in
+      subst (λ (zs : List (List ℕ)). IsNextFrom (system_of a.job) firing_le (IsKnownFrom a zs) (fs ++ done) f) (sym (take-append-add ls ys n))
+      (next_same (system_of a.job) firing_le (IsKnownFrom b (take n xs)) (IsKnownFrom a (ls ++ take n ys)) done (fs ++ done) f (known_to (take n xs) (take n ys) done few) (known_back (take n xs) (take n ys) done few) moved)
 
   -- all that is fired
   pub fired_append : (xs ys : List (List ℕ)) (gs : List Firing) → fronts (longest + 1) xs ≡ fronts (longest + 1) ys → AreFired a ls fs → AreFired b xs gs → AreFired a (ls ++ ys) (fs ++ gs)
-  fired_append xs ys gs e first next =
-      each_append (WasNext a (ls ++ ys)) fs gs (λ k f at. was_next_more a ls ys (take k fs) f (first k f at)) (λ k f at. was_next_behind xs ys (take k gs) f e (next k f at))
+  fired_append xs ys gs e (r, rr, rb, first) (s, sr, sb, next) =
+      (counts (length fs) (length ls) r s, rises (length fs) (length ls) r s rr rb sr, most, each_append (WasNext a (ls ++ ys) (counts (length fs) (length ls) r s)) fs gs left right)
+    where
+      most : (n : ℕ) → counts (length fs) (length ls) r s n ≤ length (ls ++ ys)
+      most n =
+          let l = within (length fs) (length ls) r s (length xs) rb sb n in
+          let m = fronts_length (longest + 1) xs ys e in
+          let k = length-append ls ys in
+          omega (arith, l, m, k)
+
+      left : (k : ℕ) (f : Firing) → slice_get fs k ≡ Some f → NextAt a (ls ++ ys) (take k fs) f (counts (length fs) (length ls) r s (length (take k fs)))
+      left k f at =
+          let i = slice_get_within fs k f at in
+          let j = length-take k fs in
+          subst (NextAt a (ls ++ ys) (take k fs) f) (sym (below (length fs) (length ls) r s (length (take k fs)) (omega (arith, i, j))))
+          (next_more a ls ys (take k fs) f (r (length (take k fs))) (rb (length (take k fs))) (first k f at))
+
+      right : (k : ℕ) (f : Firing) → slice_get gs k ≡ Some f → NextAt a (ls ++ ys) (fs ++ take k gs) f (counts (length fs) (length ls) r s (length (fs ++ take k gs)))
+      right k f at =
+          subst (NextAt a (ls ++ ys) (fs ++ take k gs) f) (sym (behind (length fs) (length ls) r s (length (take k gs)) (length (fs ++ take k gs)) (length-append fs (take k gs))))
+          (next_behind xs ys (take k gs) f (s (length (take k gs))) e (next k f at))
 
   -- all that is taken
   pub gains_append : (xs ys : List (List ℕ)) (gs : List Firing) (c : State) → fronts (longest + 1) xs ≡ fronts (longest + 1) ys → Gains b (λ f. IsAmong b.job xs f ⊎ Contains gs f) c → Gains a (λ f. IsAmong a.job (ls ++ ys) f ⊎ Contains (fs ++ gs) f) c

@@ -1,12 +1,12 @@
 -- What the lines of one read do, line after line.
 use Rattle.std.specs.Prelude.{◌≡◌, ℕ, ◌+◌, ◌≤◌, List, [], ◌∷◌, ◌++◌, length, Ok, Err, Bool, Option, refl}
-use Rattle.std.proofs.Common.{sym, ◌∙◌, ap, subst, inl, arith, append_assoc, append-nil, length-append}
+use Rattle.std.proofs.Common.{sym, ◌∙◌, ap, subst, arith, append_assoc, append-nil, length-append}
 use Rattle.std.specs.Io.KnownBytes.{Appends}
 use Rattle.u_base.specs.Pieces.{pieces, IsCutInto}
 use Rattle.u_base.proofs.PiecesLaws.{pieces_free}
-use Rattle.u_share.specs.Lines.{first_of, IsBegun}
-use Rattle.u_share.specs.Members.{Member, member, Goes}
-use Rattle.u_share.specs.Hearing.{Stops, HearAnswer}
+use Rattle.u_share.specs.Lines.{first_of}
+use Rattle.u_share.specs.Headline.{Member, member, Goes}
+use Rattle.u_share.specs.Calls.{IsBegun, StopsAtLine, HearAnswer}
 use Rattle.u_share.specs.declared.fault.ShareFault.{ShareFault}
 use Rattle.u_share.specs.declared.fault.ShareFault.TheVariants as faults
 use Rattle.u_share.proofs.Pieces.{first_cut}
@@ -47,14 +47,14 @@ heard_next old bytes rest last others before m mid new after is_empty i (front, 
 pub heard_stop : (A : Type 0) (old : Member) (bytes rest last others : List ℕ) (before : Option (List ℕ)) (m : Member) (mid : Option (List ℕ)) (new : Member) (after : Option (List ℕ)) (fault : ShareFault) → IsCutInto 10 rest last others → HeardTo old bytes rest before m mid → HearAnswer {A = A} m (last ++ 10 ∷ []) mid (Err fault) new after → HearAnswer {A = A} old bytes before (Err fault) new after
 heard_stop A old bytes rest last others before m mid new after fault i (front, told, e, goes, w, few) (text, stops, at) = (
   told ++ text,
-  subst (λ (x : List ℕ). Stops old x [] (told ++ text) fault) (sym (whole bytes front rest last others e i))
-      (stops_longer old (front ++ (last ++ 10 ∷ [])) others [] (told ++ text) fault (stops_behind old m front (last ++ 10 ∷ []) [] [] told text fault goes stops)),
+  subst (λ (x : List ℕ). StopsAtLine old x (told ++ text) fault) (sym (whole bytes front rest last others e i))
+      (stops_longer old (front ++ (last ++ 10 ∷ [])) others (told ++ text) fault (stops_behind old m front (last ++ 10 ∷ []) told text fault goes stops)),
   fault_behind fault before mid after told text w at,
 )
 
 pub heard_no_memory : (A : Type 0) (old : Member) (bytes rest : List ℕ) (before : Option (List ℕ)) (m : Member) (mid : Option (List ℕ)) (b : Member) → HeardTo old bytes rest before m mid → HearAnswer {A = A} old bytes before (Err faults.NoMemory) b mid
 heard_no_memory A old bytes rest before m mid b (front, told, e, goes, w, few) =
-    (told, record { front = front; rest = rest; told = told; mid = m; cut = e; goes = goes; stop = tt; tells = inl refl }, front_all before mid told w)
+    (told, record { front = front; rest = rest; mid = m; cut = e; goes = goes; stop = tt }, front_all before mid told w)
 
 pub heard_all : (old : Member) (bytes rest : List ℕ) (before : Option (List ℕ)) (m : Member) (mid : Option (List ℕ)) (next : List ℕ) (n : ℕ) (has_empty : Bool) → pieces 10 rest ≡ ([], rest) → HeardTo old bytes rest before m mid → next ≡ first_of (m.begun ++ rest) → n ≡ m.ended → HearAnswer old bytes before (Ok has_empty) (member m.machine next n) mid
 heard_all old bytes rest before m mid next n has_empty f (front, told, e, goes, w, few) o c =

@@ -9,10 +9,9 @@ use Rattle.u_machine.specs.Calls.{Fires}
 use Rattle.u_machine.specs.declared.answer.Ran.{Ran}
 use Rattle.u_machine.specs.declared.answer.Ran.TheVariants as ran
 use Rattle.u_machine.proofs.Runs.{Fires-push, Fires-applies}
-use Rattle.u_share.specs.Outputs.{WritesFront}
-use Rattle.u_share.specs.Notices.{Tells}
-use Rattle.u_share.specs.Members.{text_of}
-use Rattle.u_share.specs.Bursts.{line_of, FireNextAnswer, Prints, PutAnswer, BurstWith, BurstAnswer}
+use Rattle.u_share.specs.Lines.{text_of}
+use Rattle.u_share.specs.Headline.{WritesFront}
+use Rattle.u_share.specs.Calls.{Tells, line_of, FireNextAnswer, Prints, PutAnswer, BurstWith, BurstAnswer}
 use Rattle.u_share.specs.declared.fault.ShareFault.{ShareFault}
 use Rattle.u_share.specs.declared.fault.ShareFault.TheVariants as faults
 use Rattle.u_share.proofs.Written.{appends_more, appends_none, front_none}

@@ -22,11 +22,9 @@ use Rattle.u_rule.proofs.FiringReadingLaws.{firing_Reads}
 use Rattle.u_machine.specs.State.{State, Taken, IsMachine}
 use Rattle.u_machine.proofs.States.{settled_is_Cl}
 use Rattle.u_machine.proofs.Counting.{no_more}
-use Rattle.u_share.specs.Lines.{longest, first_of, IsAmong}
-use Rattle.u_share.specs.Members.{Member, member, WasNext, AreFired, Goes}
-use Rattle.u_share.specs.Bursts.{IsAtEnd}
-use Rattle.u_share.specs.Turns.{Streams, open_notice, IsLast, EndsSo}
-use Rattle.u_share.specs.Headline.{blank, newcomer, IsTrueFiring, AreTrueLines, HasWhole, Shares, Agree}
+use Rattle.u_share.specs.Lines.{longest, first_of, IsAmong, open_notice}
+use Rattle.u_share.specs.Headline.{Streams, Member, member, WasNext, AreFired, Goes, blank, newcomer, IsTrueFiring, AreTrueLines, IsQuietAndWhole, HasWhole, IsLast, Shares, Agree}
+use Rattle.u_share.specs.Calls.{EndsSo}
 use Rattle.u_share.specs.declared.ended.Ended.{Ended}
 use Rattle.u_share.specs.declared.ended.Ended.TheVariants as ended
 
@@ -43,29 +41,29 @@ derived {E} {F} s fs d =
 
 -- what was printed is true, and none of it twice
 printed_true : (job : JobParts) (limit : ℕ) (ls : List (List ℕ)) (fs : List Firing) → AreFired (blank job limit) ls fs → Distinct fs × ((f : Firing) → Contains fs f → IsTrueFiring job f)
-printed_true job limit ls fs each =
-    EachPlace-along (WasNext (blank job limit) ls) (λ gs. Distinct gs × ((f : Firing) → Contains gs f → IsTrueFiring job f)) (tt, λ f m. absurd (Contains-nil f m)) more fs each
+printed_true job limit ls fs (read, rises, within, each) =
+    EachPlace-along (WasNext (blank job limit) ls read) (λ gs. Distinct gs × ((f : Firing) → Contains gs f → IsTrueFiring job f)) (tt, λ f m. absurd (Contains-nil f m)) more fs each
   where
-    more : (gs : List Firing) (f : Firing) → Distinct gs × ((g : Firing) → Contains gs g → IsTrueFiring job g) → WasNext (blank job limit) ls gs f → Distinct (gs ++ f ∷ []) × ((g : Firing) → Contains (gs ++ f ∷ []) g → IsTrueFiring job g)
-    more gs f q (n, l, p) = (
+    more : (gs : List Firing) (f : Firing) → Distinct gs × ((g : Firing) → Contains gs g → IsTrueFiring job g) → WasNext (blank job limit) ls read gs f → Distinct (gs ++ f ∷ []) × ((g : Firing) → Contains (gs ++ f ∷ []) g → IsTrueFiring job g)
+    more gs f q p = (
       Distinct-push gs f (λ c. p.new (inr c)) q.0,
       λ g m. elim (Contains-push_cases gs f g m) [ inl k ↦ q.1 g k | inr e ↦ subst (λ (x : Firing). IsTrueFiring job x) e (Enabled-mono (system_of job) _ (Whole (system_of job)) (Cl-whole (system_of job) _) f p.enabled) ],
     )
 
 -- a machine that is quiet has applied exactly the true firings
-module _ (m : State) (is : IsMachine m) (q : IsAtEnd m) where
+module _ (m : State) (is : IsMachine m) (q : IsQuietAndWhole m) where
   in_history : (e : Entry) → Whole (system_of m.job) e → Contains m.history e
-  in_history e w = (q.whole.1 e).1 w
+  in_history e w = (q.1.1 e).1 w
 
   logged_true : (f : Firing) → Contains m.log f → IsTrueFiring m.job f
   logged_true f k = (derived (system_of m.job) m.log is.sound.derivation).1 f k
 
   unparked : (f : Firing) → IsTrueFiring m.job f → Contains m.parked f → ⊥
-  unparked f t k = q.settled.none f k (Enabled-mono (system_of m.job) (Whole (system_of m.job)) (Contains m.history) in_history f t)
+  unparked f t k = q.0.0.none f k (Enabled-mono (system_of m.job) (Whole (system_of m.job)) (Contains m.history) in_history f t)
 
   true_taken : (f : Firing) → IsTrueFiring m.job f → Taken m f
   true_taken f t =
-      q.nothing f (Enabled-mono (system_of m.job) (Whole (system_of m.job)) (Cl (system_of m.job) (Taken m)) (λ e w. ((settled_is_Cl m is.sound q.settled).0 e).0 (in_history e w)) f t)
+      q.0.1 f (Enabled-mono (system_of m.job) (Whole (system_of m.job)) (Cl (system_of m.job) (Taken m)) (λ e w. ((settled_is_Cl m is.sound q.0.0).0 e).0 (in_history e w)) f t)
 
   true_logged : (f : Firing) → IsTrueFiring m.job f → Contains m.log f
   true_logged f t = elim (Contains-append_cases m.log m.parked f (true_taken f t)) [ inl a ↦ a | inr b ↦ absurd (unparked f t b) ]
@@ -81,7 +79,7 @@ no_members : {X : Type 0} (xs : List X) → ((x : X) → Contains xs x → ⊥) 
 no_members [] n = refl
 no_members (x ∷ xs) n = absurd (n x (Contains-head x xs))
 
-module _ (job : JobParts) (limit : ℕ) (bytes : List ℕ) (printed : List Firing) (told o : List ℕ) (n : ℕ) (m : State) (p : Goes (newcomer job limit) bytes printed told (member m o n)) (is : IsMachine m) (q : IsAtEnd m) where
+module _ (job : JobParts) (limit : ℕ) (bytes : List ℕ) (printed : List Firing) (told o : List ℕ) (n : ℕ) (m : State) (p : Goes (newcomer job limit) bytes printed told (member m o n)) (is : IsMachine m) (q : IsQuietAndWhole m) where
   taken_is : (f : Firing) → Taken m f ↔ (IsAmong job (lines bytes) f ⊎ Contains printed f)
   taken_is f = ((λ t. elim ((p.gains.taken f).0 t) [ inl x ↦ absurd (Contains-nil f x) | inr y ↦ y ]), λ s. (p.gains.taken f).1 (inr s))
 
@@ -137,10 +135,10 @@ last_is m left ended.Quiet last r o n k e c p = p
 last_is m left ended.Input last r o n k e c (end, p) =
     (end, p ∙ ap (λ (x : List ℕ). open_notice x n) e ∙ same_last r n ∙ ap (λ (i : ℕ). open_notice r i) (sym c))
 
-pub shares : (job : JobParts) (limit : ℕ) (before after : Streams) (new : Member) (end : Ended) → EndsSo (newcomer job limit) new before after end → IsMachine new.machine → IsAtEnd new.machine → Shares job limit before after new.machine end
+pub shares : (job : JobParts) (limit : ℕ) (before after : Streams) (new : Member) (end : Ended) → EndsSo (newcomer job limit) new before after end → IsMachine new.machine → IsQuietAndWhole new.machine → Shares job limit before after new.machine end
 shares job limit before after new end p is q = record {
   bytes = p.bytes;
-  printed = p.fired;
+  fired = p.fired;
   told = p.told;
   last = p.last;
   has = has_whole job limit p.bytes p.fired p.told new.begun new.ended new.machine p.goes is q;
@@ -151,20 +149,20 @@ shares job limit before after new end p is q = record {
 
 -- two members agree
 
-few : (a b : State) → IsMachine a → IsMachine b → IsAtEnd a → IsAtEnd b → b.job ≡ a.job → length a.log ≤ length b.log
+few : (a b : State) → IsMachine a → IsMachine b → IsQuietAndWhole a → IsQuietAndWhole b → b.job ≡ a.job → length a.log ≤ length b.log
 few a b ia ib qa qb e =
     no_more a.log b.log (Distinct-left a.log a.parked ia.sound.distinct) (λ f k. true_logged b ib qb f (subst (λ (j : JobParts). IsTrueFiring j f) (sym e) (logged_true a ia qa f k)))
 
-pub counts_agree : (a b : State) → IsMachine a → IsMachine b → IsAtEnd a → IsAtEnd b → b.job ≡ a.job → length b.log ≡ length a.log
+pub counts_agree : (a b : State) → IsMachine a → IsMachine b → IsQuietAndWhole a → IsQuietAndWhole b → b.job ≡ a.job → length b.log ≡ length a.log
 counts_agree a b ia ib qa qb e =
     let x = few a b ia ib qa qb e in
     let y = few b a ib ia qb qa (sym e) in
     omega (arith, x, y)
 
-pub holds_agree : (a b : State) → IsAtEnd a → IsAtEnd b → b.job ≡ a.job → Same (Contains b.history) (Contains a.history)
+pub holds_agree : (a b : State) → IsQuietAndWhole a → IsQuietAndWhole b → b.job ≡ a.job → Same (Contains b.history) (Contains a.history)
 holds_agree a b qa qb e x = (
-  (λ k. (qa.whole.1 x).1 (subst (λ (j : JobParts). Whole (system_of j) x) e ((qb.whole.1 x).0 k))),
-  λ k. (qb.whole.1 x).1 (subst (λ (j : JobParts). Whole (system_of j) x) (sym e) ((qa.whole.1 x).0 k)),
+  (λ k. (qa.1.1 x).1 (subst (λ (j : JobParts). Whole (system_of j) x) e ((qb.1.1 x).0 k))),
+  λ k. (qb.1.1 x).1 (subst (λ (j : JobParts). Whole (system_of j) x) (sym e) ((qa.1.1 x).0 k)),
 )
 
 pub members_agree : (a b : State) → IsMachine a → IsMachine b → Agree a b

@@ -5,8 +5,7 @@ use Rattle.std.proofs.lemmas.List.Elements.{Contains-append_left, Contains-appen
 use Rattle.u_base.proofs.Member.{Contains-nil, Contains-head, Contains-tail, Contains-cons_cases}
 use Rattle.u_check.specs.Jobs.{JobParts}
 use Rattle.u_rule.specs.declared.firing.Firing.{Firing}
-use Rattle.u_share.specs.Lines.{longest, first_of, IsLineOf, IsAmong}
-use Rattle.u_share.specs.Notices.{IsFaultOf, IsSeenAs, IsTold, AreTold}
+use Rattle.u_share.specs.Lines.{longest, first_of, IsLineOf, IsAmong, IsFaultOf, IsSeenAs, IsTold, AreTold}
 use Rattle.u_share.specs.declared.line_fault.LineFault.{LineFault}
 use Rattle.u_share.specs.declared.line_fault.LineFault.TheVariants.{TooLong, NotAllowed, NotOfThisJob, CutShort}
 use Rattle.u_share.proofs.Fronts.{fronts, short_same, long_same}

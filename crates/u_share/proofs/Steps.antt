@@ -1,28 +1,21 @@
 -- The steps of a turn, one after another.
-use Rattle.std.specs.Prelude.{◌≡◌, ℕ, List, [], ◌+◌, Ok, Err, Bool, true, false, Option, Some, None, refl}
+use Rattle.std.specs.Prelude.{◌≡◌, ℕ, List, [], Ok, Err, Bool, true, false, Option, Some, None, refl}
 use Rattle.std.proofs.Common.{sym, subst, arith}
-use Rattle.std.specs.Io.KnownBytes.{Consumes}
 use Rattle.u_base.specs.Pieces.{pieces}
 use Rattle.u_check.specs.Jobs.{JobParts}
 use Rattle.u_machine.specs.State.{State, IsMachine}
 use Rattle.u_machine.specs.declared.answer.Ran.{Ran}
 use Rattle.u_machine.specs.declared.answer.Ran.TheVariants as ran
-use Rattle.u_share.specs.Lines.{IsBegun}
-use Rattle.u_share.specs.Members.{Member, member}
-use Rattle.u_share.specs.Turns.{Streams, streams, ReadAnswer, LeadAnswer, QuietAnswer, HeardAnswer, TurnAnswer, GoesOn, EndsSo, StopsSo}
-use Rattle.u_share.specs.Bursts.{BurstAnswer, IsAtEnd}
-use Rattle.u_share.specs.Headline.{blank, newcomer, Shares, PartAnswer}
+use Rattle.u_share.specs.Headline.{Streams, streams, Member, member, blank, newcomer, IsQuietAndWhole, Shares, StopsSo}
+use Rattle.u_share.specs.Calls.{IsBegun, BurstAnswer, LeadAnswer, QuietAnswer, GoesOn, EndsSo, HeardAnswer, TurnAnswer, PartAnswer}
 use Rattle.u_share.specs.declared.fault.ShareFault.{ShareFault}
 use Rattle.u_share.specs.declared.fault.ShareFault.TheVariants as faults
 use Rattle.u_share.specs.declared.ended.Ended.{Ended}
 use Rattle.u_share.specs.declared.ended.Ended.TheVariants as ended
 use Rattle.u_share.proofs.Written.{appends_none, consumes_none}
 use Rattle.u_share.proofs.Ending.{goes_nothing, begun_after}
-use Rattle.u_share.proofs.Turned.{lead_goes, stays_on, stop_now, then_on, then_stops, then_ends, ends_quiet, none_read, heard_on, heard_ends, heard_stops, part_fires}
+use Rattle.u_share.proofs.Turned.{lead_goes, stays_on, stop_now, then_on, then_stops, then_ends, ends_quiet, part_fires}
 use Rattle.u_share.proofs.Quieted.{shares}
-
-pub read_none : (r l : Option (List ℕ)) (chunk : List ℕ) (count : ℕ) → ReadAnswer r (Ok count) chunk l → count ≡ 0 → Consumes r l []
-read_none r l chunk count (few, c, end) e = none_read r l chunk count e c
 
 pub on_nothing : (m : Member) (s : Streams) → IsBegun m.begun → GoesOn m m s s
 on_nothing m s h = record {
@@ -55,21 +48,21 @@ quiet_stops old m new o e r w v n faults.NoMemory h lead x =
 -- and then it read
 pub read_stops : (old m k : State) (new : Member) (o : List ℕ) (e : ℕ) (r w v n left after : Option (List ℕ)) (is : Bool) (fault : ShareFault) → IsBegun o → LeadAnswer old w (Ok tt) m v → QuietAnswer m (Ok is) k → HeardAnswer (member k o e) r n (Err fault) new left after → StopsSo (member old o e) (streams r w n) (streams left v after) fault
 read_stops old m k new o e r w v n left after is fault h lead stays heard =
-    then_stops (member old o e) (member k o e) (streams r w n) (streams r v n) (streams left v after) fault (quiet_on old m k o e r w v n is h lead stays) (heard_stops (member k o e) new r left v n after fault heard)
+    then_stops (member old o e) (member k o e) (streams r w n) (streams r v n) (streams left v after) fault (quiet_on old m k o e r w v n is h lead stays) (heard v)
 
 pub read_ends : (old m k : State) (new : Member) (o : List ℕ) (e : ℕ) (r w v n left after : Option (List ℕ)) (is at_end : Bool) → IsBegun o → LeadAnswer old w (Ok tt) m v → QuietAnswer m (Ok is) k → at_end ≡ true → HeardAnswer (member k o e) r n (Ok at_end) new left after → EndsSo (member old o e) new (streams r w n) (streams left v after) ended.Input
 read_ends old m k new o e r w v n left after is at_end h lead stays is_so heard =
     then_ends (member old o e) (member k o e) new (streams r w n) (streams r v n) (streams left v after) ended.Input (quiet_on old m k o e r w v n is h lead stays)
-    (heard_ends (member k o e) new r left v n after h (subst (λ (b : Bool). HeardAnswer (member k o e) r n (Ok b) new left after) is_so heard))
+    (subst (λ (b : Bool). HeardAnswer (member k o e) r n (Ok b) new left after) is_so heard v)
 
 pub read_on : (old m k : State) (new : Member) (o : List ℕ) (e : ℕ) (r w v n left after : Option (List ℕ)) (is at_end : Bool) → IsBegun o → LeadAnswer old w (Ok tt) m v → QuietAnswer m (Ok is) k → at_end ≡ false → HeardAnswer (member k o e) r n (Ok at_end) new left after → GoesOn (member old o e) new (streams r w n) (streams left v after)
 read_on old m k new o e r w v n left after is at_end h lead stays is_so heard =
     then_on (member old o e) (member k o e) new (streams r w n) (streams r v n) (streams left v after) (quiet_on old m k o e r w v n is h lead stays)
-    (heard_on (member k o e) new r left v n after (subst (λ (b : Bool). HeardAnswer (member k o e) r n (Ok b) new left after) is_so heard))
+    (subst (λ (b : Bool). HeardAnswer (member k o e) r n (Ok b) new left after) is_so heard v)
 
 -- turns, one after another
 pub turns_stop : (a b : Member) (s t : Streams) → GoesOn a b s t → StopsSo a s t faults.NotReadable
-turns_stop a b s t p = then_stops a b s t t faults.NotReadable p (stop_now b t faults.NotReadable (on_begun a b s t p) tt)
+turns_stop a b s t p = then_stops a b s t t faults.NotReadable p (stop_now b t faults.NotReadable (on_begun a b s t p) refl)
 
 pub turns_end : (a b c : Member) (s t u : Streams) (x : Option Ended) (end : Ended) → GoesOn a b s t → x ≡ Some end → TurnAnswer b t (Ok x) c u → EndsSo a c s u end
 turns_end a b c s t u x end p e ans = then_ends a b c s t u end p (subst (λ (y : Option Ended). TurnAnswer b t (Ok y) c u) e ans)
@@ -77,24 +70,13 @@ turns_end a b c s t u x end p e ans = then_ends a b c s t u end p (subst (λ (y 
 pub turns_on : (a b c : Member) (s t u : Streams) (x : Option Ended) → GoesOn a b s t → x ≡ None → TurnAnswer b t (Ok x) c u → GoesOn a c s u
 turns_on a b c s t u x p e ans = then_on a b c s t u p (subst (λ (y : Option Ended). TurnAnswer b t (Ok y) c u) e ans)
 
--- the last burst: there is no room for so many firings
-pub never_paused : (a b : Member) (s t : Streams) (w v : Option (List ℕ)) (end : Ended) (limit times : ℕ) (how : Ran) (k : State) → a.machine.limit ≡ limit → times ≡ limit + 1 → EndsSo a b s t end → how ≡ ran.Paused → BurstAnswer b.machine times w (Ok how) k v → IsMachine k → ⊥
-never_paused a b s t w v end limit times how k room count p e ans is = spent (subst (λ (y : Ran). BurstAnswer b.machine times w (Ok y) k v) e ans)
-  where
-    spent : BurstAnswer b.machine times w (Ok ran.Paused) k v → ⊥
-    spent (gs, r, prints, n) =
-        let within = is.sound.within in
-        let same = r.grows.limit in
-        let kept = p.goes.gains.limit in
-        let more = r.count in
-        omega (arith, room, count, n, within, same, kept, more)
-
+-- the last burst
 pub part_ends : (a b : Member) (s : Streams) (r w v n : Option (List ℕ)) (end : Ended) (times : ℕ) (how : Ran) (k : State) → EndsSo a b s (streams r w n) end → how ≡ ran.Quiet → BurstAnswer b.machine times w (Ok how) k v → PartAnswer a s (Ok end) (member k b.begun b.ended) (streams r v n)
 part_ends a b s r w v n end times how k p e ans =
     let quiet = subst (λ (y : Ran). BurstAnswer b.machine times w (Ok y) k v) e ans in
     (part_fires a b s r w v n end times ran.Quiet k p quiet, at_end quiet)
   where
-    at_end : BurstAnswer b.machine times w (Ok ran.Quiet) k v → IsAtEnd k
+    at_end : BurstAnswer b.machine times w (Ok ran.Quiet) k v → IsQuietAndWhole k
     at_end (gs, fires, prints, q) = q
 
 -- a member that has read nothing

@@ -11,9 +11,9 @@ use Rattle.u_machine.specs.Calls.{Applies, Takes, TakeAnswer}
 use Rattle.u_machine.specs.declared.answer.Took.{Took}
 use Rattle.u_machine.specs.declared.answer.Took.TheVariants as took
 use Rattle.u_machine.specs.declared.answer.TakeRefusal.TheVariants as untaken
-use Rattle.u_share.specs.Members.{Gains}
 use Rattle.u_share.specs.Lines.{longest, IsLineOf}
-use Rattle.u_share.specs.Taking.{Stays, FiringAnswer, LineAnswer}
+use Rattle.u_share.specs.Headline.{Gains}
+use Rattle.u_share.specs.Calls.{Stays, FiringAnswer, LineAnswer}
 use Rattle.u_share.specs.declared.line_fault.LineFault.{LineFault}
 use Rattle.u_share.specs.declared.line_fault.LineFault.TheVariants.{TooLong, NotAllowed, NotOfThisJob, CutShort}
 use Rattle.u_share.specs.declared.fault.ShareFault.{ShareFault}

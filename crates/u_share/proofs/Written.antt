@@ -1,8 +1,7 @@
 -- Known bytes of readers and writers, one call after another.
 use Rattle.std.proofs.Common.{◌∙◌, sym, ap, refl, ℕ, List, [], ◌++◌, Option, Some, None, append_assoc, append-nil}
 use Rattle.std.specs.Io.KnownBytes.{Appends, Keeps, Consumes}
-use Rattle.u_share.specs.Outputs.{WritesFront}
-use Rattle.u_share.specs.Hearing.{WritesAt}
+use Rattle.u_share.specs.Headline.{WritesFront, WritesAt}
 use Rattle.u_share.specs.declared.fault.ShareFault.{ShareFault}
 use Rattle.u_share.specs.declared.fault.ShareFault.TheVariants as faults
 

@@ -1,9 +1,3 @@
 pub mod Lines
-pub mod Notices
-pub mod Outputs
-pub mod Members
-pub mod Taking
-pub mod Hearing
-pub mod Bursts
-pub mod Turns
 pub mod Headline
+pub mod Calls

@@ -1,8 +1,7 @@
 //! Firings that a member fires and prints.
 ghost use Rattle.std.specs.Prelude.{◌≡◌, ◌++◌, [], OnOk, OnErr, IfOk, slice_get, Some, MatchResult};
 ghost use Rattle.u_rule.specs.declared.firing.Firing.{Firing};
-ghost use Rattle.u_share.specs.Notices.{Tells};
-ghost use Rattle.u_share.specs.Bursts.{line_of, FireNextAnswer, PutAnswer, BurstWith, BurstAnswer};
+ghost use Rattle.u_share.specs.Calls.{Tells, line_of, FireNextAnswer, PutAnswer, BurstWith, BurstAnswer};
 
 use crate::fault::ShareFault;
 use crate::output::write_out;

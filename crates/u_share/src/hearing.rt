@@ -1,9 +1,8 @@
 //! What the bytes of one read do.
 ghost use Rattle.std.specs.Prelude.{◌≡◌, ◌≤◌, ◌<◌, ◌+◌, ◌-◌, ◌^◌, ◌++◌, ◌∷◌, [], OnOk, length};
 ghost use Rattle.u_base.specs.Pieces.{pieces};
-ghost use Rattle.u_share.specs.Lines.{IsBegun};
-ghost use Rattle.u_share.specs.Members.{member};
-ghost use Rattle.u_share.specs.Hearing.{HearAnswer};
+ghost use Rattle.u_share.specs.Headline.{member};
+ghost use Rattle.u_share.specs.Calls.{IsBegun, HearAnswer};
 
 use crate::fault::ShareFault;
 use crate::splitting::Splitter;

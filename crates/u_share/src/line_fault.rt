@@ -1,6 +1,6 @@
 //! Why a line of the bus is skipped.
 ghost use Rattle.std.specs.Prelude.{◌≡◌};
-ghost use Rattle.u_share.specs.Notices.{words_of};
+ghost use Rattle.u_share.specs.Lines.{words_of};
 
 /// Why a line of the bus is skipped.
 #[derive(Clone, Copy, PartialEq, Eq, Debug)]

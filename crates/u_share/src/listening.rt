@@ -2,11 +2,9 @@
 //!
 //! All is done in one thread, so what a member read and printed is said of its reader and its writer.
 ghost use Rattle.std.specs.Prelude.{◌≡◌, ◌≤◌, ◌<◌, ◌+◌, ◌-◌, ◌^◌, OnOk, length};
-ghost use Rattle.u_share.specs.Lines.{IsBegun};
-ghost use Rattle.u_share.specs.Notices.{Tells};
-ghost use Rattle.u_share.specs.Members.{member};
-ghost use Rattle.u_share.specs.Hearing.{HearAnswer};
-ghost use Rattle.u_share.specs.Turns.{streams, QuietAnswer, ReadAnswer, HeardAnswer, open_notice, LeadAnswer, TurnAnswer, ListenAnswer};
+ghost use Rattle.u_share.specs.Lines.{open_notice};
+ghost use Rattle.u_share.specs.Headline.{streams, member};
+ghost use Rattle.u_share.specs.Calls.{IsBegun, Tells, HearAnswer, LeadAnswer, QuietAnswer, ReadAnswer, HeardAnswer, TurnAnswer, ListenAnswer};
 
 use crate::bursting::burst;
 use crate::bus::Bus;

@@ -3,7 +3,7 @@
 //! They are whole lines, 4,096 bytes at most, so that a member that is killed cuts no line on a pipe.
 ghost use Rattle.std.specs.Prelude.{◌≡◌, ◌≤◌, OnOk, OnErr, length, drop};
 ghost use Rattle.std.specs.Io.KnownBytes.{Appends, Keeps};
-ghost use Rattle.u_share.specs.Outputs.{WritesFront};
+ghost use Rattle.u_share.specs.Headline.{WritesFront};
 
 use std::io::Write;
 

@@ -1,9 +1,7 @@
 //! One member of a bus.
 ghost use Rattle.std.specs.Prelude.{◌≡◌, ◌≤◌, [], length, take, IfOk};
-ghost use Rattle.u_share.specs.Lines.{IsBegun};
-ghost use Rattle.u_share.specs.Members.{member};
-ghost use Rattle.u_share.specs.Turns.{streams};
-ghost use Rattle.u_share.specs.Headline.{PartAnswer, ShareAnswer, Agree};
+ghost use Rattle.u_share.specs.Headline.{streams, member, ShareAnswer, Agree};
+ghost use Rattle.u_share.specs.Calls.{IsBegun, PartAnswer};
 
 use crate::bursting::burst;
 use crate::bus::{Bus, Plan};
@@ -56,17 +54,17 @@ fn take_part<R: Read, W: Write, N: Write>(
 /// Promise member-takes: the machine took exactly the firings of the job among the lines of all bytes that
 /// were read, and those that it printed.
 ///
-/// Promise member-prints: each firing of its own is printed once, was the least ready one as it was fired,
-/// and is one that some run makes.
+/// Promise member-prints: each firing of its own is printed once, was the least ready one once so many lines
+/// were read, no fewer than for those before it, and is one that some run makes.
 ///
 /// Promise member-is-whole: if a machine is returned, nothing is ready in it, and its history is the job's
 /// whole one, whatever was read.
 ///
 /// Promise member-tells: exactly the lines that are not empty and no firing of the job are told of, in order,
-/// each with its number and its fault.
+/// each with its number and its fault; and where the input ended, an open line.
 ///
-/// Promise member-stops: after an error the same is true of what was read till then, and a front of the
-/// output is written.
+/// Promise member-stops: after an error the same is true of what was gone through, and a front of the output
+/// is written. If a read failed, that is all that was read, and no open line is told of.
 ///
 /// # Errors
 /// `Full` where there is no room for a firing that is ready, or for one that was read. `NotReadable` where

@@ -1,5 +1,5 @@
 //! What one line does.
-ghost use Rattle.u_share.specs.Taking.{FiringAnswer, LineAnswer, TakeLineAnswer};
+ghost use Rattle.u_share.specs.Calls.{FiringAnswer, LineAnswer, TakeLineAnswer};
 
 use crate::fault::ShareFault;
 use crate::line_fault::LineFault;

@@ -1,7 +1,8 @@
 //! Notices of lines that are skipped.
 ghost use Rattle.std.specs.Prelude.{◌≡◌, ◌++◌, IfOk, MatchResult};
 ghost use Rattle.std.specs.Io.KnownBytes.{Appends};
-ghost use Rattle.u_share.specs.Notices.{notice, Tells};
+ghost use Rattle.u_share.specs.Lines.{notice};
+ghost use Rattle.u_share.specs.Calls.{Tells};
 
 use crate::fault::ShareFault;
 use crate::line_fault::LineFault;

@@ -1,8 +1,7 @@
 use Rattle.std.proofs.Common.{List, ℕ, subst, Ok, Err}
 use Rattle.std.specs.Prelude.{Result}
 use Rattle.u_machine.specs.declared.answer.Ran.{Ran}
-use Rattle.u_share.specs.Notices.{Tells}
-use Rattle.u_share.specs.Bursts.{BurstAnswer}
+use Rattle.u_share.specs.Calls.{Tells, BurstAnswer}
 use Rattle.u_share.specs.declared.fault.ShareFault.{ShareFault}
 use Rattle.u_share.proofs.Faults.{by_fault}
 use Rattle.u_share.proofs.Printing.{burst_ends, burst_full, burst_unwritten, full_unwritten}

@@ -1,7 +1,7 @@
 use Rattle.std.proofs.Common.{rules, ◌≡◌, true, false}
 use Rattle.std.specs.Prelude.{Result}
 use Rattle.u_machine.specs.declared.answer.Ran.{Ran}
-use Rattle.u_share.specs.Bursts.{BurstWith}
+use Rattle.u_share.specs.Calls.{BurstWith}
 use Rattle.u_share.specs.declared.fault.ShareFault.{ShareFault}
 use Rattle.u_share.proofs.Faults.{by_fault}
 use Rattle.u_share.proofs.Fired.{fired_none, fired_fails, fired_quiet, fired_unput, fired_more}

@@ -1,8 +1,8 @@
 use Rattle.std.proofs.Common.{◌≡◌, length, List}
 use Rattle.u_rule.specs.declared.firing.Firing.{Firing}
 use Rattle.u_machine.specs.Calls.{Fires}
-use Rattle.u_share.specs.Members.{text_of}
-use Rattle.u_share.specs.Bursts.{Prints}
+use Rattle.u_share.specs.Lines.{text_of}
+use Rattle.u_share.specs.Calls.{Prints}
 use Rattle.u_share.proofs.bursting.fire_into.Given as goal
 
 abbrev pub invariant-loop-made : goal.invariant-loop-made

@@ -5,7 +5,7 @@ use Rattle.u_share.proofs.bursting.fire_next.Goals as goal
 pub returns-in-Ok-Quiet : goal.returns-in-Ok-Quiet
 returns-in-Ok-Quiet c =
     let a = rw c.in-Ok-Quiet.field-0-is at c.in-Ok-Quiet.ensures in
-    (a.1.applies, record { settled = a.1.settled; nothing = nothing_after c.args.machine.now c.fire.new.self a.1.applies a.0; whole = a.2 })
+    (a.1.applies, ((a.1.settled, nothing_after c.args.machine.now c.fire.new.self a.1.applies a.0), a.2))
 
 pub returns-in-Err-Full : goal.returns-in-Err-Full
 returns-in-Err-Full c =

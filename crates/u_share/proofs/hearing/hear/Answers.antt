@@ -1,7 +1,7 @@
 use Rattle.std.proofs.Common.{Bool}
 use Rattle.std.specs.Prelude.{Result}
-use Rattle.u_share.specs.Members.{member}
-use Rattle.u_share.specs.Hearing.{HearAnswer}
+use Rattle.u_share.specs.Headline.{member}
+use Rattle.u_share.specs.Calls.{HearAnswer}
 use Rattle.u_share.specs.declared.fault.ShareFault.{ShareFault}
 use Rattle.u_share.specs.declared.fault.ShareFault.TheVariants as faults
 use Rattle.u_share.proofs.Faults.{by_fault}

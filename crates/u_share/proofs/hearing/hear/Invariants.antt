@@ -1,6 +1,6 @@
 use Rattle.std.proofs.Common.{◌≡◌, ◌≤◌, ◌+◌, ◌++◌, [], List, ℕ, length}
 use Rattle.std.specs.Io.KnownBytes.{Appends}
-use Rattle.u_share.specs.Members.{member, Goes}
+use Rattle.u_share.specs.Headline.{member, Goes}
 use Rattle.u_share.proofs.hearing.hear.Given as goal
 
 abbrev pub invariant-loop-last : goal.invariant-loop-last

@@ -1,6 +1,6 @@
 use Rattle.std.proofs.Common.{◌≤◌, ◌*◌}
-use Rattle.u_share.specs.Members.{member}
-use Rattle.u_share.specs.Turns.{streams, GoesOn}
+use Rattle.u_share.specs.Headline.{streams, member}
+use Rattle.u_share.specs.Calls.{GoesOn}
 use Rattle.u_share.proofs.listening.listen.Given as goal
 
 abbrev pub invariant-loop-made : goal.invariant-loop-made

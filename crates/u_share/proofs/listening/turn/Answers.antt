@@ -1,7 +1,7 @@
 use Rattle.std.proofs.Common.{rules, ◌≡◌, true, false, Option}
 use Rattle.std.specs.Prelude.{Result}
-use Rattle.u_share.specs.Members.{member}
-use Rattle.u_share.specs.Turns.{streams, TurnAnswer}
+use Rattle.u_share.specs.Headline.{streams, member}
+use Rattle.u_share.specs.Calls.{TurnAnswer}
 use Rattle.u_share.specs.declared.ended.Ended.{Ended}
 use Rattle.u_share.specs.declared.fault.ShareFault.{ShareFault}
 use Rattle.u_share.proofs.Faults.{by_fault}

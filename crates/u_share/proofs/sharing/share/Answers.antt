@@ -1,7 +1,5 @@
 use Rattle.std.specs.Prelude.{Result}
-use Rattle.u_share.specs.Members.{member}
-use Rattle.u_share.specs.Turns.{streams}
-use Rattle.u_share.specs.Headline.{ShareAnswer}
+use Rattle.u_share.specs.Headline.{streams, member, ShareAnswer}
 use Rattle.u_machine.specs.State.{State}
 use Rattle.u_share.specs.declared.ended.Ended.{Ended}
 use Rattle.u_share.specs.declared.fault.ShareFault.{ShareFault}

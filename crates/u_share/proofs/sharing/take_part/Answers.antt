@@ -1,8 +1,7 @@
 use Rattle.std.proofs.Common.{◌+◌}
 use Rattle.std.specs.Prelude.{Result}
-use Rattle.u_share.specs.Members.{member}
-use Rattle.u_share.specs.Turns.{streams}
-use Rattle.u_share.specs.Headline.{PartAnswer}
+use Rattle.u_share.specs.Headline.{streams, member}
+use Rattle.u_share.specs.Calls.{PartAnswer}
 use Rattle.u_share.specs.declared.ended.Ended.{Ended}
 use Rattle.u_share.specs.declared.fault.ShareFault.{ShareFault}
 use Rattle.u_share.proofs.Faults.{by_fault}
