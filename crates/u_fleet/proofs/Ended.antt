@@ -12,10 +12,8 @@ use Rattle.u_rule.specs.declared.firing.Firing.{Firing}
 use Rattle.u_machine.specs.State.{State, IsMachine, NothingReady}
 use Rattle.u_machine.specs.Headline.{IsWhole}
 use Rattle.u_outlet.specs.Sound.{IsSound}
-use Rattle.u_fleet.specs.Gains.{MoreThan}
-use Rattle.u_fleet.specs.Workers.{IsWholeList, HasEnded}
 use Rattle.u_fleet.specs.Fleets.{Pair, list_of, end_of, AreCounted, HaveWorked}
-use Rattle.u_fleet.specs.Headline.{AreRuns, IsPublished, TookPublished, HaveEnded}
+use Rattle.u_fleet.specs.Headline.{MoreThan, IsWholeList, HasEnded, AreRuns, IsPublished, TookPublished, HaveEnded}
 use Rattle.u_fleet.specs.declared.gate.Turn.{Turn}
 use Rattle.u_fleet.specs.declared.plan.End.{End}
 use Rattle.u_fleet.specs.declared.plan.End.TheVariants.{Done, Full}

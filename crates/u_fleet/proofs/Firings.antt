@@ -1,42 +1,41 @@
--- Ready firings are sound, and how firings in held buckets follow one another.
+-- How firings in held buckets follow one another, and that they are sound.
 use Rattle.std.proofs.Common.{IfErr, ◌≡◌, ℕ, List, [], ◌∷◌, ◌++◌, ◌⊎◌, inl, inr, refl, sym, subst, ◌∙◌, Some, length, ◌≤◌, ◌+◌, arith, Result, Ok, Err, Bool, true, false, cond, ap, length-append}
 use Rattle.std.specs.Prelude.{Contains, slice_get, filter, IsTrue}
 use Rattle.std.proofs.Math.Nat.{zero-mod}
 use Rattle.std.proofs.lemmas.List.Elements.{Contains-append_left, Contains-push, Contains-push_cases}
-use Rattle.u_base.specs.Firing.{Enabled, Cl, Whole}
+use Rattle.std.proofs.lemmas.Option.{slice_get-get_or}
+use Rattle.u_base.specs.Firing.{Enabled, Cl}
 use Rattle.u_base.proofs.Member.{Contains-nil, Contains-cons_cases}
 use Rattle.u_base.proofs.Held.{Enabled-mono}
-use Rattle.u_base.proofs.Closure.{Cl-mono, Cl-whole}
+use Rattle.u_base.proofs.Closure.{Cl-mono}
 use Rattle.u_base.proofs.Plain.{EachPlace-nil, EachPlace-push}
 use Rattle.u_rule.specs.Rule.{system_of}
 use Rattle.u_rule.specs.EntryOrder.{firing_cmp}
 use Rattle.u_rule.specs.declared.firing.Firing.{Firing}
 use Rattle.std.specs.declared.cmp.Ordering.TheVariants.{Less}
 use Rattle.u_machine.specs.Masks.{is_in, those_in}
-use Rattle.u_machine.specs.State.{State, Taken, IsMachine, count_of, IsReady, IsReadyIn, IsPickIn, NothingReady}
+use Rattle.u_machine.specs.State.{State, Taken, IsMachine, IsSettled, count_of, IsReady, IsReadyIn, IsPickIn, NothingReady}
 use Rattle.u_machine.specs.Calls.{Applies, Takes, IsElsewhere, FireInAnswer, firing_le}
-use Rattle.u_machine.specs.declared.answer.Refusal.{Refusal}
 use Rattle.u_machine.specs.declared.answer.Refusal.TheVariants as refusals
-use Rattle.u_machine.specs.declared.answer.StepIn.{StepIn}
 use Rattle.u_machine.specs.declared.answer.StepIn.TheVariants as steps
 use Rattle.u_machine.proofs.Masked.{ready_in}
-use Rattle.u_machine.proofs.States.{grows_trans, ready_before, nothing_after}
+use Rattle.u_machine.proofs.States.{grows_trans, ready_before, ready_after, nothing_after}
 use Rattle.u_replica.specs.ReplicaState.{ReplicaState, replica, ChangesMachine}
 use Rattle.u_outlet.specs.Sound.{IsSound}
-use Rattle.u_fleet.specs.Gains.{MoreThan, Gains, MayBeFull}
-use Rattle.u_fleet.specs.Working.{IsNextIn, FiresIn}
-use Rattle.u_fleet.proofs.Soundness.{gains_by, applies_gains}
-
--- what is ready is sound: the closure of any firings lies in the whole history
-pub ready_sound : (m : State) (f : Firing) → IsReady m f → IsSound m.job f
-ready_sound m f r = Enabled-mono (system_of m.job) (Cl (system_of m.job) (Taken m)) (Whole (system_of m.job)) (Cl-whole (system_of m.job) (Taken m)) f r.0
+use Rattle.u_fleet.specs.Gains.{Gains, MayBeFull}
+use Rattle.u_fleet.specs.Headline.{MoreThan}
+use Rattle.u_fleet.specs.Working.{IsNextIn, FiresIn, FireHeldAnswer}
+use Rattle.u_fleet.specs.declared.answer.Work.{Work}
+use Rattle.u_fleet.specs.declared.answer.WorkFault.{WorkFault}
+use Rattle.u_fleet.specs.declared.answer.WorkFault.TheVariants as faults
+use Rattle.u_fleet.proofs.Soundness.{takes_gains, reached_sound}
 
 -- where one is ready and as many are taken as may be, more are sound
 pub ready_beyond : (m : State) (f : Firing) → IsMachine m → IsReady m f → m.limit ≤ count_of m → MayBeFull m
 ready_beyond m f is ready full took = (
   f ∷ (m.log ++ m.parked),
   (ready.1, is.sound.distinct),
-  (λ g c. elim (Contains-cons_cases f g (m.log ++ m.parked) c) [ inl e ↦ subst (λ (x : Firing). IsSound m.job x) e (ready_sound m f ready) | inr t ↦ took g t ]),
+  (λ g c. elim (Contains-cons_cases f g (m.log ++ m.parked) c) [ inl e ↦ subst (λ (x : Firing). IsSound m.job x) e (reached_sound m.job (Taken m) f ready.0) | inr t ↦ took g t ]),
   let n = length-append m.log m.parked in omega (arith, full),
 )
 
@@ -47,26 +46,9 @@ gains_trans a b c p q = record { grows = grows_trans a b c p.grows q.grows; soun
 pub full_before : (old m : State) → Gains old m → MayBeFull m → MayBeFull old
 full_before old m g full took = subst (λ (n : ℕ). MoreThan old.job n) g.grows.limit (rw g.grows.job at (full (g.sound took)))
 
-pub takes_ready : (old new : State) (f : Firing) → IsReady old f → Takes old f new → Gains old new
-takes_ready old new f r t = gains_by old new t.grows (λ all g m. elim ((t.taken g).0 m) [ inl k ↦ all g k | inr e ↦ subst (λ (x : Firing). IsSound old.job x) e (ready_sound old f r) ])
-
 -- what a pick picks is ready, and in the mask
 pub picked_ready : (m : State) (buckets pick : ℕ) (f : Firing) → IsPickIn m buckets pick f → IsReadyIn m buckets f
 picked_ready m buckets pick f (ready, are, at) = ready_in m buckets ready _ f are at
-
-pub fire_gains : (old new : State) (buckets pick : ℕ) (r : Result StepIn Refusal) → FireInAnswer old buckets pick r new → Gains old new
-fire_gains old new buckets pick (Ok steps.Quiet) a = applies_gains old new a.1.applies
-fire_gains old new buckets pick (Ok steps.Elsewhere) a = applies_gains old new a.1.applies
-fire_gains old new buckets pick (Ok (steps.Fired place)) (f, may, takes, settled, at) = takes_ready old new f (picked_ready old buckets pick f may.0).0 takes
-fire_gains old new buckets pick (Err refusals.Full) a = applies_gains old new a.2.applies
-fire_gains old new buckets pick (Err refusals.NoMemory) (inl u) = applies_gains old new u.applies
-fire_gains old new buckets pick (Err refusals.NoMemory) (inr (f, may, inl p)) = applies_gains old new p
-fire_gains old new buckets pick (Err refusals.NoMemory) (inr (f, may, inr t)) = takes_ready old new f (picked_ready old buckets pick f may.0).0 t
-
-pub fire_full : (old new : State) (buckets pick : ℕ) (r : Result StepIn Refusal) → IsMachine old → FireInAnswer old buckets pick r new → IfErr r (λ e. e ≡ refusals.Full → MayBeFull old)
-fire_full old new buckets pick (Ok s) is a = tt
-fire_full old new buckets pick (Err refusals.Full) is (r, n, s) = λ _. ready_beyond old r.0 is r.1.0 (omega (arith, n))
-fire_full old new buckets pick (Err refusals.NoMemory) is a = λ e. absurd (cc)
 
 -- each comes before all later ones
 abbrev Rising : List Firing → Type 0
@@ -156,6 +138,34 @@ quiet_after a b buckets p none f r = r.0.1 (nothing_after a b p none f r.0.0)
 pub fires_fired : (buckets : ℕ) (old m n : State) (gs : List Firing) (place : ℕ) → FiresIn buckets old gs m → FireInAnswer m buckets 0 (Ok (steps.Fired place)) n → (xs : List Firing) × FiresIn buckets old xs n × (length xs ≡ length gs + 1)
 fires_fired buckets old m n gs place r (f, may, takes, settled, at) =
     (gs ++ f ∷ [], fires_one buckets old m gs r n f may.0 takes, let z = length-append gs (f ∷ []) in omega arith)
+
+-- where there is no room for one that is ready in the mask
+pub fires_full : (buckets : ℕ) (old m n : State) (gs : List Firing) → FiresIn buckets old gs m → FireInAnswer m buckets 0 (Err refusals.Full) n
+    → FiresIn buckets old gs n × IsSettled n × ((f : Firing) × IsReadyIn n buckets f) × (count_of n ≡ n.limit)
+fires_full buckets old m n gs r (ready, count, settles) =
+    let p = settles.applies in
+    (fires_applies buckets old m n gs r p, settles.settled, (ready.0, (ready_after m n p ready.0 ready.1.0, ready.1.1)), let c = p.count in let l = p.grows.limit in omega (arith, count))
+
+-- where there is no memory, the one that was picked may be taken
+pub fires_failed : (buckets : ℕ) (old m n : State) (gs : List Firing) → FiresIn buckets old gs m → FireInAnswer m buckets 0 (Err refusals.NoMemory) n → (xs : List Firing) × FiresIn buckets old xs n × (length xs ≤ length gs + 1)
+fires_failed buckets old m n gs r (inl u) = (gs, fires_applies buckets old m n gs r u.applies, omega arith)
+fires_failed buckets old m n gs r (inr (f, may, inl p)) = (gs, fires_applies buckets old m n gs r p, omega arith)
+fires_failed buckets old m n gs r (inr (f, may, inr t)) = (gs ++ f ∷ [], fires_one buckets old m gs r n f may.0 t, let z = length-append gs (f ∷ []) in omega arith)
+
+-- what was fired in a mask is sound
+fires_gains : (buckets : ℕ) (old new : State) (gs : List Firing) → FiresIn buckets old gs new → Gains old new
+fires_gains buckets old new gs r =
+    takes_gains old new gs (record { grows = r.grows; taken = r.taken }) (λ g m. reached_sound old.job _ g (r.each m.0 g (slice_get-get_or gs m.0 g m.1 ∙ ap (λ x. Some x) m.2)).enabled)
+
+pub held_gains : (old new : State) (held budget : ℕ) (r : Result Work WorkFault) → FireHeldAnswer old held budget r new → Gains old new
+held_gains old new held budget (Ok w) (same, (gs, r, n, few), none) = fires_gains w.held old new gs r
+held_gains old new held budget (Err faults.Full) (gs, r, few, settled, ready, count) = fires_gains held old new gs r
+held_gains old new held budget (Err faults.NoMemory) (gs, r, few) = fires_gains held old new gs r
+
+pub held_full : (old new : State) (held budget : ℕ) (r : Result Work WorkFault) → IsMachine new → FireHeldAnswer old held budget r new → IfErr r (λ e. e ≡ faults.Full → MayBeFull old)
+held_full old new held budget (Ok w) is a = tt
+held_full old new held budget (Err faults.Full) is (gs, r, few, settled, ready, count) = λ _. full_before old new (fires_gains held old new gs r) (ready_beyond new ready.0 is ready.1.0 (omega (arith, count)))
+held_full old new held budget (Err faults.NoMemory) is a = λ e. absurd (cc)
 
 -- the machine alone changes, again
 pub alone_on : (a b c : ReplicaState) → ChangesMachine a b → ChangesMachine b c → ChangesMachine a c

@@ -34,23 +34,22 @@ use Rattle.u_replica.specs.declared.checkpoint.Ending.TheVariants.{Whole}
 use Rattle.u_replica.specs.declared.answer.RestoreError.{RestoreError}
 use Rattle.u_replica.specs.declared.answer.RestoreError.TheVariants as restores
 use Rattle.u_outlet.specs.Sound.{IsSound}
-use Rattle.u_fleet.specs.Gains.{AreSound, MoreThan, TookSound, Gains, MayBeFull}
-use Rattle.u_fleet.specs.Workers.{IsWholeList, IsSoundText, IsSaved, Lives, LivesOn, MayFail, LastAnswer, LastEnd, HasEnded}
+use Rattle.u_fleet.specs.Gains.{TookSound, Gains, MayBeFull}
+use Rattle.u_fleet.specs.Headline.{AreSound, MoreThan, IsWholeList, HasEnded}
+use Rattle.u_fleet.specs.Workers.{IsSoundText, IsSaved, Lives, LivesOn, MayFail, LastAnswer, LastEnd}
 use Rattle.u_fleet.specs.declared.gate.Turn.{Turn}
 use Rattle.u_fleet.specs.declared.plan.End.{End}
 use Rattle.u_fleet.specs.declared.plan.End.TheVariants.{Done, Stopped, Full, NoMemory}
 use Rattle.u_fleet.specs.declared.worker.Saved.{Saved}
 use Rattle.u_fleet.specs.declared.worker.Saved.TheVariants.{Front, Text}
 use Rattle.u_fleet.specs.declared.worker.Life.{Life}
-use Rattle.u_fleet.proofs.Soundness.{Derivation-take, gains_by, reached_sound}
+use Rattle.u_fleet.proofs.Soundness.{Derivation-take, takes_gains, reached_sound}
 use Rattle.u_fleet.proofs.Firings.{full_before, ready_beyond}
 
 -- what is fired is sound
-fired_sound : (old new : State) (gs : List Firing) → Fires old gs new → (g : Firing) → Contains gs g → IsSound old.job g
-fired_sound old new gs fires g m = reached_sound old.job _ g (fires.each m.0 g (slice_get-get_or gs m.0 g m.1 ∙ ap (λ x. Some x) m.2)).enabled
-
 fires_gains : (old new : State) (gs : List Firing) → Fires old gs new → Gains old new
-fires_gains old new gs fires = gains_by old new fires.grows (λ all f m. ⊎_elim (λ (h : Taken old f). all f h) (λ (h : Contains gs f). fired_sound old new gs fires f h) ((fires.taken f).0 m))
+fires_gains old new gs r =
+    takes_gains old new gs (record { grows = r.grows; taken = r.taken }) (λ g m. reached_sound old.job _ g (r.each m.0 g (slice_get-get_or gs m.0 g m.1 ∙ ap (λ x. Some x) m.2)).enabled)
 
 pub run_gains : (old new : State) (budget : ℕ) (r : Result Ran Refusal) → RunAnswer old budget r new → Gains old new
 run_gains old new budget (Ok ran.Quiet) (gs, runs, few, settled, none, whole) = fires_gains old new gs runs.fires

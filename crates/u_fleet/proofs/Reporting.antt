@@ -19,9 +19,8 @@ use Rattle.u_machine.specs.Calls.{Applies}
 use Rattle.u_machine.proofs.States.{settled_is_Cl, quiet_whole}
 use Rattle.u_replica.specs.ReplicaState.{ReplicaState, fresh}
 use Rattle.u_outlet.specs.Sound.{IsSound}
-use Rattle.u_fleet.specs.Gains.{MayBeFull, MoreThan}
-use Rattle.u_fleet.specs.Workers.{IsWholeList}
-use Rattle.u_fleet.specs.Headline.{IsPublished, TookNone, TookPublished}
+use Rattle.u_fleet.specs.Gains.{TookNone, MayBeFull}
+use Rattle.u_fleet.specs.Headline.{MoreThan, IsWholeList, IsPublished, TookPublished}
 use Rattle.u_fleet.proofs.Soundness.{Derivation-take, reached_sound}
 
 none_listed : {X : Type 0} → (xs : List X) → ((x : X) → Contains xs x → ⊥) → xs ≡ []

@@ -11,7 +11,7 @@ use Rattle.u_claims.specs.Answers.{ClaimAnswer}
 use Rattle.u_claims.specs.declared.rule.Hand.{Hand}
 use Rattle.u_claims.specs.declared.answer.Claimed.{Claimed}
 use Rattle.u_claims.specs.declared.answer.Claimed.TheVariants.{Held, Busy}
-use Rattle.u_fleet.specs.Shares.{IsPartOf, IsHeldOf, KeepsNumber, HasOther, ClaimsBelow, LeavesToOthers}
+use Rattle.u_fleet.specs.Shares.{IsPartOf, KeepsNumber, HasOther, ClaimsBelow, LeavesToOthers}
 
 module _ (a b i : ℕ) where
   in_both : IsTrue (in_mask a i) → IsTrue (in_mask b i) → IsTrue (in_mask (bit_and a b) i)
@@ -24,19 +24,13 @@ module _ (a b i : ℕ) where
       (eq-eqb _ _ (omega (arith, both, one, bit_at-lt a i, bit_at-lt b i)), eq-eqb _ _ (omega (arith, both, one, bit_at-lt a i, bit_at-lt b i)))
 
 -- what the seat's mask has in common with the share
-pub common_held : (mask share : ℕ) (v : Hand) → IsMaskOf mask v → IsHeldOf v share (bit_and mask share)
-common_held mask share v is b small = (
-  (λ p. let each = in_each mask share b p in (each.1, sym (is b small) ∙ each.0)),
-  λ p. in_both mask share b (is b small ∙ p.1) p.0,
-)
-
-pub held_in_share : (share mask : ℕ) (v : Hand) → IsHeldOf v share mask → IsPartOf mask share
-held_in_share share mask v is b small inside = ((is b small).0 inside).0
+pub held_in_share : (mask share : ℕ) → IsPartOf (bit_and mask share) share
+held_in_share mask share b small inside = (in_each mask share b inside).1
 
 -- what the seat does not hold of its share once it has claimed it
-pub leaves_rest : (share mask : ℕ) (old v : Hand) → IsHeldOf v share mask → ClaimsBelow 64 share old v → LeavesToOthers old share mask
-leaves_rest share mask old v is claims b small inside =
-    elim (claims b small inside) [ inl h ↦ inl ((is b small).1 (inside, h)) | inr o ↦ inr o ]
+pub leaves_rest : (mask share : ℕ) (old v : Hand) → IsMaskOf mask v → ClaimsBelow 64 share old v → LeavesToOthers old share (bit_and mask share)
+leaves_rest mask share old v is claims b small inside =
+    elim (claims b small inside) [ inl h ↦ inl (in_both mask share b (is b small ∙ h) inside) | inr o ↦ inr o ]
 
 pub keeps_number : (old new : Hand) (b : ℕ) (r : Claimed) → ClaimAnswer old b r new → KeepsNumber old new
 keeps_number old new b Held a = rw a (refl, refl)

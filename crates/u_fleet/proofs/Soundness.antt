@@ -12,14 +12,16 @@ use Rattle.u_rule.specs.Rule.{system_of}
 use Rattle.u_rule.specs.declared.firing.Firing.{Firing}
 use Rattle.u_machine.specs.State.{State, Taken, IsMachine}
 use Rattle.u_machine.specs.Calls.{Grows, Applies}
-use Rattle.u_machine.specs.Taking.{IsFirstOther, IsTooLong, TakesAll, TakeAllAnswer}
+use Rattle.u_machine.specs.Taking.{IsFirstOther, IsTooLong, TakesAll, TakesSome, TakeAllAnswer}
 use Rattle.u_machine.specs.declared.answer.ListRefusal.{ListRefusal}
 use Rattle.u_machine.specs.declared.answer.ListRefusal.TheVariants as lists
 use Rattle.u_machine.proofs.Once.{Distinct-join}
 use Rattle.u_machine.proofs.States.{grows_refl}
+use Rattle.u_machine.proofs.TakenLists.{takes_none}
 use Rattle.u_machine.proofs.Lists.{slice_get_Contains}
 use Rattle.u_outlet.specs.Sound.{IsSound}
-use Rattle.u_fleet.specs.Gains.{AreSound, TookSound, Gains, MayBeFull, MayRefuse}
+use Rattle.u_fleet.specs.Gains.{TookSound, Gains, MayBeFull, MayRefuse}
+use Rattle.u_fleet.specs.Headline.{AreSound}
 
 module _ {E F : Type 0} (s : System E F) where
   Follows-take : (done fs : List F) (k : ℕ) → Follows s done fs → Follows s done (take k fs)
@@ -94,6 +96,11 @@ answer_refused old new fs (Ok u) is all a = tt
 answer_refused old new fs (Err (lists.NotAFiring place)) is all (other, settles) = none_other old fs place all other
 answer_refused old new fs (Err lists.Full) is all (firings, long, settles) = too_many old fs is (from_all old.job fs all) long
 answer_refused old new fs (Err lists.NoMemory) is all a = tt
+
+-- where there is no memory the first ones are taken
+pub takes_first : (old new : State) (fs : List Firing) → TakeAllAnswer old fs (Err lists.NoMemory) new → TakesSome old fs new
+takes_first old new fs (inl u) = (0, omega arith, takes_none old new u.applies)
+takes_first old new fs (inr (firings, fits, some)) = some
 
 -- what is enabled over what any firings reach is sound
 pub reached_sound : (job : JobParts) (M : Firing → Type 0) (f : Firing) → Enabled (system_of job) (Cl (system_of job) M) f → IsSound job f

@@ -8,7 +8,8 @@ use Rattle.u_claims.specs.declared.seats.Board.{Board}
 use Rattle.u_claims.specs.declared.seats.ClaimSeat.{ClaimSeat}
 use Rattle.u_outlet.specs.Ends.{published, pending}
 use Rattle.u_outlet.specs.declared.ends.OutletOf.{OutletOf}
-use Rattle.u_fleet.specs.Workers.{HasEnded, IsWorkerOf}
+use Rattle.u_fleet.specs.Workers.{IsWorkerOf}
+use Rattle.u_fleet.specs.Headline.{HasEnded}
 use Rattle.u_fleet.specs.declared.gate.Turn.{Turn}
 use Rattle.u_fleet.specs.declared.plan.End.{End}
 use Rattle.u_fleet.specs.declared.plan.FleetPlan.{FleetPlan}

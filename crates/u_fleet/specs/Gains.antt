@@ -1,21 +1,15 @@
 -- How a machine goes on that takes sound firings: those of its job that some run could make.
-use Rattle.std.specs.Prelude.{ℕ, ◌<◌, List, Contains, length}
-use Rattle.u_base.specs.Firing.{Distinct}
-use Rattle.u_check.specs.Jobs.{JobParts}
 use Rattle.u_rule.specs.declared.firing.Firing.{Firing}
 use Rattle.u_machine.specs.State.{State, Taken}
 use Rattle.u_machine.specs.Calls.{Grows}
 use Rattle.u_machine.specs.declared.answer.ListRefusal.{ListRefusal}
 use Rattle.u_machine.specs.declared.answer.ListRefusal.TheVariants.{NotAFiring, Full, NoMemory}
 use Rattle.u_outlet.specs.Sound.{IsSound}
+use Rattle.u_fleet.specs.Headline.{MoreThan}
 
--- each of the list is sound
-abbrev pub AreSound : JobParts → List Firing → Type 0
-AreSound job fs = (f : Firing) → Contains fs f → IsSound job f
-
--- more than so many firings are sound
-abbrev pub MoreThan : JobParts → ℕ → Type 0
-MoreThan job limit = (fs : List Firing) × Distinct fs × AreSound job fs × (limit < length fs)
+-- nothing is taken
+abbrev pub TookNone : State → Type 0
+TookNone m = (f : Firing) → Taken m f → ⊥
 
 -- all that the machine took is sound
 abbrev pub TookSound : State → Type 0

@@ -5,18 +5,44 @@
 -- any of its rounds. No schedule of the threads and no such event changes what is reported: the report has the
 -- published lists, each of them one run of the job, and a machine that took what they have and nothing else.
 use Rattle.std.specs.Prelude.{◌≡◌, ℕ, ◌+◌, List, [], length, ◌<◌, Contains, All, slice_index_or}
-use Rattle.u_base.specs.Firing.{Derivation, Same}
+use Rattle.u_base.specs.Firing.{Derivation, Distinct, Held, Whole, Same}
 use Rattle.u_check.specs.Jobs.{JobParts}
 use Rattle.u_rule.specs.Rule.{system_of}
 use Rattle.u_rule.specs.declared.firing.Firing.{Firing}
 use Rattle.u_machine.specs.State.{State, Taken, IsSettled, NothingReady}
 use Rattle.u_machine.specs.Headline.{IsWhole}
 use Rattle.u_outlet.specs.Sound.{IsSound}
-use Rattle.u_fleet.specs.Workers.{HasEnded}
 use Rattle.u_fleet.specs.declared.gate.Turn.{Turn}
+use Rattle.u_fleet.specs.declared.gate.Turn.TheVariants.{Stop}
 use Rattle.u_fleet.specs.declared.plan.FleetPlan.{FleetPlan}
 use Rattle.u_fleet.specs.declared.plan.End.{End}
-use Rattle.u_fleet.specs.declared.plan.End.TheVariants.{Done, Stopped}
+use Rattle.u_fleet.specs.declared.plan.End.TheVariants.{Done, Stopped, Full, NoMemory}
+
+-- each of the list is sound
+abbrev pub AreSound : JobParts → List Firing → Type 0
+AreSound job fs = (f : Firing) → Contains fs f → IsSound job f
+
+-- more than so many firings are sound
+abbrev pub MoreThan : JobParts → ℕ → Type 0
+MoreThan job limit = (fs : List Firing) × Distinct fs × AreSound job fs × (limit < length fs)
+
+-- the list has each sound firing of the job, and holds the whole history
+pub record IsWholeList (job : JobParts) (fs : List Firing) : Type 0 where
+  pub held : Same (Held (system_of job) fs) (Whole (system_of job))
+  pub all : (f : Firing) → IsSound job f → Contains fs f
+
+-- how a worker may end, with all that it has published: its list is whole; the gate may have stopped it after a
+-- round of the plan; more firings are sound than it may take; or there was no memory
+abbrev pub EndsWith : (may : ℕ → ℕ → Turn → Type 0) → JobParts → (limit rounds worker : ℕ) → List Firing → End → Type 0
+EndsWith may job limit rounds worker published Done = IsWholeList job published
+EndsWith may job limit rounds worker published Stopped = (round : ℕ) × (round < rounds) × may worker round Stop
+EndsWith may job limit rounds worker published Full = MoreThan job limit
+EndsWith may job limit rounds worker published NoMemory = Unit {0}
+
+-- what a worker leaves: all that it published is one run after another of the job, and so one run, and it ended so
+pub record HasEnded (may : ℕ → ℕ → Turn → Type 0) (job : JobParts) (limit rounds worker : ℕ) (published : List Firing) (end : End) : Type 0 where
+  pub run : Derivation (system_of job) published
+  pub ends : EndsWith may job limit rounds worker published end
 
 -- one of the lists has the firing
 abbrev pub IsPublished : List (List Firing) → Firing → Type 0
@@ -29,10 +55,6 @@ AreRuns job lists = All (λ fs. Derivation (system_of job) fs) lists
 -- each worker was stopped
 abbrev pub AreStopped : List End → Type 0
 AreStopped ends = (end : End) → Contains ends end → end ≡ Stopped
-
--- nothing is taken
-abbrev pub TookNone : State → Type 0
-TookNone m = (f : Firing) → Taken m f → ⊥
 
 -- the machine took exactly what is published, parks none of it, and is settled
 pub record TookPublished (job : JobParts) (lists : List (List Firing)) (m : State) : Type 0 where

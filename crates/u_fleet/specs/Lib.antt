@@ -1,5 +1,6 @@
 pub mod Fleets
 pub mod Gains
+pub mod Gathering
 pub mod Headline
 pub mod Plans
 pub mod Shares

@@ -1,5 +1,5 @@
 -- Shares of the 64 buckets: masks in which bit b stands for bucket b.
-use Rattle.std.specs.Prelude.{◌≡◌, ℕ, ◌+◌, ◌-◌, ◌<◌, ◌%◌, ◌==◌, ◌⊎◌, ◌↔◌, IsTrue}
+use Rattle.std.specs.Prelude.{◌≡◌, ℕ, ◌+◌, ◌-◌, ◌<◌, ◌%◌, ◌==◌, ◌⊎◌, IsTrue}
 use Rattle.u_claims.specs.Masks.{in_mask}
 use Rattle.u_claims.specs.Held.{has_bucket, IsOther}
 use Rattle.u_claims.specs.declared.rule.Hand.{Hand}
@@ -7,10 +7,6 @@ use Rattle.u_claims.specs.declared.rule.Hand.{Hand}
 -- each bucket of the first mask is one of the second
 abbrev pub IsPartOf : ℕ → ℕ → Type 0
 IsPartOf part whole = (b : ℕ) → b < 64 → IsTrue (in_mask part b) → IsTrue (in_mask whole b)
-
--- the mask has those buckets of the share that the seat holds
-abbrev pub IsHeldOf : Hand → ℕ → ℕ → Type 0
-IsHeldOf v share mask = (b : ℕ) → b < 64 → IsTrue (in_mask mask b) ↔ (IsTrue (in_mask share b) × IsTrue (has_bucket v b))
 
 -- the mask has the buckets of one worker, of so many that are numbered from 1, in a round: each bucket is one worker's in each round
 abbrev pub IsShareOf : ℕ → ℕ → ℕ → ℕ → Type 0

@@ -1,7 +1,7 @@
 -- What holds of a worker from round to round, and how it ends.
-use Rattle.std.specs.Prelude.{◌≡◌, ℕ, ◌<◌, ◌≤◌, List, ◌++◌, length, take, Contains}
+use Rattle.std.specs.Prelude.{◌≡◌, ℕ, ◌≤◌, List, ◌++◌, length, take}
 use Rattle.u_name.specs.Context.{IsBetween}
-use Rattle.u_base.specs.Firing.{Derivation, Held, Whole, Same}
+use Rattle.u_base.specs.Firing.{Derivation}
 use Rattle.u_check.specs.Jobs.{JobParts}
 use Rattle.u_rule.specs.Rule.{system_of}
 use Rattle.u_rule.specs.declared.firing.Firing.{Firing}
@@ -10,10 +10,8 @@ use Rattle.u_machine.specs.declared.answer.Ran.{Ran}
 use Rattle.u_machine.specs.declared.answer.Ran.TheVariants as ran
 use Rattle.u_replica.specs.CheckpointText.{checkpoint_text}
 use Rattle.u_replica.specs.Checkpoints as ranges
-use Rattle.u_outlet.specs.Sound.{IsSound}
-use Rattle.u_fleet.specs.Gains.{AreSound, MoreThan, TookSound, MayBeFull}
-use Rattle.u_fleet.specs.declared.gate.Turn.{Turn}
-use Rattle.u_fleet.specs.declared.gate.Turn.TheVariants.{Stop}
+use Rattle.u_fleet.specs.Gains.{TookSound, MayBeFull}
+use Rattle.u_fleet.specs.Headline.{AreSound, IsWholeList}
 use Rattle.u_fleet.specs.declared.plan.FleetPlan.{FleetPlan}
 use Rattle.u_fleet.specs.declared.plan.End.{End}
 use Rattle.u_fleet.specs.declared.plan.End.TheVariants.{Done, Stopped, Full, NoMemory}
@@ -24,11 +22,6 @@ use Rattle.u_fleet.specs.declared.worker.Life.{Life}
 -- the number of one of the plan's workers
 abbrev pub IsWorkerOf : FleetPlan → ℕ → Type 0
 IsWorkerOf plan number = IsBetween 1 number plan.workers × (plan.workers ≤ 8)
-
--- the list has each sound firing of the job, and holds the whole history
-pub record IsWholeList (job : JobParts) (fs : List Firing) : Type 0 where
-  pub held : Same (Held (system_of job) fs) (Whole (system_of job))
-  pub all : (f : Firing) → IsSound job f → Contains fs f
 
 -- the text is a checkpoint of sound firings
 pub record IsSoundText (job : JobParts) (bytes : List ℕ) : Type 0 where
@@ -73,22 +66,9 @@ abbrev pub LastAnswer : ℕ → State → Ran → Type 0
 LastAnswer budget new ran.Quiet = IsSettled new × NothingReady new
 LastAnswer budget new ran.Paused = new.limit ≤ budget → MayBeFull new
 
--- how a worker may end, with all that it has published: its list is whole; the gate may have stopped it after a
--- round of the plan; more firings are sound than it may take; or there was no memory
-abbrev pub EndsWith : (may : ℕ → ℕ → Turn → Type 0) → JobParts → (limit rounds worker : ℕ) → List Firing → End → Type 0
-EndsWith may job limit rounds worker published Done = IsWholeList job published
-EndsWith may job limit rounds worker published Stopped = (round : ℕ) × (round < rounds) × may worker round Stop
-EndsWith may job limit rounds worker published Full = MoreThan job limit
-EndsWith may job limit rounds worker published NoMemory = Unit {0}
-
 -- what is answered of the last run: the published list is whole, or more firings are sound than may be taken
 abbrev pub LastEnd : JobParts → ℕ → State → List Firing → End → Type 0
 LastEnd job budget new published Done = IsWholeList job published
 LastEnd job budget new published Stopped = ⊥
 LastEnd job budget new published Full = new.limit ≤ budget → MayBeFull new
 LastEnd job budget new published NoMemory = ⊥
-
--- what a worker leaves: all that it published is one run after another of the job, and so one run, and it ended so
-pub record HasEnded (may : ℕ → ℕ → Turn → Type 0) (job : JobParts) (limit rounds worker : ℕ) (published : List Firing) (end : End) : Type 0 where
-  pub run : Derivation (system_of job) published
-  pub ends : EndsWith may job limit rounds worker published end

@@ -1,12 +1,16 @@
 -- What work is: ready firings in held buckets are fired, one after another.
-use Rattle.std.specs.Prelude.{◌≡◌, ℕ, ◌<◌, ◌≤◌, ◌+◌, List, ◌⊎◌, ◌↔◌, length, IsTrue, Contains}
+use Rattle.std.specs.Prelude.{◌≡◌, ℕ, ◌<◌, ◌≤◌, ◌+◌, List, ◌⊎◌, ◌↔◌, length, IsTrue, Contains, Result, Ok, Err}
 use Rattle.u_base.specs.Firing.{Enabled, Cl, EachPlace}
+use Rattle.u_claims.specs.declared.rule.Hand.{Hand}
 use Rattle.u_rule.specs.Rule.{system_of}
 use Rattle.u_rule.specs.declared.firing.Firing.{Firing}
 use Rattle.u_machine.specs.Masks.{is_in}
-use Rattle.u_machine.specs.State.{State, Taken, count_of, IsReadyIn}
+use Rattle.u_machine.specs.State.{State, Taken, IsSettled, count_of, IsReadyIn}
 use Rattle.u_machine.specs.Calls.{Grows, firing_le}
+use Rattle.u_fleet.specs.Shares.{IsPartOf, LeavesToOthers}
 use Rattle.u_fleet.specs.declared.answer.Work.{Work}
+use Rattle.u_fleet.specs.declared.answer.WorkFault.{WorkFault}
+use Rattle.u_fleet.specs.declared.answer.WorkFault.TheVariants.{Full, NoMemory}
 
 -- f is the least, of those in the mask, that are enabled over the closure of what was taken with `done` and are in neither
 pub record IsNextIn (buckets : ℕ) (m : State) (done : List Firing) (f : Firing) : Type 0 where
@@ -32,3 +36,17 @@ Worked old budget w new = (gs : List Firing) × FiresIn w.held old gs new × (le
 -- where fewer were fired than the budget, nothing that is ready is in a held bucket
 abbrev pub LeavesNone : ℕ → Work → State → Type 0
 LeavesNone budget w new = w.fired < budget → (f : Firing) → IsReadyIn new w.held f → ⊥
+
+-- gs were fired in the held buckets; then none is ready there, or the budget is spent; or there is no room for one that
+-- is ready there; or there is no memory
+abbrev pub FireHeldAnswer : State → (held budget : ℕ) → Result Work WorkFault → State → Type 0
+FireHeldAnswer old held budget (Ok w) new = (w.held ≡ held) × Worked old budget w new × LeavesNone budget w new
+FireHeldAnswer old held budget (Err Full) new =
+    (gs : List Firing) × FiresIn held old gs new × (length gs < budget) × IsSettled new × ((f : Firing) × IsReadyIn new held f)
+    × (count_of new ≡ new.limit)
+FireHeldAnswer old held budget (Err NoMemory) new = (gs : List Firing) × FiresIn held old gs new × (length gs ≤ budget)
+
+-- and the held buckets are those of the share that are not left to other seats
+abbrev pub WorkAnswer : Hand → (share budget : ℕ) → State → Result Work WorkFault → State → Type 0
+WorkAnswer seat share budget old result new =
+    (held : ℕ) × IsPartOf held share × LeavesToOthers seat share held × FireHeldAnswer old held budget result new

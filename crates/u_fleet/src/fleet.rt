@@ -1,8 +1,7 @@
 //! A fleet: workers as threads, and their report.
 ghost use Rattle.std.specs.Prelude.{◌≡◌, ◌≤◌, [], IfOk, IfErr, vec_capacity};
-ghost use Rattle.u_fleet.specs.Gains.{MoreThan};
 ghost use Rattle.u_fleet.specs.Plans.{IsPlan};
-ghost use Rattle.u_fleet.specs.Headline.{IsReport};
+ghost use Rattle.u_fleet.specs.Headline.{MoreThan, IsReport};
 
 use crate::closing::{Ended, close_all};
 use crate::gate::Gate;

@@ -1,12 +1,12 @@
 //! Firings come in: what an inlet shows is taken.
 ghost use Rattle.std.specs.Prelude.{◌≡◌, All, IfOk, IfErr, drop, length, max};
-ghost use Rattle.u_machine.specs.Calls.{Applies};
-ghost use Rattle.u_machine.specs.Taking.{TakesAll, TakeAllAnswer};
+ghost use Rattle.u_machine.specs.Taking.{TakeAllAnswer};
 ghost use Rattle.u_replica.specs.ReplicaState.{ChangesMachine};
 ghost use Rattle.u_outlet.specs.Fronts.{StartsWith};
 ghost use Rattle.u_outlet.specs.Ends.{seen_by};
 ghost use Rattle.u_outlet.specs.Sound.{IsSound};
 ghost use Rattle.u_fleet.specs.Gains.{Gains, MayRefuse, MayBeFull};
+ghost use Rattle.u_fleet.specs.Gathering.{GatherAnswer};
 
 use crate::answer::GatherFault;
 use u_machine::ListRefusal;
@@ -34,12 +34,12 @@ pub fn take_sound<J: Named>(
 /// larger of the place and of how many firings the inlet has seen then: the place for the next time.
 ///
 /// Promise gather: exactly what the inlet has seen from the place on is taken besides, and nothing else of
-/// the replica changes.
+/// the replica changes. If it is refused, none of that is taken, or where there is no memory a front.
 ///
 /// # Errors
-/// `NoReading` where the inlet's outlet gives no reading, since it is closed; nothing is taken. `Full`
-/// where the replica may not take as many firings besides as there are new ones; nothing is taken.
-/// `NoMemory` where there is no memory; some of the first ones may have been taken then.
+/// `NoReading` where the inlet's outlet gives no reading, since it is closed; the inlet has seen no more
+/// than before. `Full` where the replica may not take as many firings besides as there are new ones.
+/// `NoMemory` where there is no memory.
 pub fn gather<J: Named>(
     replica: &mut Replica<'_>,
     inlet: &mut Inlet<J>,
@@ -47,15 +47,13 @@ pub fn gather<J: Named>(
 ) -> Result<usize, GatherFault>
     requires { replica.old.machine.job ≡ J.job }
     ensures later { StartsWith (seen_by inlet.new) (seen_by inlet.old) }
-    ensures takes { IfOk result (λ _. TakesAll replica.old.machine
-        (drop place (seen_by inlet.new)) replica.new.machine) }
+    ensures answer { GatherAnswer replica.old (drop place (seen_by inlet.new)) result replica.new }
     ensures place { IfOk result (λ n. n ≡ max place (length (seen_by inlet.new))) }
     ensures alone { ChangesMachine replica.old replica.new }
     ensures gains { Gains replica.old.machine replica.new.machine }
-    ensures unread { IfErr result (λ e. e ≡ GatherFault.NoReading → replica.new ≡ replica.old) }
+    ensures unread { IfErr result
+        (λ e. e ≡ GatherFault.NoReading → seen_by inlet.new ≡ seen_by inlet.old) }
     ensures full { IfErr result (λ e. e ≡ GatherFault.Full → MayBeFull replica.old.machine) }
-    ensures none { IfErr result
-        (λ e. e ≡ GatherFault.Full → Applies replica.old.machine replica.new.machine) }
 {
     let firings = match inlet.pull(place) {
         Ok(firings) => firings,

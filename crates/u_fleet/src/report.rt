@@ -8,9 +8,8 @@ ghost use Rattle.u_rule.specs.Rule.{system_of};
 ghost use Rattle.u_machine.specs.State.{Taken, NothingReady};
 ghost use Rattle.u_machine.specs.Headline.{IsWhole};
 ghost use Rattle.u_machine.specs.Taking.{TakesAll};
-ghost use Rattle.u_fleet.specs.Gains.{Gains, MayBeFull, MoreThan};
-ghost use Rattle.u_fleet.specs.Workers.{IsWholeList};
-ghost use Rattle.u_fleet.specs.Headline.{AreRuns, TookNone, IsPublished, TookPublished, HaveEnded, IsReport, AreStopped};
+ghost use Rattle.u_fleet.specs.Gains.{TookNone, Gains, MayBeFull};
+ghost use Rattle.u_fleet.specs.Headline.{MoreThan, IsWholeList, AreRuns, IsPublished, TookPublished, HaveEnded, IsReport, AreStopped};
 ghost use Rattle.u_fleet.specs.declared.plan.End.{End};
 ghost use Rattle.u_fleet.specs.declared.plan.End.TheVariants.{Done, Stopped, Full};
 

@@ -4,7 +4,8 @@ ghost use Rattle.u_name.specs.Context.{IsBetween};
 ghost use Rattle.u_claims.specs.Seats.{IsSeatOf};
 ghost use Rattle.u_outlet.specs.Ends.{published, pending};
 ghost use Rattle.u_fleet.specs.Gains.{Gains};
-ghost use Rattle.u_fleet.specs.Workers.{Lives, MayFail, LastAnswer, LastEnd, HasEnded, IsWorkerOf};
+ghost use Rattle.u_fleet.specs.Headline.{HasEnded};
+ghost use Rattle.u_fleet.specs.Workers.{Lives, MayFail, LastAnswer, LastEnd, IsWorkerOf};
 
 use crate::answer::{GatherFault, WorkFault};
 use crate::gate::{Gate, Turn};

@@ -1,5 +1,5 @@
 //! Firings go out: the log is published.
-ghost use Rattle.std.specs.Prelude.{◌≡◌, ◌≤◌, ◌++◌, [], IfOk, OnOk, MatchResult, drop, length};
+ghost use Rattle.std.specs.Prelude.{◌≡◌, ◌≤◌, ◌++◌, ◌⊎◌, [], IfOk, MatchResult, drop, length};
 ghost use Rattle.u_outlet.specs.Ends.{published, pending};
 
 use std::alloc::AllocError;
@@ -14,7 +14,8 @@ use u_replica::Replica;
 /// Promise send: what was pending is published, then the log from the place on.
 ///
 /// # Errors
-/// `AllocError` where there is no memory; nothing is published, and the copies may be pending.
+/// `AllocError` where there is no memory; nothing is published, and what was pending is so still, alone or
+/// with the copies behind it.
 pub fn send<J: Named, R: Wait>(
     rt: &R,
     replica: &Replica<'_>,
@@ -27,7 +28,10 @@ pub fn send<J: Named, R: Wait>(
         (λ _. published outlet.new
         ≡ published outlet.old ++ (pending outlet.old ++ drop place replica.now.machine.log))
         (λ _. published outlet.new ≡ published outlet.old) }
-    ensures pending { OnOk result (pending outlet.new ≡ []) }
+    ensures pending { MatchResult result
+        (λ _. pending outlet.new ≡ [])
+        (λ _. (pending outlet.new ≡ pending outlet.old)
+        ⊎ (pending outlet.new ≡ pending outlet.old ++ drop place replica.now.machine.log)) }
     ensures len { IfOk result (λ n. n ≡ length replica.now.machine.log) }
 {
     replica.holds();

@@ -8,7 +8,7 @@
 //! A delta's receiver and an ask's asked number are not looked at: whoever delivers a message sees to them.
 ghost use Rattle.std.specs.Prelude.{◌≡◌, ◌≤◌, IfOk, IsOk, OnOk};
 ghost use Rattle.u_name.specs.Context.{IsBetween};
-ghost use Rattle.u_machine.specs.State.{IsSettled};
+ghost use Rattle.u_machine.specs.State.{IsSettled, NothingReady};
 ghost use Rattle.u_machine.specs.Calls.{Applies, FireAnswer, FireInAnswer, RunAnswer, TakeAnswer, IsFresh, RunsPlainly};
 ghost use Rattle.u_machine.specs.Taking.{TakeAllAnswer};
 ghost use Rattle.u_machine.specs.Obeying.{Does};
@@ -197,11 +197,13 @@ impl<'a> Replica<'a> {
     ///
     /// # Errors
     /// `Full` where a firing is ready and the replica has taken as many as it may. `NoMemory` where
-    /// there is no memory. What was applied before a refusal stays applied.
+    /// there is no memory. What was applied before a refusal stays applied. A settled replica of which
+    /// nothing is ready answers `Quiet`, with no memory.
     pub fn run(&mut self, budget: usize) -> Result<Ran, Refusal>
         ensures answer { RunAnswer self.old.machine budget result self.new.machine }
         ensures plain { IsFresh self.old.machine
             → RunsPlainly self.old.machine budget result self.new.machine }
+        ensures quiet { IsSettled self.old.machine → NothingReady self.old.machine → IsOk result }
         ensures alone { ChangesMachine self.old self.new }
     {
         self.machine.run(budget)

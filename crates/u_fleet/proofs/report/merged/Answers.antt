@@ -1,9 +1,7 @@
 use Rattle.std.proofs.Common.{rules, ◌≡◌, ◌<◌, [], length, sym, subst}
 use Rattle.std.specs.Prelude.{Contains, slice_index_or}
 use Rattle.std.proofs.lemmas.Result.{IfErr-weaker}
-use Rattle.u_fleet.specs.Gains.{MoreThan}
-use Rattle.u_fleet.specs.Workers.{IsWholeList}
-use Rattle.u_fleet.specs.Headline.{AreRuns, AreStopped}
+use Rattle.u_fleet.specs.Headline.{MoreThan, IsWholeList, AreRuns, AreStopped}
 use Rattle.u_fleet.specs.declared.plan.End.TheVariants.{Done, Full}
 use Rattle.u_fleet.specs.declared.plan.FleetFault.TheVariants as faults
 use Rattle.u_fleet.proofs.Ended.{have_runs, have_whole, have_more, always_ok}

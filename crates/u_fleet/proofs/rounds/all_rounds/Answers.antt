@@ -1,6 +1,6 @@
 use Rattle.std.proofs.Common.{subst, ◌∙◌}
 use Rattle.u_outlet.specs.Ends.{published}
-use Rattle.u_fleet.specs.Workers.{HasEnded}
+use Rattle.u_fleet.specs.Headline.{HasEnded}
 use Rattle.u_fleet.proofs.Living.{last_worked, failed, lives_run}
 use Rattle.u_fleet.proofs.rounds.all_rounds.Goals as goal
 

@@ -1,6 +1,7 @@
 use Rattle.std.proofs.Common.{subst, ◌∙◌}
 use Rattle.std.proofs.lemmas.Result.{IfErr-weaker}
-use Rattle.u_fleet.specs.Workers.{MayFail, HasEnded}
+use Rattle.u_fleet.specs.Workers.{MayFail}
+use Rattle.u_fleet.specs.Headline.{HasEnded}
 use Rattle.u_fleet.specs.declared.gate.Turn.TheVariants.{Stop}
 use Rattle.u_fleet.proofs.Living.{failed, lives_run}
 use Rattle.u_fleet.proofs.rounds.one_turn.Goals as goal
