@@ -22,5 +22,6 @@ pub mod Walks
 pub mod Uses
 pub mod Made
 pub mod Maps
+pub mod Places
 pub mod Procedures
 pub mod Compiled

@@ -53,15 +53,6 @@ impl Compiled {
         self.checked.program()
     }
 
-    /// The program, as a checked one.
-    pub fn into_checked(self) -> Checked
-        ensures program { result ≡ self.program }
-        ensures determinate { IsDeterminate self.program.blocks }
-    {
-        let Compiled { checked, .. } = self;
-        checked
-    }
-
     /// Where the statements of its blocks come from, block by block.
     pub fn origins(&self) -> &[BlockOrigins]
         ensures origins { result.now ≡ self.now.origins }
@@ -70,13 +61,15 @@ impl Compiled {
         &self.origins
     }
 
-    /// Where the statements of its blocks come from, block by block.
-    pub fn into_origins(self) -> Vec<BlockOrigins>
-        ensures origins { result.items ≡ self.origins }
+    /// The program, as a checked one, and where the statements of its blocks come from, block by block.
+    pub fn into_parts(self) -> (Checked, Vec<BlockOrigins>)
+        ensures program { result.0 ≡ self.program }
+        ensures origins { result.1.items ≡ self.origins }
+        ensures determinate { IsDeterminate self.program.blocks }
         ensures each { AreOrigins self.program.blocks self.origins }
     {
-        let Compiled { origins, .. } = self;
-        origins
+        let Compiled { checked, origins } = self;
+        (checked, origins)
     }
 
     /// Appends the map: a line `u-map 1`, and then a line `BLOCK.STATEMENT LINE:COLUMN ROLE [NAME]` for each statement,

@@ -2,6 +2,7 @@
 ghost use Rattle.std.specs.Prelude.{◌≡◌, IfOk, IfErr, OnOk, MatchResult, List, length};
 ghost use Rattle.u_check.specs.Rules.{IsChecked};
 ghost use Rattle.u_determinate.specs.Determinate.{IsDeterminate};
+ghost use Rattle.u_program.specs.declared.program.Version.TheVariants as versions;
 ghost use Rattle.u_source.specs.Sources.{SourceParts};
 ghost use Rattle.u_scope.specs.declared.checked.Meaning.{Meaning};
 ghost use Rattle.u_compile.specs.Maps.{AreOrigins};
@@ -66,6 +67,7 @@ fn go_through(lowering: &mut Lowering<'_>, tree: &Tree<'_>) -> Result<(), Stoppe
 
 /// The program of the nodes, all of which are gone through from there, and what was noted of its statements.
 fn lower_all(begun: Lowering<'_>, tree: &Tree<'_>) -> Result<Lowered, Stopped>
+    ensures version { IfOk result (λ l. l.program.version ≡ versions.Two) }
     ensures determinate { IfOk result (λ l. IsDeterminate l.program.blocks) }
     ensures checked { IfOk result (λ l. IsChecked l.program.blocks) }
     ensures reached { IfOk result (λ l. AreReached (state_of begun.entry)
@@ -86,6 +88,7 @@ fn lower_all(begun: Lowering<'_>, tree: &Tree<'_>) -> Result<Lowered, Stopped>
 /// The program of the nodes, which is determinate and keeps the rules of the checker, and what was noted of its
 /// statements.
 fn lower(alloc: Global, tree: &Tree<'_>) -> Result<Lowered, Stopped>
+    ensures version { IfOk result (λ l. l.program.version ≡ versions.Two) }
     ensures determinate { IfOk result (λ l. IsDeterminate l.program.blocks) }
     ensures checked { IfOk result (λ l. IsChecked l.program.blocks) }
     ensures lowered { IfOk result (λ l. AreLowered tree.now l.program.blocks) }
@@ -105,6 +108,7 @@ fn program_of(
     source: &Source,
     checked: &CheckedSource,
 ) -> Result<Lowered, CompileError>
+    ensures version { IfOk result (λ l. l.program.version ≡ versions.Two) }
     ensures determinate { IfOk result (λ l. IsDeterminate l.program.blocks) }
     ensures checked { IfOk result (λ l. IsChecked l.program.blocks) }
     ensures made { IfOk result (λ l. AreMadeOf source.now checked.now l.program.blocks) }
@@ -178,6 +182,7 @@ fn read_allowed(alloc: Global, bytes: &[u8]) -> Result<Allowed, CompileError>
 
 /// The program of an allowed source, and where its statements come from.
 fn compiled_of(alloc: Global, allowed: &Allowed) -> Result<Compiled, CompileError>
+    ensures version { IfOk result (λ c. c.program.version ≡ versions.Two) }
     ensures checked { IfOk result (λ c. IsChecked c.program.blocks) }
     ensures determinate { IfOk result (λ c. IsDeterminate c.program.blocks) }
     ensures each { IfOk result (λ c. AreOrigins c.program.blocks c.origins) }
@@ -207,7 +212,7 @@ fn compiled_of(alloc: Global, allowed: &Allowed) -> Result<Compiled, CompileErro
 /// added where it may not stand. Of no source it is known that its names and kinds are allowed, and that a statement, a
 /// link or a block has no place; tests have found none, but there is no proof.
 ///
-/// Promise compiled: the program breaks no rule of the checker and is determinate.
+/// Promise compiled: the program is one of version 2, breaks no rule of the checker and is determinate.
 ///
 /// Promise told-of-a-source: there is a program only if the bytes are a source whose names and kinds are
 /// allowed; else the first that fails is returned.
@@ -226,6 +231,7 @@ fn compiled_of(alloc: Global, allowed: &Allowed) -> Result<Compiled, CompileErro
 /// statements or has more than 99 loops, with a place in it; or where the tree is not what it should be, or a statement,
 /// a link or a block has no place, as above. `NoMemory` where there is no memory.
 pub fn compile(alloc: Global, bytes: &[u8]) -> Result<Compiled, CompileError>
+    ensures version { IfOk result (λ c. c.program.version ≡ versions.Two) }
     ensures checked { IfOk result (λ c. IsChecked c.program.blocks) }
     ensures determinate { IfOk result (λ c. IsDeterminate c.program.blocks) }
     ensures each { IfOk result (λ c. AreOrigins c.program.blocks c.origins) }

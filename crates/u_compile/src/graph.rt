@@ -17,7 +17,7 @@ pub(crate) const STATEMENTS: usize = 999;
 
 /// One of the lists of a statement: its only one, or one of the two of a `switch`.
 #[derive(Clone, Copy, Debug, PartialEq, Eq)]
-pub struct Output {
+pub(crate) struct Output {
     /// The statement's number, from 1.
     pub statement: u16,
     /// Whether it is the list on which a `switch` sends on false.
@@ -40,7 +40,7 @@ impl Output {
 
 /// A link: from an output to a port.
 #[derive(Clone, Copy, Debug, PartialEq, Eq)]
-pub struct Link {
+pub(crate) struct Link {
     /// Where the value comes from.
     pub from: Output,
     /// Where it goes.
@@ -99,7 +99,7 @@ impl Draft {
 
 /// Why a graph does not grow.
 #[derive(Clone, Copy, Debug, PartialEq, Eq, Drop)]
-pub enum Full {
+pub(crate) enum Full {
     /// It has 999 statements.
     Statements,
     /// It has 99 loops.
@@ -132,7 +132,7 @@ impl From<AllocError> for Full {
 
 /// A block under construction: its loops and statements, which are both numbered 1, 2, and so on, and its links.
 #[derive(Drop)]
-pub struct Graph {
+pub(crate) struct Graph {
     pub(crate) loops: Vec<u8>,
     pub(crate) statements: Vec<Draft>,
     pub(crate) links: Vec<Link>,

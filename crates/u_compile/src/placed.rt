@@ -1,24 +1,24 @@
 //! Graphs with what was noted of their statements and loops: what is put into one lies well.
 ghost use Rattle.std.specs.Prelude.{◌≡◌, ◌⊎◌, ◌+◌, ◌≤◌, ℕ, [], ◌∷◌, ◌++◌, cond, length, Some, IfOk, IfSome, IsTrue, MatchResult, false, true};
 ghost use Rattle.u_compile.specs.Drafts.{DraftParts, draft};
-ghost use Rattle.u_compile.specs.Graphs.{graph, link, draft_at, enters, is_enter};
-ghost use Rattle.u_check.specs.Kinds.{comes_from_outside, back_named};
+ghost use Rattle.u_compile.specs.Graphs.{graph, draft_at, enters, is_enter};
+ghost use Rattle.u_check.specs.Kinds.{back_named};
 ghost use Rattle.u_program.specs.Limits.{IsBlockOf, limits_of};
 ghost use Rattle.u_program.specs.declared.program.Version.TheVariants as versions;
 ghost use Rattle.u_determinate.specs.Determinate.{IsDeterminateBlock};
 ghost use Rattle.u_program.specs.declared.program.Kind.TheVariants as kinds;
 ghost use Rattle.u_compile.specs.Kept.{KeepsItself};
 ghost use Rattle.u_compile.specs.Fanning.{IsFinished};
-ghost use Rattle.u_compile.specs.Scoped.{place, sent_by, IsOf, IsControlled, IsCalled};
-ghost use Rattle.u_compile.specs.Placed.{entry, note, test_of, placed, layout_of, IsSender, IsArrived, OneSends, MayTake, MayCome, MeetsWell, IsAlone, LiesWell, FitsIn, AreFree, IsUntested, stands_against, opens, with_link, with_statement, with_loop, with_test, finished, IsLinked, AreLinked, IsFull, IsLastFull, EachIsFull, HasNext, EachGoesOn};
+ghost use Rattle.u_compile.specs.Scoped.{place, sent_by, IsControlled, IsCalled};
+ghost use Rattle.u_compile.specs.Placed.{entry, note, test_of, placed, layout_of, IsSender, IsArrived, OneSends, MayTake, MayCome, MeetsWell, LiesWell, FitsIn, AreFree, IsUntested, stands_against, opens, with_link, with_statement, with_loop, with_test, finished, IsLastFull, EachIsFull, HasNext, EachGoesOn};
 
 use crate::fanning::draft_at;
 use crate::graph::{Draft, Full, Graph, Link, Output};
+use crate::linked::{comes_from_outside, is_full, leads, leads_alone};
 use crate::orderly::{leaves_well, stands_well};
 use crate::place::{GuardedRegion, are_guards, opposite};
 use std::alloc::{AllocError, Global};
 use std::marker::Model;
-use u_check::ports_of;
 use u_name::BlockName;
 use u_program::{Block, Destination, Kind};
 
@@ -159,89 +159,11 @@ fn is_untested(drafts: &[Draft], region: u8) -> bool
     true
 }
 
-/// Whether the output leads to the port.
-#[tactic(auto, using(crate::proofs::Links::same_is))]
-fn leads(links: &[Link], from: Output, to: Destination) -> bool
-    ensures { IsTrue result → IsOf links.now (link from to.statement to.port) }
-{
-    let mut rest = links;
-    while let Some((link, others)) = rest.split_first() {
-        if link.from.is(from) && link.to.statement == to.statement && link.to.port == to.port {
-            return true;
-        }
-        rest = others;
-    }
-    false
-}
-
-/// Whether no other output leads to the port.
-#[tactic(auto, using(crate::proofs::PlacedTests::alone_more, crate::proofs::Links::same_is))]
-fn leads_alone(links: &[Link], from: Output, to: Destination) -> bool
-    ensures { IsTrue result → IsAlone links.now from to }
-{
-    let mut rest = links;
-    while let Some((link, others)) = rest.split_first() {
-        if link.to.statement == to.statement && link.to.port == to.port && !link.from.is(from) {
-            return false;
-        }
-        rest = others;
-    }
-    true
-}
-
-/// Whether the value of a statement of the kind comes from outside: from a call of its block, or from one that it made.
-fn comes_from_outside(kind: &Kind) -> bool
-    ensures { result ≡ comes_from_outside kind.now }
-{
-    matches!(kind, Kind::Begin | Kind::Param(_) | Kind::Back)
-}
-
 /// Whether the statement is an `enter`.
 fn is_enter(draft: &Draft) -> bool
     ensures { result ≡ enters draft.now.kind }
 {
     matches!(draft.kind(), Kind::Enter(_))
-}
-
-/// Whether some output leads to the port.
-fn is_linked(links: &[Link], statement: u16, port: u8) -> bool
-    ensures { IsTrue result → IsLinked links.now statement port }
-{
-    let mut rest = links;
-    while let Some((link, others)) = rest.split_first() {
-        if link.to.statement == statement && link.to.port == port {
-            return true;
-        }
-        rest = others;
-    }
-    false
-}
-
-/// Whether so many ports of the statement are linked, of at most 5.
-fn are_linked(links: &[Link], statement: u16, ports: usize) -> bool
-    requires { ports ≤ 5 }
-    ensures { IsTrue result → AreLinked links.now statement ports }
-{
-    let mut port: u8 = 1;
-    while port as usize <= ports {
-        if !is_linked(links, statement, port) {
-            return false;
-        }
-        port += 1;
-    }
-    true
-}
-
-/// Whether each port of the statement is linked, unless its value comes from outside.
-#[tactic(auto, using(crate::proofs::Links::few_ports))]
-fn is_full(links: &[Link], statement: u16, draft: &Draft) -> bool
-    ensures { IsTrue result → IsFull links.now statement draft.now }
-{
-    let kind = draft.kind();
-    if comes_from_outside(&kind) {
-        return true;
-    }
-    are_linked(links, statement, ports_of(&kind))
 }
 
 /// Whether a `next` among the statements has the links of that `enter`.

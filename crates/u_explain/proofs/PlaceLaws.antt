@@ -1,11 +1,11 @@
 -- The lines that may stand at a place are those with which a program goes on there.
 use Rattle.std.specs.Prelude.{◌≡◌, ℕ, suc, ◌≤◌, ◌<◌, List, [], ◌∷◌, ◌++◌, length, refl}
-use Rattle.std.proofs.Common.{sym, ◌∙◌, ap, subst, arith, inl, inr, append_assoc}
+use Rattle.std.proofs.Common.{sym, ◌∙◌, ap, subst, arith, inl, inr}
 use Rattle.std.proofs.lemmas.List.{append-nil}
 use Rattle.u_program.specs.declared.program.Version.{Version}
 use Rattle.u_program.specs.declared.program.Version.TheVariants as versions
 use Rattle.u_program.specs.Parts.{BlockParts, block}
-use Rattle.u_program.specs.Limits.{IsBlockOf, limits_of}
+use Rattle.u_program.specs.Limits.{limits_of}
 use Rattle.u_program.specs.Text.{header, block_line, loop_line, statement_line}
 use Rattle.u_program.specs.Begun.{IsPart, part_lines}
 use Rattle.u_program.specs.FirstBad.{Begins}

@@ -24,7 +24,7 @@ fn is_blank(line: &[u8]) -> bool {
         .all(|byte| matches!(*byte, b' ' | b'\t' | b'\r'))
 }
 
-/// Whether the bytes begin a comment of some language, behind spaces and tabs.
+/// Whether the bytes begin a comment of some language, after spaces and tabs.
 fn begins_comment(bytes: &[u8]) -> bool {
     let at = bytes.iter().position(|byte| !matches!(*byte, b' ' | b'\t'));
     matches!(
@@ -33,7 +33,7 @@ fn begins_comment(bytes: &[u8]) -> bool {
     )
 }
 
-/// The accident of the byte if it is a space: the one before it and the ones behind it tell which.
+/// The accident of the byte if it is a space: the one before it and the ones after it tell which.
 fn of_space(before: &[u8], behind: &[u8]) -> Option<&'static str> {
     match before.last() {
         None => Some("the line begins with a space; the first word of a line stands at its start"),

@@ -1,4 +1,4 @@
-//! What may stand behind the front of a line.
+//! What may stand after the front of a line.
 use crate::text_place::TextPlace;
 use crate::words::{destination_of, spaces_of, word_of};
 use u_program::Version;
@@ -6,14 +6,14 @@ use u_program::Version;
 /// A destination: a statement's number and a port.
 pub type To = (u32, u32);
 
-/// What may stand behind a front that begins some allowed line.
+/// What may stand after a front that begins some allowed line.
 #[derive(Clone, Copy)]
 pub enum Expected<'a> {
     /// The end of the first line.
     HeaderEnd,
     /// The first word of a line, or more of it.
     LineStart,
-    /// The name of a block, of which so many bytes stand there, and whether the line ends behind it, and
+    /// The name of a block, of which so many bytes stand there, and whether the line ends after it, and
     /// not an arrow stands there.
     Name(usize, bool),
     /// The number of the next loop.
@@ -28,15 +28,15 @@ pub enum Expected<'a> {
     Kind(&'a [u8]),
     /// A constant, of which these bytes stand there.
     Constant(&'a [u8]),
-    /// A number between a kind and its arrow. It is whether bytes of it stand there.
+    /// A number between a kind and its arrow, and whether bytes of it stand there.
     Number(Argument, bool),
     /// The arrow, or more of it.
     Arrow,
-    /// The end of the line, behind the arrow of this kind.
+    /// The end of the line, after the arrow of this kind.
     NoList(&'a [u8]),
     /// A destination, of which these bytes stand there.
     Destination(List, &'a [u8]),
-    /// Behind a whole destination, the arrow or the slash: a space and what goes on, or the end.
+    /// After a whole destination, the arrow or the slash: a space and what goes on, or the end.
     More(List),
 }
 
@@ -45,7 +45,7 @@ pub enum Expected<'a> {
 pub enum Argument {
     /// The loop of an `enter`.
     Loop,
-    /// The `back` of an `apply`, and whether a number of arguments stands behind it: it does but for
+    /// The `back` of an `apply`, and whether a number of arguments stands after it: it does but for
     /// version 1.
     Back(bool),
     /// The number of arguments of an `apply`.
@@ -65,7 +65,7 @@ pub struct List {
     pub wants_slash: bool,
 }
 
-/// The list behind the arrow, whose index is that one.
+/// The list after the arrow, whose index is that one.
 fn list_of(front: &[u8], arrow: usize, wants_slash: bool) -> List {
     let mut list = List {
         last: None,
@@ -85,7 +85,7 @@ fn list_of(front: &[u8], arrow: usize, wants_slash: bool) -> List {
     list
 }
 
-/// What may stand at or behind the arrow, whose index is that one.
+/// What may stand at or after the arrow, whose index is that one.
 fn arrow_expected<'a>(
     front: &'a [u8],
     arrow: usize,
@@ -111,7 +111,7 @@ fn arrow_of(version: Version, kind: &[u8]) -> usize {
     }
 }
 
-/// What may stand in the argument of the kind, of which these bytes are there, or behind it.
+/// What may stand in the argument of the kind, of which these bytes are there, or after it.
 fn argument_expected<'a>(version: Version, kind: &[u8], begun: &'a [u8]) -> Expected<'a> {
     let has_begun = !begun.is_empty();
     match (kind, begun) {
@@ -123,7 +123,7 @@ fn argument_expected<'a>(version: Version, kind: &[u8], begun: &'a [u8]) -> Expe
     }
 }
 
-/// What may stand in a statement's line behind this front, whose last word is that one.
+/// What may stand in a statement's line after this front, whose last word is that one.
 fn statement_expected<'a>(version: Version, front: &'a [u8], last: &'a [u8]) -> Expected<'a> {
     let kind = word_of(front, 2).unwrap_or(b"");
     let arrow = arrow_of(version, kind);
@@ -138,7 +138,7 @@ fn statement_expected<'a>(version: Version, front: &'a [u8], last: &'a [u8]) -> 
     }
 }
 
-/// What may stand behind the front of a line at that place. The front begins some line that is
+/// What may stand after the front of a line at that place. The front begins some line that is
 /// allowed there.
 pub fn expected_behind(place: TextPlace, front: &[u8]) -> Expected<'_> {
     let spaces = spaces_of(front);

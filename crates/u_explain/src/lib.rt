@@ -5,7 +5,7 @@
 //! stands there, and the cause; or the rule that the program breaks, where, and why. `refused_at`
 //! and `line_left` find the byte: `lists` and `fronts` have the longest front of a line that begins
 //! some line of a sort, and `text_place` and `scanning` which sorts may stand where. `expected` says
-//! what may stand behind a front, and `telling_expected`, `accidents`, `line_causes`,
+//! what may stand after a front, and `telling_expected`, `accidents`, `line_causes`,
 //! `rule_sentences`, `rule_causes` and `telling_breach` have the sentences.
 //!
 //! `explain_meeting` tells of a program that is allowed and not determinate what meets where, and

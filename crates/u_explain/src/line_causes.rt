@@ -13,7 +13,7 @@ use u_program::Version;
 const MISSING_ARROW: &str =
     "the arrow `->` is missing; each statement has one, also where no destination follows";
 
-/// A line that is refused, or the bytes behind the last newline of a file.
+/// A line that is refused, or the bytes after the last newline of a file.
 #[derive(Clone, Copy)]
 pub struct Refused<'a> {
     /// The place where it stands.
@@ -67,7 +67,7 @@ fn tell_word_alone(out: &mut String, word: &[u8]) -> Told {
     }
 }
 
-/// The cause if the line of a block or of a loop, or the first line, may not stand behind so many
+/// The cause if the line of a block or of a loop, or the first line, may not stand after so many
 /// statements of a block; none, if the word begins no such line.
 fn misplaced(word: &[u8], statements: u32) -> Option<&'static str> {
     match (word, statements) {
@@ -83,7 +83,7 @@ fn misplaced(word: &[u8], statements: u32) -> Option<&'static str> {
     }
 }
 
-/// The cause if the first word of a line is wrong, behind the line that begins a block and so many
+/// The cause if the first word of a line is wrong, after the line that begins a block and so many
 /// statements.
 fn tell_inside(out: &mut String, first: &[u8], statements: u32) -> Told {
     if let Some(cause) = misplaced(first, statements) {
@@ -330,7 +330,7 @@ fn tell_destination(out: &mut String, it: &Refused<'_>, list: &List, has_dot: bo
     }
 }
 
-/// The cause if what stands behind a whole destination is wrong.
+/// The cause if what stands after a whole destination is wrong.
 fn tell_more(out: &mut String, it: &Refused<'_>, list: &List) -> Told {
     match it.byte() {
         None => out.push_str(

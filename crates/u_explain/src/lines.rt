@@ -18,7 +18,7 @@ use u_base::cut;
 use u_program::{ReadError, read};
 
 /// How many bytes of the line the longest front has that begins some line which may stand at the
-/// place. It is 0 where no line may stand there.
+/// place. It is 0 if no line may stand there.
 fn offset_of(line: &[u8], place: TextPlace) -> usize
     ensures { (before : List (List ℕ)) → IsPlace before place
         → IsLongestFront (IsAllowed before) line.now result }
@@ -31,7 +31,7 @@ fn offset_of(line: &[u8], place: TextPlace) -> usize
     }
 }
 
-/// The line of that number, from 1, or the bytes behind the last newline where there are fewer lines, with
+/// The line of that number, from 1, or the bytes after the last newline if there are fewer lines, with
 /// the place where it stands and its offset.
 ///
 /// Promise refused-at: if the lines before it begin a program, the offset is the length of the longest front

@@ -67,7 +67,7 @@ fn sweep(marks: &mut [bool], block: &Block, region: u8) -> bool {
 /// comes to from there within one turn.
 ///
 /// # Errors
-/// `AllocError` where there is no memory.
+/// `AllocError` if there is no memory.
 pub fn reached_from(alloc: Global, block: &Block, number: usize) -> Result<Vec<bool>, AllocError> {
     let count = block.statements().len();
     let mut marks = Vec::new(alloc);

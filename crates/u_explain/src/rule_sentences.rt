@@ -15,7 +15,7 @@ pub fn sentence_of_rule(version: Version, rule: Rule) -> &'static str {
 }
 
 /// What the rule demands of programs of either version; of the two rules that treat a `param` as a
-/// `begin`, what it demands where there is none.
+/// `begin`, what it demands if there is none.
 fn sentence_of_both(rule: Rule) -> &'static str {
     match rule {
         Rule::BlockNamesDiffer => "the names of the blocks differ",

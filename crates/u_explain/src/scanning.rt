@@ -8,10 +8,10 @@ ghost use Rattle.u_explain.specs.Places.{IsPlace};
 use crate::text_place::TextPlace;
 use u_base::cut;
 
-/// What stands behind some lines.
+/// What stands after some lines.
 #[derive(Clone, Copy)]
 pub struct Behind<'a> {
-    /// The place behind them.
+    /// The place after them.
     pub place: TextPlace,
     /// The number of the line that stands there, from 1.
     pub number: usize,
@@ -19,7 +19,7 @@ pub struct Behind<'a> {
     pub rest: &'a [u8],
 }
 
-/// What stands behind so many lines, or behind all that end with a newline where there are fewer.
+/// What stands after so many lines, or after all that end with a newline if there are fewer.
 pub fn behind_lines(bytes: &[u8], count: usize) -> Behind<'_>
     requires { count < 18446744073709551615 }
     ensures { (before others : List (List ℕ)) → lines bytes.now ≡ before ++ others
@@ -58,7 +58,7 @@ pub enum BlockLine {
     Statement(usize),
 }
 
-/// Whether the place stands right behind that line of the block of that number.
+/// Whether the place stands right after that line of the block of that number.
 fn is_behind(place: TextPlace, block: usize, part: BlockLine) -> bool {
     let TextPlace::Inside {
         blocks,

@@ -12,7 +12,7 @@ const SHOWN: usize = 72;
 /// How many of them stand before the mark at most.
 const BEFORE: usize = 48;
 
-/// A line with its number, and below it a mark `^` under the byte at the offset, or behind the line's last
+/// A line with its number, and below it a mark `^` under the byte at the offset, or after the line's last
 /// byte. Of a line of more than 72 bytes at most 72 are shown, 48 of them before the mark at most.
 #[derive(Clone, Copy)]
 pub struct Marked<'a> {
@@ -63,7 +63,7 @@ impl fmt::Display for Marked<'_> {
     }
 }
 
-/// Appends the line with its number, and below it a mark `^` under the byte at the offset: behind
+/// Appends the line with its number, and below it a mark `^` under the byte at the offset: after
 /// the line's last byte if the offset is the line's length or above. A byte that is no printable
 /// ASCII is shown as an escape, and the mark is under the escape's first byte. Of a line of more
 /// than 72 bytes at most 72 are shown, 48 of them before the mark at most.

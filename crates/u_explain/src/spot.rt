@@ -6,7 +6,7 @@ use crate::telling::{Named, Quoted, Told};
 use crate::words::start_of;
 use u_program::{Block, Kind, Program, Statement};
 
-/// How many lines are shown behind a sentence.
+/// How many lines are shown after a sentence.
 const SEEN: usize = 4;
 
 /// A statement or a loop that a sentence tells of.
@@ -22,7 +22,7 @@ pub struct Spot<'a> {
     pub number: usize,
 }
 
-/// The index of the first word behind the arrow in the line of a statement of that kind, which lists
+/// The index of the first word after the arrow in the line of a statement of that kind, which lists
 /// destinations.
 pub fn behind_arrow(kind: &Kind) -> usize {
     match kind {

@@ -19,7 +19,7 @@ const END: &str = "the end of the line";
 
 const SLASH: &str = "the slash `/` before the list for false";
 
-/// What a line behind the line that begins a block may be.
+/// What a line after the line that begins a block may be.
 fn tell_inside(out: &mut String, has_room: bool, loops: u32, statements: u32) -> Told {
     let (next, another) = (statements.saturating_add(1), loops.saturating_add(1));
     match statements {
@@ -53,7 +53,7 @@ fn tell_start(out: &mut String, place: TextPlace) -> Told {
     }
 }
 
-/// What may stand in or behind a name.
+/// What may stand in or after a name.
 fn tell_name(out: &mut String, used: usize, is_last: bool) -> Told {
     let behind = if is_last { END } else { ARROW };
     match used {
@@ -85,7 +85,7 @@ pub fn tell_kinds(out: &mut String, version: Version, begun: &[u8]) -> Told {
     }
 }
 
-/// What may stand behind these bytes of a kind.
+/// What may stand after these bytes of a kind.
 fn tell_kind(out: &mut String, version: Version, begun: &[u8]) -> Told {
     match begun {
         b"const" => return out.push_str("a space and the constant"),
@@ -101,7 +101,7 @@ fn tell_kind(out: &mut String, version: Version, begun: &[u8]) -> Told {
     tell_kinds(out, version, begun)
 }
 
-/// What may stand behind these bytes of a constant.
+/// What may stand after these bytes of a constant.
 fn constant_expected(begun: &[u8]) -> &'static str {
     match begun {
         [] =>
@@ -116,7 +116,7 @@ fn constant_expected(begun: &[u8]) -> &'static str {
     }
 }
 
-/// What may stand in the number between a kind and its arrow, or behind it if some of it stands there.
+/// What may stand in the number between a kind and its arrow, or after it if some of it stands there.
 fn number_expected(argument: Argument, has_begun: bool) -> &'static str {
     match (argument, has_begun) {
         (Argument::Loop, false) => "the number of the loop that is entered, from 1 to 99",
@@ -167,7 +167,7 @@ fn tell_port(out: &mut String, most: u32, last: Option<To>, statement: u32) -> T
     write!(out, "a port from {least} to {most}")
 }
 
-/// What may stand in or behind a destination's statement.
+/// What may stand in or after a destination's statement.
 fn tell_digits(out: &mut String, most: u32, list: &List, begun: &[u8]) -> Told {
     let following = Following(list.last, most);
     let Ok((statement, _)) = number_at(begun, 999) else {
@@ -198,7 +198,7 @@ fn tell_destination(out: &mut String, most: u32, list: &List, begun: &[u8]) -> T
     Ok(())
 }
 
-/// What may stand behind a whole destination, the arrow or the slash.
+/// What may stand after a whole destination, the arrow or the slash.
 fn tell_more(out: &mut String, most: u32, list: &List) -> Told {
     if list.count < 16 && list.last != Some((999, most)) {
         write!(out, "a space and {}, or ", Following(list.last, most))?;
@@ -209,7 +209,7 @@ fn tell_more(out: &mut String, most: u32, list: &List) -> Told {
     out.push_str(END)
 }
 
-/// The region that holds the next loop, behind so many, or what stands behind it.
+/// The region that holds the next loop, after so many, or what stands after it.
 fn tell_holder(out: &mut String, loops: u32, begun: &[u8]) -> Told {
     match (begun, loops) {
         ([], 0) => out.push_str("region 0, in which the first loop lies"),

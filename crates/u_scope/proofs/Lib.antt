@@ -1,11 +1,11 @@
 pub mod ScopeLaws
 pub mod VerdictLaws
+pub mod FirstLaws
 pub mod ValueLaws
 pub mod CheckLaws
 pub mod KnownLaws
 pub mod MeaningLaws
 pub mod CountingLaws
-pub mod FirstLaws
 pub mod TreeLaws
 pub mod WalkLaws
 pub mod PartLaws

@@ -7,6 +7,7 @@ use Rattle.u_source.specs.Tokens.{TokenParts}
 use Rattle.u_scope.proofs.VerdictLaws.{one_more_back}
 use Rattle.u_scope.specs.declared.checked.Meaning.{Meaning}
 use Rattle.u_scope.specs.declared.checking.Walk.{Walk}
+use Rattle.u_scope.specs.declared.clash.Clash.{Clash}
 use Rattle.u_scope.specs.Clashes.{clash_of}
 use Rattle.u_scope.specs.Kinds.{kinded, with_kind, meaning_at}
 use Rattle.u_scope.specs.KindVerdicts.{clash_between, clash_at, IsLeast, IsGoneOn}
@@ -27,7 +28,7 @@ seen_more ts ms n nodes others x old new m h g o =
 pub least_next : (ts : List TokenParts) (ms : List Meaning) (n : ℕ) (nodes others : List Node) (x : Node) (old new : Walk) → drop n nodes ≡ x ∷ others → IsGoneOn ts x (meaning_at ms n) old new → reverse old.seen.items ≡ kinded ms (reverse (take n nodes)) → IsLeast (clash_at ts ms nodes) n old.first → IsLeast (clash_at ts ms nodes) (n + 1) new.first
 least_next ts ms n nodes others x old new h g o l =
     let there : clash_at ts ms nodes n ≡ clash_of ts x.form (reverse old.seen.items) = ap (λ xs. clash_between ts (kinded ms (reverse (take n nodes))) xs) h ∙ ap (λ ks. clash_of ts x.form ks) (sym o) in
-    subst (IsLeast (clash_at ts ms nodes) (n + 1)) (sym g.first) (least_more (clash_at ts ms nodes) n old.first (clash_of ts x.form (reverse old.seen.items)) there l)
+    subst (IsLeast (clash_at ts ms nodes) (n + 1)) (sym g.first) (least_more (λ (c : Clash). c.token) (clash_at ts ms nodes) n old.first (clash_of ts x.form (reverse old.seen.items)) there l)
 
 dropped_suc : (n : ℕ) (nodes others : List Node) (x : Node) → drop n nodes ≡ x ∷ others → drop (suc n) nodes ≡ others
 dropped_suc zero [] others x h = cc

@@ -1,10 +1,11 @@
 -- Which values have to be of one kind, and where a value of another kind stands.
-use Rattle.std.specs.Prelude.{ℕ, cond, nat_lt, List, [], ◌∷◌, drop, Option, Some, None}
+use Rattle.std.specs.Prelude.{ℕ, cond, List, [], ◌∷◌, drop, Option, Some, None}
 use Rattle.u_source.specs.declared.form.Form.{Form}
 use Rattle.u_source.specs.declared.form.Form.TheVariants as form
 use Rattle.u_source.specs.declared.token.Word.{Word}
 use Rattle.u_source.specs.declared.token.Word.TheVariants.{Name}
 use Rattle.u_source.specs.Tokens.{TokenParts}
+use Rattle.u_scope.specs.Firsts.{before_by, first_by}
 use Rattle.u_scope.specs.declared.clash.Clash.{Clash}
 use Rattle.u_scope.specs.declared.clash.Wanted.{Wanted}
 use Rattle.u_scope.specs.declared.clash.Wants.{Wants}
@@ -66,15 +67,11 @@ clash_next w (k ∷ ks) = clash_with w k.kind k.node.token
 abbrev pub wanted_clash : Wanted → List Kinded → Option Clash
 wanted_clash w ks = clash_next w.kind (without_trees w.behind ks)
 
--- of the two the clash that the first token shows, or the first one
 abbrev pub before : Clash → Option Clash → Clash
-before a None = a
-before a (Some b) = cond (nat_lt b.token a.token) b a
+before a o = before_by (λ (c : Clash). c.token) a o
 
--- the same, if there is any
 abbrev pub first_of : Option Clash → Option Clash → Option Clash
-first_of None o = o
-first_of (Some a) o = Some (before a o)
+first_of a o = first_by (λ (c : Clash). c.token) a o
 
 abbrev pub wants_clash : Wants → List Kinded → Option Clash
 wants_clash Nothing ks = None

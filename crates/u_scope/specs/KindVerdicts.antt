@@ -1,5 +1,5 @@
 -- The first clash of a source.
-use Rattle.std.specs.Prelude.{◌≡◌, ◌<◌, ◌≤◌, ℕ, List, [], ◌∷◌, length, take, drop, reverse, Option, Some, None}
+use Rattle.std.specs.Prelude.{◌≡◌, ℕ, List, [], ◌∷◌, length, take, drop, reverse, Option, Some, None}
 use Rattle.u_source.specs.declared.form.Node.{Node}
 use Rattle.u_source.specs.declared.place.Position.{Position}
 use Rattle.u_source.specs.Sources.{SourceParts}
@@ -12,6 +12,7 @@ use Rattle.u_scope.specs.declared.kind_error.KindError.{KindError}
 use Rattle.u_scope.specs.declared.kind_error.KindError.TheVariants.{Refused, NoMemory}
 use Rattle.u_scope.specs.declared.kind_error.KindProblem.{KindProblem}
 use Rattle.u_scope.specs.declared.kinded.Kinded.{Kinded}
+use Rattle.u_scope.specs.Firsts.{IsLeastBy}
 use Rattle.u_scope.specs.Clashes.{clash_of, first_of}
 use Rattle.u_scope.specs.Kinds.{kinded, with_kind}
 
@@ -23,21 +24,8 @@ clash_between ts ks (n ∷ ns) = clash_of ts n.form ks
 abbrev pub clash_at : List TokenParts → List Meaning → List Node → ℕ → Option Clash
 clash_at ts ms nodes i = clash_between ts (kinded ms (reverse (take i nodes))) (drop i nodes)
 
--- where f says what clashes at each node: nothing does at the first k nodes
-abbrev pub NoneBelow : (ℕ → Option Clash) → ℕ → Type 0
-NoneBelow f k = (j : ℕ) → j < k → f j ≡ None
-
--- this is a clash at one of the first k nodes, and no token before it shows another one
-pub record IsLeastBelow (f : ℕ → Option Clash) (k : ℕ) (c : Clash) : Type 0 where
-  pub number : ℕ
-  pub inside : number < k
-  pub there : f number ≡ Some c
-  pub least : (j : ℕ) (d : Clash) → j < k → f j ≡ Some d → c.token ≤ d.token
-
--- the first clash at the first k nodes, by its token
 abbrev pub IsLeast : (ℕ → Option Clash) → ℕ → Option Clash → Type 0
-IsLeast f k None = NoneBelow f k
-IsLeast f k (Some c) = IsLeastBelow f k c
+IsLeast f k o = IsLeastBy (λ (c : Clash). c.token) f k o
 
 -- the first clash of some nodes
 abbrev pub IsFirstOf : List TokenParts → List Meaning → List Node → Option Clash → Type 0

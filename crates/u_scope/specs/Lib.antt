@@ -3,6 +3,7 @@ pub mod Entries
 pub mod Finding
 pub mod Counting
 pub mod Meanings
+pub mod Firsts
 pub mod Values
 pub mod Verdicts
 pub mod Scopes

@@ -1,8 +1,9 @@
 -- Where a value is wanted, and where there is one.
-use Rattle.std.specs.Prelude.{◌≡◌, ◌<◌, ◌≤◌, ℕ, zero, suc, Bool, true, false, cond, not, ◌||◌, nat_lt, List, [], ◌∷◌, take, drop, reverse, Option, Some, None}
+use Rattle.std.specs.Prelude.{ℕ, zero, suc, Bool, true, false, cond, not, ◌||◌, List, [], ◌∷◌, take, drop, reverse, Option, Some, None}
 use Rattle.u_source.specs.declared.form.Form.{Form}
 use Rattle.u_source.specs.declared.form.Form.TheVariants as form
 use Rattle.u_source.specs.declared.form.Node.{Node}
+use Rattle.u_scope.specs.Firsts.{before_by, first_by, IsLeastBy}
 use Rattle.u_scope.specs.declared.check_error.CheckProblem.{CheckProblem}
 use Rattle.u_scope.specs.declared.check_error.CheckProblem.TheVariants as problem_is
 use Rattle.u_scope.specs.declared.values.Breach.{Breach}
@@ -112,29 +113,11 @@ breach_next before (n ∷ ns) = breach_between before n ns
 abbrev pub value_breach : List Node → ℕ → Option Breach
 value_breach nodes i = breach_next (reverse (take i nodes)) (drop i nodes)
 
--- of the two what is shown by the first token, or the first one
 abbrev pub before : Breach → Option Breach → Breach
-before a None = a
-before a (Some b) = cond (nat_lt b.token a.token) b a
+before a o = before_by (λ (b : Breach). b.token) a o
 
--- the same, if there is any
 abbrev pub first_of : Option Breach → Option Breach → Option Breach
-first_of None o = o
-first_of (Some a) o = Some (before a o)
+first_of a o = first_by (λ (b : Breach). b.token) a o
 
--- where f says what is not allowed at each node: all is allowed at the first k nodes
-abbrev pub NoneBelow : (ℕ → Option Breach) → ℕ → Type 0
-NoneBelow f k = (j : ℕ) → j < k → f j ≡ None
-
--- this is not allowed at one of the first k nodes, and what is not allowed at another one is not shown by a token
--- before it
-pub record IsLeastBelow (f : ℕ → Option Breach) (k : ℕ) (b : Breach) : Type 0 where
-  pub number : ℕ
-  pub inside : number < k
-  pub there : f number ≡ Some b
-  pub least : (j : ℕ) (c : Breach) → j < k → f j ≡ Some c → b.token ≤ c.token
-
--- the first of what is not allowed at the first k nodes, by its token
 abbrev pub IsLeast : (ℕ → Option Breach) → ℕ → Option Breach → Type 0
-IsLeast f k None = NoneBelow f k
-IsLeast f k (Some b) = IsLeastBelow f k b
+IsLeast f k o = IsLeastBy (λ (b : Breach). b.token) f k o

@@ -53,3 +53,4 @@ pub use ports::Ports;
 pub use reads::DeferredRead;
 pub use telling::story;
 pub use trace_error::TraceError;
+pub use writing::{push_read, push_waiting};

@@ -47,9 +47,12 @@ fn push_listed(out: &mut Vec<u8>, word: &[u8], ports: Ports) -> Result<(), Alloc
     push_ports(out, ports)
 }
 
-/// Appends the text of the activity that waits. On an error a part of it may stand there.
+/// Appends the text of the activity that waits, without a newline: `waits NAME has PORT.. lacks PORT..`.
+///
+/// # Errors
+/// `AllocError` if there is no memory. Then a part of the text may stand there.
 #[tactic(auto, unfolding(crate::specs::Text::waiting_text), using(u_base::proofs::AppendingLaws::extends_same, u_base::proofs::AppendingLaws::extends_by, u_base::proofs::AppendingLaws::extends_behind, crate::proofs::Texts::join4))]
-fn push_waiting(out: &mut Vec<u8>, waiting: &WaitingActivity) -> Result<(), AllocError>
+pub fn push_waiting(out: &mut Vec<u8>, waiting: &WaitingActivity) -> Result<(), AllocError>
     ensures ok { OnOk result (out.new.items ≡ out.old.items ++ waiting_text waiting.now) }
     ensures err { OnErr result (Extends out.old.items out.new.items) }
 {
@@ -59,9 +62,12 @@ fn push_waiting(out: &mut Vec<u8>, waiting: &WaitingActivity) -> Result<(), Allo
     push_listed(out, b" lacks", waiting.lacks)
 }
 
-/// Appends the text of the deferred read. On an error a part of it may stand there.
+/// Appends the text of the deferred read, without a newline: `reads NAME CELL`, with NAME the reader's.
+///
+/// # Errors
+/// `AllocError` if there is no memory. Then a part of the text may stand there.
 #[tactic(auto, unfolding(crate::specs::Text::read_text), using(u_base::proofs::AppendingLaws::extends_same, u_base::proofs::AppendingLaws::extends_by, u_base::proofs::AppendingLaws::extends_behind, crate::proofs::Texts::join4))]
-fn push_read(out: &mut Vec<u8>, read: &DeferredRead) -> Result<(), AllocError>
+pub fn push_read(out: &mut Vec<u8>, read: &DeferredRead) -> Result<(), AllocError>
     ensures ok { OnOk result (out.new.items ≡ out.old.items ++ read_text read.now) }
     ensures err { OnErr result (Extends out.old.items out.new.items) }
 {

@@ -1,6 +1,6 @@
 use Rattle.std.proofs.Common.{length}
 use Rattle.u_compile.specs.Placed.{IsLinked}
-use Rattle.u_compile.proofs.placed.is_linked.Given as goal
+use Rattle.u_compile.proofs.linked.is_linked.Given as goal
 
 abbrev pub invariant-loop-link : goal.invariant-loop-link
 invariant-loop-link l = IsLinked l.rest l.statement l.port → IsLinked l.links l.statement l.port

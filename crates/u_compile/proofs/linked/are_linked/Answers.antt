@@ -1,6 +1,6 @@
 use Rattle.std.proofs.Common.{arith}
 use Rattle.u_compile.proofs.PlacedTests.{linked_more}
-use Rattle.u_compile.proofs.placed.are_linked.Goals as goal
+use Rattle.u_compile.proofs.linked.are_linked.Goals as goal
 
 pub loop-port-preserved : goal.loop-port-preserved
 loop-port-preserved c = record {

@@ -1,6 +1,6 @@
 use Rattle.std.proofs.Common.{◌-◌, ◌<◌, ◌≤◌, ℕ}
 use Rattle.u_compile.specs.Placed.{IsLinked}
-use Rattle.u_compile.proofs.placed.are_linked.Given as goal
+use Rattle.u_compile.proofs.linked.are_linked.Given as goal
 
 abbrev pub invariant-loop-port : goal.invariant-loop-port
 invariant-loop-port l = record {

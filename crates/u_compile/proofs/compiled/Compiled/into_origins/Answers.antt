@@ -1,7 +1,0 @@
-use Rattle.std.proofs.Common.{subst}
-use Rattle.u_compile.specs.Maps.{AreOrigins}
-use Rattle.u_compile.specs.Compiled.{CompiledParts}
-use Rattle.u_compile.proofs.compiled.Compiled.into_origins.Goals as goal
-
-pub returns-clause-each : goal.returns-clause-each
-returns-clause-each c = subst (λ (p : CompiledParts). AreOrigins p.program.blocks p.origins) c.self.view_is c.self.invariant.each
