@@ -14,7 +14,7 @@ TOP = pathlib.Path(__file__).resolve().parent.parent
 TYPE = re.compile(r"^\s*pub(?:\(crate\))? (?:struct|enum|trait|type) (\w+)", re.MULTILINE)
 SPEC = re.compile(r"^(?:abbrev pub|unfoldable pub|pub record|pub data) (?:record |data )?([\w-]+)", re.MULTILINE)
 # The same thing in each crate, said of what that crate reads, refuses or writes.
-ALIKE = "Call ReadError Refused Ended Ending Expected Fault LineFault Row Saved Test Unwritten Words Wanted Stuck Kind Way".split()
+ALIKE = "Call ReadError Refused Ended Ending Expected Fault LineFault Row Saved Test Told Unwritten Words Wanted Stuck Kind Way".split()
 # Words of the notation's reader and compiler, which no machine knows, and the same words of the machine.
 OF_SOURCES = "Breach Entry Event Form Found Frame Link Mark Named Node Origin Outcome Part Rule Role Source Spot Step Token".split()
 

@@ -1,22 +1,17 @@
 -- A fleet whose gate lets each worker go on: none is stopped, so some worker is done, and the report is whole.
-use Rattle.std.specs.Prelude.{◌≡◌, ℕ, zero, suc, ◌≤◌, ◌<◌, ◌⊎◌, List, [], ◌∷◌, length, Contains, slice_index_or, Option, Err, refl}
+use Rattle.std.specs.Prelude.{◌≡◌, ℕ, zero, suc, ◌≤◌, ◌<◌, ◌⊎◌, List, [], ◌∷◌, length, Contains, slice_index_or}
 use Rattle.std.proofs.Common.{inl, inr, subst, sym, arith, ap, ◌∙◌}
 use Rattle.u_base.proofs.Member.{Contains-nil, Contains-head, Contains-tail, Contains-cons_cases}
 use Rattle.u_check.specs.Jobs.{JobParts}
 use Rattle.u_rule.specs.declared.firing.Firing.{Firing}
-use Rattle.u_machine.specs.State.{State, NothingReady}
+use Rattle.u_machine.specs.State.{State, IsMachine, NothingReady}
 use Rattle.u_machine.specs.Headline.{IsWhole}
 use Rattle.u_history.specs.declared.report.Ending.TheVariants.{Quiet}
-use Rattle.u_fleet.specs.Headline.{IsReport, AreStopped}
-use Rattle.u_fleet.specs.Workers.{EndsWith}
+use Rattle.u_fleet.specs.Headline.{EndsWith, IsReport, AreStopped}
 use Rattle.u_fleet.specs.declared.plan.End.{End}
 use Rattle.u_fleet.specs.declared.plan.End.TheVariants.{Done, Stopped, Full, NoMemory}
 use Rattle.u_commands.specs.Runs.{ReportsMachine}
-use Rattle.u_commands.specs.Restores.{HasJob}
-use Rattle.u_commands.specs.declared.command_error.CommandError.{CommandError}
-use Rattle.u_commands.specs.declared.command_error.CommandError.TheVariants as faults
-use Rattle.u_commands.proofs.Known.{kept}
-use Rattle.u_cli.specs.Fleets.{fleet_plan, goes, TellsFleet, FleetRefused, FleetTextAnswer}
+use Rattle.u_cli.specs.Fleets.{fleet_plan, goes, TellsFleet}
 
 -- what is so of the later ones is so of all, where the first is not done
 behind : (end : End) (ends : List End) → (end ≡ Done → ⊥) → Contains ends Done ⊎ (Contains ends Done → ⊥) → Contains (end ∷ ends) Done ⊎ (Contains (end ∷ ends) Done → ⊥)
@@ -57,33 +52,7 @@ module _ (job : JobParts) (workers rounds : ℕ) (low : 1 ≤ workers) (m : Stat
       ]
 
   -- so the report is that of the whole history
-  pub tells_fleet : (report : List ℕ) (status : ℕ) → ReportsMachine m Quiet report status → TellsFleet job workers rounds report status
-  tells_fleet report status reported =
+  pub tells_fleet : (report : List ℕ) (status : ℕ) → IsMachine m → ReportsMachine m Quiet report status → TellsFleet job workers rounds report status
+  tells_fleet report status is reported =
       let whole = r.done done in
-      record { machine = m; published = lists; ends = ends; fleet = r; ready = whole.0; whole = whole.1; reported = reported }
-
--- nothing is written where nothing is told of the fleet of a job
-module _ (bytes word : List ℕ) (workers rounds : ℕ) (old : Option (List ℕ)) where
-  pub fleet_not_told : (fault : CommandError) → HasJob bytes word (λ job. FleetRefused job fault) → FleetTextAnswer bytes word workers rounds old (Err fault) old
-  fleet_not_told (faults.LineNotAllowed n) h = (inr h, kept old)
-  fleet_not_told (faults.TooMany n) h = (inr h, kept old)
-  fleet_not_told faults.CutShort h = (inr h, kept old)
-  fleet_not_told (faults.Rule b) h = (inr h, kept old)
-  fleet_not_told faults.ArgumentNotAllowed h = (inr h, kept old)
-  fleet_not_told faults.InputTooLong h = (inr h, kept old)
-  fleet_not_told (faults.CheckpointLineNotAllowed n) h = (inr h, kept old)
-  fleet_not_told (faults.CheckpointLineTooLong n) h = (inr h, kept old)
-  fleet_not_told (faults.OtherFiring n) h = (inr h, kept old)
-  fleet_not_told (faults.ScriptLineNotAllowed n) h = (inr h, kept old)
-  fleet_not_told (faults.ScriptLineImpossible n) h = (inr h, kept old)
-  fleet_not_told (faults.EntryNotAllowed n) h = (inr h, kept old)
-  fleet_not_told faults.EntryNotHeld h = (inr h, kept old)
-  fleet_not_told (faults.NameNotAllowed n) h = (inr h, kept old)
-  fleet_not_told faults.NameTooDeep h = (inr h, kept old)
-  fleet_not_told faults.PortNotClashed h = (inr h, kept old)
-  fleet_not_told faults.Full h = (inr h, kept old)
-  fleet_not_told faults.NoMemory h = (inr h, kept old)
-  fleet_not_told faults.NoThread h = (inr h, kept old)
-  fleet_not_told faults.NoReader h = (inr h, kept old)
-  fleet_not_told faults.NotReadable h = (inr h, kept old)
-  fleet_not_told faults.NotWritten h = absurd h.so
+      record { machine = m; is = is; published = lists; ends = ends; fleet = r; ready = whole.0; whole = whole.1; reported = reported }

@@ -11,13 +11,8 @@ use Rattle.u_world.proofs.Effects.{stays}
 use Rattle.u_world.proofs.Doable.{IsNoTake, never_refused}
 use Rattle.u_replica.specs.ReplicaState.{ReplicaState}
 use Rattle.u_world.specs.Runs.{EventSteps}
-use Rattle.u_commands.specs.Runs.{RunsBehind, RunRefused}
-use Rattle.u_commands.specs.Restores.{HasJob}
-use Rattle.u_commands.specs.declared.command_error.CommandError.{CommandError}
-use Rattle.u_commands.specs.declared.command_error.CommandError.TheVariants as faults
-use Rattle.u_cli.specs.declared.worlds.WorldPlan.{WorldPlan}
-use Rattle.u_cli.specs.Worlds.{replica_line, replica_lines, merges, AreDoable, EventsRefused, Gathers, TellsEnd, EndsRefused, WorldRefused, WorldTextAnswer}
-use Rattle.u_commands.proofs.Known.{kept}
+use Rattle.u_commands.specs.Runs.{RunsBehind}
+use Rattle.u_cli.specs.Worlds.{replica_line, replica_lines, merges, AreDoable, Gathers, TellsEnd}
 
 same_event : (a b : Event) → Some a ≡ Some b → a ≡ b
 same_event a b p = cc
@@ -82,14 +77,6 @@ merges_more k old new e f =
     let q : k + 1 ≡ suc k = omega arith in
     f ∙ ap (λ (es : List Event). es ++ (events.Merge 1 (k + 2) ∷ [])) e ∙ sym (ap merges q)
 
--- what is so of one world and one list of events is so of those that are the same
-module _ (w v : WorldState) (es fs : List Event) (same : w ≡ v) (list : es ≡ fs) where
-  pub happens_so : (new : WorldState) → EventSteps w es new → EventSteps v fs new
-  happens_so new s = subst (λ (x : WorldState). EventSteps x fs new) same (subst (λ (xs : List Event). EventSteps w xs new) list s)
-
-  pub refused_so : (fault : CommandError) → EventsRefused w es fault → EventsRefused v fs fault
-  refused_so fault r = subst (λ (x : WorldState). EventsRefused x fs fault) same (subst (λ (xs : List Event). EventsRefused w xs fault) list r)
-
 -- the report of the first replica, once it fired what it could, behind the lines of all replicas
 pub tells_end : (w : WorldState) (firings : ℕ) (first : ReplicaState) → Gathers w first → (written : List ℕ) (status : ℕ) → RunsBehind (replica_lines w.replicas) first.machine firings written status → TellsEnd w firings written status
 tells_end w firings first g written status r = record {
@@ -99,54 +86,3 @@ tells_end w firings first g written status r = record {
   ends = record { end = r.end; machine = r.machine; is_machine = r.is_machine; ran = r.ran; reported = r.reported };
   is = r.is;
 }
-
--- a first replica that fires until it is full
-pub ends_refused : (w : WorldState) (firings : ℕ) (first : ReplicaState) → Gathers w first → (fault : CommandError) → RunRefused first.machine firings fault → EndsRefused w firings fault
-ends_refused w firings first g (faults.LineNotAllowed n) r = r
-ends_refused w firings first g (faults.TooMany n) r = r
-ends_refused w firings first g faults.CutShort r = r
-ends_refused w firings first g (faults.Rule b) r = r
-ends_refused w firings first g faults.ArgumentNotAllowed r = r
-ends_refused w firings first g faults.InputTooLong r = r
-ends_refused w firings first g (faults.CheckpointLineNotAllowed n) r = r
-ends_refused w firings first g (faults.CheckpointLineTooLong n) r = r
-ends_refused w firings first g (faults.OtherFiring n) r = r
-ends_refused w firings first g (faults.ScriptLineNotAllowed n) r = r
-ends_refused w firings first g (faults.ScriptLineImpossible n) r = r
-ends_refused w firings first g (faults.EntryNotAllowed n) r = r
-ends_refused w firings first g faults.EntryNotHeld r = r
-ends_refused w firings first g (faults.NameNotAllowed n) r = r
-ends_refused w firings first g faults.NameTooDeep r = r
-ends_refused w firings first g faults.PortNotClashed r = r
-ends_refused w firings first g faults.Full r = inr (first, g, (r.0, r.2))
-ends_refused w firings first g faults.NoMemory r = tt
-ends_refused w firings first g faults.NoThread r = r
-ends_refused w firings first g faults.NoReader r = r
-ends_refused w firings first g faults.NotReadable r = r
-ends_refused w firings first g faults.NotWritten r = r
-
--- nothing is written where nothing is told of the world of a job
-module _ (bytes word : List ℕ) (plan : WorldPlan) (old : Option (List ℕ)) where
-  pub not_told : (fault : CommandError) → HasJob bytes word (λ job. WorldRefused job plan fault) → WorldTextAnswer bytes word plan old (Err fault) old
-  not_told (faults.LineNotAllowed n) h = (inr h, kept old)
-  not_told (faults.TooMany n) h = (inr h, kept old)
-  not_told faults.CutShort h = (inr h, kept old)
-  not_told (faults.Rule b) h = (inr h, kept old)
-  not_told faults.ArgumentNotAllowed h = (inr h, kept old)
-  not_told faults.InputTooLong h = (inr h, kept old)
-  not_told (faults.CheckpointLineNotAllowed n) h = (inr h, kept old)
-  not_told (faults.CheckpointLineTooLong n) h = (inr h, kept old)
-  not_told (faults.OtherFiring n) h = (inr h, kept old)
-  not_told (faults.ScriptLineNotAllowed n) h = (inr h, kept old)
-  not_told (faults.ScriptLineImpossible n) h = (inr h, kept old)
-  not_told (faults.EntryNotAllowed n) h = (inr h, kept old)
-  not_told faults.EntryNotHeld h = (inr h, kept old)
-  not_told (faults.NameNotAllowed n) h = (inr h, kept old)
-  not_told faults.NameTooDeep h = (inr h, kept old)
-  not_told faults.PortNotClashed h = (inr h, kept old)
-  not_told faults.Full h = (inr h, kept old)
-  not_told faults.NoMemory h = (inr h, kept old)
-  not_told faults.NoThread h = (inr h, kept old)
-  not_told faults.NoReader h = (inr h, kept old)
-  not_told faults.NotReadable h = (inr h, kept old)
-  not_told faults.NotWritten h = absurd h.so

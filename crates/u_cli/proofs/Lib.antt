@@ -1,11 +1,6 @@
-pub mod Spelling
 pub mod AllDone
-pub mod Appends
-pub mod Gathering
-pub mod MapLaws
-pub mod PlaceLaws
-pub mod RefusalLaws
-pub mod ToldLaws
-pub mod WorldLaws
-pub mod HeldLaws
+pub mod AskingLaws
 pub mod DrawnLaws
+pub mod Gathering
+pub mod HeldLaws
+pub mod TextLaws

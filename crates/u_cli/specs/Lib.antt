@@ -1,13 +1,6 @@
-pub mod Numbers
-pub mod Requests
-pub mod Compiles
-pub mod DrawnWorlds
+pub mod Asking
+pub mod Drawings
 pub mod Fleets
-pub mod Placed
-pub mod Places
-pub mod Refusals
 pub mod Shares
+pub mod Texts
 pub mod Worlds
-pub mod Draws
-pub mod DrawnRuns
-pub mod ScriptedWorlds

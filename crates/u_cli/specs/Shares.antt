@@ -1,16 +1,13 @@
--- What `share` answers to the bytes of a program, the word of an argument, and a bus.
-use Rattle.std.specs.Prelude.{◌≡◌, ℕ, List, ◌⊎◌, Result, Ok, Err}
-use Rattle.std.specs.Global.{Vec}
+-- What `share` tells of a job and a bus.
+use Rattle.std.specs.Prelude.{◌≡◌, ℕ, List, ◌⊎◌}
 use Rattle.u_check.specs.Jobs.{JobParts}
-use Rattle.u_machine.specs.State.{State}
+use Rattle.u_machine.specs.State.{State, IsMachine}
 use Rattle.u_history.specs.declared.report.Ending.TheVariants.{Quiet}
-use Rattle.u_share.specs.Turns.{Streams, StopsSo}
-use Rattle.u_share.specs.Headline.{Shares, newcomer}
+use Rattle.u_share.specs.Headline.{Streams, newcomer, Shares, StopsSo}
 use Rattle.u_share.specs.declared.ended.Ended.{Ended}
 use Rattle.u_share.specs.declared.fault.ShareFault.{ShareFault}
 use Rattle.u_share.specs.declared.fault.ShareFault.TheVariants as share_faults
-use Rattle.u_commands.specs.Runs.{JobRefused, ReportsMachine}
-use Rattle.u_commands.specs.Restores.{HasJob}
+use Rattle.u_commands.specs.Runs.{ReportsMachine}
 use Rattle.u_commands.specs.declared.command_error.CommandError.{CommandError}
 use Rattle.u_commands.specs.declared.command_error.CommandError.TheVariants as faults
 
@@ -26,10 +23,11 @@ share_fault share_faults.NotWritten = faults.NotWritten
 share_fault share_faults.NoMemory = faults.NoMemory
 
 -- The report and the status of a member's machine, which took the firings of the job among the lines that it read,
--- and those that it printed. Nothing is ready in it, and its history is the whole one of the job.
+-- and those that it printed, each once, so its counts are exact. Nothing is ready in it, and its history is the whole one of the job.
 pub record IsShared (job : JobParts) (limit : ℕ) (before : Streams) (report : List ℕ) (status : ℕ) (after : Streams) : Type 0 where
   pub machine : State
   pub end : Ended
+  pub is : IsMachine machine
   pub shares : Shares job limit before after machine end
   pub reported : ReportsMachine machine Quiet report status
 
@@ -38,11 +36,3 @@ abbrev pub IsNotShared : JobParts → ℕ → Streams → CommandError → Strea
 IsNotShared job limit before fault after =
     ((f : ShareFault) × (share_fault f ≡ fault) × StopsSo (newcomer job limit) before after f)
     ⊎ ((fault ≡ faults.NoMemory) × (m : State) × (end : Ended) × Shares job limit before after m end)
-
--- what `run` refuses is refused, and nothing is read or written then
-abbrev pub SharedText : List ℕ → List ℕ → ℕ → Streams → Result (Vec ℕ × ℕ) CommandError → Streams → Type 0
-SharedText bytes word limit before (Ok p) after =
-    HasJob bytes word (λ job. IsShared job limit before p.0.items p.1 after)
-SharedText bytes word limit before (Err fault) after =
-    (JobRefused bytes word fault × (after ≡ before))
-    ⊎ HasJob bytes word (λ job. IsNotShared job limit before fault after)

@@ -1,12 +1,10 @@
--- What `world` answers to the bytes of a program, the word of an argument, and a plan: how many replicas and
--- events there are, the seed of the events, and how many firings a replica takes.
-use Rattle.std.specs.Prelude.{◌≡◌, ℕ, zero, suc, ◌+◌, ◌-◌, ◌⊎◌, List, [], ◌∷◌, ◌++◌, Option, Result, Ok, Err, codes, length}
-use Rattle.std.specs.Io.KnownBytes.{Keeps}
+-- What `world` tells of a job and a plan: how many replicas there are, their events, and how many firings a replica
+-- takes.
+use Rattle.std.specs.Prelude.{◌≡◌, ℕ, zero, suc, ◌+◌, ◌-◌, ◌⊎◌, List, [], ◌∷◌, ◌++◌, Ok, Err, codes, length}
 use Rattle.u_check.specs.Jobs.{JobParts}
 use Rattle.u_machine.specs.State.{State, IsMachine}
 use Rattle.u_machine.specs.Calls.{RunAnswer}
 use Rattle.u_machine.specs.declared.answer.Ran.{Ran}
-use Rattle.u_machine.specs.declared.answer.Refusal.TheVariants as refusals
 use Rattle.u_replica.specs.ReplicaState.{ReplicaState}
 use Rattle.u_world.specs.declared.event.Event.{Event}
 use Rattle.u_world.specs.declared.event.Event.TheVariants as events
@@ -14,10 +12,16 @@ use Rattle.u_world.specs.declared.refused.WorldError.TheVariants as errors
 use Rattle.u_world.specs.WorldState.{WorldState, At, fresh_world}
 use Rattle.u_world.specs.Runs.{EventSteps, EventsAnswer}
 use Rattle.u_world.specs.Random.{random_list}
+use Rattle.u_world.specs.Scripts.{IsScriptOf, IsBadLine}
+use Rattle.u_cli.specs.declared.worlds.Events.{Events}
+use Rattle.u_cli.specs.declared.worlds.Events.TheVariants.{Random, Script}
 use Rattle.u_cli.specs.declared.worlds.WorldPlan.{WorldPlan}
-use Rattle.u_commands.specs.Outputs.{WritesAll, WritesPrefix, numbered}
-use Rattle.u_commands.specs.Runs.{JobRefused, ReportsMachine, ending_of}
-use Rattle.u_commands.specs.Restores.{HasJob}
+use Rattle.u_pictures.specs.declared.happening.Happening.{Happening}
+use Rattle.u_pictures.specs.declared.living.Sent.{Sent}
+use Rattle.u_pictures.specs.Living.{Lives}
+use Rattle.u_pictures.specs.WorldPicture.{picture_text}
+use Rattle.u_commands.specs.Outputs.{numbered}
+use Rattle.u_commands.specs.Runs.{ReportsMachine, RunRefused, ending_of}
 use Rattle.u_commands.specs.declared.command_error.CommandError.{CommandError}
 use Rattle.u_commands.specs.declared.command_error.CommandError.TheVariants as faults
 
@@ -49,16 +53,55 @@ EventsRefused w es faults.Full = (place : ℕ) × (new : WorldState) × EventsAn
 EventsRefused w es faults.NoMemory = Unit {0}
 EventsRefused w es fault = ⊥
 
--- the new replicas of the job that a plan begins with, and its random events
+-- the bytes are no script
+abbrev pub IsNoScript : List ℕ → CommandError → Type 0
+IsNoScript bytes (faults.ScriptLineNotAllowed n) = IsBadLine bytes n
+IsNoScript bytes faults.NoMemory = Unit {0}
+IsNoScript bytes fault = ⊥
+
+-- these are the events of a plan with so many replicas
+abbrev pub AreEvents : Events → ℕ → List Event → Type 0
+AreEvents (Random seed count) replicas es = es ≡ random_list seed replicas count
+AreEvents (Script script) replicas es = IsScriptOf script.now es
+
+abbrev pub AreEventsOf : WorldPlan → List Event → Type 0
+AreEventsOf plan es = AreEvents plan.events plan.replicas es
+
+-- why there are none
+abbrev pub LackEvents : Events → CommandError → Type 0
+LackEvents (Random seed count) fault = fault ≡ faults.NoMemory
+LackEvents (Script script) fault = IsNoScript script.now fault
+
+abbrev pub LacksEvents : WorldPlan → CommandError → Type 0
+LacksEvents plan fault = LackEvents plan.events fault
+
+-- the event of line n can't happen, which is never so of random events
+abbrev pub IsImpossible : WorldState → List Event → ℕ → Type 0
+IsImpossible w es n = (place : ℕ) × (n ≡ place + 1) × (new : WorldState) × EventsAnswer w es (Err (errors.BadEvent place)) new
+
+-- why not all of the events happen
+abbrev pub EventsStop : WorldState → List Event → CommandError → Type 0
+EventsStop w es faults.Full = (place : ℕ) × (new : WorldState) × EventsAnswer w es (Err (errors.Full place)) new
+EventsStop w es (faults.ScriptLineImpossible n) = IsImpossible w es n
+EventsStop w es faults.NoMemory = Unit {0}
+EventsStop w es fault = ⊥
+
+-- the new replicas of the job that a plan begins with
 abbrev pub begun : JobParts → WorldPlan → WorldState
 begun job plan = fresh_world job plan.firings plan.replicas
 
-abbrev pub drawn : WorldPlan → List Event
-drawn plan = random_list plan.seed plan.replicas plan.events
+-- this holds of the plan's events
+abbrev pub HasEvents : WorldPlan → (List Event → Type 0) → Type 0
+HasEvents plan P = (es : List Event) × AreEventsOf plan es × P es
 
 -- the world of the job after these events
-abbrev pub HappensAtRandom : JobParts → WorldPlan → WorldState → Type 0
-HappensAtRandom job plan w = EventSteps (begun job plan) (drawn plan) w
+abbrev pub Happens : JobParts → WorldPlan → WorldState → Type 0
+Happens job plan w = HasEvents plan (λ es. EventSteps (begun job plan) es w)
+
+-- why there is no such world: there are no events, or they stop
+abbrev pub NotHappened : JobParts → WorldPlan → CommandError → Type 0
+NotHappened job plan fault =
+    LacksEvents plan fault ⊎ HasEvents plan (λ es. EventsStop (begun job plan) es fault)
 
 -- the first replica of a world, once it merged the others
 pub record Gathers (w : WorldState) (first : ReplicaState) : Type 0 where
@@ -74,12 +117,6 @@ pub record EndsAlone (old : State) (firings : ℕ) (report : List ℕ) (status :
   pub ran : RunAnswer old firings (Ok end) machine
   pub reported : ReportsMachine machine (ending_of end) report status
 
--- it fires until it is full, or there is no memory
-abbrev pub EndRefused : State → ℕ → CommandError → Type 0
-EndRefused old firings faults.Full = (new : State) × RunAnswer old firings (Err refusals.Full) new
-EndRefused old firings faults.NoMemory = Unit {0}
-EndRefused old firings fault = ⊥
-
 -- The lines of a world's replicas, and behind them the report and the status of the first one, once it merged
 -- the others and fired what it could, so many times at most.
 pub record TellsEnd (w : WorldState) (firings : ℕ) (written : List ℕ) (status : ℕ) : Type 0 where
@@ -91,37 +128,38 @@ pub record TellsEnd (w : WorldState) (firings : ℕ) (written : List ℕ) (statu
 
 -- a replica is full as the first one merges the others, or as it fires in the end; or there is no memory
 abbrev pub EndsRefused : WorldState → ℕ → CommandError → Type 0
-EndsRefused w firings faults.Full =
-    EventsRefused w (merges (length w.replicas - 1)) faults.Full
-    ⊎ ((first : ReplicaState) × Gathers w first × EndRefused first.machine firings faults.Full)
-EndsRefused w firings faults.NoMemory = Unit {0}
-EndsRefused w firings fault = ⊥
+EndsRefused w firings fault =
+    EventsRefused w (merges (length w.replicas - 1)) fault
+    ⊎ ((first : ReplicaState) × Gathers w first × RunRefused first.machine firings fault)
 
--- what is told of a world of the job after the random events
+-- what is told of a world of the job after the events
 pub record TellsWorld (job : JobParts) (plan : WorldPlan) (written : List ℕ) (status : ℕ) : Type 0 where
   pub after : WorldState
-  pub happened : HappensAtRandom job plan after
+  pub happened : Happens job plan after
   pub tells : TellsEnd after plan.firings written status
 
--- a replica is full at a random event, at a merge, or as the first one fires in the end
-abbrev pub HasFullReplica : JobParts → WorldPlan → Type 0
-HasFullReplica job plan =
-    EventsRefused (begun job plan) (drawn plan) faults.Full
-    ⊎ ((after : WorldState) × HappensAtRandom job plan after × EndsRefused after plan.firings faults.Full)
-
--- why nothing is told of a job's world
+-- why nothing is told of it: there is no such world, or a replica is full as the first one merges or fires
 abbrev pub WorldRefused : JobParts → WorldPlan → CommandError → Type 0
-WorldRefused job plan faults.Full = HasFullReplica job plan
-WorldRefused job plan faults.NoMemory = Unit {0}
-WorldRefused job plan fault = ⊥
+WorldRefused job plan fault =
+    NotHappened job plan fault
+    ⊎ ((after : WorldState) × Happens job plan after × EndsRefused after plan.firings fault)
 
-abbrev pub Tells : List ℕ → List ℕ → WorldPlan → List ℕ → ℕ → Type 0
-Tells bytes word plan written status = HasJob bytes word (λ job. TellsWorld job plan written status)
+-- The picture of what the plan's events did, one after another, among new replicas of the job; and the status of what
+-- `world` tells after them.
+pub record DrawsWorld (job : JobParts) (plan : WorldPlan) (text : List ℕ) (status : ℕ) : Type 0 where
+  pub es : List Event
+  pub are : AreEventsOf plan es
+  pub happenings : List Happening
+  pub sent : List Sent
+  pub after : WorldState
+  pub lives : Lives 1 [] (begun job plan) es happenings sent after
+  pub is : text ≡ picture_text plan.replicas happenings
+  pub written : List ℕ
+  pub told : TellsEnd after plan.firings written status
 
--- what stands before and after, for each answer; it refuses what `run` refuses, and then a full replica
-abbrev pub WorldTextAnswer : List ℕ → List ℕ → WorldPlan → Option (List ℕ) → Result ℕ CommandError → Option (List ℕ) → Type 0
-WorldTextAnswer bytes word plan old (Ok status) new = (written : List ℕ) × Tells bytes word plan written status × WritesAll old new written
-WorldTextAnswer bytes word plan old (Err faults.NotWritten) new =
-    (written : List ℕ) × (status : ℕ) × Tells bytes word plan written status × WritesPrefix old new written
-WorldTextAnswer bytes word plan old (Err fault) new =
-    (JobRefused bytes word fault ⊎ HasJob bytes word (λ job. WorldRefused job plan fault)) × Keeps old new
+-- why it is not drawn: there are no events, or they stop, or the first replica is full in the end
+abbrev pub WorldNotDrawn : JobParts → WorldPlan → CommandError → Type 0
+WorldNotDrawn job plan fault =
+    NotHappened job plan fault
+    ⊎ HasEvents plan (λ es. (happenings : List Happening) × (sent : List Sent) × (after : WorldState)
+    × Lives 1 [] (begun job plan) es happenings sent after × EndsRefused after plan.firings fault)

@@ -1,14 +1,14 @@
 //! The command `share`.
 ghost use Rattle.std.specs.Prelude.{◌≡◌, ◌≤◌, MatchResult};
-ghost use Rattle.u_share.specs.Turns.{streams};
-ghost use Rattle.u_cli.specs.Shares.{most_shared, share_fault, IsShared, IsNotShared, SharedText};
+ghost use Rattle.u_share.specs.Headline.{streams};
+ghost use Rattle.u_cli.specs.Shares.{most_shared, share_fault, IsShared, IsNotShared};
 
 use std::alloc::Global;
 use std::io::{Read, Write};
 use u_check::Job;
-use u_commands::{CommandError, job_of, report_of};
+use u_commands::{CommandError, Told, report_of};
 use u_history::Ending;
-use u_share::{Bus, Plan, ShareFault, share};
+use u_share::{Bus, Plan, ShareFault};
 
 /// How many firings a member takes at most.
 pub const SHARED_FIRINGS: usize = 1_000_000;
@@ -38,19 +38,29 @@ fn fault_of(fault: ShareFault) -> CommandError
     }
 }
 
-/// The report of a member of a run of the job, and the exit status.
-fn share_job<R: Read, W: Write, N: Write>(
+/// Takes part in a run of the job, with others who read what this member writes to the bus, and write what it reads: a
+/// line for each firing. Any line may be late, repeated or lost, and a line that is no firing of the job is told of
+/// and skipped. Tells the report of `run`, which is quiet. The exit status is that of `run`. It may wait for the
+/// reader.
+///
+/// Promise share-command: the report is quiet and whole, of a machine that took exactly the firings of the
+/// job among the lines and those that it printed.
+///
+/// # Errors
+/// `Full` if a firing has no room; `NotReadable` if the bus can't be read; `NotWritten` if it takes no more;
+/// `NoMemory`. What was written before stands.
+pub fn share<R: Read, W: Write, N: Write>(
     alloc: Global,
     job: &Job,
     plan: Plan,
     bus: &mut Bus<R, W, N>,
-) -> Result<(Vec<u8>, u8), CommandError>
+) -> Result<Told, CommandError>
     requires { plan.limit ≤ 1000000 }
     ensures { MatchResult result
-        (λ p. IsShared job.now plan.limit
+        (λ t. IsShared job.now plan.limit
         (streams (R.remaining bus.old.reader) (W.contents bus.old.writer)
         (N.contents bus.old.notices))
-        p.0.items p.1
+        t.text.items t.status
         (streams (R.remaining bus.new.reader) (W.contents bus.new.writer)
         (N.contents bus.new.notices)))
         (λ fault. IsNotShared job.now plan.limit
@@ -60,46 +70,14 @@ fn share_job<R: Read, W: Write, N: Write>(
         (streams (R.remaining bus.new.reader) (W.contents bus.new.writer)
         (N.contents bus.new.notices))) }
 {
-    let (machine, _) = match share(alloc, job, plan, bus) {
+    let (machine, _) = match u_share::share(alloc, job, plan, bus) {
         Ok(shared) => shared,
         Err(fault) => return Err(fault_of(fault)),
     };
+    // Brings in that it is a machine, which took each firing once.
+    machine.holds();
     match report_of(alloc, &machine, Ending::Quiet) {
         Ok(told) => Ok(told),
         Err(_) => Err(CommandError::NoMemory),
     }
-}
-
-/// Takes part in a run of the program with this text on the argument that the word gives, with others
-/// who read what this member writes to the bus, and write what it reads: a line for each firing. Any
-/// line may be late, repeated or lost, and a line that is no firing of the job is told of and skipped. A
-/// member takes 1,000,000 firings at most. Returns the report of `run`, which is quiet, and the exit
-/// status. It may wait for the reader.
-///
-/// Promise share-command: the report is quiet and whole, of a machine that took exactly the firings of the
-/// job among the lines and those that it printed.
-///
-/// # Errors
-/// As `run_text`; nothing is read or written then. `Full` if a firing has no room; `NotReadable` if the bus
-/// can't be read; `NotWritten` if it takes no more. What was written before stands.
-pub fn share_text<R: Read, W: Write, N: Write>(
-    alloc: Global,
-    program: &[u8],
-    argument: &[u8],
-    plan: Plan,
-    bus: &mut Bus<R, W, N>,
-) -> Result<(Vec<u8>, u8), CommandError>
-    requires { plan.limit ≤ 1000000 }
-    ensures { SharedText program.now argument.now plan.limit
-        (streams (R.remaining bus.old.reader) (W.contents bus.old.writer)
-        (N.contents bus.old.notices))
-        result
-        (streams (R.remaining bus.new.reader) (W.contents bus.new.writer)
-        (N.contents bus.new.notices)) }
-{
-    let job = match job_of(alloc, program, argument) {
-        Ok(job) => job,
-        Err(fault) => return Err(fault),
-    };
-    share_job(alloc, &job, plan, bus)
 }

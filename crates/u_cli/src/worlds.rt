@@ -5,31 +5,93 @@
 ghost use Rattle.std.specs.Prelude.{◌≡◌, ◌≤◌, ◌-◌, ◌++◌, IfOk, MatchResult, length};
 ghost use Rattle.u_name.specs.Context.{IsBetween};
 ghost use Rattle.u_world.specs.Runs.{EventSteps};
-ghost use Rattle.u_cli.specs.Worlds.{replica_line, replica_lines, merges};
-ghost use Rattle.u_cli.specs.Worlds.{begun, drawn, AreDoable, EventsRefused, HappensAtRandom, Gathers};
-ghost use Rattle.u_cli.specs.Worlds.{TellsEnd, EndsRefused};
-ghost use Rattle.u_cli.specs.Worlds.{TellsWorld, WorldRefused, WorldTextAnswer};
+ghost use Rattle.u_world.specs.Scripts.{IsScriptOf};
+ghost use Rattle.u_cli.specs.Worlds.{replica_line, replica_lines, merges, AreDoable, EventsRefused};
+ghost use Rattle.u_cli.specs.Worlds.{IsNoScript, AreEventsOf, LacksEvents, EventsStop, Happens, NotHappened};
+ghost use Rattle.u_cli.specs.Worlds.{Gathers, TellsEnd, EndsRefused, TellsWorld, WorldRefused};
 
 use std::alloc::{AllocError, Global};
-use std::io::Write;
 use u_check::Job;
-use u_commands::{
-    CommandError, JobTexts, Unwatched, Watch, job_of, push_numbered, run_behind, write_whole,
-};
+use u_commands::{CommandError, Told, Watch, push_numbered, run_behind};
 use u_replica::Replica;
-use u_world::{Event, World, WorldError, random_events};
+use u_world::{Event, ScriptError, World, WorldError, random_events, read_script};
+
+/// Which events happen in a world.
+#[derive(Clone, Copy)]
+pub enum Events<'a> {
+    /// So many random ones, which the seed stands for.
+    Random { seed: u64, count: usize },
+    /// Those of a script, one a line, as `read_script` of `u_world` has it.
+    Script(&'a [u8]),
+}
 
 /// What happens in a world.
-#[derive(Clone, Copy, Debug, PartialEq, Eq)]
-pub struct WorldPlan {
+#[derive(Clone, Copy)]
+pub struct WorldPlan<'a> {
     /// How many replicas there are, from 1 to 8.
     pub replicas: u8,
-    /// The seed of the random events.
-    pub seed: u64,
-    /// How many random events there are.
-    pub events: usize,
+    /// The events.
+    pub events: Events<'a>,
     /// How many firings a replica takes at most, and how many the first one fires in the end.
     pub firings: usize,
+}
+
+/// The events of the script.
+fn script_events(alloc: Global, script: &[u8]) -> Result<Vec<Event>, CommandError>
+    ensures { MatchResult result (λ events. IsScriptOf script.now events.items)
+        (λ fault. IsNoScript script.now fault) }
+{
+    match read_script(alloc, script) {
+        Ok(events) => Ok(events),
+        Err(ScriptError::BadLine(line)) => Err(CommandError::ScriptLineNotAllowed(line)),
+        Err(ScriptError::NoMemory) => Err(CommandError::NoMemory),
+    }
+}
+
+/// The events of the plan.
+pub(crate) fn events_of(alloc: Global, plan: WorldPlan<'_>) -> Result<Vec<Event>, CommandError>
+    requires { IsBetween 1 plan.replicas 8 }
+    ensures { MatchResult result (λ events. AreEventsOf plan.entry events.items)
+        (λ fault. LacksEvents plan.entry fault) }
+{
+    match plan.events {
+        Events::Random { seed, count } => {
+            let events = random_events(alloc, seed, plan.replicas, count)?;
+            Ok(events)
+        }
+        Events::Script(script) => script_events(alloc, script),
+    }
+}
+
+/// Lets the events happen.
+#[tactic(auto, using(std::proofs::lemmas::Option::slice_get_within))]
+fn play(world: &mut World<'_>, events: &[Event]) -> Result<(), CommandError>
+    ensures { MatchResult result (λ u. EventSteps world.old events.now world.new)
+        (λ fault. EventsStop world.old events.now fault) }
+{
+    match world.run(events) {
+        Ok(()) => Ok(()),
+        Err(WorldError::Full(_)) => Err(CommandError::Full),
+        Err(WorldError::NoMemory(_)) => Err(CommandError::NoMemory),
+        Err(WorldError::BadEvent(place)) => Err(CommandError::ScriptLineImpossible(place + 1)),
+    }
+}
+
+/// A world of the job, after the events of the plan.
+fn happened<'a>(alloc: Global, job: &'a Job, plan: WorldPlan<'_>) -> Result<World<'a>, CommandError>
+    requires { IsBetween 1 plan.replicas 8 }
+    ensures { MatchResult result (λ w. Happens job.now plan.entry w)
+        (λ fault. NotHappened job.now plan.entry fault) }
+{
+    let events = match events_of(alloc, plan) {
+        Ok(events) => events,
+        Err(fault) => return Err(fault),
+    };
+    let mut world = World::new(alloc, job, plan.replicas, plan.firings)?;
+    match play(&mut world, &events) {
+        Ok(()) => Ok(world),
+        Err(fault) => Err(fault),
+    }
 }
 
 /// Lets the events happen. None of them is one that cannot be done.
@@ -43,20 +105,6 @@ fn run_events(world: &mut World<'_>, events: &[Event]) -> Result<(), CommandErro
         Err(WorldError::Full(_)) => Err(CommandError::Full),
         Err(WorldError::NoMemory(_)) => Err(CommandError::NoMemory),
         Err(WorldError::BadEvent(_)) => unreachable!(),
-    }
-}
-
-/// A world of the job, after the random events of the plan.
-fn happened<'a>(alloc: Global, job: &'a Job, plan: WorldPlan) -> Result<World<'a>, CommandError>
-    requires { IsBetween 1 plan.replicas 8 }
-    ensures { MatchResult result (λ w. HappensAtRandom job.now plan w)
-        (λ fault. EventsRefused (begun job.now plan) (drawn plan) fault) }
-{
-    let mut world = World::new(alloc, job, plan.replicas, plan.firings)?;
-    let events = random_events(alloc, plan.seed, plan.replicas, plan.events)?;
-    match run_events(&mut world, &events) {
-        Ok(()) => Ok(world),
-        Err(fault) => Err(fault),
     }
 }
 
@@ -125,86 +173,47 @@ pub(crate) fn told_of<V: Watch>(
     world: World<'_>,
     firings: usize,
     watch: &mut V,
-) -> Result<(Vec<u8>, u8), CommandError>
+) -> Result<Told, CommandError>
     ensures { MatchResult result
-        (λ p. TellsEnd world.entry firings p.0.items p.1)
+        (λ t. TellsEnd world.entry firings t.text.items t.status)
         (λ fault. EndsRefused world.entry firings fault) }
 {
     let lines = replica_lines(alloc, &world)?;
-    let mut first = match first_of(alloc, world) {
+    let first = match first_of(alloc, world) {
         Ok(first) => first,
         Err(fault) => return Err(fault),
     };
-    run_behind(alloc, &lines, &mut first, firings, watch)
+    let mut machine = first.into_machine();
+    run_behind(alloc, &lines, &mut machine, firings, watch)
 }
 
-/// What is told of a world of the job, and the exit status.
-pub(crate) fn world_job<V: Watch>(
+/// Lets the events of the plan happen in a world of replicas of the job, each of which takes the plan's number of
+/// firings at most. Tells a line for each replica, and then the report of replica 1, after it merged the others in
+/// the order of their numbers and fired that many times at most. The same seed gives the same events. The exit
+/// status is that of `run`.
+///
+/// Promise world-command: each line has the counts of one replica after the events, and the report is that of
+/// replica 1 after it merged the others and fired.
+///
+/// Promise scripted-world-command: of a script it tells what a world holds after exactly its events, or names the
+/// first line that is no event's or whose event can't happen.
+///
+/// # Errors
+/// `ScriptLineNotAllowed` for the first line of a script that is no event's, and then `ScriptLineImpossible` for the
+/// first event that can't happen; `Full` if a replica has no room for a firing that it takes or fires; `NoMemory`.
+pub fn world<V: Watch>(
     alloc: Global,
     job: &Job,
-    plan: WorldPlan,
+    plan: WorldPlan<'_>,
     watch: &mut V,
-) -> Result<(Vec<u8>, u8), CommandError>
+) -> Result<Told, CommandError>
     requires { IsBetween 1 plan.replicas 8 }
-    ensures { MatchResult result (λ p. TellsWorld job.now plan p.0.items p.1)
-        (λ fault. WorldRefused job.now plan fault) }
+    ensures { MatchResult result (λ t. TellsWorld job.now plan.entry t.text.items t.status)
+        (λ fault. WorldRefused job.now plan.entry fault) }
 {
     let world = match happened(alloc, job, plan) {
         Ok(world) => world,
         Err(fault) => return Err(fault),
     };
     told_of(alloc, world, plan.firings, watch)
-}
-
-/// Lets the random events of the plan happen in a world of replicas of the program with this text, on
-/// the argument that the word gives; each replica takes the plan's number of firings at most. Writes a
-/// line for each replica, and then the report of replica 1, once it merged the others in the order of
-/// their numbers and fired that many times at most. The same seed gives the same events. Answers the
-/// exit status, that of `run_text`.
-///
-/// Promise world-command: each line has the counts of one replica after the events, and the report is that of
-/// replica 1 after it merged the others and fired.
-///
-/// # Errors
-/// As `run_text`, and `Full` where a replica has no room for a firing that it takes or fires: nothing
-/// is written. `NotWritten`: a prefix is written.
-pub fn world_text<W: Write>(
-    alloc: Global,
-    program: &[u8],
-    argument: &[u8],
-    plan: WorldPlan,
-    writer: &mut W,
-) -> Result<u8, CommandError>
-    requires { IsBetween 1 plan.replicas 8 }
-    ensures { WorldTextAnswer program.now argument.now plan (W.contents writer.old) result
-        (W.contents writer.new) }
-{
-    let texts = JobTexts { program, argument };
-    world_watched_text(alloc, texts, plan, &mut Unwatched, writer)
-}
-
-/// Does what `world_text` does. The watch is told how far it has come.
-///
-/// # Errors
-/// Those of `world_text`.
-pub fn world_watched_text<V: Watch, W: Write>(
-    alloc: Global,
-    texts: JobTexts<'_>,
-    plan: WorldPlan,
-    watch: &mut V,
-    writer: &mut W,
-) -> Result<u8, CommandError>
-    requires { IsBetween 1 plan.replicas 8 }
-    ensures { WorldTextAnswer texts.entry.program.now texts.entry.argument.now plan
-        (W.contents writer.old) result (W.contents writer.new) }
-{
-    let job = job_of(alloc, texts.program, texts.argument)?;
-    let (written, status) = match world_job(alloc, &job, plan, watch) {
-        Ok(told) => told,
-        Err(fault) => return Err(fault),
-    };
-    match write_whole(writer, &written) {
-        Ok(()) => Ok(status),
-        Err(_) => Err(CommandError::NotWritten),
-    }
 }

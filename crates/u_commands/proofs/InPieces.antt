@@ -14,7 +14,6 @@ use Rattle.u_machine.specs.declared.answer.Ran.{Ran}
 use Rattle.u_machine.specs.declared.answer.Ran.TheVariants as ran
 use Rattle.u_machine.specs.declared.answer.Refusal.{Refusal}
 use Rattle.u_machine.specs.declared.answer.Refusal.TheVariants as refusals
-use Rattle.u_replica.specs.ReplicaState.{ReplicaState, replica, ChangesMachine}
 use Rattle.u_machine.proofs.States.{Applies-refl, grows_trans}
 use Rattle.u_machine.proofs.Runs.{Runs-nil}
 
@@ -88,7 +87,3 @@ run_ends old mid new piece left firings few h (Err refusals.Full) last a =
     (h.gs ++ a.0, runs_on old mid new h.gs a.0 h.runs a.1, let x = h.count in let y = a.2 in let z = length-append h.gs a.0 in omega (arith, few), a.3, a.4, a.5)
 run_ends old mid new piece left firings few h (Err refusals.NoMemory) last a =
     (h.gs ++ a.0, fires_on old mid h.gs h.runs.fires new a.0 a.1, let x = h.count in let y = a.2 in let z = length-append h.gs a.0 in omega (arith, few))
-
--- the machine alone changes in each of two steps, and so in both
-pub alone_on : (old mid new : ReplicaState) → ChangesMachine old mid → ChangesMachine mid new → ChangesMachine old new
-alone_on old mid new p q = q ∙ ap (λ (r : ReplicaState). replica new.machine r.number r.life r.marks) p

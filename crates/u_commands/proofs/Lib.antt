@@ -10,3 +10,6 @@ pub mod Traced
 pub mod Blamed
 pub mod Waited
 pub mod Explained
+pub mod Lined
+pub mod QuietLaws
+pub mod Worded

@@ -1,5 +1,5 @@
 -- What a new machine that ran says of its job.
-use Rattle.std.proofs.Common.{◌≡◌, ◌∙◌, sym, ap, refl, subst, inl, inr, ℕ, List, [], ◌++◌, append-nil, length, Contains, Result, Ok, Err}
+use Rattle.std.proofs.Common.{◌≡◌, ◌≤◌, ◌-◌, ◌∙◌, sym, ap, refl, subst, arith, inl, inr, ℕ, List, [], ◌++◌, append-nil, length, Contains, Result, Ok, Err}
 use Rattle.std.specs.Prelude.{IfErr}
 use Rattle.std.specs.Result.{IsErrAnd}
 use Rattle.u_check.specs.Jobs.{JobParts}
@@ -17,15 +17,17 @@ use Rattle.u_machine.specs.declared.answer.Ran.{Ran}
 use Rattle.u_machine.specs.declared.answer.Ran.TheVariants as ran
 use Rattle.u_machine.specs.declared.answer.Refusal.{Refusal}
 use Rattle.u_machine.specs.declared.answer.Refusal.TheVariants as refusals
-use Rattle.u_machine.specs.State.{State, Taken, IsMachine, IsSettled, NothingReady, IsReady}
+use Rattle.u_machine.specs.State.{State, Taken, count_of, IsMachine, IsSettled, NothingReady, IsReady}
 use Rattle.u_machine.specs.Calls.{RunAnswer, firing_le}
-use Rattle.u_machine.proofs.States.{settled_is_Cl}
-use Rattle.u_machine.proofs.Runs.{run_done}
+use Rattle.u_machine.proofs.States.{settled_is_Cl, Applies-refl}
+use Rattle.u_machine.proofs.Runs.{run_done, Runs-nil}
 use Rattle.u_history.specs.declared.report.Ending.{Ending}
+use Rattle.u_history.specs.declared.report.Ending.TheVariants as states
 use Rattle.u_history.specs.Report.{IsReportOf}
 use Rattle.u_history.proofs.Reports.{report_same, outcome_same}
-use Rattle.u_commands.specs.Runs.{RunsTo, RanTo, RunRefused, IsStatusOf, ReportsMachine, ReportsRunOfJob, ending_of}
+use Rattle.u_commands.specs.Runs.{RunsTo, HasFired, RanTo, RunRefused, IsStatusOf, ReportsMachine, ReportsRunOfJob, ending_of}
 use Rattle.u_commands.specs.Restores.{fault_of}
+use Rattle.u_commands.proofs.InPieces.{HasRun, run_ends}
 
 -- one set, two predicates: one status
 status_same : (H K : Entry → Type 0) → Same H K → (s : _) (n : ℕ) → IsStatusOf H s n → IsStatusOf K s n
@@ -81,12 +83,51 @@ module _ (old new : State) (budget : ℕ) (log : old.log ≡ []) (parked : old.p
         d.0.held,
       )
 
+  fired_all : (end : Ran) → RunAnswer old budget (Ok end) new → ending_of end ≡ states.Paused → HasFired budget new
+  fired_all ran.Quiet a e = absurd (cc)
+  fired_all ran.Paused a e = (old, (log, parked), a.0, a.1, a.2)
+
   -- what stands after the run of a machine that had taken nothing
-  pub ran_new : (end : Ran) → RunAnswer old budget (Ok end) new → RanTo old.job budget (ending_of end) new
+  ran_new : (end : Ran) → RunAnswer old budget (Ok end) new → RanTo old.job budget (ending_of end) new
   ran_new end a =
       let d = run_done old new budget end a log parked is.sound in
       let to = ran_to end a in
-      record { of = d.0.job; parked = d.0.parked; run = to.0; held = to.1 }
+      record { of = d.0.job; parked = d.0.parked; run = to.0; held = to.1; fired = fired_all end a }
+
+module _ (m new : State) (fired firings : ℕ) (has : HasFired fired m) (more : fired ≤ firings) where
+  whole_run : (r : Result Ran Refusal) → RunAnswer m (firings - fired) r new → RunAnswer has.0 firings r new
+  whole_run r a =
+      let count = has.4 in
+      run_ends has.0 m new (firings - fired) (firings - fired) firings (omega arith) (record { gs = has.2; runs = has.3; count = omega (arith, count, more) }) r (λ e. refl) a
+
+  -- what stands after a run that went on
+  pub ran_on : IsMachine new → (end : Ran) → RunAnswer m (firings - fired) (Ok end) new → RanTo m.job firings (ending_of end) new
+  ran_on is end a =
+      subst (λ (job : JobParts). RanTo job firings (ending_of end) new) (sym has.3.fires.grows.job)
+      (ran_new has.0 new firings has.1.0 has.1.1 is end (whole_run (Ok end) a))
+
+  -- it is never full below its limit
+  pub never_full : firings ≤ m.limit → RunAnswer m (firings - fired) (Err refusals.Full) new → ⊥
+  never_full room a = full (whole_run (Err refusals.Full) a)
+    where
+      full : RunAnswer has.0 firings (Err refusals.Full) new → ⊥
+      full b =
+          let none : count_of has.0 ≡ 0 = rw (has.1.0, has.1.1) refl in
+          let taken = b.1.fires.count in
+          let limit = b.1.fires.grows.limit in
+          let same = has.3.fires.grows.limit in
+          let few = b.2 in
+          let all = b.5 in
+          absurd (omega (arith, none, taken, limit, same, few, all, room))
+
+-- a run keeps the limit
+pub limit_stays : (old new : State) (budget : ℕ) (end : Ran) → RunAnswer old budget (Ok end) new → new.limit ≡ old.limit
+limit_stays old new budget ran.Quiet a = a.1.fires.grows.limit
+limit_stays old new budget ran.Paused a = a.1.fires.grows.limit
+
+-- a machine that has taken nothing has fired as often
+pub fired_nothing : (m : State) → m.log ≡ [] → m.parked ≡ [] → HasFired 0 m
+fired_nothing m log parked = (m, (log, parked), [], Runs-nil m m (Applies-refl m), refl)
 
 -- and its report
 pub reports_run : (job : JobParts) (budget : ℕ) (end : Ending) (m : State) (report : List ℕ) (status : ℕ) → (IsDeterminate job.program.blocks → IsDeterminateJob job) → (IsStrict job.program.blocks → IsDeterminateJob job) → RanTo job budget end m → ReportsMachine m end report status → ReportsRunOfJob job budget report status

@@ -23,9 +23,7 @@ use Rattle.u_replica.specs.declared.answer.RestoreError.TheVariants as restores
 use Rattle.u_commands.specs.Runs.{ReportsMachine, RunsBehind, RunRefused, ending_of}
 use Rattle.u_commands.specs.declared.command_error.CommandError.{CommandError}
 use Rattle.u_commands.specs.declared.command_error.CommandError.TheVariants as faults
-use Rattle.std.specs.Prelude.{Option}
-use Rattle.u_commands.proofs.Known.{kept}
-use Rattle.u_commands.specs.Restores.{HasJob, RestoreTextAnswer, most_taken, SavedOrFired, GoesOn, ReportsOn, FillsUp, ending_line, RestoresJob, CheckpointRefused, fault_in}
+use Rattle.u_commands.specs.Restores.{most_taken, SavedOrFired, GoesOn, ReportsOn, FillsUp, ending_line, RestoresJob, CheckpointRefused, fault_in}
 
 module _ {E F : Type 0} (s : System E F) (le : F → F → Type 0) (M N : F → Type 0) (same : Same M N) (done : List F) where
   there : (f : F) → M f ⊎ Contains done f → N f ⊎ Contains done f
@@ -130,6 +128,7 @@ module _ (job : JobParts) (number life firings : ℕ) (checkpoint : List ℕ) (e
   restored_refused (faults.TooMany n) r = r
   restored_refused faults.CutShort r = r
   restored_refused (faults.Rule b) r = r
+  restored_refused (faults.Source e) r = r
   restored_refused faults.ArgumentNotAllowed r = r
   restored_refused faults.InputTooLong r = r
   restored_refused (faults.CheckpointLineNotAllowed n) r = absurd r
@@ -162,29 +161,3 @@ module _ (job : JobParts) (checkpoint : List ℕ) where
   restored_not (restores.NotAFiring place) h n = h
   restored_not restores.Full h n = record { firings = h.firings; ending = h.ending; read = h.read; so = (h.so.0, inl h.so.1) }
   restored_not restores.NoMemory h n = tt
-
--- nothing is written where nothing is restored of a job
-module _ (bytes word checkpoint : List ℕ) (firings : ℕ) (old : Option (List ℕ)) where
-  pub not_restored : (fault : CommandError) → HasJob bytes word (λ job. CheckpointRefused job firings checkpoint fault) → RestoreTextAnswer bytes word checkpoint firings old (Err fault) old
-  not_restored (faults.LineNotAllowed k) h = (inr h, kept old)
-  not_restored (faults.TooMany k) h = (inr h, kept old)
-  not_restored faults.CutShort h = (inr h, kept old)
-  not_restored (faults.Rule b) h = (inr h, kept old)
-  not_restored faults.ArgumentNotAllowed h = (inr h, kept old)
-  not_restored faults.InputTooLong h = (inr h, kept old)
-  not_restored (faults.CheckpointLineNotAllowed k) h = (inr h, kept old)
-  not_restored (faults.CheckpointLineTooLong k) h = (inr h, kept old)
-  not_restored (faults.OtherFiring place) h = (inr h, kept old)
-  not_restored (faults.ScriptLineNotAllowed place) h = (inr h, kept old)
-  not_restored (faults.ScriptLineImpossible place) h = (inr h, kept old)
-  not_restored (faults.EntryNotAllowed k) h = (inr h, kept old)
-  not_restored faults.EntryNotHeld h = (inr h, kept old)
-  not_restored (faults.NameNotAllowed k) h = (inr h, kept old)
-  not_restored faults.NameTooDeep h = (inr h, kept old)
-  not_restored faults.PortNotClashed h = (inr h, kept old)
-  not_restored faults.Full h = (inr h, kept old)
-  not_restored faults.NoMemory h = (inr h, kept old)
-  not_restored faults.NoThread h = (inr h, kept old)
-  not_restored faults.NoReader h = (inr h, kept old)
-  not_restored faults.NotReadable h = (inr h, kept old)
-  not_restored faults.NotWritten h = absurd h.so

@@ -1,6 +1,7 @@
 -- What a machine that ran says of where an entry came from.
-use Rattle.std.proofs.Common.{◌≡◌, refl, sym, subst, ℕ, List, Contains, inr}
-use Rattle.std.specs.Prelude.{Option, Err}
+use Rattle.std.proofs.Common.{◌≡◌, refl, sym, subst, ℕ, List, [], ◌∷◌, ◌++◌, append-nil, map, Contains}
+use Rattle.u_base.specs.Spaced.{ended}
+use Rattle.u_rule.specs.FiringText.{firing_text}
 use Rattle.u_check.specs.Jobs.{JobParts}
 use Rattle.u_base.specs.Firing.{Held}
 use Rattle.u_base.proofs.Held.{Enabled-mono}
@@ -9,6 +10,7 @@ use Rattle.u_rule.specs.Rule.{system_of}
 use Rattle.u_rule.specs.EntryOrder.{firing_cmp}
 use Rattle.u_rule.specs.declared.entry.Entry.{Entry}
 use Rattle.u_rule.specs.declared.firing.Firing.{Firing}
+use Rattle.u_compile.specs.declared.origins.BlockOrigins.{BlockOrigins}
 use Rattle.u_machine.specs.State.{State}
 use Rattle.u_history.specs.declared.report.Ending.{Ending}
 use Rattle.u_trace.specs.Causes.{IsCause}
@@ -17,10 +19,8 @@ use Rattle.u_trace.specs.declared.trace_error.TraceError.{TraceError}
 use Rattle.u_trace.specs.declared.trace_error.TraceError.TheVariants.{NotHeld, NoMemory}
 use Rattle.u_commands.specs.declared.command_error.CommandError.{CommandError}
 use Rattle.u_commands.specs.declared.command_error.CommandError.TheVariants as faults
-use Rattle.u_commands.specs.Traces.{traced_text, trace_fault, IsCauseIn, RanPlainly, TracesJob, TraceRefused}
-use Rattle.u_commands.specs.Traces.{HasEntry, TraceTextAnswer}
+use Rattle.u_commands.specs.Traces.{firing_line, traced_text, trace_fault, IsCauseIn, RanPlainly, TracesJob, TraceRefused}
 use Rattle.u_commands.specs.Runs.{RanTo}
-use Rattle.u_commands.proofs.Known.{kept}
 
 pub ran_plainly : (job : JobParts) (firings : ℕ) (m : State) (end : Ending) → RanTo job firings end m → RanPlainly job firings m
 ran_plainly job firings m end p = record { of = p.of; plain = p.run.plain; held = p.held }
@@ -30,7 +30,7 @@ pub of_run : (job : JobParts) (firings : ℕ) (m : State) (end : Ending) → Ran
 of_run job firings m end p P h =
     subst (λ (j : JobParts). P j firings) p.of (h firings (subst (λ (j : JobParts). RanPlainly j firings m) (sym p.of) (ran_plainly job firings m end p)))
 
-module _ (job : JobParts) (firings : ℕ) (m : State) (ran : RanPlainly job firings m) (e : Entry) where
+module _ (job : JobParts) (origins : List BlockOrigins) (firings : ℕ) (m : State) (ran : RanPlainly job firings m) (e : Entry) where
   cause_in : (f : Firing) → IsCause job m.history e f → IsCauseIn job m.log e f
   cause_in f (en, g) = (Enabled-mono (system_of job) (Contains m.history) (Held (system_of job) m.log) (λ x. (ran.held x).0) f en, g)
 
@@ -40,7 +40,7 @@ module _ (job : JobParts) (firings : ℕ) (m : State) (ran : RanPlainly job firi
   causes_in : (fs : List Firing) → IsListOf firing_cmp (IsCause job m.history e) fs → IsListOf firing_cmp (IsCauseIn job m.log e) fs
   causes_in fs is = record { rises = is.rises; exact = λ f. ((λ c. cause_in f ((is.exact f).0 c)), (λ c. (is.exact f).1 (in_cause f c))) }
 
-  pub traces_run : (causes story : List Firing) (written : List ℕ) → Held (system_of job) m.log e → IsListOf firing_cmp (IsCause job m.history e) causes → IsStory (system_of job) m.log e story → Tells (system_of job) m.log e story → written ≡ traced_text causes story → TracesJob job firings e written
+  pub traces_run : (causes story : List Firing) (written : List ℕ) → Held (system_of job) m.log e → IsListOf firing_cmp (IsCause job m.history e) causes → IsStory (system_of job) m.log e story → Tells (system_of job) m.log e story → written ≡ traced_text origins causes story → TracesJob job origins firings e written
   traces_run causes story written held exact is tells text = (
     m.log,
     record {
@@ -60,28 +60,10 @@ pub missing : (m : State) (firings : ℕ) → RanPlainly m.job firings m → (e 
 missing m firings ran e NotHeld fault f none = subst (TraceRefused m.job firings e) (sym f) (m.log, ran.plain, λ h. none refl ((ran.held e).1 h))
 missing m firings ran e NoMemory fault f none = subst (TraceRefused m.job firings e) (sym f) tt
 
--- nothing is written where the entry of a job is not traced
-module _ (bytes word text : List ℕ) (firings : ℕ) (old : Option (List ℕ)) where
-  pub not_traced : (fault : CommandError) → HasEntry bytes word text (λ job e. TraceRefused job firings e fault) → TraceTextAnswer bytes word text firings old (Err fault) old
-  not_traced (faults.LineNotAllowed n) h = (inr (inr h), kept old)
-  not_traced (faults.TooMany n) h = (inr (inr h), kept old)
-  not_traced faults.CutShort h = (inr (inr h), kept old)
-  not_traced (faults.Rule b) h = (inr (inr h), kept old)
-  not_traced faults.ArgumentNotAllowed h = (inr (inr h), kept old)
-  not_traced faults.InputTooLong h = (inr (inr h), kept old)
-  not_traced (faults.CheckpointLineNotAllowed n) h = (inr (inr h), kept old)
-  not_traced (faults.CheckpointLineTooLong n) h = (inr (inr h), kept old)
-  not_traced (faults.OtherFiring n) h = (inr (inr h), kept old)
-  not_traced (faults.ScriptLineNotAllowed n) h = (inr (inr h), kept old)
-  not_traced (faults.ScriptLineImpossible n) h = (inr (inr h), kept old)
-  not_traced (faults.EntryNotAllowed n) h = (inr (inr h), kept old)
-  not_traced faults.EntryNotHeld h = (inr (inr h), kept old)
-  not_traced (faults.NameNotAllowed n) h = (inr (inr h), kept old)
-  not_traced faults.NameTooDeep h = (inr (inr h), kept old)
-  not_traced faults.PortNotClashed h = (inr (inr h), kept old)
-  not_traced faults.Full h = (inr (inr h), kept old)
-  not_traced faults.NoMemory h = (inr (inr h), kept old)
-  not_traced faults.NoThread h = (inr (inr h), kept old)
-  not_traced faults.NoReader h = (inr (inr h), kept old)
-  not_traced faults.NotReadable h = (inr (inr h), kept old)
-  not_traced faults.NotWritten h = absurd h.so.2
+-- where no place is known, lines have none
+plain_lines : (fs : List Firing) → ended (map (firing_line []) fs) ≡ ended (map firing_text fs)
+plain_lines [] = refl
+plain_lines (f ∷ fs) = rw (append-nil (firing_text f), plain_lines fs) refl
+
+pub plain_more : (origins : List BlockOrigins) (fs : List Firing) (o n : List ℕ) → origins ≡ [] → n ≡ o ++ ended (map firing_text fs) → n ≡ o ++ ended (map (firing_line origins) fs)
+plain_more origins fs o n none is = rw (none, plain_lines fs) is

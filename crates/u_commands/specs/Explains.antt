@@ -1,25 +1,24 @@
--- What `explain` answers to the bytes of a program.
-use Rattle.std.specs.Prelude.{◌≡◌, ℕ, ◌⊎◌, Bool, true, false, List, ◌++◌, Option, Result, Ok, Err, codes}
-use Rattle.std.specs.Io.KnownBytes.{Keeps}
-use Rattle.u_program.specs.Parts.{BlockParts, ProgramParts}
+-- What `explain` tells of a file.
+use Rattle.std.specs.Prelude.{◌≡◌, ℕ, ◌⊎◌, Bool, true, false, List, ◌++◌, codes}
+use Rattle.u_program.specs.Parts.{BlockParts}
 use Rattle.u_determinate.specs.Breaches as breaches
 use Rattle.u_determinate.specs.declared.answer.Strictness.{Strictness}
 use Rattle.u_determinate.specs.declared.answer.Strictness.TheVariants.{Strict, Loose}
 use Rattle.u_determinate.specs.Meetings as meetings
 use Rattle.u_determinate.specs.declared.verdict.Determinacy.{Determinacy}
 use Rattle.u_determinate.specs.declared.verdict.Determinacy.TheVariants.{Determinate, Meets}
-use Rattle.u_commands.specs.Outputs.{WritesAll, WritesPrefix}
 use Rattle.u_commands.specs.Statuses.{status_of_error}
-use Rattle.u_commands.specs.Checks.{IsCheckedOf, CheckRefused, strictness_line, determinacy_line}
+use Rattle.u_commands.specs.Checks.{strictness_line, determinacy_line}
+use Rattle.u_commands.specs.Inputs.{IsInputOf, InputRefused}
+use Rattle.u_commands.specs.declared.input.Input.{Input}
 use Rattle.u_commands.specs.declared.command_error.CommandError.{CommandError}
-use Rattle.u_commands.specs.declared.command_error.CommandError.TheVariants as faults
 
 -- the line, and something behind it
 pub record TellsBehind (line written : List ℕ) : Type 0 where
   pub why : List ℕ
   pub is : written ≡ line ++ why
 
--- `strict` alone, or the line of the first place where the program is not, and behind it why
+-- `strict` alone, or the line of the first place where the program is not, and after it why
 abbrev pub SaysStrictness : Strictness → List ℕ → Type 0
 SaysStrictness Strict written = written ≡ codes "strict\n"
 SaysStrictness (Loose rule block at) written =
@@ -33,7 +32,7 @@ pub record ExplainsStrictness (p : List BlockParts) (written : List ℕ) : Type 
   pub said : SaysStrictness strictness written
 
 -- that there is nothing to explain, or the line of the first place where the program is not
--- determinate, and behind it why
+-- determinate, and after it why
 abbrev pub SaysDeterminacy : Determinacy → List ℕ → Type 0
 SaysDeterminacy Determinate written = written ≡ codes "nothing to explain\n"
 SaysDeterminacy (Meets place) written = TellsBehind (determinacy_line (Meets place)) written
@@ -50,29 +49,21 @@ abbrev pub TellsAllowed : List BlockParts → Bool → List ℕ → Type 0
 TellsAllowed p true written = ExplainsStrictness p written
 TellsAllowed p false written = ExplainsDeterminacy p written
 
--- the bytes are the text of a program that breaks no rule, of which that is told
-pub record ExplainsAllowed (bytes : List ℕ) (strict : Bool) (written : List ℕ) (status : ℕ) : Type 0 where
-  pub program : ProgramParts
-  pub is : IsCheckedOf bytes program
-  pub told : TellsAllowed program.blocks strict written
-  pub ended : status ≡ 0
+-- that, with the status 0
+abbrev pub ExplainsAllowed : List BlockParts → Bool → List ℕ → ℕ → Type 0
+ExplainsAllowed p strict text status = TellsAllowed p strict text × (status ≡ 0)
 
--- `check` refuses the bytes, with that status
-pub record ExplainsRefusal (bytes : List ℕ) (status : ℕ) : Type 0 where
-  pub fault : CommandError
-  pub refused : CheckRefused bytes fault
-  pub text : fault ≡ faults.NoMemory → ⊥
+-- the fault is no want of memory, and has that status
+pub record ExplainsRefusal (fault : CommandError) (status : ℕ) : Type 0 where
+  pub text : status_of_error fault ≡ 5 → ⊥
   pub ended : status ≡ status_of_error fault
 
-abbrev pub Explains : List ℕ → Bool → List ℕ → ℕ → Type 0
-Explains bytes strict written status =
-    ExplainsAllowed bytes strict written status ⊎ ExplainsRefusal bytes status
+-- the file stands for a program, of which that is told; or it is refused, with that status
+abbrev pub Explains : List ℕ → List ℕ → Bool → List ℕ → ℕ → Type 0
+Explains path bytes strict text status =
+    ((input : Input) × IsInputOf path bytes input × ExplainsAllowed input.checked.blocks strict text status)
+    ⊎ ((fault : CommandError) × InputRefused path bytes fault × ExplainsRefusal fault status)
 
--- what stands before and after, for each answer
-abbrev pub ExplainTextAnswer : List ℕ → Bool → Option (List ℕ) → Result ℕ CommandError → Option (List ℕ) → Type 0
-ExplainTextAnswer bytes strict old (Ok status) new =
-    (written : List ℕ) × Explains bytes strict written status × WritesAll old new written
-ExplainTextAnswer bytes strict old (Err faults.NoMemory) new = Keeps old new
-ExplainTextAnswer bytes strict old (Err faults.NotWritten) new =
-    (written : List ℕ) × (status : ℕ) × Explains bytes strict written status × WritesPrefix old new written
-ExplainTextAnswer bytes strict old (Err fault) new = ⊥
+-- there is no memory, also to compile a source
+abbrev pub IsNoMemory : CommandError → Type 0
+IsNoMemory fault = status_of_error fault ≡ 5

@@ -1,7 +1,6 @@
--- What `restore` answers to the bytes of a program, the word of an argument, the bytes of a checkpoint and how
--- many firings there may be after those of the checkpoint.
-use Rattle.std.specs.Prelude.{◌≡◌, ℕ, ◌≤◌, ◌<◌, ◌↔◌, ◌⊎◌, List, ◌++◌, Option, Result, Ok, Err, Contains, codes, length}
-use Rattle.std.specs.Io.KnownBytes.{Keeps}
+-- What `restore` tells of a job and the bytes of a checkpoint, with so many firings at most after those of the
+-- checkpoint.
+use Rattle.std.specs.Prelude.{◌≡◌, ℕ, ◌≤◌, ◌<◌, ◌↔◌, ◌⊎◌, List, ◌++◌, Contains, codes, length}
 use Rattle.u_check.specs.Jobs.{JobParts}
 use Rattle.u_base.specs.Firing.{Cl, EachPlace, IsNextFrom, Same, Whole}
 use Rattle.u_rule.specs.Rule.{system_of}
@@ -20,8 +19,7 @@ use Rattle.u_replica.specs.declared.checkpoint.Ending.TheVariants as endings
 use Rattle.u_replica.specs.declared.checkpoint.CheckpointError.TheVariants as errors
 use Rattle.u_replica.specs.declared.answer.RestoreError.{RestoreError}
 use Rattle.u_replica.specs.declared.answer.RestoreError.TheVariants as restores
-use Rattle.u_commands.specs.Outputs.{WritesAll, WritesPrefix}
-use Rattle.u_commands.specs.Runs.{IsJobOf, JobRefused, ReportsMachine}
+use Rattle.u_commands.specs.Runs.{ReportsMachine}
 use Rattle.u_commands.specs.declared.command_error.CommandError.{CommandError}
 use Rattle.u_commands.specs.declared.command_error.CommandError.TheVariants as faults
 
@@ -110,23 +108,3 @@ fault_in restores.NoMemory = faults.NoMemory
 abbrev pub fault_of : Refusal → CommandError
 fault_of refusals.Full = faults.Full
 fault_of refusals.NoMemory = faults.NoMemory
-
--- this holds of some job of these texts
-pub record HasJob (bytes word : List ℕ) (P : JobParts → Type 0) : Type 0 where
-  pub job : JobParts
-  pub is : IsJobOf bytes word job
-  pub so : P job
-
-abbrev pub Restores : List ℕ → List ℕ → List ℕ → ℕ → List ℕ → ℕ → Type 0
-Restores bytes word checkpoint firings written status = HasJob bytes word (λ job. RestoresJob job firings checkpoint written status)
-
--- why nothing is written: the program or the argument is refused, as by `run`; or else the checkpoint is
-abbrev pub RestoreRefused : List ℕ → List ℕ → List ℕ → ℕ → CommandError → Type 0
-RestoreRefused bytes word checkpoint firings fault = JobRefused bytes word fault ⊎ HasJob bytes word (λ job. CheckpointRefused job firings checkpoint fault)
-
--- what stands before and after, for each answer
-abbrev pub RestoreTextAnswer : List ℕ → List ℕ → List ℕ → ℕ → Option (List ℕ) → Result ℕ CommandError → Option (List ℕ) → Type 0
-RestoreTextAnswer bytes word checkpoint firings old (Ok status) new = (written : List ℕ) × Restores bytes word checkpoint firings written status × WritesAll old new written
-RestoreTextAnswer bytes word checkpoint firings old (Err faults.NotWritten) new =
-    (written : List ℕ) × (status : ℕ) × Restores bytes word checkpoint firings written status × WritesPrefix old new written
-RestoreTextAnswer bytes word checkpoint firings old (Err fault) new = RestoreRefused bytes word checkpoint firings fault × Keeps old new

@@ -1,6 +1,5 @@
--- What `run` answers to the bytes of a program and the word of an argument.
-use Rattle.std.specs.Prelude.{◌≡◌, ℕ, List, [], ◌++◌, ◌⊎◌, Option, Result, Ok, Err, Contains, length, ℤ}
-use Rattle.std.specs.Io.KnownBytes.{Keeps}
+-- What `run` tells of a job, and the job of two texts.
+use Rattle.std.specs.Prelude.{◌≡◌, ℕ, List, [], ◌++◌, ◌⊎◌, Ok, Err, Contains, length, ℤ}
 use Rattle.u_program.specs.Parts.{ProgramParts}
 use Rattle.u_program.specs.Answer.{IsTextOf}
 use Rattle.u_program.specs.FirstBad.{IsBadLine, IsTooMany, IsTruncated}
@@ -13,7 +12,7 @@ use Rattle.u_rule.specs.declared.parts.Fault.{Fault}
 use Rattle.u_rule.specs.declared.entry.Entry.{Entry}
 use Rattle.u_rule.specs.declared.firing.Firing.{Firing}
 use Rattle.u_machine.specs.State.{State, IsMachine}
-use Rattle.u_machine.specs.Calls.{firing_le, RunAnswer}
+use Rattle.u_machine.specs.Calls.{firing_le, Runs, RunAnswer, IsFresh}
 use Rattle.u_machine.specs.declared.answer.Ran.{Ran}
 use Rattle.u_machine.specs.declared.answer.Ran.TheVariants as ran
 use Rattle.u_machine.specs.declared.answer.Refusal.TheVariants as refusals
@@ -26,9 +25,8 @@ use Rattle.u_history.specs.Outcomes.{IsOutcome, CellPairs, PortValues}
 use Rattle.u_history.specs.Verdicts.{judged}
 use Rattle.u_history.specs.Report.{IsReportOf}
 use Rattle.u_commands.specs.Arguments.{IsArgumentOf}
-use Rattle.u_commands.specs.Outputs.{WritesAll, WritesPrefix}
 use Rattle.u_commands.specs.Statuses.{status_of}
-use Rattle.u_commands.specs.Checks.{BreaksRule}
+use Rattle.u_commands.specs.Inputs.{BreaksRule}
 use Rattle.u_commands.specs.declared.command_error.CommandError.{CommandError}
 use Rattle.u_commands.specs.declared.command_error.CommandError.TheVariants as faults
 
@@ -68,6 +66,10 @@ pub record RunsTo (job : JobParts) (firings : ℕ) (state : Ending) (fs : List F
   pub many : state ≡ states.Paused → length fs ≡ firings
   pub more : state ≡ states.Paused → (f : Firing) × Enabled (system_of job) (Held (system_of job) fs) f × (Contains fs f → ⊥)
 
+-- it had taken nothing, and has fired so often since
+abbrev pub HasFired : ℕ → State → Type 0
+HasFired fired m = (old : State) × IsFresh old × (gs : List Firing) × Runs old gs m × (length gs ≡ fired)
+
 -- A machine of the job that had taken nothing, once it ran: its log is the plain run, nothing is parked, and its
 -- history is what the log holds.
 pub record RanTo (job : JobParts) (firings : ℕ) (state : Ending) (m : State) : Type 0 where
@@ -75,6 +77,7 @@ pub record RanTo (job : JobParts) (firings : ℕ) (state : Ending) (m : State) :
   pub parked : m.parked ≡ []
   pub run : RunsTo job firings state m.log
   pub held : Same (Contains m.history) (Held (system_of job) m.log)
+  pub fired : state ≡ states.Paused → HasFired firings m
 
 -- if the program is strict or determinate, fs holds two values at a port, or two answers, only with two writes of one cell
 abbrev pub ClashesByWrites : JobParts → List Firing → Type 0
@@ -110,12 +113,6 @@ pub record ReportsRunOfJob (job : JobParts) (firings : ℕ) (report : List ℕ) 
   pub fs : List Firing
   pub run : IsReportedRun job firings state fs report status
 
--- some run of a job of these texts, with its report and its status
-pub record ReportsRun (bytes word : List ℕ) (firings : ℕ) (report : List ℕ) (status : ℕ) : Type 0 where
-  pub job : JobParts
-  pub is : IsJobOf bytes word job
-  pub run : ReportsRunOfJob job firings report status
-
 -- the program breaks no rule, and the word gives no argument
 pub record GivesNoArgument (bytes word : List ℕ) : Type 0 where
   pub program : ProgramParts
@@ -123,18 +120,11 @@ pub record GivesNoArgument (bytes word : List ℕ) : Type 0 where
   pub checked : IsChecked program.blocks
   pub none : (z : ℤ) → IsArgumentOf word z → ⊥
 
--- what stands before and after, for each answer
-abbrev pub RunTextAnswer : List ℕ → List ℕ → ℕ → Option (List ℕ) → Result ℕ CommandError → Option (List ℕ) → Type 0
-RunTextAnswer bytes word firings old (Ok status) new = (report : List ℕ) × ReportsRun bytes word firings report status × WritesAll old new report
-RunTextAnswer bytes word firings old (Err (faults.LineNotAllowed n)) new = IsBadLine bytes n × Keeps old new
-RunTextAnswer bytes word firings old (Err (faults.TooMany n)) new = IsTooMany bytes n × Keeps old new
-RunTextAnswer bytes word firings old (Err faults.CutShort) new = IsTruncated bytes × Keeps old new
-RunTextAnswer bytes word firings old (Err (faults.Rule breach)) new = BreaksRule bytes breach × Keeps old new
-RunTextAnswer bytes word firings old (Err faults.ArgumentNotAllowed) new = GivesNoArgument bytes word × Keeps old new
-RunTextAnswer bytes word firings old (Err faults.NoMemory) new = Keeps old new
-RunTextAnswer bytes word firings old (Err faults.NotWritten) new =
-    (report : List ℕ) × (status : ℕ) × ReportsRun bytes word firings report status × WritesPrefix old new report
-RunTextAnswer bytes word firings old (Err fault) new = ⊥
+-- this holds of some job of these texts
+pub record HasJob (bytes word : List ℕ) (P : JobParts → Type 0) : Type 0 where
+  pub job : JobParts
+  pub is : IsJobOf bytes word job
+  pub so : P job
 
 -- why there is no job
 abbrev pub JobRefused : List ℕ → List ℕ → CommandError → Type 0

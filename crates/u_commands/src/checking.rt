@@ -1,19 +1,20 @@
 //! The command `check`.
-ghost use Rattle.std.specs.Prelude.{◌≡◌, ◌≤◌, ◌*◌, ◌+◌, ◌++◌, IfOk, IfErr, MatchResult, length};
+ghost use Rattle.std.specs.Prelude.{◌≡◌, ◌≤◌, ◌*◌, ◌+◌, ◌++◌, IfOk, IfErr, length};
 ghost use Rattle.u_program.specs.Limits.{IsProgram, the_limits};
 ghost use Rattle.u_determinate.specs.Breaches.{IsAnswer};
-ghost use Rattle.u_commands.specs.Checks.{statements_of, checked_line, IsCheckedOf, CheckRefused, CheckTextAnswer, error_of};
+ghost use Rattle.u_commands.specs.Checks.{statements_of, checked_line, Checks};
 ghost use Rattle.u_commands.specs.Checks.{strictness_line, TellsStrictness, ChecksProgram};
 ghost use Rattle.u_commands.specs.Checks.{meeting_words, determinacy_line, TellsDeterminacy};
+ghost use Rattle.u_commands.specs.declared.command_error.CommandError.TheVariants as faults;
 
 use crate::command_error::CommandError;
-use crate::output::{push_numbered, write_whole};
+use crate::output::push_numbered;
+use crate::told::Told;
 use std::alloc::{AllocError, Global};
-use std::io::Write;
 use u_base::push_long;
-use u_check::{Checked, check};
+use u_check::Checked;
 use u_determinate::{Determinacy, Meeting, Strictness, determinacy, strictness};
-use u_program::{Block, Program, ReadError, read};
+use u_program::{Block, Program};
 
 /// What is asked of a program that breaks no rule of the checker.
 #[derive(Clone, Copy, Debug, PartialEq, Eq)]
@@ -22,33 +23,6 @@ pub struct Asked {
     pub strict: bool,
     /// Whether it is determinate.
     pub determinate: bool,
-}
-
-/// The fault that is told of a program's text.
-fn error_of(error: ReadError) -> CommandError
-    ensures { result ≡ error_of error }
-{
-    match error {
-        ReadError::BadLine(line) => CommandError::LineNotAllowed(line),
-        ReadError::TooMany(line) => CommandError::TooMany(line),
-        ReadError::Truncated => CommandError::CutShort,
-        ReadError::NoMemory => CommandError::NoMemory,
-    }
-}
-
-/// The program with this text, where it breaks no rule.
-pub fn checked_of(alloc: Global, bytes: &[u8]) -> Result<Checked, CommandError>
-    ensures { MatchResult result (λ p. IsCheckedOf bytes.now p)
-        (λ fault. CheckRefused bytes.now fault) }
-{
-    let program = match read(alloc, bytes) {
-        Ok(program) => program,
-        Err(error) => return Err(error_of(error)),
-    };
-    match check(program) {
-        Ok(checked) => Ok(checked),
-        Err(refused) => Err(CommandError::Rule(refused.breach)),
-    }
 }
 
 /// How many statements the program has.
@@ -94,6 +68,7 @@ pub(crate) fn push_strictness(lines: &mut Vec<u8>, strictness: Strictness) -> Re
 }
 
 /// Appends that line, if it is asked for.
+#[tactic(auto, using(crate::proofs::Worded::strict_keeps))]
 fn tell_strictness(
     lines: &mut Vec<u8>,
     checked: &Checked,
@@ -104,6 +79,8 @@ fn tell_strictness(
         (λ u. TellsStrictness checked.now.blocks asked.strict lines.old.items lines.new.items) }
 {
     if asked.strict {
+        // Brings in that the program breaks no rule.
+        let _program = checked.program();
         let strictness = strictness(alloc, checked)?;
         push_strictness(lines, strictness)?;
     }
@@ -143,6 +120,7 @@ pub(crate) fn push_determinacy(
 }
 
 /// Appends that line, if it is asked for.
+#[tactic(auto, using(crate::proofs::Worded::determinate_keeps))]
 fn tell_determinacy(
     lines: &mut Vec<u8>,
     checked: &Checked,
@@ -153,6 +131,8 @@ fn tell_determinacy(
         TellsDeterminacy checked.now.blocks asked.determinate lines.old.items lines.new.items) }
 {
     if asked.determinate {
+        // Brings in that the program breaks no rule.
+        let _program = checked.program();
         let determinacy = determinacy(alloc, checked)?;
         push_determinacy(lines, determinacy)?;
     }
@@ -169,31 +149,21 @@ fn checked_lines(alloc: Global, checked: &Checked, asked: Asked) -> Result<Vec<u
     Ok(lines)
 }
 
-/// Checks the program with this text and writes the line `checked BLOCKS STATEMENTS`: how many
-/// blocks it has, and how many statements all blocks have together. Behind it stand the lines that are
-/// asked for: `strict`, or `not strict rule R block B at A`, the first place where the program is not;
-/// and `determinate`, or `not determinate block B at A WHAT`, the first place where it is not, and what
-/// meets there: `two arcs`, `two ends`, `two applies`, or `next and last`. Returns the exit status, 0.
+/// The line `checked BLOCKS STATEMENTS`: how many blocks the program has, and how many statements all blocks
+/// have together. After it stand the lines that are asked for: `strict`, or `not strict rule R block B at A`, the
+/// first place where the program is not; and `determinate`, or `not determinate block B at A WHAT`, the first
+/// place where it is not, and what meets there: `two arcs`, `two ends`, `two applies`, or `next and last`. The
+/// exit status is 0.
 ///
-/// Promise check-command: the lines are written exactly of the text of a program that breaks no rule, and
-/// each says what is so of that program.
+/// Promise check-command: each line says what is so of the program; of each job of a program that is told to be strict
+/// or determinate two values at one port, or two answers, come only with two writes of one cell.
 ///
 /// # Errors
-/// A fault of the program's text or of the checker, in that order, or want of memory: nothing is
-/// written. `NotWritten`: a prefix of the lines is written.
-pub fn check_text<W: Write>(
-    alloc: Global,
-    program: &[u8],
-    asked: Asked,
-    writer: &mut W,
-) -> Result<u8, CommandError>
-    ensures { CheckTextAnswer program.now asked (W.contents writer.old) result
-        (W.contents writer.new) }
+/// `NoMemory`.
+pub fn check(alloc: Global, checked: &Checked, asked: Asked) -> Result<Told, CommandError>
+    ensures ok { IfOk result (λ t. Checks checked.now.blocks asked t.text.items t.status) }
+    ensures memory { IfErr result (λ e. e ≡ faults.NoMemory) }
 {
-    let checked = checked_of(alloc, program)?;
-    let lines = checked_lines(alloc, &checked, asked)?;
-    match write_whole(writer, &lines) {
-        Ok(()) => Ok(0),
-        Err(_) => Err(CommandError::NotWritten),
-    }
+    let text = checked_lines(alloc, checked, asked)?;
+    Ok(Told { text, status: 0 })
 }

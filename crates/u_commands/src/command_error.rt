@@ -1,12 +1,15 @@
 //! Why a command gives no whole output.
 ghost use Rattle.std.specs.Prelude.{◌≡◌};
-ghost use Rattle.u_commands.specs.Statuses.{status_of_error};
+ghost use Rattle.u_commands.specs.Statuses.{place_of, status_of_error};
 
 use std::alloc::AllocError;
 use thiserror::Error;
 use u_check::Breach;
+use u_compile::CompileError;
+use u_scope::{CheckError, KindError};
+use u_source::{Position, SourceError};
 
-/// Why a command gives no whole output. It prints as the text that stands behind `u: `.
+/// Why a command gives no whole output. It prints as the text that stands after `u: `.
 #[derive(Debug, Drop, PartialEq, Eq, Error)]
 pub enum CommandError {
     /// This line of the program is not allowed; lines count from 1.
@@ -21,6 +24,9 @@ pub enum CommandError {
     /// The program breaks a rule of the checker.
     #[error("{0}")]
     Rule(Breach),
+    /// The source is refused, or there is no memory to compile it.
+    #[error("{0}")]
+    Source(CompileError),
     /// The argument is no number from -2^63 to 2^63 - 1 in its one spelling.
     #[error("argument not allowed")]
     ArgumentNotAllowed,
@@ -88,6 +94,22 @@ impl From<AllocError> for CommandError {
     }
 }
 
+/// The place of the source that shows why it is refused. There is none if there was no memory.
+pub(crate) fn place_of(error: &CompileError) -> Option<Position>
+    ensures { result ≡ place_of error.now }
+{
+    match error {
+        CompileError::Source(SourceError::Refused(place, _)) => Some(*place),
+        CompileError::Check(CheckError::Refused(place, _)) => Some(*place),
+        CompileError::Kinds(KindError::Refused(place, _)) => Some(*place),
+        CompileError::Refused(place, _) => Some(*place),
+        CompileError::Source(SourceError::NoMemory)
+        | CompileError::Check(CheckError::NoMemory)
+        | CompileError::Kinds(KindError::NoMemory)
+        | CompileError::NoMemory => None,
+    }
+}
+
 impl CommandError {
     /// The exit status.
     ///
@@ -97,6 +119,10 @@ impl CommandError {
         ensures { result ≡ status_of_error self.now }
     {
         match self {
+            CommandError::Source(error) => match place_of(error) {
+                Some(_) => 2,
+                None => 5,
+            },
             CommandError::LineNotAllowed(_)
             | CommandError::TooMany(_)
             | CommandError::CutShort

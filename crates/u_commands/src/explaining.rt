@@ -1,38 +1,87 @@
 //! The command `explain`.
-ghost use Rattle.std.specs.Prelude.{◌≡◌, IfOk, IfErr};
+ghost use Rattle.std.specs.Prelude.{◌≡◌, IfOk, MatchResult};
+ghost use Rattle.u_program.specs.Text.{program_text};
 ghost use Rattle.u_commands.specs.Checks.{strictness_line, determinacy_line};
 ghost use Rattle.u_commands.specs.Explains.{TellsBehind, ExplainsStrictness, ExplainsDeterminacy, TellsAllowed};
-ghost use Rattle.u_commands.specs.Explains.{Explains, ExplainTextAnswer};
-ghost use Rattle.u_commands.specs.declared.command_error.CommandError.TheVariants as faults;
+ghost use Rattle.u_commands.specs.Explains.{ExplainsAllowed, ExplainsRefusal, Explains, IsNoMemory};
 
-use crate::checking::{checked_of, push_determinacy, push_strictness};
-use crate::command_error::CommandError;
-use crate::output::write_whole;
+use crate::checking::{push_determinacy, push_strictness};
+use crate::command_error::{CommandError, place_of};
+use crate::input::{Input, is_source};
+use crate::told::Told;
 use std::alloc::{AllocError, Global};
-use std::io::Write;
+use u_base::cut;
 use u_check::Checked;
 use u_determinate::{Determinacy, MeetingPoint, Strictness, determinacy, strictness};
-use u_explain::{explain, explain_loose, explain_meeting};
+use u_explain::{explain_loose, explain_meeting, show_marked};
+use u_source::Position;
 
 /// What is said of a program that is not refused and is determinate.
 const NOTHING: &[u8] = b"nothing to explain\n";
 
-/// The line of the fault, and behind it where the fault lies and what was wanted there.
-fn refusal(alloc: Global, program: &[u8], fault: &CommandError) -> Result<Vec<u8>, AllocError> {
+/// The text of the program.
+fn text_of(alloc: Global, checked: &Checked) -> Result<Vec<u8>, AllocError>
+    ensures { IfOk result
+        (λ v. v.items ≡ program_text checked.now.version checked.now.blocks) }
+{
     let mut text = Vec::new(alloc);
-    let line = format!(in alloc; "{fault}\n")?;
-    text.extend_from_slice(line.as_bytes())?;
-    if let Some(why) = explain(alloc, program)? {
-        text.extend_from_slice(&why)?;
-    }
+    checked.program().write_text(&mut text)?;
     Ok(text)
 }
 
-/// The line of the first place where a program is not strict, and behind it why.
+/// The line of the text with this number, from 1, without its newline; nothing if there is none.
+fn line_at(text: &[u8], number: usize) -> &[u8] {
+    let mut rest = text;
+    for _ in 1..number {
+        match cut(rest, b'\n') {
+            Some((_, others)) => rest = others,
+            None => return &[],
+        }
+    }
+    match cut(rest, b'\n') {
+        Some((line, _)) => line,
+        None => rest,
+    }
+}
+
+/// Appends the line of the source with a mark under the place.
+fn push_shown(out: &mut Vec<u8>, source: &[u8], place: Position) -> Result<(), AllocError> {
+    let shown = line_at(source, place.line);
+    show_marked(out, place.line, shown, place.column.saturating_sub(1))
+}
+
+/// Appends where the fault lies, and of a program's text what was wanted there.
+fn push_reason(
+    out: &mut Vec<u8>,
+    alloc: Global,
+    bytes: &[u8],
+    fault: &CommandError,
+) -> Result<(), AllocError> {
+    if let CommandError::Source(error) = fault {
+        return match place_of(error) {
+            Some(place) => push_shown(out, bytes, place),
+            None => Ok(()),
+        };
+    }
+    match u_explain::explain(alloc, bytes)? {
+        Some(why) => out.extend_from_slice(&why),
+        None => Ok(()),
+    }
+}
+
+/// The line of the fault, and after it where the fault lies.
+fn refusal(alloc: Global, bytes: &[u8], fault: &CommandError) -> Result<Vec<u8>, AllocError> {
+    let mut text = Vec::new(alloc);
+    let line = format!(in alloc; "{fault}\n")?;
+    text.extend_from_slice(line.as_bytes())?;
+    push_reason(&mut text, alloc, bytes, fault)?;
+    Ok(text)
+}
+
+/// The line of the first place where a program is not strict, and after it why.
 #[tactic(auto, using(crate::proofs::Explained::tells_behind))]
 fn loose_text(
     alloc: Global,
-    program: &[u8],
     checked: &Checked,
     strictness: Strictness,
 ) -> Result<Vec<u8>, AllocError>
@@ -40,14 +89,15 @@ fn loose_text(
 {
     let mut text = Vec::new(alloc);
     push_strictness(&mut text, strictness)?;
-    let why = explain_loose(alloc, program, checked, strictness)?;
+    let program = text_of(alloc, checked)?;
+    let why = explain_loose(alloc, &program, checked, strictness)?;
     text.extend_from_slice(&why)?;
     Ok(text)
 }
 
-/// What is said of an allowed program, where it is asked whether it is strict.
+/// What is said of an allowed program, if it is asked whether it is strict.
 #[tactic(auto, using(crate::proofs::Explained::explains_strictness))]
-fn strictness_text(alloc: Global, program: &[u8], checked: &Checked) -> Result<Vec<u8>, AllocError>
+fn strictness_text(alloc: Global, checked: &Checked) -> Result<Vec<u8>, AllocError>
     ensures { IfOk result (λ v. ExplainsStrictness checked.now.blocks v.items) }
 {
     let strictness = strictness(alloc, checked)?;
@@ -57,15 +107,14 @@ fn strictness_text(alloc: Global, program: &[u8], checked: &Checked) -> Result<V
             text.extend_from_slice(b"strict\n")?;
             Ok(text)
         }
-        Strictness::Loose { .. } => loose_text(alloc, program, checked, strictness),
+        Strictness::Loose { .. } => loose_text(alloc, checked, strictness),
     }
 }
 
-/// The line of the first place where a program is not determinate, and behind it why.
+/// The line of the first place where a program is not determinate, and after it why.
 #[tactic(auto, using(crate::proofs::Explained::tells_behind))]
 fn meeting_text(
     alloc: Global,
-    program: &[u8],
     checked: &Checked,
     place: MeetingPoint,
 ) -> Result<Vec<u8>, AllocError>
@@ -73,14 +122,15 @@ fn meeting_text(
 {
     let mut text = Vec::new(alloc);
     push_determinacy(&mut text, Determinacy::Meets(place))?;
-    let why = explain_meeting(alloc, program, checked, place)?;
+    let program = text_of(alloc, checked)?;
+    let why = explain_meeting(alloc, &program, checked, place)?;
     text.extend_from_slice(&why)?;
     Ok(text)
 }
 
-/// What is said of an allowed program, where it is not.
+/// What is said of an allowed program, if it is not.
 #[tactic(auto, using(crate::proofs::Explained::explains_determinacy))]
-fn determinacy_text(alloc: Global, program: &[u8], checked: &Checked) -> Result<Vec<u8>, AllocError>
+fn determinacy_text(alloc: Global, checked: &Checked) -> Result<Vec<u8>, AllocError>
     ensures { IfOk result (λ v. ExplainsDeterminacy checked.now.blocks v.items) }
 {
     match determinacy(alloc, checked)? {
@@ -89,69 +139,61 @@ fn determinacy_text(alloc: Global, program: &[u8], checked: &Checked) -> Result<
             text.extend_from_slice(NOTHING)?;
             Ok(text)
         }
-        Determinacy::Meets(place) => meeting_text(alloc, program, checked, place),
+        Determinacy::Meets(place) => meeting_text(alloc, checked, place),
     }
 }
 
 /// What is said of an allowed program: of whether it is strict, if that is asked for, else of whether
 /// it is determinate.
-fn allowed_text(
-    alloc: Global,
-    program: &[u8],
-    checked: &Checked,
-    strict: bool,
-) -> Result<Vec<u8>, AllocError>
+fn allowed_text(alloc: Global, checked: &Checked, strict: bool) -> Result<Vec<u8>, AllocError>
     ensures { IfOk result (λ v. TellsAllowed checked.now.blocks strict v.items) }
 {
     if strict {
-        strictness_text(alloc, program, checked)
+        strictness_text(alloc, checked)
     } else {
-        determinacy_text(alloc, program, checked)
+        determinacy_text(alloc, checked)
     }
 }
 
-/// What is said of the program with this text, and the exit status.
-fn explanation(alloc: Global, program: &[u8], strict: bool) -> Result<(Vec<u8>, u8), CommandError>
-    ensures ok { IfOk result (λ p. Explains program.now strict p.0.items p.1) }
-    ensures memory { IfErr result (λ e. e ≡ faults.NoMemory) }
+/// What is said of an allowed program, with the status 0.
+fn allowed(alloc: Global, checked: &Checked, strict: bool) -> Result<Told, CommandError>
+    ensures { MatchResult result
+        (λ t. ExplainsAllowed checked.now.blocks strict t.text.items t.status) IsNoMemory }
 {
-    match checked_of(alloc, program) {
-        Ok(checked) => {
-            let text = allowed_text(alloc, program, &checked, strict)?;
-            Ok((text, 0))
-        }
-        Err(CommandError::NoMemory) => Err(CommandError::NoMemory),
-        Err(fault) => {
-            let text = refusal(alloc, program, &fault)?;
-            Ok((text, fault.status()))
-        }
-    }
+    let text = allowed_text(alloc, checked, strict)?;
+    Ok(Told { text, status: 0 })
 }
 
-/// Writes why the program with this text is refused: the line that `check` says, and behind it for
-/// people where the fault lies and what was wanted there. Of a program that is not refused and not
-/// determinate it writes the line of `check` that says so, and behind it for people what meets where; of
-/// a determinate one `nothing to explain`. If `strict` is asked for, it writes of a program that is not
-/// refused in place of that the line of `check` on whether it is strict, and where it is not, behind it
-/// for people which rule it breaks and how. Returns the exit status, that of `check`.
+/// What is said of a file that is refused, with the status of the fault.
+fn refused(alloc: Global, bytes: &[u8], fault: CommandError) -> Result<Told, CommandError>
+    ensures { MatchResult result (λ t. ExplainsRefusal fault t.status) IsNoMemory }
+{
+    let status = fault.status();
+    if status == 5 {
+        return Err(fault);
+    }
+    let text = refusal(alloc, bytes, &fault)?;
+    Ok(Told { text, status })
+}
+
+/// Why the file with this path and these bytes is refused: the line that `check` says, and after it for people
+/// where the fault lies, and of a program's text what was wanted there. Of a program that is not refused and not
+/// determinate it tells the line of `check` that says so, and after it for people what meets where; of a
+/// determinate one `nothing to explain`. If `strict` is asked for, it tells of a program that is not refused in
+/// place of that the line of `check` on whether it is strict, and if it is not, after it for people which rule it
+/// breaks and how. The exit status is that of `check`.
 ///
-/// Promise explain-command: the status is 0 exactly if the bytes are the text of a program that breaks no
-/// rule, and else that of the fault of `check_text`.
+/// Promise explain-command: the status is 0 exactly if the file stands for a program that breaks no rule, and else
+/// that of the fault.
 ///
 /// # Errors
-/// `NoMemory`: nothing is written. `NotWritten`: a prefix is written.
-pub fn explain_text<W: Write>(
-    alloc: Global,
-    program: &[u8],
-    strict: bool,
-    writer: &mut W,
-) -> Result<u8, CommandError>
-    ensures { ExplainTextAnswer program.now strict (W.contents writer.old) result
-        (W.contents writer.new) }
+/// `NoMemory`, also of `Source`.
+pub fn explain(alloc: Global, path: &str, bytes: &[u8], strict: bool) -> Result<Told, CommandError>
+    ensures { MatchResult result (λ t. Explains path.now bytes.now strict t.text.items t.status)
+        IsNoMemory }
 {
-    let (written, status) = explanation(alloc, program, strict)?;
-    match write_whole(writer, &written) {
-        Ok(()) => Ok(status),
-        Err(_) => Err(CommandError::NotWritten),
+    match Input::read(alloc, path, bytes) {
+        Ok(input) => allowed(alloc, &input.checked, strict),
+        Err(fault) => refused(alloc, bytes, fault),
     }
 }

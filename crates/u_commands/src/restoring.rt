@@ -2,15 +2,15 @@
 ghost use Rattle.std.specs.Prelude.{◌≡◌, MatchResult, ℕ};
 ghost use Rattle.u_replica.specs.Restoring.{IsRestored};
 ghost use Rattle.u_commands.specs.Runs.{RunsBehind, RunRefused};
-ghost use Rattle.u_commands.specs.Restores.{most_taken, fault_in, fault_of, ending_line, RestoresJob, CheckpointRefused, RestoreTextAnswer};
+ghost use Rattle.u_commands.specs.Restores.{most_taken, fault_in, fault_of, ending_line, RestoresJob, CheckpointRefused};
 
 use crate::command_error::CommandError;
-use crate::output::{joined, write_whole};
-use crate::run::{FIRING_LIMIT, JobTexts, ending_of, job_of, report_of};
+use crate::output::joined;
+use crate::reporting::{FIRING_LIMIT, ending_of, report_of};
 use crate::running::run_watched;
-use crate::watch::{Unwatched, Watch, show};
+use crate::told::Told;
+use crate::watch::{Watch, show};
 use std::alloc::Global;
-use std::io::Write;
 use u_check::Job;
 use u_machine::{Machine, Refusal};
 use u_replica::{Ending, Onlooker, Replica, Restart, RestoreError};
@@ -85,99 +85,57 @@ fn ending_line(ending: Ending) -> &'static [u8]
     }
 }
 
-/// The front, and behind it the report of a replica that fires so many times at most; and the exit
-/// status. The watch is told how far it has come.
+/// The front, and after it the report of a machine that fires so many times at most; and the exit status. The
+/// watch is told how far it has come.
 pub fn run_behind<V: Watch>(
     alloc: Global,
     front: &[u8],
-    replica: &mut Replica<'_>,
+    machine: &mut Machine<'_>,
     firings: usize,
     watch: &mut V,
-) -> Result<(Vec<u8>, u8), CommandError>
+) -> Result<Told, CommandError>
     ensures { MatchResult result
-        (λ p. RunsBehind front.now replica.old.machine firings p.0.items p.1)
-        (λ fault. RunRefused replica.old.machine firings fault) }
+        (λ t. RunsBehind front.now machine.old firings t.text.items t.status)
+        (λ fault. RunRefused machine.old firings fault) }
 {
-    let ran = run_watched(replica, firings, watch);
-    replica.holds();
+    let ran = run_watched(machine, firings, watch);
+    machine.holds();
     let state = match ran {
         Ok(ran) => ending_of(ran),
         Err(refusal) => return Err(fault_of(refusal)),
     };
-    let (report, status) = report_of(alloc, replica.machine(), state)?;
-    let written = joined(alloc, front, &report)?;
-    Ok((written, status))
+    let report = report_of(alloc, machine, state)?;
+    let text = joined(alloc, front, &report.text)?;
+    Ok(Told {
+        text,
+        status: report.status,
+    })
 }
 
-/// How the checkpoint ended and the report of a replica that goes on from it with so many firings at
-/// most, and the exit status.
-fn restore_job<V: Watch>(
+/// How the checkpoint ended, and the report of a machine that goes on from it with so many firings at most. The
+/// exit status is that of `run`.
+///
+/// Promise restore-command: the report is that of a machine that took exactly the firings of the checkpoint's
+/// complete lines and then fired the least ready one each time.
+///
+/// # Errors
+/// A line of the checkpoint that is not allowed or too long; a firing that is none of the job; `Full` if there
+/// are more firings than the machine may take, or `NoMemory`.
+pub fn restore<V: Watch>(
     alloc: Global,
     job: &Job,
     checkpoint: &[u8],
     firings: usize,
     watch: &mut V,
-) -> Result<(Vec<u8>, u8), CommandError>
+) -> Result<Told, CommandError>
     ensures { MatchResult result
-        (λ p. RestoresJob job.now firings checkpoint.now p.0.items p.1)
+        (λ t. RestoresJob job.now firings checkpoint.now t.text.items t.status)
         (λ fault. CheckpointRefused job.now firings checkpoint.now fault) }
 {
-    let (mut replica, ending) = match restored(alloc, job, checkpoint, watch) {
+    let (replica, ending) = match restored(alloc, job, checkpoint, watch) {
         Ok(restored) => restored,
         Err(fault) => return Err(fault),
     };
-    run_behind(alloc, ending_line(ending), &mut replica, firings, watch)
-}
-
-/// Restores a replica of the program with this text, on the argument that the word gives, from the
-/// bytes of a checkpoint, whole or torn; fires so many times at most after those of the checkpoint; and
-/// writes the line `checkpoint whole` or `checkpoint torn` and the report. Answers the exit status, that
-/// of `run_text`.
-///
-/// Promise restore-command: the report is that of the firings of the complete lines and of at most `firings`
-/// more, each the least that is ready.
-///
-/// # Errors
-/// A fault of the program's text, of the checker, of the argument or of the checkpoint, in that
-/// order, `Full` where the checkpoint has more than 1,000,000 firings or more are ready while the
-/// replica has as many, or want of memory: nothing is written. `NotWritten`: a prefix is written.
-pub fn restore_text<W: Write>(
-    alloc: Global,
-    program: &[u8],
-    argument: &[u8],
-    checkpoint: &[u8],
-    firings: usize,
-    writer: &mut W,
-) -> Result<u8, CommandError>
-    ensures { RestoreTextAnswer program.now argument.now checkpoint.now firings
-        (W.contents writer.old) result (W.contents writer.new) }
-{
-    let texts = JobTexts { program, argument };
-    restore_watched_text(alloc, texts, checkpoint, firings, &mut Unwatched, writer)
-}
-
-/// Does what `restore_text` does. The watch is told how far it has come.
-///
-/// # Errors
-/// Those of `restore_text`.
-pub fn restore_watched_text<V: Watch, W: Write>(
-    alloc: Global,
-    texts: JobTexts<'_>,
-    checkpoint: &[u8],
-    firings: usize,
-    watch: &mut V,
-    writer: &mut W,
-) -> Result<u8, CommandError>
-    ensures { RestoreTextAnswer texts.entry.program.now texts.entry.argument.now checkpoint.now
-        firings (W.contents writer.old) result (W.contents writer.new) }
-{
-    let job = job_of(alloc, texts.program, texts.argument)?;
-    let (written, status) = match restore_job(alloc, &job, checkpoint, firings, watch) {
-        Ok(told) => told,
-        Err(fault) => return Err(fault),
-    };
-    match write_whole(writer, &written) {
-        Ok(()) => Ok(status),
-        Err(_) => Err(CommandError::NotWritten),
-    }
+    let mut machine = replica.into_machine();
+    run_behind(alloc, ending_line(ending), &mut machine, firings, watch)
 }

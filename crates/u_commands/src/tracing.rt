@@ -1,17 +1,19 @@
 //! The command `trace`.
-ghost use Rattle.std.specs.Prelude.{◌≡◌, ◌≤◌, ◌++◌, IfOk, IfErr, MatchResult, ℕ};
+ghost use Rattle.std.specs.Prelude.{◌≡◌, ◌≤◌, ◌++◌, IfOk, MatchResult, ℕ, map};
+ghost use Rattle.u_base.specs.Spaced.{ended};
 ghost use Rattle.u_rule.specs.EntryReading.{IsEntryOf};
-ghost use Rattle.u_commands.specs.Traces.{counted, traced_text, trace_fault, RanPlainly, EntryRefused};
-ghost use Rattle.u_commands.specs.Traces.{TracesJob, TraceRefused, TraceTextAnswer};
-ghost use Rattle.u_commands.specs.declared.command_error.CommandError.TheVariants as faults;
+ghost use Rattle.u_commands.specs.Traces.{firing_line, counted, traced_text, trace_fault, RanPlainly};
+ghost use Rattle.u_commands.specs.Traces.{EntryRefused, TracesJob, TraceRefused, Traces, NotTraced};
 
 use crate::command_error::CommandError;
-use crate::output::{push_numbered, write_whole};
-use crate::run::{JobTexts, job_of, ran_watched};
-use crate::watch::{Unwatched, Watch};
+use crate::input::Task;
+use crate::output::push_numbered;
+use crate::placing::push_place;
+use crate::reporting::ran;
+use crate::told::Told;
+use crate::watch::Watch;
 use std::alloc::{AllocError, Global};
-use std::io::Write;
-use u_check::Job;
+use u_compile::BlockOrigins;
 use u_delta::write_firings;
 use u_machine::Machine;
 use u_rule::{Entry, Firing, TextError};
@@ -29,8 +31,8 @@ pub fn entry_of(alloc: Global, word: &[u8]) -> Result<Entry, CommandError>
     }
 }
 
-/// The fault that is told where nothing is traced.
-fn trace_fault(error: TraceError) -> CommandError
+/// The fault that is told if nothing is traced.
+pub fn trace_fault(error: TraceError) -> CommandError
     ensures { result ≡ trace_fault error }
 {
     match error {
@@ -39,31 +41,81 @@ fn trace_fault(error: TraceError) -> CommandError
     }
 }
 
+/// Appends a line for each firing, with the place of its statement.
+fn push_placed(
+    text: &mut Vec<u8>,
+    origins: &[BlockOrigins],
+    firings: &[Firing],
+) -> Result<(), AllocError>
+    ensures { IfOk result (λ u. text.new.items
+        ≡ text.old.items ++ ended (map (firing_line origins.now) firings.now)) }
+{
+    for firing in firings {
+        firing.write_text(text)?;
+        push_place(text, origins, &firing.activity)?;
+        text.push(b'\n')?;
+    }
+    Ok(())
+}
+
+/// Appends a line for each firing, with the place of its statement if that is known.
+#[tactic(auto, using(crate::proofs::Traced::plain_more))]
+fn push_firings(
+    text: &mut Vec<u8>,
+    origins: &[BlockOrigins],
+    firings: &[Firing],
+) -> Result<(), AllocError>
+    ensures { IfOk result (λ u. text.new.items
+        ≡ text.old.items ++ ended (map (firing_line origins.now) firings.now)) }
+{
+    if !origins.is_empty() {
+        return push_placed(text, origins, firings);
+    }
+    write_firings(firings, text)?;
+    Ok(())
+}
+
 /// Appends a line with the word and the number of firings, and a line for each firing.
-fn push_counted(text: &mut Vec<u8>, word: &[u8], firings: &[Firing]) -> Result<(), AllocError>
-    ensures { IfOk result (λ u. text.new.items ≡ text.old.items ++ counted word.now firings.now) }
+fn push_counted(
+    text: &mut Vec<u8>,
+    origins: &[BlockOrigins],
+    word: &[u8],
+    firings: &[Firing],
+) -> Result<(), AllocError>
+    ensures { IfOk result
+        (λ u. text.new.items ≡ text.old.items ++ counted origins.now word.now firings.now) }
 {
     push_numbered(text, word, firings.len() as u64)?;
     text.push(b'\n')?;
-    write_firings(firings, text)
+    push_firings(text, origins, firings)
 }
 
-/// The lists of causes and of the story, one behind the other.
+/// The lists of causes and of the story, one after the other.
 #[tactic(auto, unfolding(crate::specs::Traces::traced_text))]
-fn traced_text(alloc: Global, causes: &[Firing], story: &[Firing]) -> Result<Vec<u8>, AllocError>
-    ensures { IfOk result (λ v. v.items ≡ traced_text causes.now story.now) }
+fn traced_text(
+    alloc: Global,
+    origins: &[BlockOrigins],
+    causes: &[Firing],
+    story: &[Firing],
+) -> Result<Vec<u8>, AllocError>
+    ensures { IfOk result (λ v. v.items ≡ traced_text origins.now causes.now story.now) }
 {
     let mut text = Vec::new(alloc);
-    push_counted(&mut text, b"causes ", causes)?;
-    push_counted(&mut text, b"story ", story)?;
+    push_counted(&mut text, origins, b"causes ", causes)?;
+    push_counted(&mut text, origins, b"story ", story)?;
     Ok(text)
 }
 
 /// The causes and the story of an entry of the machine.
-fn traced(alloc: Global, machine: &Machine<'_>, entry: &Entry) -> Result<Vec<u8>, CommandError>
+fn traced(
+    alloc: Global,
+    machine: &Machine<'_>,
+    origins: &[BlockOrigins],
+    entry: &Entry,
+) -> Result<Vec<u8>, CommandError>
     ensures { MatchResult result
         (λ v. (n : ℕ) → RanPlainly machine.now.job n machine.now
-        → TracesJob machine.now.job n entry.now v.items)
+        → TracesJob machine.now.job origins.now n entry.now v.items)
         (λ fault. (n : ℕ) → RanPlainly machine.now.job n machine.now
         → TraceRefused machine.now.job n entry.now fault) }
 {
@@ -75,77 +127,54 @@ fn traced(alloc: Global, machine: &Machine<'_>, entry: &Entry) -> Result<Vec<u8>
         Ok(found) => found,
         Err(error) => return Err(trace_fault(error)),
     };
-    let text = traced_text(alloc, &found, &told)?;
+    let text = traced_text(alloc, origins, &found, &told)?;
     Ok(text)
 }
 
 /// The causes and the story of the entry, after a run of the job with so many firings at most.
-fn trace_job<V: Watch>(
+fn trace_entry<V: Watch>(
     alloc: Global,
-    job: &Job,
+    task: &Task,
     entry: &Entry,
     firings: usize,
     watch: &mut V,
 ) -> Result<Vec<u8>, CommandError>
     requires { firings ≤ 1000000 }
-    ensures { MatchResult result (λ v. TracesJob job.now firings entry.now v.items)
-        (λ fault. TraceRefused job.now firings entry.now fault) }
+    ensures { MatchResult result
+        (λ v. TracesJob task.now.job task.now.origins.items firings entry.now v.items)
+        (λ fault. TraceRefused task.now.job firings entry.now fault) }
 {
-    let (machine, _) = ran_watched(alloc, job, firings, watch)?;
-    traced(alloc, &machine, entry)
+    let (machine, _) = ran(alloc, &task.job, firings, watch)?;
+    traced(alloc, &machine, &task.origins, entry)
 }
 
-/// Runs the program with this text on the argument that the word gives, with so many firings at most,
-/// and writes all firings that give the entry, and the story of how this run came to it. Answers the
-/// exit status, 0.
+/// All firings that give the entry with this text, and the story of how the job's run, with so many firings at
+/// most, came to it. Each line has the place of its statement, if the program is that of a source. The exit
+/// status is 0.
 ///
-/// Promise trace-command: exactly the causes of the entry and its story in the plain run are written, each
-/// with its count.
-///
-/// # Errors
-/// A fault of the program's text, of the checker, of the argument or of the entry's text, in that
-/// order, `EntryNotHeld` where the run does not hold the entry, or want of memory: nothing is written.
-/// `NotWritten`: a prefix is written.
-pub fn trace_text<W: Write>(
-    alloc: Global,
-    program: &[u8],
-    argument: &[u8],
-    entry: &[u8],
-    firings: usize,
-    writer: &mut W,
-) -> Result<u8, CommandError>
-    requires { firings ≤ 1000000 }
-    ensures { TraceTextAnswer program.now argument.now entry.now firings (W.contents writer.old)
-        result (W.contents writer.new) }
-{
-    let texts = JobTexts { program, argument };
-    trace_watched_text(alloc, texts, entry, firings, &mut Unwatched, writer)
-}
-
-/// Does what `trace_text` does. The watch is told how far it has come.
+/// Promise trace-command: it tells exactly the causes of the entry and its story in the plain run, each with its
+/// count.
 ///
 /// # Errors
-/// Those of `trace_text`.
-pub fn trace_watched_text<V: Watch, W: Write>(
+/// `EntryNotAllowed` if the text is no entry's, `EntryNotHeld` if the run does not hold the entry, `NoMemory`.
+pub fn trace<V: Watch>(
     alloc: Global,
-    texts: JobTexts<'_>,
+    task: &Task,
     entry: &[u8],
     firings: usize,
     watch: &mut V,
-    writer: &mut W,
-) -> Result<u8, CommandError>
+) -> Result<Told, CommandError>
     requires { firings ≤ 1000000 }
-    ensures { TraceTextAnswer texts.entry.program.now texts.entry.argument.now entry.now firings
-        (W.contents writer.old) result (W.contents writer.new) }
+    ensures { MatchResult result
+        (λ t. Traces task.now.job task.now.origins.items entry.now firings t.text.items t.status)
+        (λ fault. NotTraced task.now.job entry.now firings fault) }
 {
-    let job = job_of(alloc, texts.program, texts.argument)?;
-    let entry = entry_of(alloc, entry)?;
-    let written = match trace_job(alloc, &job, &entry, firings, watch) {
-        Ok(written) => written,
+    let entry = match entry_of(alloc, entry) {
+        Ok(entry) => entry,
         Err(fault) => return Err(fault),
     };
-    match write_whole(writer, &written) {
-        Ok(()) => Ok(0),
-        Err(_) => Err(CommandError::NotWritten),
+    match trace_entry(alloc, task, &entry, firings, watch) {
+        Ok(text) => Ok(Told { text, status: 0 }),
+        Err(fault) => Err(fault),
     }
 }

@@ -1,5 +1,5 @@
 -- One event that happens, and one that is refused.
-use Rattle.std.specs.Prelude.{◌≡◌, ℕ, List, [], ◌∷◌, length, Option, Ok, Err, slice_get}
+use Rattle.std.specs.Prelude.{◌≡◌, ℕ, List, [], ◌∷◌, length, Option, Err, slice_get}
 use Rattle.std.proofs.Common.{sym, ◌∙◌, ap, subst}
 use Rattle.u_rule.specs.declared.firing.Firing.{Firing}
 use Rattle.u_world.specs.declared.event.Event.{Event}
@@ -11,7 +11,7 @@ use Rattle.u_world.specs.Happenings.{EventStep}
 use Rattle.u_world.specs.Runs.{EventSteps, EventsAnswer}
 use Rattle.u_pictures.specs.declared.happening.Deed.{Deed}
 use Rattle.u_pictures.specs.declared.living.Sent.{Sent}
-use Rattle.u_pictures.specs.Living.{taken_in, log_in, first_more, IsKnown, IsDoer, IsDeed, Agree, Goes, sent_by, LiveRefused, RefusedOne}
+use Rattle.u_pictures.specs.Living.{taken_in, log_in, first_more, IsKnown, IsDoer, IsDeed, Agree, Goes, sent_by, RefusedOne}
 use Rattle.u_pictures.proofs.Noting.{known, has_doer, still_has, posts, posts_agree}
 
 -- the one event of a list that happened

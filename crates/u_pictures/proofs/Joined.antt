@@ -1,8 +1,8 @@
 -- Texts one after another.
-use Rattle.std.proofs.Common.{◌≡◌, ℕ, suc, ◌+◌, ◌<◌, List, [], ◌∷◌, ◌++◌, sym, ap, refl, ◌∙◌, append_assoc, length, take, arith}
+use Rattle.std.proofs.Common.{◌≡◌, ℕ, suc, ◌+◌, ◌<◌, List, [], ◌∷◌, ◌++◌, sym, ap, ◌∙◌, append_assoc, length, take, arith}
 use Rattle.std.proofs.lemmas.List.{append-nil, length-take-le}
-use Rattle.u_draw.specs.Dot.{Shown, shown_line, text}
-use Rattle.u_draw.proofs.Shows.{text-append}
+use Rattle.u_pictures.specs.Dot.{Shown, shown_line, text}
+use Rattle.u_pictures.proofs.Shows.{text-append}
 use Rattle.u_pictures.specs.declared.happening.Happening.{Happening}
 use Rattle.u_pictures.specs.WorldPicture.{event_shown, events_shown, life_shown, lives_shown}
 

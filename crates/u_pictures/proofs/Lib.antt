@@ -1,3 +1,10 @@
+pub mod Texts
+pub mod Escapes
+pub mod Nests
+pub mod Shows
+pub mod TextLaws
+pub mod ArcLaws
+pub mod DrawnLaws
 pub mod Opening
 pub mod RunLaws
 pub mod Joined

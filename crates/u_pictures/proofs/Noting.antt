@@ -1,5 +1,5 @@
 -- What is noted of events is what they did.
-use Rattle.std.specs.Prelude.{◌≡◌, ℕ, suc, zero, ◌+◌, ◌-◌, ◌<◌, Bool, true, false, if◌then◌else◌, List, [], ◌∷◌, ◌++◌, length, map, take, Option, Some, None, Ok, Err, slice_get, refl}
+use Rattle.std.specs.Prelude.{◌≡◌, ℕ, Bool, true, false, List, [], ◌∷◌, ◌++◌, length, map, Option, Some, None, Ok, slice_get, refl}
 use Rattle.std.specs.Option.{option_map}
 use Rattle.std.proofs.Common.{sym, ◌∙◌, ap, subst, arith, inl, inr, append-nil}
 use Rattle.std.proofs.lemmas.Bool.{cond-true, cond-false}
@@ -14,13 +14,10 @@ use Rattle.u_world.specs.declared.event.Event.TheVariants as events
 use Rattle.u_world.specs.WorldState.{WorldState, At, Has}
 use Rattle.u_world.specs.Worlds.{IsWorld, IsSent}
 use Rattle.u_world.specs.Happenings.{EventStep, Delivers, Arrives}
-use Rattle.u_world.specs.Runs.{EventSteps}
 use Rattle.u_world.proofs.Effects.{stays}
 use Rattle.u_world.proofs.Places.{at_between}
-use Rattle.u_pictures.specs.declared.happening.Spot.{Spot}
-use Rattle.u_pictures.specs.declared.happening.Happening.{Happening}
 use Rattle.u_pictures.specs.declared.living.Sent.{Sent}
-use Rattle.u_pictures.specs.Living.{spot, posted, Posts, IsDoer, IsKnown, noted, letter, Agree, answered, answered_at, sent_by, Does, Lives}
+use Rattle.u_pictures.specs.Living.{spot, posted, Posts, IsDoer, IsKnown, noted, letter, Agree, answered, answered_at, sent_by}
 
 -- a note of a message, and the message
 

@@ -2,9 +2,9 @@
 use Rattle.std.proofs.Common.{◌≡◌, ℕ, List, [], ◌∷◌, ◌++◌, sym, ap, ◌∙◌, append_assoc}
 use Rattle.std.proofs.lemmas.List.{append-nil}
 use Rattle.std.specs.Prelude.{codes}
-use Rattle.u_draw.specs.Dot.{Shown, text, opened, all_opened, all_closed}
-use Rattle.u_draw.proofs.Nests.{all_opened-append, all_closed-append}
-use Rattle.u_draw.proofs.Shows.{text-append}
+use Rattle.u_pictures.specs.Dot.{Shown, text, opened, all_opened, all_closed}
+use Rattle.u_pictures.proofs.Nests.{all_opened-append, all_closed-append}
+use Rattle.u_pictures.proofs.Shows.{text-append}
 
 pub one_opened : (name o new : List ℕ) → new ≡ o ++ opened name → new ≡ o ++ all_opened (name ∷ [])
 one_opened name o new e = e ∙ ap (λ t. o ++ t) (sym (append-nil (opened name)))

@@ -1,14 +1,15 @@
--- The tooltips of the firings in a picture are their texts, in order.
+-- The tooltips of the firings in a picture are their texts, in order, each with the place of its statement.
 use Rattle.std.proofs.Common.{◌≡◌, ℕ, Bool, true, false, List, [], ◌∷◌, ◌++◌, refl, sym, ap, ◌∙◌, append_assoc, map, if◌then◌else◌}
 use Rattle.std.specs.List.{flat_map}
 use Rattle.u_name.specs.Context.{Tree, Top, InLoop, InCall}
 use Rattle.u_program.specs.Parts.{BlockParts, ProgramParts}
 use Rattle.u_rule.specs.Fits.{statement_of}
-use Rattle.u_rule.specs.FiringText.{firing_text}
 use Rattle.u_rule.specs.declared.firing.Firing.{Firing}
-use Rattle.u_draw.specs.Dot.{Shown, Cluster, Node, Arc}
-use Rattle.u_draw.specs.Told.{tooltips, told}
+use Rattle.u_compile.specs.declared.origins.BlockOrigins.{BlockOrigins}
+use Rattle.u_pictures.specs.Dot.{Shown, Cluster, Node, Arc}
+use Rattle.u_pictures.specs.Told.{tooltips, told}
 use Rattle.u_pictures.specs.Places.{is_leaving, of_context, of_turn, clusters_of}
+use Rattle.u_pictures.specs.Tips.{firing_tip}
 use Rattle.u_pictures.specs.Picture.{firing_node, firing_lines}
 
 told-append : (a b : List Shown) → told (a ++ b) ≡ told a ++ told b
@@ -39,13 +40,13 @@ clusters_silent p f = told-append (of_context f.activity.context) _ ∙ ap (λ t
     silent true = refl
     silent false = turn_silent f.activity.context f.activity.initiation
 
-one_told : (p : ProgramParts) (f : Firing) → told (firing_lines p f) ≡ firing_text f ∷ []
+one_told : (origins : List BlockOrigins) (p : ProgramParts) (f : Firing) → told (firing_lines origins p f) ≡ firing_tip origins f ∷ []
 unfolding firing_lines
-one_told p f = told-append (clusters_of p.blocks f.activity) (firing_node p f ∷ []) ∙ ap (λ t. t ++ (firing_text f ∷ [])) (clusters_silent p.blocks f)
+one_told origins p f = told-append (clusters_of p.blocks f.activity) (firing_node origins p f ∷ []) ∙ ap (λ t. t ++ (firing_tip origins f ∷ [])) (clusters_silent p.blocks f)
 
-pub firings_told : (p : ProgramParts) (fs : List Firing) → told (flat_map (firing_lines p) fs) ≡ map firing_text fs
-firings_told p [] = refl
-firings_told p (f ∷ fs) =
-    told-append (firing_lines p f) (flat_map (firing_lines p) fs)
-    ∙ ap (λ t. t ++ told (flat_map (firing_lines p) fs)) (one_told p f)
-    ∙ ap (λ t. firing_text f ∷ t) (firings_told p fs)
+pub firings_told : (origins : List BlockOrigins) (p : ProgramParts) (fs : List Firing) → told (flat_map (firing_lines origins p) fs) ≡ map (firing_tip origins) fs
+firings_told origins p [] = refl
+firings_told origins p (f ∷ fs) =
+    told-append (firing_lines origins p f) (flat_map (firing_lines origins p) fs)
+    ∙ ap (λ t. t ++ told (flat_map (firing_lines origins p) fs)) (one_told origins p f)
+    ∙ ap (λ t. firing_tip origins f ∷ t) (firings_told origins p fs)

@@ -1,8 +1,8 @@
 -- The tooltips of a world's picture say what each event did, in their order.
-use Rattle.std.proofs.Common.{◌≡◌, ℕ, zero, suc, List, [], ◌∷◌, ◌++◌, refl, sym, ap, ◌∙◌, append_assoc, length, map, ◌+◌}
+use Rattle.std.proofs.Common.{◌≡◌, ℕ, zero, suc, List, [], ◌∷◌, ◌++◌, refl, sym, ap, ◌∙◌, append_assoc, length, ◌+◌}
 use Rattle.std.specs.Prelude.{Option, Some, None}
-use Rattle.u_draw.specs.Dot.{Shown, Cluster, Node, Arc}
-use Rattle.u_draw.specs.Told.{tooltips, told}
+use Rattle.u_pictures.specs.Dot.{Shown, Cluster, Node, Arc}
+use Rattle.u_pictures.specs.Told.{tooltips, told}
 use Rattle.u_pictures.specs.declared.happening.Spot.{Spot}
 use Rattle.u_pictures.specs.declared.happening.Deed.{Deed}
 use Rattle.u_pictures.specs.declared.happening.Deed.TheVariants as deeds

@@ -1,4 +1,14 @@
+pub mod Dot
+pub mod ProgramNames
+pub mod Styles
+pub mod Sharing
+pub mod Clusters
+pub mod Arcs
+pub mod ProgramPicture
+pub mod Told
+pub mod Leads
 pub mod Names
+pub mod Tips
 pub mod Places
 pub mod Looks
 pub mod Picture

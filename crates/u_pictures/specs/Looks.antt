@@ -1,5 +1,5 @@
 -- How firings and entries look in the picture of a run.
-use Rattle.std.specs.Prelude.{ℕ, suc, Bool, true, false, ◌&&◌, ◌||◌, ◌==◌, if◌then◌else◌, List, [], ◌∷◌, ◌++◌, Option, Some, None, codes}
+use Rattle.std.specs.Prelude.{ℕ, suc, Bool, true, false, ◌&&◌, ◌==◌, List, [], ◌∷◌, ◌++◌, Option, Some, None, codes}
 use Rattle.std.specs.Fmt.{decimal}
 use Rattle.std.specs.Ordering.{eq_by_cmp}
 use Rattle.u_base.specs.Spaced.{spaced}
@@ -13,14 +13,12 @@ use Rattle.u_program.specs.declared.program.Version.{Version}
 use Rattle.u_program.specs.declared.program.Kind.{Kind}
 use Rattle.u_program.specs.declared.program.Kind.TheVariants.{Next}
 use Rattle.u_program.specs.Parts.{StatementParts}
-use Rattle.u_rule.specs.Parts.{ValueList, TokenParts}
-use Rattle.u_rule.specs.EntryText.{entry_text}
-use Rattle.u_rule.specs.FiringText.{firing_text}
+use Rattle.u_rule.specs.Parts.{ValueList}
 use Rattle.u_rule.specs.declared.firing.Firing.{Firing}
 use Rattle.u_rule.specs.declared.entry.Entry.{Entry}
 use Rattle.u_rule.specs.declared.entry.Entry.TheVariants as entries
-use Rattle.u_draw.specs.Dot.{Attribute, attribute}
-use Rattle.u_draw.specs.Styles.{fill, entry}
+use Rattle.u_pictures.specs.Dot.{Attribute, attribute}
+use Rattle.u_pictures.specs.Styles.{fill, entry}
 
 -- the values at the ports of that number and behind it, each in a cell: `{` or `|`, `<iPORT>VALUE`
 abbrev pub cells : ℕ → ℕ → ValueList → List ℕ
@@ -43,10 +41,9 @@ firing_label version s f =
     codes "{" ++ (cells 123 1 f.values
     ++ (codes "}|" ++ (decimal f.activity.statement ++ (kind_words version s ++ codes "}"))))
 
--- its text as a tooltip
-abbrev pub firing_look : Version → Option StatementParts → Firing → List Attribute
-firing_look version s f =
-    attribute (codes "tooltip") (firing_text f)
+abbrev pub firing_look : List ℕ → Version → Option StatementParts → Firing → List Attribute
+firing_look tip version s f =
+    attribute (codes "tooltip") tip
     ∷ attribute (codes "label") (firing_label version s f)
     ∷ attribute (codes "fillcolor") (fill_at s) ∷ []
 

@@ -7,7 +7,7 @@ use Rattle.u_name.specs.Name.{Activity}
 use Rattle.u_program.specs.Parts.{StatementParts, BlockParts}
 use Rattle.u_check.specs.Kinds.{is_leave}
 use Rattle.u_rule.specs.Fits.{statement_of}
-use Rattle.u_draw.specs.Dot.{Attribute, attribute, Shown, Cluster}
+use Rattle.u_pictures.specs.Dot.{Attribute, attribute, Shown, Cluster}
 use Rattle.u_pictures.specs.Names.{context_cluster, turn_cluster}
 use Rattle.u_pictures.specs.declared.places.Enclosure.{Enclosure}
 use Rattle.u_pictures.specs.declared.places.Enclosure.TheVariants as places

@@ -2,7 +2,7 @@
 -- a row for each event, and the replicas' names in row 0.
 use Rattle.std.specs.Prelude.{ℕ, ◌*◌, ◌==◌, if◌then◌else◌, List, [], ◌∷◌, ◌++◌, codes}
 use Rattle.std.specs.Fmt.{decimal}
-use Rattle.u_draw.specs.Dot.{Attribute, attribute}
+use Rattle.u_pictures.specs.Dot.{Attribute, attribute}
 use Rattle.u_pictures.specs.declared.happening.Deed.{Deed}
 use Rattle.u_pictures.specs.declared.happening.Deed.TheVariants as deeds
 use Rattle.u_pictures.specs.Words.{new_words, words, full_words}

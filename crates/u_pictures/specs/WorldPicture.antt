@@ -1,6 +1,6 @@
 -- The picture of a world: a space-time diagram of what happened.
 use Rattle.std.specs.Prelude.{ℕ, zero, suc, ◌+◌, List, [], ◌∷◌, ◌++◌, length, Option, Some, None, codes}
-use Rattle.u_draw.specs.Dot.{Attribute, Shown, Node, Arc, text}
+use Rattle.u_pictures.specs.Dot.{Attribute, Shown, Node, Arc, text}
 use Rattle.u_pictures.specs.declared.happening.Spot.{Spot}
 use Rattle.u_pictures.specs.declared.happening.Deed.{Deed}
 use Rattle.u_pictures.specs.declared.happening.Deed.TheVariants as deeds

@@ -5,21 +5,21 @@ ghost use Rattle.u_base.specs.Appending.{Extends};
 ghost use Rattle.u_rule.specs.FiringText.{firing_text};
 ghost use Rattle.u_rule.specs.Rule.{is_firing_of, needs_of, gives_of};
 ghost use Rattle.u_base.specs.Firing.{Within};
-ghost use Rattle.u_draw.specs.Dot.{shown_line, text};
+ghost use Rattle.u_pictures.specs.Dot.{shown_line, text};
 ghost use Rattle.u_pictures.specs.Picture.{need_arc, give_arc, firing_arcs};
 
+use crate::dot::push_arc;
 use crate::looks::{give_look, need_look};
 use crate::names::{entry_name, firing_name};
 use crate::places::executed;
 use std::alloc::{AllocError, Global};
 use u_check::Job;
-use u_draw::push_arc;
 use u_program::Program;
 use u_rule::{Entry, Firing, given_by, needs};
 
 /// Appends the arc from the entry to the firing, whose node has this name. On an error a part of it may
 /// stand there.
-#[tactic(auto, unfolding(u_draw::specs::Dot::shown_line), using(u_base::proofs::AppendingLaws::extends_same))]
+#[tactic(auto, unfolding(crate::specs::Dot::shown_line), using(u_base::proofs::AppendingLaws::extends_same))]
 fn push_need(
     out: &mut Vec<u8>,
     firing: &Firing,
@@ -57,7 +57,7 @@ fn push_needs(
 
 /// Appends the arc to the entry from the firing, whose node has this name. On an error a part of it may
 /// stand there.
-#[tactic(auto, unfolding(u_draw::specs::Dot::shown_line), using(u_base::proofs::AppendingLaws::extends_same))]
+#[tactic(auto, unfolding(crate::specs::Dot::shown_line), using(u_base::proofs::AppendingLaws::extends_same))]
 fn push_gift(
     out: &mut Vec<u8>,
     program: &Program,
@@ -108,7 +108,7 @@ fn needed(alloc: Global, job: &Job, firing: &Firing) -> Result<Vec<Entry>, Alloc
 }
 
 /// Appends the arcs of the firing. On an error a part of them may stand there.
-#[tactic(auto, unfolding(crate::specs::Picture::firing_arcs), using(u_base::proofs::AppendingLaws::extends_same, u_base::proofs::AppendingLaws::extends_behind, u_draw::proofs::Shows::text_two))]
+#[tactic(auto, unfolding(crate::specs::Picture::firing_arcs), using(u_base::proofs::AppendingLaws::extends_same, u_base::proofs::AppendingLaws::extends_behind, crate::proofs::Shows::text_two))]
 fn push_firing_arcs(out: &mut Vec<u8>, job: &Job, firing: &Firing) -> Result<(), AllocError>
     requires { IsTrue (is_firing_of job.now firing.now) }
     ensures ok { OnOk result

@@ -8,17 +8,19 @@ ghost use Rattle.std.specs.Option.{option_copied};
 ghost use Rattle.u_base.specs.Appending.{Extends};
 ghost use Rattle.std.specs.Ordering.{eq_by_cmp};
 ghost use Rattle.u_rule.specs.EntryOrder.{entry_cmp};
-ghost use Rattle.u_draw.specs.Dot.{attributes_text, shown_line, text};
+ghost use Rattle.u_pictures.specs.Dot.{attributes_text, shown_line, text};
 ghost use Rattle.u_pictures.specs.Places.{clusters_at};
 ghost use Rattle.u_pictures.specs.Picture.{entry_place, is_start, entry_attributes, meets_one, is_drawn};
-ghost use Rattle.u_pictures.specs.Picture.{entry_clusters, entry_node, entry_nodes, nodes_from};
+ghost use Rattle.u_pictures.specs.Picture.{entry_clusters, entry_node, standing, entry_lines, nodes_from};
 
+use crate::dot::{push_attribute, push_node};
 use crate::looks::{meet, push_entry_look};
-use crate::names::{entry_name, text_of_entry};
+use crate::names::entry_name;
 use crate::places::{Enclosure, begin_line, end_line, place_of, push_clusters};
+use crate::tips::entry_tip;
 use std::alloc::{AllocError, Global};
 use u_check::Job;
-use u_draw::{push_attribute, push_node};
+use u_compile::BlockOrigins;
 use u_program::Program;
 use u_rule::{Entry, start};
 
@@ -52,20 +54,22 @@ fn is_start(job: &Job, entry: &Entry) -> bool
 }
 
 /// The attributes of an entry's node, in whose place another entry lies if `meets` says so.
-#[tactic(auto, using(u_draw::proofs::Texts::join2))]
+#[tactic(auto, using(crate::proofs::Texts::join2))]
 fn entry_attributes(
     alloc: Global,
     job: &Job,
+    origins: &[BlockOrigins],
     meets: bool,
     entry: &Entry,
 ) -> Result<Vec<u8>, AllocError>
     ensures { IfOk result
-        (λ v. v.items ≡ attributes_text (entry_attributes job.now meets entry.now)) }
+        (λ v. v.items
+        ≡ attributes_text (entry_attributes origins.now job.now meets entry.now)) }
 {
-    let text = text_of_entry(alloc, entry)?;
+    let tip = entry_tip(alloc, origins, entry)?;
     let begins = is_start(job, entry);
     let mut attributes = Vec::new(alloc);
-    push_attribute(&mut attributes, b"tooltip", &text)?;
+    push_attribute(&mut attributes, b"tooltip", &tip)?;
     push_entry_look(&mut attributes, begins, meets, entry)?;
     Ok(attributes)
 }
@@ -110,59 +114,79 @@ fn push_entry_clusters(
 
 /// Appends a line for the node of an entry, in whose place another entry lies if `meets` says so. On an
 /// error a part of it may stand there.
-#[tactic(auto, unfolding(u_draw::specs::Dot::shown_line), using(u_base::proofs::AppendingLaws::extends_same, u_base::proofs::AppendingLaws::extends_behind, u_draw::proofs::Nests::framed))]
+#[tactic(auto, unfolding(crate::specs::Dot::shown_line), using(u_base::proofs::AppendingLaws::extends_same, u_base::proofs::AppendingLaws::extends_behind, crate::proofs::Nests::framed))]
 fn push_entry_node(
     out: &mut Vec<u8>,
     job: &Job,
+    origins: &[BlockOrigins],
     meets: bool,
     entry: &Entry,
 ) -> Result<(), AllocError>
-    ensures ok { OnOk result
-        (out.new.items ≡ out.old.items ++ shown_line (entry_node job.now meets entry.now)) }
+    ensures ok { OnOk result (out.new.items
+        ≡ out.old.items ++ shown_line (entry_node origins.now job.now meets entry.now)) }
     ensures err { OnErr result (Extends out.old.items out.new.items) }
 {
     let alloc = *out.allocator();
     let name = entry_name(alloc, entry)?;
-    let attributes = entry_attributes(alloc, job, meets, entry)?;
+    let attributes = entry_attributes(alloc, job, origins, meets, entry)?;
     let place = entry_place(job.program(), entry);
     begin_line(out, place)?;
     push_node(out, &name, &attributes)?;
     end_line(out, place)
 }
 
-/// Appends the lines of an entry that has this one before it and that one behind it: for its clusters and
-/// its node. On an error a part of them may stand there.
-#[tactic(auto, unfolding(crate::specs::Picture::entry_nodes), using(u_base::proofs::AppendingLaws::extends_same, u_base::proofs::AppendingLaws::extends_behind, u_draw::proofs::Shows::text_more))]
+/// Of an entry that has this one before it and these behind it, whether another one lies in its place. If
+/// it has no node, none.
+#[tactic(auto, unfolding(crate::specs::Picture::standing))]
+fn standing(before: Option<&Entry>, entry: &Entry, behind: &[Entry]) -> Option<bool>
+    ensures { result ≡ standing (option_copied before.entry) entry.now behind.now }
+{
+    if is_drawn(before, entry) {
+        Some(meets_one(before, entry) || meets_one(behind.first(), entry))
+    } else {
+        None
+    }
+}
+
+/// Appends the lines of an entry that stands so: for its clusters and its node. On an error a part of them
+/// may stand there.
+#[tactic(auto, using(u_base::proofs::AppendingLaws::extends_same, u_base::proofs::AppendingLaws::extends_behind, crate::proofs::Shows::text_more))]
 fn push_entry(
     out: &mut Vec<u8>,
     job: &Job,
-    before: Option<&Entry>,
+    origins: &[BlockOrigins],
+    standing: Option<bool>,
     entry: &Entry,
-    behind: &[Entry],
 ) -> Result<(), AllocError>
-    ensures ok { OnOk result (out.new.items ≡ out.old.items
-        ++ text (entry_nodes job.now (option_copied before.entry) entry.now behind.now)) }
+    ensures ok { OnOk result (out.new.items
+        ≡ out.old.items ++ text (entry_lines origins.now job.now standing entry.now)) }
     ensures err { OnErr result (Extends out.old.items out.new.items) }
 {
-    if !is_drawn(before, entry) {
-        return Ok(());
+    match standing {
+        Some(meets) => {
+            push_entry_clusters(out, job.program(), entry)?;
+            push_entry_node(out, job, origins, meets, entry)
+        }
+        None => Ok(()),
     }
-    let meets = meets_one(before, entry) || meets_one(behind.first(), entry);
-    push_entry_clusters(out, job.program(), entry)?;
-    push_entry_node(out, job, meets, entry)
 }
 
 /// Appends the lines of the entries, which are in order. On an error a part of them may stand there.
 #[tactic(auto, using(u_base::proofs::AppendingLaws::extends_same, u_base::proofs::AppendingLaws::extends_behind))]
-pub fn push_entries(out: &mut Vec<u8>, job: &Job, entries: &[Entry]) -> Result<(), AllocError>
-    ensures ok { OnOk result
-        (out.new.items ≡ out.old.items ++ text (nodes_from job.now None entries.now)) }
+pub fn push_entries(
+    out: &mut Vec<u8>,
+    job: &Job,
+    origins: &[BlockOrigins],
+    entries: &[Entry],
+) -> Result<(), AllocError>
+    ensures ok { OnOk result (out.new.items
+        ≡ out.old.items ++ text (nodes_from origins.now job.now None entries.now)) }
     ensures err { OnErr result (Extends out.old.items out.new.items) }
 {
     let mut before = None;
     let mut rest = entries;
     while let Some((entry, behind)) = rest.split_first() {
-        push_entry(out, job, before, entry, behind)?;
+        push_entry(out, job, origins, standing(before, entry, behind), entry)?;
         before = Some(entry);
         rest = behind;
     }

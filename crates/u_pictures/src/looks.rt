@@ -3,15 +3,15 @@ ghost use Rattle.std.specs.Prelude.{◌≡◌, ◌++◌, ◌∷◌, [], ◌<◌,
 ghost use Rattle.std.specs.Option.{option_copied};
 ghost use Rattle.u_base.specs.Appending.{Extends};
 ghost use Rattle.u_program.specs.Parts.{StatementParts};
-ghost use Rattle.u_draw.specs.Dot.{attributes_text};
-ghost use Rattle.u_rule.specs.FiringText.{firing_text};
+ghost use Rattle.u_pictures.specs.Dot.{attributes_text};
 ghost use Rattle.u_value.specs.Values.{value_text};
 ghost use Rattle.u_pictures.specs.Looks.{cells, kind_words, fill_at, firing_label, firing_look, point_look, cell_look, text_look, worded_look, token_look};
 ghost use Rattle.u_pictures.specs.Looks.{fault_look, entry_look, meet, need_look, line_by, line_of, give_look};
 
+use crate::dot::push_attribute;
+use crate::styles::{entry_of, fill_of};
 use std::alloc::{AllocError, Global};
 use u_base::{push_long, push_number};
-use u_draw::{entry_of, fill_of, push_attribute};
 use u_program::{Kind, Statement, Version, push_kind};
 use u_rule::{Entry, Firing};
 use u_value::Value;
@@ -80,22 +80,21 @@ fn firing_label(
     Ok(label)
 }
 
-/// The attributes of a firing's node, whose name this is.
+/// The attributes of a firing's node, whose tooltip this is.
 pub fn firing_look(
     alloc: Global,
+    tip: &[u8],
     version: Version,
     statement: Option<&Statement>,
     firing: &Firing,
-    name: &[u8],
 ) -> Result<Vec<u8>, AllocError>
-    requires { name.now ≡ firing_text firing.now }
     ensures { IfOk result
-        (λ v. v.items
-        ≡ attributes_text (firing_look version (option_copied statement.entry) firing.now)) }
+        (λ v. v.items ≡ attributes_text (firing_look tip.now version
+        (option_copied statement.entry) firing.now)) }
 {
     let label = firing_label(alloc, version, statement, firing)?;
     let mut attributes = Vec::new(alloc);
-    push_attribute(&mut attributes, b"tooltip", name)?;
+    push_attribute(&mut attributes, b"tooltip", tip)?;
     push_attribute(&mut attributes, b"label", &label)?;
     push_attribute(&mut attributes, b"fillcolor", fill_at(statement))?;
     Ok(attributes)
@@ -116,7 +115,7 @@ pub fn meet(one: &Entry, other: &Entry) -> bool
 }
 
 /// How the point of a token looks.
-#[tactic(auto, unfolding(u_draw::specs::Dot::attribute_text, u_draw::specs::Dot::quoted))]
+#[tactic(auto, unfolding(crate::specs::Dot::attribute_text, crate::specs::Dot::quoted))]
 fn point_look(meets: bool) -> &'static [u8]
     ensures { result.now ≡ attributes_text (point_look meets) }
 {
@@ -128,7 +127,7 @@ fn point_look(meets: bool) -> &'static [u8]
 }
 
 /// How a cell looks.
-#[tactic(auto, unfolding(u_draw::specs::Dot::attribute_text, u_draw::specs::Dot::quoted))]
+#[tactic(auto, unfolding(crate::specs::Dot::attribute_text, crate::specs::Dot::quoted))]
 fn cell_look(meets: bool) -> &'static [u8]
     ensures { result.now ≡ attributes_text (cell_look meets) }
 {
@@ -140,7 +139,7 @@ fn cell_look(meets: bool) -> &'static [u8]
 }
 
 /// How a text without a frame looks.
-#[tactic(auto, unfolding(u_draw::specs::Dot::attribute_text, u_draw::specs::Dot::quoted))]
+#[tactic(auto, unfolding(crate::specs::Dot::attribute_text, crate::specs::Dot::quoted))]
 fn text_look(meets: bool) -> &'static [u8]
     ensures { result.now ≡ attributes_text (text_look meets) }
 {
@@ -152,7 +151,7 @@ fn text_look(meets: bool) -> &'static [u8]
 }
 
 /// How a fault looks.
-#[tactic(auto, unfolding(u_draw::specs::Dot::attribute_text, u_draw::specs::Dot::quoted))]
+#[tactic(auto, unfolding(crate::specs::Dot::attribute_text, crate::specs::Dot::quoted))]
 fn fault_look() -> &'static [u8]
     ensures { result.now ≡ attributes_text fault_look }
 {
@@ -170,7 +169,7 @@ fn worded(alloc: Global, word: &[u8], value: &Value) -> Result<Vec<u8>, AllocErr
 }
 
 /// Appends the attributes of a node that shows a value behind a word.
-#[tactic(auto, using(u_draw::proofs::Texts::join2))]
+#[tactic(auto, using(crate::proofs::Texts::join2))]
 fn push_worded_look(
     out: &mut Vec<u8>,
     word: &[u8],
@@ -232,7 +231,7 @@ pub fn push_entry_look(
 }
 
 /// How the arc looks from an entry to a firing that needs it.
-#[tactic(auto, unfolding(crate::specs::Looks::need_look, u_draw::specs::Dot::attribute_text, u_draw::specs::Dot::quoted))]
+#[tactic(auto, unfolding(crate::specs::Looks::need_look, crate::specs::Dot::attribute_text, crate::specs::Dot::quoted))]
 pub fn need_look(entry: &Entry) -> &'static [u8]
     ensures { result.now ≡ attributes_text (need_look entry.now) }
 {
@@ -243,7 +242,7 @@ pub fn need_look(entry: &Entry) -> &'static [u8]
 }
 
 /// How the line looks from a firing of the statement to a token.
-#[tactic(auto, unfolding(u_draw::specs::Dot::attribute_text, u_draw::specs::Dot::quoted))]
+#[tactic(auto, unfolding(crate::specs::Dot::attribute_text, crate::specs::Dot::quoted))]
 fn line_of(statement: Option<&Statement>) -> &'static [u8]
     ensures { result.now ≡ attributes_text (line_of (option_copied statement.entry)) }
 {
@@ -256,7 +255,7 @@ fn line_of(statement: Option<&Statement>) -> &'static [u8]
 }
 
 /// How the arc looks from a firing of the statement to what it gives.
-#[tactic(auto, unfolding(crate::specs::Looks::give_look, u_draw::specs::Dot::attribute_text, u_draw::specs::Dot::quoted))]
+#[tactic(auto, unfolding(crate::specs::Looks::give_look, crate::specs::Dot::attribute_text, crate::specs::Dot::quoted))]
 pub fn give_look(statement: Option<&Statement>, entry: &Entry) -> &'static [u8]
     ensures { result.now ≡ attributes_text (give_look (option_copied statement.entry) entry.now) }
 {

@@ -1,6 +1,5 @@
 //! The names of nodes and clusters.
 ghost use Rattle.std.specs.Prelude.{◌≡◌, IfOk};
-ghost use Rattle.u_rule.specs.EntryText.{entry_text};
 ghost use Rattle.u_rule.specs.FiringText.{firing_text};
 ghost use Rattle.u_pictures.specs.Names.{entry_name, context_cluster, turn_cluster};
 
@@ -20,15 +19,6 @@ pub fn entry_name(alloc: Global, entry: &Entry) -> Result<Vec<u8>, AllocError>
         _ => entry.write_text(&mut name)?,
     }
     Ok(name)
-}
-
-/// The text of an entry.
-pub fn text_of_entry(alloc: Global, entry: &Entry) -> Result<Vec<u8>, AllocError>
-    ensures { IfOk result (λ v. v.items ≡ entry_text entry.now) }
-{
-    let mut text = Vec::new(alloc);
-    entry.write_text(&mut text)?;
-    Ok(text)
 }
 
 /// The name of a firing's node, which is its text.

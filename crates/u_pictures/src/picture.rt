@@ -3,19 +3,19 @@
 //! A life line is one line behind the boxes, drawn first, and ways are straight, so no way bends round a
 //! box. Each node has its place, since a layout would let life lines wander.
 ghost use Rattle.std.specs.Prelude.{◌≡◌, ◌++◌, ◌∷◌, [], IfOk, OnOk, codes};
-ghost use Rattle.u_draw.specs.Dot.{bracketed, quoted, shown_line, text};
-ghost use Rattle.u_draw.specs.Told.{told};
+ghost use Rattle.u_pictures.specs.Dot.{bracketed, quoted, shown_line, text};
+ghost use Rattle.u_pictures.specs.Told.{told};
 ghost use Rattle.u_pictures.specs.WorldPicture.{event_node, point_node, way, ways, event_shown, events_shown};
 ghost use Rattle.u_pictures.specs.WorldPicture.{life_shown, lives_shown, picture, picture_text};
 ghost use Rattle.u_pictures.specs.WorldLooks.{node_name, way_look};
 ghost use Rattle.u_pictures.specs.Words.{all_words};
 
+use crate::dot::{push_arc, push_node};
 use crate::happening::{Deed, Happening, Spot};
 use crate::world_looks::{
     ask_look, event_look, head_look, life_look, node_name, point_look, way_look,
 };
 use std::alloc::{AllocError, Global};
-use u_draw::{push_arc, push_node};
 
 /// What begins the text: how a picture is laid out, and how nodes and arcs look that do not say so.
 const OPENING: &[u8] = b"digraph u {
@@ -25,7 +25,7 @@ const OPENING: &[u8] = b"digraph u {
 ";
 
 /// Appends a line with the replica's node in the row, with attributes that have this text.
-#[tactic(auto, using(u_draw::proofs::Texts::join3))]
+#[tactic(auto, using(crate::proofs::Texts::join3))]
 fn push_node_line(
     out: &mut Vec<u8>,
     row: usize,
@@ -43,7 +43,7 @@ fn push_node_line(
 }
 
 /// Appends a line with the node of an event.
-#[tactic(auto, unfolding(u_draw::specs::Dot::shown_line))]
+#[tactic(auto, unfolding(crate::specs::Dot::shown_line))]
 fn push_event_node(
     out: &mut Vec<u8>,
     row: usize,
@@ -58,7 +58,7 @@ fn push_event_node(
 }
 
 /// Appends a line with a point on the life line of the replica.
-#[tactic(auto, unfolding(u_draw::specs::Dot::shown_line))]
+#[tactic(auto, unfolding(crate::specs::Dot::shown_line))]
 fn push_point(out: &mut Vec<u8>, row: usize, replica: u8) -> Result<(), AllocError>
     ensures { OnOk result (out.new.items ≡ out.old.items ++ shown_line (point_node row replica)) }
 {
@@ -79,7 +79,7 @@ fn push_way(out: &mut Vec<u8>, from: Spot, to: Spot, attributes: &[u8]) -> Resul
 }
 
 /// Appends the way of firings from one spot to the other, so many of which were new.
-#[tactic(auto, unfolding(u_draw::specs::Dot::shown_line))]
+#[tactic(auto, unfolding(crate::specs::Dot::shown_line))]
 fn push_firings(out: &mut Vec<u8>, from: Spot, to: Spot, count: usize) -> Result<(), AllocError>
     ensures { OnOk result (out.new.items ≡ out.old.items
         ++ shown_line (way from.row from.replica to.row to.replica (way_look count))) }
@@ -89,7 +89,7 @@ fn push_firings(out: &mut Vec<u8>, from: Spot, to: Spot, count: usize) -> Result
 }
 
 /// Appends the way of what came to the spot in an event.
-#[tactic(auto, unfolding(crate::specs::WorldPicture::ways, u_draw::specs::Dot::shown_line), using(u_draw::proofs::Texts::join2, u_draw::proofs::Shows::text_one))]
+#[tactic(auto, unfolding(crate::specs::WorldPicture::ways, crate::specs::Dot::shown_line), using(crate::proofs::Texts::join2, crate::proofs::Shows::text_one))]
 fn push_ways(out: &mut Vec<u8>, to: Spot, deed: &Deed) -> Result<(), AllocError>
     ensures { OnOk result
         (out.new.items ≡ out.old.items ++ text (ways to.row to.replica deed.now)) }
@@ -110,7 +110,7 @@ fn push_ways(out: &mut Vec<u8>, to: Spot, deed: &Deed) -> Result<(), AllocError>
 }
 
 /// Appends the lines of an event.
-#[tactic(auto, unfolding(crate::specs::WorldPicture::event_shown), using(u_draw::proofs::Texts::join2))]
+#[tactic(auto, unfolding(crate::specs::WorldPicture::event_shown), using(crate::proofs::Texts::join2))]
 fn push_event(out: &mut Vec<u8>, row: usize, happening: &Happening) -> Result<(), AllocError>
     ensures { OnOk result
         (out.new.items ≡ out.old.items ++ text (event_shown row happening.now)) }
@@ -135,7 +135,7 @@ fn push_events(out: &mut Vec<u8>, happenings: &[Happening]) -> Result<(), AllocE
 }
 
 /// Appends the lines of a replica, whose life line ends in this row.
-#[tactic(auto, unfolding(crate::specs::WorldPicture::life_shown, u_draw::specs::Dot::shown_line), using(crate::proofs::Joined::text_of_three))]
+#[tactic(auto, unfolding(crate::specs::WorldPicture::life_shown, crate::specs::Dot::shown_line), using(crate::proofs::Joined::text_of_three))]
 fn push_life(out: &mut Vec<u8>, last: usize, replica: u8) -> Result<(), AllocError>
     ensures { OnOk result (out.new.items ≡ out.old.items ++ text (life_shown last replica)) }
 {
@@ -161,7 +161,7 @@ fn push_lives(out: &mut Vec<u8>, last: usize, count: u8) -> Result<(), AllocErro
 }
 
 /// Appends the lines of the picture.
-#[tactic(auto, unfolding(crate::specs::WorldPicture::picture), using(u_draw::proofs::Shows::text_two))]
+#[tactic(auto, unfolding(crate::specs::WorldPicture::picture), using(crate::proofs::Shows::text_two))]
 fn push_shown(out: &mut Vec<u8>, count: u8, happenings: &[Happening]) -> Result<(), AllocError>
     ensures { OnOk result
         (out.new.items ≡ out.old.items ++ text (picture count happenings.now)) }

@@ -9,17 +9,17 @@ ghost use Rattle.std.specs.Option.{option_copied};
 ghost use Rattle.u_base.specs.Appending.{Extends};
 ghost use Rattle.u_check.specs.Rules.{block_named};
 ghost use Rattle.u_rule.specs.Fits.{statement_of};
-ghost use Rattle.u_draw.specs.Dot.{all_opened, all_closed, within, bracketed, attributes_text, text};
+ghost use Rattle.u_pictures.specs.Dot.{all_opened, all_closed, within, bracketed, attributes_text, text};
 ghost use Rattle.u_pictures.specs.Names.{context_cluster};
 ghost use Rattle.u_pictures.specs.Places.{turn_in, around_context, is_leaving, around, clusters_at};
 ghost use Rattle.u_pictures.specs.Places.{context_label, turn_label, context_look, turn_look, context_shown, turn_shown};
 ghost use Rattle.u_pictures.specs.Places.{of_context, of_turn, clusters_of};
 
+use crate::dot::{push_attribute, push_cluster, push_opened};
 use crate::names::{context_cluster, turn_cluster};
 use std::alloc::{AllocError, Global};
 use u_base::push_long;
 use u_check::statement_at;
-use u_draw::{push_attribute, push_cluster, push_opened};
 use u_name::{BlockName, Context, Name, Node};
 use u_program::{Block, Kind, Program, Statement};
 
@@ -212,7 +212,7 @@ fn close_place(out: &mut Vec<u8>, place: Enclosure<'_>) -> Result<(), AllocError
 }
 
 /// Appends what begins a line within the clusters of the place. On an error a part of it may stand there.
-#[tactic(auto, using(u_base::proofs::AppendingLaws::extends_same, u_base::proofs::AppendingLaws::extends_behind, u_draw::proofs::Texts::join2))]
+#[tactic(auto, using(u_base::proofs::AppendingLaws::extends_same, u_base::proofs::AppendingLaws::extends_behind, crate::proofs::Texts::join2))]
 pub fn begin_line(out: &mut Vec<u8>, place: Enclosure<'_>) -> Result<(), AllocError>
     ensures ok { OnOk result
         (out.new.items ≡ out.old.items ++ (codes "  " ++ all_opened (clusters_at place.entry))) }
@@ -223,7 +223,7 @@ pub fn begin_line(out: &mut Vec<u8>, place: Enclosure<'_>) -> Result<(), AllocEr
 }
 
 /// Appends what ends that line. On an error a part of it may stand there.
-#[tactic(auto, using(u_base::proofs::AppendingLaws::extends_same, u_base::proofs::AppendingLaws::extends_behind, u_draw::proofs::Texts::join2))]
+#[tactic(auto, using(u_base::proofs::AppendingLaws::extends_same, u_base::proofs::AppendingLaws::extends_behind, crate::proofs::Texts::join2))]
 pub fn end_line(out: &mut Vec<u8>, place: Enclosure<'_>) -> Result<(), AllocError>
     ensures ok { OnOk result
         (out.new.items ≡ out.old.items ++ (all_closed (clusters_at place.entry) ++ (10 ∷ []))) }
@@ -235,7 +235,7 @@ pub fn end_line(out: &mut Vec<u8>, place: Enclosure<'_>) -> Result<(), AllocErro
 }
 
 /// The attributes of a context's cluster.
-#[tactic(auto, unfolding(u_draw::specs::Dot::attribute_text, u_draw::specs::Dot::quoted))]
+#[tactic(auto, unfolding(crate::specs::Dot::attribute_text, crate::specs::Dot::quoted))]
 fn context_attributes(alloc: Global, context: &Context) -> Result<Vec<u8>, AllocError>
     ensures { IfOk result
         (λ v. v.items ≡ attributes_text (context_look (context_label context.now))) }
@@ -250,7 +250,7 @@ fn context_attributes(alloc: Global, context: &Context) -> Result<Vec<u8>, Alloc
 }
 
 /// The attributes of the cluster of a turn.
-#[tactic(auto, unfolding(u_draw::specs::Dot::attribute_text, u_draw::specs::Dot::quoted))]
+#[tactic(auto, unfolding(crate::specs::Dot::attribute_text, crate::specs::Dot::quoted))]
 fn turn_attributes(alloc: Global, turn: u64) -> Result<Vec<u8>, AllocError>
     ensures { IfOk result (λ v. v.items ≡ attributes_text (turn_look (turn_label turn))) }
 {
@@ -267,7 +267,7 @@ fn turn_attributes(alloc: Global, turn: u64) -> Result<Vec<u8>, AllocError>
 
 /// Appends a line for the cluster at that place, with attributes that have this text. On an error a part
 /// of it may stand there.
-#[tactic(auto, using(u_base::proofs::AppendingLaws::extends_same, u_base::proofs::AppendingLaws::extends_behind, u_draw::proofs::Nests::framed))]
+#[tactic(auto, using(u_base::proofs::AppendingLaws::extends_same, u_base::proofs::AppendingLaws::extends_behind, crate::proofs::Nests::framed))]
 fn push_cluster_line(
     out: &mut Vec<u8>,
     place: Enclosure<'_>,
@@ -284,7 +284,7 @@ fn push_cluster_line(
 }
 
 /// Appends a line for the context's cluster, if it has one. On an error a part of it may stand there.
-#[tactic(auto, unfolding(u_draw::specs::Dot::shown_line), using(u_base::proofs::AppendingLaws::extends_same, u_draw::proofs::Shows::text_one))]
+#[tactic(auto, unfolding(crate::specs::Dot::shown_line), using(u_base::proofs::AppendingLaws::extends_same, crate::proofs::Shows::text_one))]
 fn push_context_line(out: &mut Vec<u8>, context: &Context) -> Result<(), AllocError>
     ensures ok { OnOk result (out.new.items ≡ out.old.items ++ text (of_context context.now)) }
     ensures err { OnErr result (Extends out.old.items out.new.items) }
@@ -300,7 +300,7 @@ fn push_context_line(out: &mut Vec<u8>, context: &Context) -> Result<(), AllocEr
 
 /// Appends a line for the cluster of the turn, if the context is a loop's. On an error a part of it may
 /// stand there.
-#[tactic(auto, unfolding(u_draw::specs::Dot::shown_line), using(u_base::proofs::AppendingLaws::extends_same, u_draw::proofs::Shows::text_one))]
+#[tactic(auto, unfolding(crate::specs::Dot::shown_line), using(u_base::proofs::AppendingLaws::extends_same, crate::proofs::Shows::text_one))]
 fn push_turn_line(out: &mut Vec<u8>, context: &Context, turn: u64) -> Result<(), AllocError>
     ensures ok { OnOk result (out.new.items ≡ out.old.items ++ text (of_turn context.now turn)) }
     ensures err { OnErr result (Extends out.old.items out.new.items) }
@@ -316,7 +316,7 @@ fn push_turn_line(out: &mut Vec<u8>, context: &Context, turn: u64) -> Result<(),
 
 /// Appends a line for each of the clusters that are the activity's own: its context's and its turn's. On
 /// an error a part of them may stand there.
-#[tactic(auto, unfolding(crate::specs::Places::clusters_of), using(u_base::proofs::AppendingLaws::extends_behind, u_draw::proofs::Shows::text_two))]
+#[tactic(auto, unfolding(crate::specs::Places::clusters_of), using(u_base::proofs::AppendingLaws::extends_behind, crate::proofs::Shows::text_two))]
 pub fn push_clusters(
     out: &mut Vec<u8>,
     program: &Program,

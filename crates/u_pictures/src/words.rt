@@ -8,7 +8,7 @@ use u_base::{push_long, push_long_behind};
 use u_name::Name;
 
 /// Appends the activity's name without its context.
-#[tactic(auto, unfolding(crate::specs::Words::short_name), using(u_draw::proofs::Texts::join3))]
+#[tactic(auto, unfolding(crate::specs::Words::short_name), using(crate::proofs::Texts::join3))]
 fn push_short_name(out: &mut Vec<u8>, activity: &Name) -> Result<(), AllocError>
     ensures { OnOk result (out.new.items ≡ out.old.items ++ short_name activity.now) }
 {
@@ -29,7 +29,7 @@ pub fn push_new(out: &mut Vec<u8>, count: usize) -> Result<(), AllocError>
 }
 
 /// Appends with how many firings a replica starts again, and how many it had before.
-#[tactic(auto, using(u_draw::proofs::Texts::join4))]
+#[tactic(auto, using(crate::proofs::Texts::join4))]
 fn push_again(out: &mut Vec<u8>, had: usize, has: usize) -> Result<(), AllocError>
     ensures { OnOk result (out.new.items ≡ out.old.items ++ again_words had has) }
 {
@@ -41,7 +41,7 @@ fn push_again(out: &mut Vec<u8>, had: usize, has: usize) -> Result<(), AllocErro
 }
 
 /// Appends the words that stand on the node.
-#[tactic(auto, unfolding(crate::specs::Words::words), using(u_draw::proofs::Texts::join2))]
+#[tactic(auto, unfolding(crate::specs::Words::words), using(crate::proofs::Texts::join2))]
 fn push_words(out: &mut Vec<u8>, deed: &Deed) -> Result<(), AllocError>
     ensures { OnOk result (out.new.items ≡ out.old.items ++ words deed.now) }
 {

@@ -1,14 +1,14 @@
 //! The names, places and looks of what a world's picture shows.
 ghost use Rattle.std.specs.Prelude.{◌≡◌, ◌++◌, ◌∷◌, [], IfOk, OnOk};
-ghost use Rattle.u_draw.specs.Dot.{attribute_text, attributes_text};
+ghost use Rattle.u_pictures.specs.Dot.{attribute_text, attributes_text};
 ghost use Rattle.u_pictures.specs.WorldLooks.{node_name, place, placed, deed_look, event_look, head_label, head_look};
 ghost use Rattle.u_pictures.specs.WorldLooks.{point_look, life_look, ask_look, nothing_look, something_look, way_look};
 
+use crate::dot::push_attribute;
 use crate::happening::Deed;
 use crate::words::{full_words, push_new, words};
 use std::alloc::{AllocError, Global};
 use u_base::{push_long, push_long_behind};
-use u_draw::push_attribute;
 
 /// The name of the replica's node in the row.
 pub fn node_name(alloc: Global, row: usize, replica: u8) -> Result<Vec<u8>, AllocError>
@@ -43,7 +43,7 @@ fn push_placed(out: &mut Vec<u8>, row: usize, replica: u8) -> Result<(), AllocEr
 }
 
 /// How what a replica did looks.
-#[tactic(auto, unfolding(u_draw::specs::Dot::attribute_text, u_draw::specs::Dot::quoted))]
+#[tactic(auto, unfolding(crate::specs::Dot::attribute_text, crate::specs::Dot::quoted))]
 fn deed_look(deed: &Deed) -> &'static [u8]
     ensures { result.now ≡ attributes_text (deed_look deed.now) }
 {
@@ -84,7 +84,7 @@ fn head_label(alloc: Global, replica: u8) -> Result<Vec<u8>, AllocError>
 }
 
 /// The attributes of the node above the replica's column.
-#[tactic(auto, unfolding(u_draw::specs::Dot::attribute_text, u_draw::specs::Dot::quoted))]
+#[tactic(auto, unfolding(crate::specs::Dot::attribute_text, crate::specs::Dot::quoted))]
 pub fn head_look(alloc: Global, replica: u8) -> Result<Vec<u8>, AllocError>
     ensures { IfOk result (λ v. v.items ≡ attributes_text (head_look replica)) }
 {
@@ -97,7 +97,7 @@ pub fn head_look(alloc: Global, replica: u8) -> Result<Vec<u8>, AllocError>
 }
 
 /// The attributes of a point on the life line of the replica.
-#[tactic(auto, unfolding(u_draw::specs::Dot::attribute_text, u_draw::specs::Dot::quoted))]
+#[tactic(auto, unfolding(crate::specs::Dot::attribute_text, crate::specs::Dot::quoted))]
 pub fn point_look(alloc: Global, row: usize, replica: u8) -> Result<Vec<u8>, AllocError>
     ensures { IfOk result (λ v. v.items ≡ attributes_text (point_look row replica)) }
 {
@@ -108,7 +108,7 @@ pub fn point_look(alloc: Global, row: usize, replica: u8) -> Result<Vec<u8>, All
 }
 
 /// How a life line looks.
-#[tactic(auto, unfolding(u_draw::specs::Dot::attribute_text, u_draw::specs::Dot::quoted))]
+#[tactic(auto, unfolding(crate::specs::Dot::attribute_text, crate::specs::Dot::quoted))]
 pub fn life_look() -> &'static [u8]
     ensures { result.now ≡ attributes_text life_look }
 {
@@ -116,7 +116,7 @@ pub fn life_look() -> &'static [u8]
 }
 
 /// How the way of an ask looks.
-#[tactic(auto, unfolding(u_draw::specs::Dot::attribute_text, u_draw::specs::Dot::quoted))]
+#[tactic(auto, unfolding(crate::specs::Dot::attribute_text, crate::specs::Dot::quoted))]
 pub fn ask_look() -> &'static [u8]
     ensures { result.now ≡ attributes_text ask_look }
 {
@@ -124,7 +124,7 @@ pub fn ask_look() -> &'static [u8]
 }
 
 /// How the way of firings looks, none of which was new.
-#[tactic(auto, unfolding(u_draw::specs::Dot::attribute_text, u_draw::specs::Dot::quoted))]
+#[tactic(auto, unfolding(crate::specs::Dot::attribute_text, crate::specs::Dot::quoted))]
 fn nothing_look() -> &'static [u8]
     ensures { result.now ≡ attributes_text nothing_look }
 {
@@ -132,7 +132,7 @@ fn nothing_look() -> &'static [u8]
 }
 
 /// How the way of firings looks, some of which were new: this is told of them.
-#[tactic(auto, unfolding(u_draw::specs::Dot::attribute_text, u_draw::specs::Dot::quoted))]
+#[tactic(auto, unfolding(crate::specs::Dot::attribute_text, crate::specs::Dot::quoted))]
 fn something_look(alloc: Global, label: &[u8]) -> Result<Vec<u8>, AllocError>
     ensures { IfOk result (λ v. v.items ≡ attributes_text (something_look label.now)) }
 {

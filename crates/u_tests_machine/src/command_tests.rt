@@ -1,20 +1,17 @@
 //! The commands over bytes that the program does not call, since it watches them.
 use std::alloc::Global;
 use u_cli::{
-    CommandError, STORED_PROGRAM, WorldPlan, blame_text, restore_text, run_text, save_text,
-    trace_text, waits_text, world_text,
+    CommandError, Events, STORED_PROGRAM, WorldPlan, restore_text, run_text, save_text, trace_text,
+    world_text,
 };
-use u_plain::examples::TWO_WRITERS;
 
-/// A command of the double of 4; to blame, of two writers.
+/// A command of the double of 4.
 #[derive(Clone, Copy, Debug)]
 enum Told {
     Run,
     Save,
     Restore,
     Trace,
-    Blame,
-    Waits,
     World,
 }
 
@@ -24,8 +21,6 @@ const TEXTS: &[(Told, &str)] = &[
     (Told::Save, "u-history 1\nf -.main.1.1 4\n"),
     (Told::Restore, "checkpoint torn\nstate quiet\n"),
     (Told::Trace, "causes 1\nf -.main.1.1 4\n"),
-    (Told::Blame, "cell -.main.6.1[0] -.main.7.1 10\n"),
-    (Told::Waits, "state quiet\nverdict answer 8\n"),
     (Told::World, "replica 1 firings 0 parked 0 entries 1\n"),
 ];
 
@@ -39,13 +34,10 @@ fn tell(alloc: Global, told: Told, writer: &mut Vec<u8>) -> Result<u8, CommandEr
             let entry = b"t -.main.2.1 2 4";
             trace_text(alloc, STORED_PROGRAM, b"4", entry, 100, writer)
         }
-        Told::Blame => blame_text(alloc, TWO_WRITERS, b"0", b"-.main.10.1", 1, writer),
-        Told::Waits => waits_text(alloc, STORED_PROGRAM, b"4", 100, writer),
         Told::World => {
             let plan = WorldPlan {
                 replicas: 1,
-                seed: 1,
-                events: 0,
+                events: Events::Random { seed: 1, count: 0 },
                 firings: 100,
             };
             world_text(alloc, STORED_PROGRAM, b"4", plan, writer)

@@ -11,6 +11,6 @@ returns-in-Err-machine_causes c = λ n ran.
 
 pub returns : goal.returns
 returns c = λ n ran.
-    traces_run c.args.machine.now.job n c.args.machine.now ran c.args.entry.now c.in-Ok-machine_causes.found.items c.in-Ok.told.items c.in_ok-text.text.items
+    traces_run c.args.machine.now.job c.args.origins.now n c.args.machine.now ran c.args.entry.now c.in-Ok-machine_causes.found.items c.in-Ok.told.items c.in_ok-text.text.items
     c.in-Ok.ensures.0 c.in-Ok-machine_causes.ensures.ok c.in-Ok.ensures.1 c.in-Ok.ensures.2
-    (c.in_ok-text.ensures ∙ ap (λ (xs : List Firing). traced_text xs c.deref-2.result.now) c.deref.ensures.value ∙ ap (λ (xs : List Firing). traced_text c.in-Ok-machine_causes.found.items xs) c.deref-2.ensures.value)
+    (c.in_ok-text.ensures ∙ ap (λ (xs : List Firing). traced_text c.args.origins.now xs c.deref-2.result.now) c.deref.ensures.value ∙ ap (λ (xs : List Firing). traced_text c.args.origins.now c.in-Ok-machine_causes.found.items xs) c.deref-2.ensures.value)

@@ -1,5 +1,5 @@
 use Rattle.u_pictures.specs.Picture.{firing_arcs}
-use Rattle.u_draw.proofs.Shows.{flat_more, lent_more}
+use Rattle.u_pictures.proofs.Shows.{flat_more, lent_more}
 use Rattle.u_pictures.proofs.arcs.push_arcs.Goals as goal
 
 pub loop-firing-preserved : goal.loop-firing-preserved

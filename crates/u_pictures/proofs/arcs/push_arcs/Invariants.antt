@@ -1,6 +1,6 @@
 use Rattle.std.proofs.Common.{◌≡◌, ◌++◌, take}
 use Rattle.std.specs.List.{flat_map}
-use Rattle.u_draw.specs.Dot.{text}
+use Rattle.u_pictures.specs.Dot.{text}
 use Rattle.u_pictures.specs.Picture.{firing_arcs}
 use Rattle.u_pictures.proofs.arcs.push_arcs.Given as goal
 

@@ -1,5 +1,5 @@
 use Rattle.std.proofs.Common.{◌≡◌, ◌++◌, take, map}
-use Rattle.u_draw.specs.Dot.{text}
+use Rattle.u_pictures.specs.Dot.{text}
 use Rattle.u_pictures.specs.Picture.{give_arc}
 use Rattle.u_pictures.proofs.arcs.push_gifts.Given as goal
 

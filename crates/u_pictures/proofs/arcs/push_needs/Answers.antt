@@ -1,5 +1,5 @@
 use Rattle.u_pictures.specs.Picture.{need_arc}
-use Rattle.u_draw.proofs.Shows.{mapped_more, lent_more}
+use Rattle.u_pictures.proofs.Shows.{mapped_more, lent_more}
 use Rattle.u_pictures.proofs.arcs.push_needs.Goals as goal
 
 pub loop-entry-preserved : goal.loop-entry-preserved

@@ -1,4 +1,4 @@
-use Rattle.u_draw.proofs.Shows.{lent_more}
+use Rattle.u_pictures.proofs.Shows.{lent_more}
 use Rattle.u_pictures.proofs.Joined.{events_more}
 use Rattle.u_pictures.proofs.picture.push_events.Goals as goal
 

@@ -1,5 +1,5 @@
 use Rattle.std.proofs.Common.{◌≡◌, ◌++◌, take}
-use Rattle.u_draw.specs.Dot.{text}
+use Rattle.u_pictures.specs.Dot.{text}
 use Rattle.u_pictures.specs.WorldPicture.{events_shown}
 use Rattle.u_pictures.proofs.picture.push_events.Given as goal
 

@@ -1,5 +1,5 @@
 use Rattle.std.proofs.Common.{◌≡◌, ◌++◌}
-use Rattle.u_draw.specs.Dot.{text}
+use Rattle.u_pictures.specs.Dot.{text}
 use Rattle.u_pictures.specs.WorldPicture.{lives_shown}
 use Rattle.u_pictures.proofs.picture.push_lives.Given as goal
 

@@ -1,6 +1,6 @@
 use Rattle.std.specs.Prelude.{codes}
 use Rattle.std.specs.Fmt.{decimal}
-use Rattle.u_draw.proofs.Texts.{join4}
+use Rattle.u_pictures.proofs.Texts.{join4}
 use Rattle.u_pictures.proofs.words.push_again.Goals as goal
 
 pub returns : goal.returns

@@ -1,0 +1,8 @@
+use Rattle.std.proofs.Common.{inr}
+use Rattle.u_commands.proofs.Known.{match_more}
+use Rattle.u_cli.proofs.AskingLaws.{both}
+use Rattle.u_cli.proofs.asking.tell_lift.Goals as goal
+
+pub returns-in-Ok : goal.returns-in-Ok
+returns-in-Ok c =
+    match_more c.lift.result _ _ _ _ (λ t p. (c.in-Ok.input, c.in-Ok.ensures, p)) (λ e m. inr m) (both c.lift.result _ _ c.lift.ensures.ok c.lift.ensures.memory)

@@ -1,5 +1,0 @@
-use Rattle.std.proofs.Common.{length}
-use Rattle.u_draw.proofs.arcs.+push_arcs_from.Given as goal
-
-abbrev pub decreases-push_arcs_from : goal.decreases-push_arcs_from
-decreases-push_arcs_from l = length l.statements.now

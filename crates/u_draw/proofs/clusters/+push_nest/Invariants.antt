@@ -1,4 +1,0 @@
-use Rattle.u_draw.proofs.clusters.+push_nest.Given as goal
-
-abbrev pub decreases-push_nest : goal.decreases-push_nest
-decreases-push_nest l = l.depth

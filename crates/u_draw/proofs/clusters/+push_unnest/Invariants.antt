@@ -1,4 +1,0 @@
-use Rattle.u_draw.proofs.clusters.+push_unnest.Given as goal
-
-abbrev pub decreases-push_unnest : goal.decreases-push_unnest
-decreases-push_unnest l = l.depth

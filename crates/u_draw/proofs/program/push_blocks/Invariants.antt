@@ -1,7 +1,0 @@
-use Rattle.std.proofs.Common.{◌≡◌, ◌++◌, take}
-use Rattle.u_draw.specs.Dot.{text}
-use Rattle.u_draw.specs.Picture.{picture}
-use Rattle.u_draw.proofs.program.push_blocks.Given as goal
-
-abbrev pub invariant-loop-block : goal.invariant-loop-block
-invariant-loop-block l = l.out.items ≡ l.initial.out.items ++ text (picture l.version (take l.block-index l.blocks))

@@ -1,9 +1,0 @@
-pub mod Dot
-pub mod Names
-pub mod Styles
-pub mod Sharing
-pub mod Clusters
-pub mod Arcs
-pub mod Picture
-pub mod Told
-pub mod Leads
