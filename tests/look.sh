@@ -1,6 +1,6 @@
 #!/usr/bin/env bash
-# Tries what needs no proof, over a look, or over the proved program if no source is newer: the cases of
-# run, check, compile, explain and waits, the gallery, and random sources. The exit status is 0 if all of it passed.
+# Tries what needs no proof, over a look, or over the proved program if no source is newer: the cases of the
+# commands that a look has, the gallery, and random sources. The exit status is 0 if all of it passed.
 set -u
 export LC_ALL=C
 
