@@ -21,7 +21,7 @@
 #   members     one prints a million firings, one takes them from a pipe, the best of three: three
 #               times as long as a run, and one and a half times its memory
 #   instructions of a firing, if valgrind is there: at most 2,600
-#   looks       the first at a copy of the sources may take two minutes, and the next, which is kept, a second
+#   looks       the first at a copy of the sources may take three minutes, and the next, which is kept, three seconds
 set -u
 export LC_ALL=C
 
@@ -278,7 +278,7 @@ counted() {
 timed_looks() {
     local binary=$temp/copy/u limit
     mkdir -- "$temp/copy" && tar -C "$top" --exclude=out -cf - u crates crates.txt | tar -C "$temp/copy" -xf -
-    for limit in 120 1; do
+    for limit in 180 3; do
         measure run "$top/programs/double.ul" 4
         row "$limit seconds" "$(seconds "$spent")"
         [ "$status" -eq 0 ] || fail "a look ended with status $status"
