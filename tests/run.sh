@@ -312,14 +312,15 @@ done
 expect_same 'no picture of docs/pictures is old' '' "$(U_BINARY=$binary docs/pictures/draw.sh | sed '$d')"
 
 # What `explain` says of each program of a folder: the line for which `check` refuses it, without its `u: `,
-# and behind it what stands beside the program. The exit status is that of `check`.
+# and behind it what stands beside the program, where KINDS is the list of kinds of version 1. The exit status is
+# that of `check`.
 expect_explained() {
-    local folder=$1 file status
+    local folder=$1 file status kinds=$(<tests/explain/kinds)
     shift
     for file in "$folder"/*.u; do
         "$binary" check "$file" >/dev/null 2>"$temp/said"
         status=$?
-        sed 's/^u: //' "$temp/said" | cat -- - "${file%.u}.out" >"$temp/wanted"
+        { sed 's/^u: //' "$temp/said"; sed "s/KINDS/$kinds/" "${file%.u}.out"; } >"$temp/wanted"
         "$binary" explain "$file" "$@" >"$temp/got" 2>"$temp/err"
         [ $? -eq "$status" ] || echo "the status is not $status" >>"$temp/err"
         count "what is said of $file" "$(cat -- "$temp/err"; diff -- "$temp/wanted" "$temp/got")"

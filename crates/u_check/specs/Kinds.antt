@@ -1,33 +1,20 @@
 -- What the checker and the firing rule ask of a statement's kind.
-use Rattle.std.specs.Prelude.{ℕ, Bool, true, false, Option, Some, None}
+use Rattle.std.specs.Prelude.{ℕ, suc, Bool, true, false, Option, Some, None}
 use Rattle.u_program.specs.declared.program.Kind.{Kind}
-use Rattle.u_program.specs.declared.program.Kind.TheVariants.{Begin, Const, Pass, Unary, Binary, Select, Switch, Enter, Next, Param}
-use Rattle.u_program.specs.declared.program.Arguments.TheVariants as arguments
-use Rattle.u_program.specs.declared.program.Kind.TheVariants.{Last, Leave, Apply, Back, Alloc, Store, Fetch, End}
+use Rattle.u_program.specs.declared.program.Kind.TheVariants.{Begin, Binary, Select, Switch, Enter, Next, Param}
+use Rattle.u_program.specs.declared.program.Kind.TheVariants.{Last, Leave, Apply, Back, Store, Fetch, Ask, End}
+use Rattle.u_program.specs.Limits.{count_of}
 
 -- how many ports a statement of that kind has
 abbrev pub ports_of : Kind → ℕ
-ports_of Begin = 1
-ports_of (Const c) = 1
-ports_of Pass = 1
-ports_of (Unary o) = 1
 ports_of (Binary o) = 2
 ports_of Select = 3
 ports_of Switch = 2
-ports_of (Enter l) = 1
-ports_of Next = 1
-ports_of Last = 1
-ports_of Leave = 1
-ports_of (Apply b arguments.One) = 2
-ports_of (Apply b arguments.Two) = 3
-ports_of (Apply b arguments.Three) = 4
-ports_of (Apply b arguments.Four) = 5
-ports_of (Param k) = 1
-ports_of Back = 1
-ports_of Alloc = 1
+ports_of (Apply b n) = suc (count_of n)
 ports_of Store = 3
 ports_of Fetch = 2
-ports_of End = 1
+ports_of (Ask s n) = count_of n
+ports_of k = 1
 
 abbrev pub is_begin : Kind → Bool
 is_begin Begin = true
@@ -72,6 +59,11 @@ comes_from_outside k = false
 abbrev pub is_store : Kind → Bool
 is_store Store = true
 is_store k = false
+
+-- whether it asks a service outside
+abbrev pub is_ask : Kind → Bool
+is_ask (Ask s n) = true
+is_ask k = false
 
 -- whether it stands in a loop alone
 abbrev pub is_of_loop : Kind → Bool

@@ -1,20 +1,27 @@
 //! What the checker and the firing rule ask of a statement's kind.
 ghost use Rattle.std.specs.Prelude.{◌≡◌};
-ghost use Rattle.u_check.specs.Kinds.{ports_of, is_begin, is_back, is_last, is_leave, is_apply, is_param, back_named, is_end, comes_from_outside, is_of_loop, crosses};
+ghost use Rattle.u_check.specs.Kinds.{ports_of, is_begin, is_back, is_last, is_leave, is_apply, is_param, back_named, is_end, is_ask, comes_from_outside, is_of_loop, crosses};
 
-use u_program::{Arguments, Kind};
+use u_program::Kind;
 
 /// How many ports a statement of that kind has.
 pub fn ports_of(kind: &Kind) -> usize
     ensures { result ≡ ports_of kind.now }
 {
     match kind {
-        Kind::Apply(_, Arguments::Four) => 5,
-        Kind::Apply(_, Arguments::Three) => 4,
-        Kind::Select | Kind::Store | Kind::Apply(_, Arguments::Two) => 3,
-        Kind::Binary(_) | Kind::Switch | Kind::Apply(_, Arguments::One) | Kind::Fetch => 2,
+        Kind::Apply(_, arguments) => 1 + arguments.count() as usize,
+        Kind::Select | Kind::Store => 3,
+        Kind::Binary(_) | Kind::Switch | Kind::Fetch => 2,
+        Kind::Ask(_, operands) => operands.count() as usize,
         _ => 1,
     }
+}
+
+/// Whether it is `ask`.
+pub fn is_ask(kind: &Kind) -> bool
+    ensures { result ≡ is_ask kind.now }
+{
+    matches!(kind, Kind::Ask(_, _))
 }
 
 /// Whether it is `begin`.

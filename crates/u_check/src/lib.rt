@@ -10,6 +10,6 @@ mod rule;
 
 pub use checker::{Refused, check};
 pub use job::{Checked, Job};
-pub use kinds::{is_apply, ports_of};
+pub use kinds::{is_apply, is_ask, ports_of};
 pub use places::{held_by, statement_at};
 pub use rule::{Breach, Rule};

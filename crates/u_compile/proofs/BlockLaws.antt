@@ -9,12 +9,12 @@ use Rattle.std.proofs.lemmas.List.Elements.{Contains-push_cases}
 use Rattle.std.proofs.lemmas.Bool.{false≢true, and_left, and_right, eqb-true}
 use Rattle.u_name.specs.Block.{IsBlock}
 use Rattle.u_program.specs.declared.program.Kind.{Kind}
-use Rattle.u_program.specs.declared.program.Kind.TheVariants.{Enter, Next, Param, Apply}
+use Rattle.u_program.specs.declared.program.Kind.TheVariants.{Enter, Next}
 use Rattle.u_program.specs.declared.program.Destination.{Destination}
 use Rattle.u_program.specs.declared.program.Version.TheVariants.{Two}
 use Rattle.u_program.specs.Parts.{BlockParts}
 use Rattle.u_program.proofs.Steps.{all_append}
-use Rattle.u_program.specs.Limits.{has_list, has_otherwise, HasKind, HasPorts, IsListed, Ascending, rank, IsStatement, IsBlockOf, IsProgram, limits_of}
+use Rattle.u_program.specs.Limits.{has_list, has_otherwise, HasPorts, IsListed, Ascending, rank, IsStatement, IsBlockOf, IsProgram, limits_of}
 use Rattle.u_check.specs.Rules.{names_block, main_name}
 use Rattle.u_determinate.specs.Determinate.{IsDeterminateBlock}
 use Rattle.u_compile.specs.declared.graph.Link.{Link}
@@ -25,11 +25,6 @@ use Rattle.u_compile.specs.Kept.{KeepsItself, TakesOne, NamesDiffer}
 use Rattle.u_compile.specs.Fanning.{AreFew, IsFinished}
 use Rattle.u_compile.proofs.Numbers.{test_stands}
 use Rattle.u_compile.proofs.Links.{sends_some}
-
-has_kind_of_two : (k : Kind) → HasKind Two k
-has_kind_of_two (Param k) = refl
-has_kind_of_two (Apply b n) = tt
-has_kind_of_two k = tt
 
 ports_within : (ds : List Destination) (below : ℕ) → Ascending below ds → HasPorts Two ds
 ports_within [] below a = tt
@@ -90,7 +85,7 @@ statement_is g n d is few at =
     record {
       region = omega (arith, region, loops);
       kind = it.kind;
-      has_kind = has_kind_of_two d.kind;
+      has_kind = it.known;
       to = is.sorted (output d.shares false);
       ports = ports_within (destinations (output d.shares false) g.links) 0 (is.sorted (output d.shares false));
       listed = listed g n d is at (has_list d.kind) refl;

@@ -17,7 +17,8 @@ use Rattle.u_compile.specs.Blocks.{statement_of, block_of}
 use Rattle.u_compile.specs.declared.place.Guard.{Guard}
 use Rattle.u_compile.specs.Scoped.{guard, GuardedRegionParts, IsOf, Layout, sent_by, AreApart, IsScoped}
 use Rattle.u_compile.proofs.ArcLaws.{made_at, draft_from, IsLinkOf, arc_is}
-use Rattle.u_compile.proofs.GuardLaws.{made, one_draft, stands_as, stands_from, Owner, own, other, owner_of, some_port, no_of_none, same_arcs, sender_is, arc_has}
+use Rattle.u_check.proofs.KindTests.{few_ports}
+use Rattle.u_compile.proofs.GuardLaws.{made, one_draft, stands_as, stands_from, Owner, own, other, owner_of, no_of_none, same_arcs, sender_is, arc_has}
 
 entering_kind : (k : Kind) → enters k ≡ true → (l : ℕ) × (k ≡ Enter l)
 entering_kind (Enter l) e = (l, refl)
@@ -74,7 +75,7 @@ module _ (y : Layout) (g : GraphParts) (is : IsGraph g) (s : IsScoped y g) where
           stands = made_at g.links g.statements n d at;
           takes = e;
           port = 1;
-          exists = (omega arith, some_port d.kind);
+          exists = (omega arith, (few_ports d.kind).0);
           all = λ a leads.
               let l = arc_is g n 1 a leads in
               let w = s.links l.link l.is in

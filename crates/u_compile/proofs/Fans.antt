@@ -45,6 +45,7 @@ with_statement g o d is few at =
     with_draft g (pass_of d g) is few (record {
       region = behind_within g.loops d.region d.kind is.loops old.region old.enters;
       kind = tt;
+      known = tt;
       enters = refl;
       shares = own_links g.statements (pass_of d g) refl refl;
     })

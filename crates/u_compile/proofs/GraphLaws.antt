@@ -26,6 +26,7 @@ draft_wider loops h ds n d is =
     record {
       region = omega (arith, is.region, e);
       kind = is.kind;
+      known = is.known;
       enters = enters_wider (length loops) (length (loops ++ (h ∷ []))) (omega (arith, e)) d.kind is.enters;
       shares = is.shares;
     }
@@ -38,7 +39,7 @@ shares_more ds x n d = by (is_next d.kind)
     by false h = h
 
 draft_more : (loops : List ℕ) (ds : List DraftParts) (x : DraftParts) (n : ℕ) (d : DraftParts) → IsDraft loops ds n d → IsDraft loops (ds ++ (x ∷ [])) n d
-draft_more loops ds x n d is = record { region = is.region; kind = is.kind; enters = is.enters; shares = shares_more ds x n d is.shares }
+draft_more loops ds x n d is = record { region = is.region; kind = is.kind; known = is.known; enters = is.enters; shares = shares_more ds x n d is.shares }
 
 -- a statement of another kind than `next` has its own links
 pub own_links : (ds : List DraftParts) (d : DraftParts) → is_next d.kind ≡ false → d.shares ≡ length ds + 1 → shares_well (ds ++ (d ∷ [])) (length ds + 1) d ≡ true

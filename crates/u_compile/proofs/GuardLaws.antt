@@ -2,12 +2,9 @@
 use Rattle.std.proofs.Common.{◌≡◌, ℕ, suc, ◌≤◌, inl, inr, refl, sym, ap, ◌∙◌, subst, arith, Bool, true, false, not, cond, ◌==◌, List, [], ◌∷◌, Some}
 use Rattle.std.proofs.lemmas.Bool.{false≢true, eqb-true}
 use Rattle.u_program.specs.declared.program.Kind.{Kind}
-use Rattle.u_program.specs.declared.program.Kind.TheVariants.{Pass, Switch, Enter, Next, Last, Leave, Apply}
-use Rattle.u_program.specs.declared.program.Arguments.{Arguments}
-use Rattle.u_program.specs.declared.program.Arguments.TheVariants as arguments
+use Rattle.u_program.specs.declared.program.Kind.TheVariants.{Pass, Switch, Enter, Next, Last, Leave}
 use Rattle.u_program.specs.declared.program.Destination.{Destination}
 use Rattle.u_program.specs.Parts.{StatementParts}
-use Rattle.u_check.specs.Kinds.{ports_of}
 use Rattle.u_check.specs.Rules.{Arc, arc}
 use Rattle.u_determinate.specs.Arcs.{Leads, destination, OnlyArc}
 use Rattle.u_determinate.proofs.NumberFacts.{same_arc}
@@ -57,16 +54,6 @@ owner_of g n d is at = by (is_next d.kind) refl (is.drafts n d at).shares
     by : (b : Bool) → is_next d.kind ≡ b → cond b (is_enter (draft_at g.statements d.shares)) (d.shares == n) ≡ true → Owner g d n
     by true q h = let s = test_stands is_enter refl g.statements d.shares h in other (next_is d.kind q) s.0 s.1 s.2
     by false q h = own q (eqb-true d.shares n h)
-
-some_port_of : (b : ℕ) (n : Arguments) → 1 ≤ ports_of (Apply b n)
-some_port_of b arguments.One = omega arith
-some_port_of b arguments.Two = omega arith
-some_port_of b arguments.Three = omega arith
-some_port_of b arguments.Four = omega arith
-
-pub some_port : (k : Kind) → 1 ≤ ports_of k
-some_port (Apply b n) = some_port_of b n
-some_port k = omega arith
 
 pub no_of_none : (gs : List Guard) (x : Guard) → gs ≡ [] → IsOf gs x → ⊥
 no_of_none [] x e is = is

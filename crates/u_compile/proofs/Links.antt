@@ -4,9 +4,7 @@ use Rattle.std.specs.Prelude.{nat_le}
 use Rattle.std.specs.List.{AllByRecursion}
 use Rattle.std.proofs.lemmas.Bool.{and_parts, and_from, cond-true, cond-false, cases_Bool, eqb-true, eq-eqb, leb-true}
 use Rattle.u_program.specs.declared.program.Kind.{Kind}
-use Rattle.u_program.specs.declared.program.Kind.TheVariants.{Apply}
-use Rattle.u_program.specs.declared.program.Arguments.{Arguments}
-use Rattle.u_program.specs.declared.program.Arguments.TheVariants as arguments
+use Rattle.u_check.proofs.KindTests.{few_ports}
 use Rattle.u_program.specs.declared.program.Destination.{Destination}
 use Rattle.u_program.specs.Limits.{Ascending, IsDestination, rank}
 use Rattle.u_check.specs.Kinds.{ports_of}
@@ -61,15 +59,8 @@ pub leads_nowhere : (o : Output) (ls : List Link) → AllByRecursion (λ (l : Li
 leads_nowhere o [] none = refl
 leads_nowhere o (l ∷ ls) none = leads_no o l ls none.0 ∙ leads_nowhere o ls none.1
 
-few_of : (b : ℕ) (n : Arguments) → ports_of (Apply b n) ≤ 5
-few_of b arguments.One = omega arith
-few_of b arguments.Two = omega arith
-few_of b arguments.Three = omega arith
-few_of b arguments.Four = omega arith
-
-pub few_ports : (k : Kind) → ports_of k ≤ 5
-few_ports (Apply b n) = few_of b n
-few_ports k = omega arith
+pub at_most_five : (k : Kind) → ports_of k ≤ 5
+at_most_five k = (few_ports k).1
 
 -- a port of a graph is a destination
 pub port_is : (ds : List DraftParts) (d : Destination) → length ds ≤ 999 → has_port (draft_at ds d.statement) d.port ≡ true → IsDestination d × (d.statement ≤ length ds)
@@ -79,7 +70,7 @@ port_is ds d few h =
     let p = and_parts (nat_le 1 d.port) (nat_le d.port (ports_of s.0.kind)) s.2 in
     let low = leb-true 1 d.port p.0 in
     let high = leb-true d.port (ports_of s.0.kind) p.1 in
-    let most = few_ports s.0.kind in
+    let most = at_most_five s.0.kind in
     (record { statement = (w.0, omega (arith, w.1, few)); port = (low, omega (arith, high, most)) }, w.1)
 
 pub ascending_more : (below : ℕ) (ds : List Destination) (d : Destination) → Ascending below ds → IsDestination d → below < rank d → AllBefore (rank d) ds → Ascending below (ds ++ (d ∷ []))

@@ -4,7 +4,8 @@ use Rattle.std.specs.List.{AllByRecursion}
 use Rattle.u_program.specs.declared.program.Destination.{Destination}
 use Rattle.u_program.specs.declared.program.Kind.{Kind}
 use Rattle.u_program.specs.declared.program.Kind.TheVariants.{Enter, Next}
-use Rattle.u_program.specs.Limits.{IsKind, has_list, has_otherwise, Ascending, rank, AreLoops}
+use Rattle.u_program.specs.declared.program.Version.TheVariants.{Two}
+use Rattle.u_program.specs.Limits.{IsKind, HasKind, has_list, has_otherwise, Ascending, rank, AreLoops}
 use Rattle.u_check.specs.Kinds.{ports_of}
 use Rattle.u_compile.specs.Drafts.{DraftParts}
 use Rattle.u_compile.specs.declared.graph.Link.{Link}
@@ -87,6 +88,7 @@ shares_well ds n d = cond (is_next d.kind) (is_enter (draft_at ds d.shares)) (d.
 pub record IsDraft (loops : List ℕ) (ds : List DraftParts) (n : ℕ) (d : DraftParts) : Type 0 where
   pub region : d.region ≤ length loops
   pub kind : IsKind d.kind
+  pub known : HasKind Two d.kind
   pub enters : enters_one (length loops) d.kind ≡ true
   pub shares : shares_well ds n d ≡ true
 

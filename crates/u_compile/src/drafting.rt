@@ -13,7 +13,7 @@ ghost use Rattle.u_compile.specs.Placed.{EachIsFull};
 ghost use Rattle.u_compile.specs.Kept.{KeepsItself};
 ghost use Rattle.u_determinate.specs.Determinate.{IsDeterminateBlock};
 ghost use Rattle.u_program.specs.declared.program.Kind.TheVariants as kinds;
-ghost use Rattle.u_program.specs.Limits.{IsConstant, IsKind, IsBlockOf, limits_of, has_list, has_otherwise, rank};
+ghost use Rattle.u_program.specs.Limits.{IsConstant, IsKind, HasKind, IsBlockOf, limits_of, has_list, has_otherwise, rank};
 ghost use Rattle.u_program.specs.declared.program.Version.TheVariants as versions;
 ghost use Rattle.u_compile.specs.Graphs.{same_output, draft_at, is_output, is_enter, is_next, enters_one, destinations, AllBefore, with_loop_held, with_draft, with_link_to, is_port, LeadBefore};
 
@@ -38,6 +38,7 @@ fn is_constant(constant: &Constant) -> bool
 /// Whether a graph of so many loops may get a statement of the kind that has links of its own.
 fn may_be(kind: &Kind, loops: usize) -> bool
     ensures kind { IsTrue result → IsKind kind.now }
+    ensures known { IsTrue result → HasKind versions.Two kind.now }
     ensures enters { IsTrue result → enters_one loops kind.now ≡ true }
     ensures other { IsTrue result → is_next kind.now ≡ false }
 {
@@ -45,7 +46,7 @@ fn may_be(kind: &Kind, loops: usize) -> bool
         Kind::Enter(number) => 1 <= *number && *number <= 99 && *number as usize <= loops,
         Kind::Apply(back, _) => 1 <= *back && *back <= 999,
         Kind::Const(constant) => is_constant(constant),
-        Kind::Next => false,
+        Kind::Next | Kind::Ask(_, _) => false,
         _ => true,
     }
 }

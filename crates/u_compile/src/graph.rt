@@ -2,7 +2,8 @@
 ghost use Rattle.std.specs.Prelude.{◌≡◌, ◌+◌, ◌≤◌, [], length, true, false, MatchResult};
 ghost use Rattle.u_compile.specs.Graphs.{graph, same_output, draft_at, is_output, is_enter, enters_one, is_next, IsGraph, with_loop_held, with_draft, with_link_to, is_port, LeadBefore};
 ghost use Rattle.u_compile.specs.Drafts.{draft};
-ghost use Rattle.u_program.specs.Limits.{IsKind};
+ghost use Rattle.u_program.specs.Limits.{IsKind, HasKind};
+ghost use Rattle.u_program.specs.declared.program.Version.TheVariants.{Two};
 ghost use Rattle.u_program.specs.declared.program.Kind.TheVariants as kinds;
 
 use std::alloc::{AllocError, AllocFailed, Global};
@@ -193,6 +194,7 @@ impl Graph {
     pub fn add(&mut self, region: u8, kind: Kind) -> Result<u16, Full>
         requires region { region ≤ length self.old.loops }
         requires kind { IsKind kind }
+        requires known { HasKind Two kind }
         requires enters { enters_one (length self.old.loops) kind ≡ true }
         requires other { is_next kind ≡ false }
         ensures { MatchResult result

@@ -76,7 +76,7 @@ fn are_linked(links: &[Link], statement: u16, ports: usize) -> bool
 }
 
 /// Whether each port of the statement is linked, unless its value comes from outside.
-#[tactic(auto, using(crate::proofs::Links::few_ports))]
+#[tactic(auto, using(crate::proofs::Links::at_most_five))]
 pub fn is_full(links: &[Link], statement: u16, draft: &Draft) -> bool
     ensures { IsTrue result → IsFull links.now statement draft.now }
 {

@@ -25,7 +25,7 @@ fn role_of(kind: &Kind, is_fan: bool) -> Role {
         Kind::Next => Role::Next,
         Kind::Last => Role::Last,
         Kind::Leave => Role::Leave,
-        Kind::Apply(_, _) => Role::Call,
+        Kind::Apply(_, _) | Kind::Ask(_, _) => Role::Call,
         Kind::Back => Role::Outcome,
         Kind::Store => Role::Write,
         Kind::End => Role::End,

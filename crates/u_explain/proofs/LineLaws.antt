@@ -1,7 +1,10 @@
 -- Lines of a program's text, from a place of theirs on.
-use Rattle.std.specs.Prelude.{◌≡◌, ℕ, zero, suc, Bool, true, false, cond, ◌≤◌, ◌<◌, ◌⊎◌, List, [], ◌∷◌, ◌++◌, length, map, Ok, Err, codes, refl}
+use Rattle.std.specs.Prelude.{◌≡◌, ℕ, zero, suc, Bool, true, false, cond, ◌≤◌, ◌<◌, ◌⊎◌, List, [], ◌∷◌, ◌++◌, length, map, Some, Ok, Err, codes, refl}
 use Rattle.std.proofs.Common.{sym, ◌∙◌, ap, subst, arith, inl, inr, append_assoc}
 use Rattle.std.proofs.lemmas.List.{append-nil}
+use Rattle.std.proofs.lemmas.Option.{same_Some, none-some}
+use Rattle.u_base.specs.WholeWords.{is}
+use Rattle.u_base.proofs.WholeWordsLaws.{told}
 use Rattle.std.proofs.lemmas.Fmt.{decimal_digit}
 use Rattle.std.specs.Fmt.{decimal}
 use lib.IntN.{ℤ}
@@ -23,14 +26,14 @@ use Rattle.u_program.specs.declared.program.Parameter.TheVariants as parameters
 use Rattle.u_program.specs.declared.program.Constant.{Constant}
 use Rattle.u_program.specs.declared.program.Constant.TheVariants as constants
 use Rattle.u_program.specs.declared.program.Kind.{Kind}
-use Rattle.u_program.specs.declared.program.Kind.TheVariants.{Begin, Const, Pass, Unary, Binary, Select, Switch, Enter, Next, Last, Leave, Apply, Back, Alloc, Store, Fetch, End, Param}
-use Rattle.u_value.specs.declared.operators.UnaryOperator.TheVariants.{Not, Length}
-use Rattle.u_value.specs.declared.operators.BinaryOperator.TheVariants.{And, Or, Add, Sub, Mul, Div, Rem, Lt, Le, Eq}
+use Rattle.u_program.specs.declared.program.Kind.TheVariants.{Begin, Const, Enter, Apply, Ask, Param}
 use Rattle.u_program.specs.declared.program.Destination.{Destination}
 use Rattle.u_program.specs.Parts.{statement}
 use Rattle.u_program.specs.Limits.{IsConstant, IsKind, HasKind, IsListed, count_of, place_of, has_list, has_otherwise}
-use Rattle.u_program.specs.Reading.{plain_kinds}
-use Rattle.u_program.specs.Text.{arrow, constant_word, count_word, place_word, destination_word, otherwise_words, lists_words, argument_words, tail_words, statement_words, kind_word, block_line, loop_line, statement_line}
+use Rattle.u_program.specs.Reading.{kind_among}
+use Rattle.u_program.proofs.WordLaws.{AreBare, plain_is, plain_listed, plain_are_bare}
+use Rattle.u_check.proofs.KindTests.{count_within}
+use Rattle.u_program.specs.Text.{plain_kinds, arrow, constant_word, count_word, place_word, destination_word, otherwise_words, lists_words, argument_words, tail_words, statement_words, kind_word, block_line, loop_line, statement_line}
 use Rattle.u_explain.specs.declared.fronts.Follows.{Follows}
 use Rattle.u_explain.specs.declared.fronts.Follows.TheVariants as follows
 use Rattle.u_explain.specs.Left.{IsLeft, Either, Behind, Numbered, Among}
@@ -114,12 +117,6 @@ count_text arguments.Two = decimal_digit 2 (omega arith)
 count_text arguments.Three = decimal_digit 3 (omega arith)
 count_text arguments.Four = decimal_digit 4 (omega arith)
 
-count_within : (n : Arguments) → (1 ≤ count_of n) × (count_of n < 5)
-count_within arguments.One = (omega arith, omega arith)
-count_within arguments.Two = (omega arith, omega arith)
-count_within arguments.Three = (omega arith, omega arith)
-count_within arguments.Four = (omega arith, omega arith)
-
 count_is : (q : ℕ) → 1 ≤ q → q < 5 → (n : Arguments) × (decimal q ≡ count_word n)
 count_is zero low high = absurd (omega arith)
 count_is (suc zero) low high = (arguments.One, decimal_digit 1 (omega arith))
@@ -183,7 +180,7 @@ to_apply versions.Two b n v t m =
     let s = count_word n ++ m.0 in (
       decimal b ++ (32 ∷ s),
       m.1 ∙ argued_twice (codes "apply") (decimal b) (count_word n) m.0,
-      (b, v.0, omega (arith, v.1), (32 ∷ s, refl, (s, refl, (count_of n, w.0, w.1, (m.0, ap (λ i. i ++ m.0) (sym (count_text n)), m.2))))),
+      (b, v.0, omega (arith, v.1), (32 ∷ s, refl, (s, refl, (count_of n, w.0, omega (arith, w.1), (m.0, ap (λ i. i ++ m.0) (sym (count_text n)), m.2))))),
     )
 
 -- a `param`
@@ -269,17 +266,23 @@ module _ (version : Version) where
       )
 
   -- kinds without arguments
-  abbrev ArePlain : List Kind → Type 0
-  ArePlain [] = Unit {0}
-  ArePlain (k ∷ ks) = IsKind k × HasKind version k × (argument_words version k ≡ []) × ArePlain ks
-
-  are_plain : ArePlain plain_kinds
-  are_plain = (tt, tt, refl, (tt, tt, refl, (tt, tt, refl, (tt, tt, refl, (tt, tt, refl, (tt, tt, refl, (tt, tt, refl, (tt, tt, refl, (tt, tt, refl, (tt, tt, refl, (tt, tt, refl, (tt, tt, refl, (tt, tt, refl, (tt, tt, refl, (tt, tt, refl, (tt, tt, refl, (tt, tt, refl, (tt, tt, refl, (tt, tt, refl, (tt, tt, refl, (tt, tt, refl, (tt, tt, refl, (tt, tt, refl, (tt, tt, refl, tt))))))))))))))))))))))))
-
-  of_plain : (ks : List Kind) → ArePlain ks → (t : List ℕ) → PlainOn version ks t → WholeKind version t
+  of_plain : (ks : List Kind) → AreBare ks → (t : List ℕ) → PlainOn version ks t → WholeKind version t
   of_plain [] v t m = absurd m
-  of_plain (k ∷ ks) v t (inl m) = (k, v.0, v.1, (m.0, m.1 ∙ ap (λ i. i ++ m.0) (sym (append-nil (kind_word k)) ∙ ap (λ i. kind_word k ++ spaced i) (sym v.2)), m.2))
-  of_plain (k ∷ ks) v t (inr m) = of_plain ks v.3 t m
+  of_plain (k ∷ ks) v t (inl m) =
+      let p = plain_is version k v.0 in
+      (k, p.0, p.1, (m.0, m.1 ∙ ap (λ i. i ++ m.0) (sym (append-nil (kind_word k)) ∙ ap (λ i. kind_word k ++ spaced i) (sym p.2)), m.2))
+  of_plain (k ∷ ks) v t (inr m) = of_plain ks v.1 t m
+
+  to_plain : (ks : List Kind) (k : Kind) → kind_among ks (kind_word k) ≡ Some k → (t : List ℕ) → Behind (kind_word k) (ListsOn version k) t → PlainOn version ks t
+  unfolding kind_among
+  to_plain [] k h t m = absurd (none-some k h)
+  to_plain (j ∷ ks) k h t m =
+      elim (told (kind_word k) (kind_word j) (is (kind_word k) (kind_word j)) refl) [
+        | inl a ↦
+            let e = same_Some j k (ap (λ b. cond b (Some j) (kind_among ks (kind_word k))) (sym a.0) ∙ h) in
+            inl (subst (λ i. Behind (kind_word i) (ListsOn version i) t) (sym e) m)
+        | inr a ↦ inr (to_plain ks k (ap (λ b. cond b (Some j) (kind_among ks (kind_word k))) (sym a) ∙ h) t m)
+      ]
 
   -- the first of these kinds, or another
   pub plain_next : (ks : List Kind) (k : Kind) (others : List Kind) (w : List ℕ) (ho : Bool) (room : ℕ) (bs a b rest : List ℕ) → ks ≡ k ∷ others → w ≡ kind_word k → ho ≡ has_otherwise k → room ≡ room_of k → IsLeft (Behind w (ArrowOn version ho room)) bs a → IsLeft (PlainOn version others) bs b → (rest ≡ a) ⊎ (rest ≡ b) → length rest ≤ length a → length rest ≤ length b → IsLeft (PlainOn version ks) bs rest
@@ -304,7 +307,7 @@ module _ (version : Version) where
   to_constant (constants.Int n) v t m = inr (inr (inr (n, v, m)))
 
   of_kind : (t : List ℕ) → KindOn version t → WholeKind version t
-  of_kind t (inl m) = of_plain plain_kinds are_plain t m
+  of_kind t (inl m) = of_plain plain_kinds plain_are_bare t m
   of_kind t (inr (inl m)) =
       let c = of_constant m.0 m.2 in
       (Const c.0, c.1, tt, (c.2.0, m.1 ∙ ap (λ i. codes "const " ++ i) c.2.1 ∙ sym (argued (codes "const") (constant_word c.0) c.2.0), c.2.2))
@@ -318,34 +321,12 @@ module _ (version : Version) where
   bare w t s e = e ∙ ap (λ i. i ++ s) (append-nil w)
 
   to_kind : (k : Kind) → IsKind k → HasKind version k → (t : List ℕ) → Behind (kind_word k ++ spaced (argument_words version k)) (ListsOn version k) t → KindOn version t
-  to_kind Begin v h t m = inl (inl (m.0, bare (kind_word Begin) t m.0 m.1, m.2))
-  to_kind Pass v h t m = inl (inr (inl (m.0, bare (kind_word Pass) t m.0 m.1, m.2)))
-  to_kind (Unary Not) v h t m = inl (inr (inr (inl (m.0, bare (kind_word (Unary Not)) t m.0 m.1, m.2))))
-  to_kind (Unary Length) v h t m = inl (inr (inr (inr (inl (m.0, bare (kind_word (Unary Length)) t m.0 m.1, m.2)))))
-  to_kind (Binary And) v h t m = inl (inr (inr (inr (inr (inl (m.0, bare (kind_word (Binary And)) t m.0 m.1, m.2))))))
-  to_kind (Binary Or) v h t m = inl (inr (inr (inr (inr (inr (inl (m.0, bare (kind_word (Binary Or)) t m.0 m.1, m.2)))))))
-  to_kind (Binary Add) v h t m = inl (inr (inr (inr (inr (inr (inr (inl (m.0, bare (kind_word (Binary Add)) t m.0 m.1, m.2))))))))
-  to_kind (Binary Sub) v h t m = inl (inr (inr (inr (inr (inr (inr (inr (inl (m.0, bare (kind_word (Binary Sub)) t m.0 m.1, m.2)))))))))
-  to_kind (Binary Mul) v h t m = inl (inr (inr (inr (inr (inr (inr (inr (inr (inl (m.0, bare (kind_word (Binary Mul)) t m.0 m.1, m.2))))))))))
-  to_kind (Binary Div) v h t m = inl (inr (inr (inr (inr (inr (inr (inr (inr (inr (inl (m.0, bare (kind_word (Binary Div)) t m.0 m.1, m.2)))))))))))
-  to_kind (Binary Rem) v h t m = inl (inr (inr (inr (inr (inr (inr (inr (inr (inr (inr (inl (m.0, bare (kind_word (Binary Rem)) t m.0 m.1, m.2))))))))))))
-  to_kind (Binary Lt) v h t m = inl (inr (inr (inr (inr (inr (inr (inr (inr (inr (inr (inr (inl (m.0, bare (kind_word (Binary Lt)) t m.0 m.1, m.2)))))))))))))
-  to_kind (Binary Le) v h t m = inl (inr (inr (inr (inr (inr (inr (inr (inr (inr (inr (inr (inr (inl (m.0, bare (kind_word (Binary Le)) t m.0 m.1, m.2))))))))))))))
-  to_kind (Binary Eq) v h t m = inl (inr (inr (inr (inr (inr (inr (inr (inr (inr (inr (inr (inr (inr (inl (m.0, bare (kind_word (Binary Eq)) t m.0 m.1, m.2)))))))))))))))
-  to_kind Select v h t m = inl (inr (inr (inr (inr (inr (inr (inr (inr (inr (inr (inr (inr (inr (inr (inl (m.0, bare (kind_word Select) t m.0 m.1, m.2))))))))))))))))
-  to_kind Switch v h t m = inl (inr (inr (inr (inr (inr (inr (inr (inr (inr (inr (inr (inr (inr (inr (inr (inl (m.0, bare (kind_word Switch) t m.0 m.1, m.2)))))))))))))))))
-  to_kind Next v h t m = inl (inr (inr (inr (inr (inr (inr (inr (inr (inr (inr (inr (inr (inr (inr (inr (inr (inl (m.0, bare (kind_word Next) t m.0 m.1, m.2))))))))))))))))))
-  to_kind Last v h t m = inl (inr (inr (inr (inr (inr (inr (inr (inr (inr (inr (inr (inr (inr (inr (inr (inr (inr (inl (m.0, bare (kind_word Last) t m.0 m.1, m.2)))))))))))))))))))
-  to_kind Leave v h t m = inl (inr (inr (inr (inr (inr (inr (inr (inr (inr (inr (inr (inr (inr (inr (inr (inr (inr (inr (inl (m.0, bare (kind_word Leave) t m.0 m.1, m.2))))))))))))))))))))
-  to_kind Back v h t m = inl (inr (inr (inr (inr (inr (inr (inr (inr (inr (inr (inr (inr (inr (inr (inr (inr (inr (inr (inr (inl (m.0, bare (kind_word Back) t m.0 m.1, m.2)))))))))))))))))))))
-  to_kind Alloc v h t m = inl (inr (inr (inr (inr (inr (inr (inr (inr (inr (inr (inr (inr (inr (inr (inr (inr (inr (inr (inr (inr (inl (m.0, bare (kind_word Alloc) t m.0 m.1, m.2))))))))))))))))))))))
-  to_kind Store v h t m = inl (inr (inr (inr (inr (inr (inr (inr (inr (inr (inr (inr (inr (inr (inr (inr (inr (inr (inr (inr (inr (inr (inl (m.0, bare (kind_word Store) t m.0 m.1, m.2)))))))))))))))))))))))
-  to_kind Fetch v h t m = inl (inr (inr (inr (inr (inr (inr (inr (inr (inr (inr (inr (inr (inr (inr (inr (inr (inr (inr (inr (inr (inr (inr (inl (m.0, bare (kind_word Fetch) t m.0 m.1, m.2))))))))))))))))))))))))
-  to_kind End v h t m = inl (inr (inr (inr (inr (inr (inr (inr (inr (inr (inr (inr (inr (inr (inr (inr (inr (inr (inr (inr (inr (inr (inr (inr (inl (m.0, bare (kind_word End) t m.0 m.1, m.2)))))))))))))))))))))))))
   to_kind (Const c) v h t m = inr (inl (constant_word c ++ m.0, m.1 ∙ argued (codes "const") (constant_word c) m.0, to_constant c v (constant_word c ++ m.0) (m.0, refl, m.2)))
   to_kind (Enter l) v h t m = inr (inr (inl (decimal l ++ m.0, m.1 ∙ argued (codes "enter") (decimal l) m.0, (l, v.0, omega (arith, v.1), (m.0, refl, m.2)))))
   to_kind (Apply b n) v h t m = inr (inr (inr (inl (to_apply version b n v t m))))
   to_kind (Param p) v h t m = inr (inr (inr (inr (to_param version p h t m))))
+  to_kind (Ask s n) v h t m = absurd h
+  to_kind k v h t m = inl (to_plain plain_kinds k (plain_listed k refl) t (m.0, bare (kind_word k) t m.0 m.1, m.2))
 
   -- the words of a statement behind its region
   whole_tail : (k : Kind) (to otherwise : List Destination) → spaced (tail_words version k to otherwise) ≡ codes " " ++ ((kind_word k ++ spaced (argument_words version k)) ++ text_of (has_otherwise k) to otherwise)

@@ -10,8 +10,7 @@ use Rattle.u_program.specs.declared.program.Kind.{Kind}
 use Rattle.u_program.specs.declared.program.Destination.{Destination}
 use Rattle.u_program.specs.Parts.{StatementParts}
 use Rattle.u_program.specs.Limits.{IsDestination, Ascending, HasPorts, greatest_port, rank, has_list, has_otherwise, IsStatement, limits_of}
-use Rattle.u_program.specs.Reading.{plain_kinds}
-use Rattle.u_program.specs.Text.{destination_word, slash, kind_word, block_line, loop_line, statement_line}
+use Rattle.u_program.specs.Text.{destination_word, slash, kind_word, plain_kinds, block_line, loop_line, statement_line}
 use Rattle.u_explain.specs.declared.fronts.Follows.{Follows}
 use Rattle.u_explain.specs.declared.fronts.Follows.TheVariants as follows
 use Rattle.u_explain.specs.Left.{Either, Behind, Read, Numbered, Among}

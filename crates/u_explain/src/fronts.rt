@@ -1,6 +1,6 @@
 //! What is left of a line from the byte on with which no allowed line goes on.
 ghost use Rattle.std.specs.Prelude.{◌≡◌, ◌≤◌, ◌<◌, ◌⊎◌, ◌++◌, ◌∷◌, [], false, List, ℕ, length, codes};
-ghost use Rattle.u_program.specs.Reading.{plain_kinds};
+ghost use Rattle.u_program.specs.Text.{plain_kinds};
 ghost use Rattle.u_explain.specs.Left.{IsLeft, Among, Behind, Numbered};
 ghost use Rattle.u_explain.specs.Lines.{NameOn, IntOn, ConstantOn, CountOn, PlainOn, ParamOn, KindOn, FollowOn, ArrowOn, EndOn, BlockOn, LoopOn, StatementOn, RegionOn, follows_back};
 ghost use Rattle.u_program.specs.declared.program.Version.TheVariants as versions;

@@ -3,8 +3,7 @@ use Rattle.std.proofs.Common.{◌≡◌, ℕ, suc, Bool, true, false, List, [], 
 use Rattle.std.specs.Prelude.{◌==◌, if◌then◌else◌}
 use Rattle.std.specs.List.{AllByRecursion}
 use Rattle.u_program.specs.declared.program.Kind.{Kind}
-use Rattle.u_program.specs.declared.program.Kind.TheVariants.{Begin, Const, Pass, Unary, Binary, Select, Switch, Enter, Next, Param}
-use Rattle.u_program.specs.declared.program.Kind.TheVariants.{Last, Leave, Apply, Back, Alloc, Store, Fetch, End}
+use Rattle.u_program.specs.declared.program.Kind.TheVariants.{Apply}
 use Rattle.u_program.specs.declared.program.Version.{Version}
 use Rattle.u_compile.specs.declared.origins.BlockOrigins.{BlockOrigins}
 use Rattle.u_program.specs.Parts.{StatementParts, BlockParts}
@@ -48,24 +47,8 @@ module _ (b : BlockParts) where
 
     result_is : (k : Kind) → s.kind ≡ k → AllByRecursion (IsOf b) (result_arcs b.name from k)
     unfolding result_arcs
-    result_is Begin e = tt
-    result_is (Const c) e = tt
-    result_is Pass e = tt
-    result_is (Unary o) e = tt
-    result_is (Binary o) e = tt
-    result_is Select e = tt
-    result_is Switch e = tt
-    result_is (Enter l) e = tt
-    result_is Next e = tt
-    result_is Last e = tt
-    result_is Leave e = tt
     result_is (Apply back c) e = (ResultArc n back c s at e, tt)
-    result_is (Param p) e = tt
-    result_is Back e = tt
-    result_is Alloc e = tt
-    result_is Store e = tt
-    result_is Fetch e = tt
-    result_is End e = tt
+    result_is k e = tt
 
     statement_is : (behind : List StatementParts) → AllByRecursion (IsOf b) (statement_arcs b n s behind)
     unfolding statement_arcs

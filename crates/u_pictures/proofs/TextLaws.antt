@@ -4,8 +4,7 @@ use Rattle.std.proofs.lemmas.List.{append-nil}
 use Rattle.std.specs.Prelude.{◌==◌, if◌then◌else◌}
 use Rattle.u_base.specs.Spaced.{ended}
 use Rattle.u_program.specs.declared.program.Kind.{Kind}
-use Rattle.u_program.specs.declared.program.Kind.TheVariants.{Begin, Const, Pass, Unary, Binary, Select, Switch, Enter, Next, Param}
-use Rattle.u_program.specs.declared.program.Kind.TheVariants.{Last, Leave, Apply, Back, Alloc, Store, Fetch, End}
+use Rattle.u_program.specs.declared.program.Kind.TheVariants.{Apply}
 use Rattle.u_program.specs.declared.program.Destination.{Destination}
 use Rattle.u_program.specs.declared.program.Version.{Version}
 use Rattle.u_program.specs.Parts.{StatementParts, BlockParts}
@@ -53,24 +52,8 @@ module _ (b : BlockParts) where
 
   result_silent : (from : List ℕ) (k : Kind) → told (result_arcs b.name from k) ≡ []
   unfolding result_arcs
-  result_silent from Begin = refl
-  result_silent from (Const c) = refl
-  result_silent from Pass = refl
-  result_silent from (Unary o) = refl
-  result_silent from (Binary o) = refl
-  result_silent from Select = refl
-  result_silent from Switch = refl
-  result_silent from (Enter l) = refl
-  result_silent from Next = refl
-  result_silent from Last = refl
-  result_silent from Leave = refl
   result_silent from (Apply n c) = refl
-  result_silent from (Param p) = refl
-  result_silent from Back = refl
-  result_silent from Alloc = refl
-  result_silent from Store = refl
-  result_silent from Fetch = refl
-  result_silent from End = refl
+  result_silent from k = refl
 
   statement_silent : (n : ℕ) (s : StatementParts) (behind : List StatementParts) → told (statement_arcs b n s behind) ≡ []
   unfolding statement_arcs

@@ -4,16 +4,15 @@ use Rattle.std.specs.Fmt.{decimal}
 use Rattle.u_base.specs.Spaced.{spaced}
 use Rattle.u_program.specs.Text.{kind_word, argument_words}
 use Rattle.u_program.specs.declared.program.Kind.{Kind}
-use Rattle.u_program.specs.declared.program.Kind.TheVariants.{Begin, Binary, Select, Switch, Enter, Next, Param}
+use Rattle.u_check.specs.Kinds.{ports_of}
+use Rattle.u_program.specs.declared.program.Kind.TheVariants.{Begin, Select, Switch, Enter, Next, Param}
 use Rattle.u_program.specs.declared.program.Version.{Version}
-use Rattle.u_program.specs.declared.program.Arguments.{Arguments}
-use Rattle.u_program.specs.declared.program.Arguments.TheVariants as arguments
-use Rattle.u_program.specs.declared.program.Kind.TheVariants.{Last, Leave, Apply, Back, Alloc, Store, Fetch, End}
+use Rattle.u_program.specs.declared.program.Kind.TheVariants.{Last, Leave, Apply, Back, Alloc, Store, Fetch, Ask, End}
 use Rattle.u_pictures.specs.declared.styles.Exit.{Exit}
 use Rattle.u_pictures.specs.declared.styles.Exit.TheVariants.{Plain, OnTrue, OnFalse, Turning, FromPoint}
 use Rattle.u_pictures.specs.Dot.{Attribute, attribute}
 
--- the edges of a block, loops, choices, calls, structures, and all others
+-- the edges of a block, loops, choices, calls, structures, questions, and all others
 abbrev pub fill : Kind → List ℕ
 fill Begin = codes "#d9ead3"
 fill (Param k) = codes "#d9ead3"
@@ -29,34 +28,26 @@ fill Back = codes "#eadcf4"
 fill Alloc = codes "#fce5cd"
 fill Store = codes "#fce5cd"
 fill Fetch = codes "#fce5cd"
+fill (Ask s n) = codes "#f4cccc"
 fill k = codes "#ffffff"
 
--- the ports of an `apply`: the procedure, and its arguments
-abbrev pub ports_of_call : Arguments → List ℕ
-ports_of_call arguments.One = codes "{{<i1>1|<i2>2}|"
-ports_of_call arguments.Two = codes "{{<i1>1|<i2>2|<i3>3}|"
-ports_of_call arguments.Three = codes "{{<i1>1|<i2>2|<i3>3|<i4>4}|"
-ports_of_call arguments.Four = codes "{{<i1>1|<i2>2|<i3>3|<i4>4|<i5>5}|"
+-- so many ports, each with its number
+abbrev pub ports : ℕ → List ℕ
+ports n =
+    if n == 1 then codes "<i1>"
+    else if n == 2 then codes "{{<i1>1|<i2>2}|"
+    else if n == 3 then codes "{{<i1>1|<i2>2|<i3>3}|"
+    else if n == 4 then codes "{{<i1>1|<i2>2|<i3>3|<i4>4}|"
+    else codes "{{<i1>1|<i2>2|<i3>3|<i4>4|<i5>5}|"
 
--- the ports of a statement, above its number, where there are two or more
+-- the ports of a statement, above its number
 abbrev pub label_above : Kind → List ℕ
-label_above (Binary o) = codes "{{<i1>1|<i2>2}|"
-label_above Switch = codes "{{<i1>1|<i2>2}|"
-label_above (Apply b n) = ports_of_call n
-label_above Fetch = codes "{{<i1>1|<i2>2}|"
-label_above Select = codes "{{<i1>1|<i2>2|<i3>3}|"
-label_above Store = codes "{{<i1>1|<i2>2|<i3>3}|"
-label_above k = codes "<i1>"
+label_above k = ports (ports_of k)
 
--- below its kind, the two ways out of a `switch`
+-- below its kind, the two ways out of a `switch`, and what ends the ports where there are two or more
 abbrev pub label_below : Kind → List ℕ
 label_below Switch = codes "|{<t>T|<f>F}}"
-label_below (Binary o) = codes "}"
-label_below (Apply b n) = codes "}"
-label_below Fetch = codes "}"
-label_below Select = codes "}"
-label_below Store = codes "}"
-label_below k = []
+label_below k = if ports_of k == 1 then [] else codes "}"
 
 -- the ports, the number, the kind, and the two ways out of a `switch`
 unfoldable pub label : Version → ℕ → Kind → List ℕ

@@ -3,13 +3,14 @@
 //! `next` has no say in what stands above what: with one, loops are torn apart.
 ghost use Rattle.std.specs.Prelude.{◌≡◌, ◌∷◌, []};
 ghost use Rattle.u_pictures.specs.Dot.{attributes_text};
-ghost use Rattle.u_pictures.specs.Styles.{fill, ports_of_call, label_above, label_below, exit_of, exit_attributes, join, entry};
-ghost use Rattle.u_pictures.specs.Styles.{result_arc, point, block_style, loop_style};
+ghost use Rattle.u_pictures.specs.Styles.{fill, ports, label_above, label_below, exit_of};
+ghost use Rattle.u_pictures.specs.Styles.{exit_attributes, join, entry, result_arc, point, block_style, loop_style};
 
-use u_program::{Arguments, Kind};
+use u_check::ports_of;
+use u_program::Kind;
 
 /// The fill of a statement's node, by its family: the edges of a block, loops, choices, calls,
-/// structures, and all others.
+/// structures, questions, and all others.
 pub fn fill_of(kind: &Kind) -> &'static [u8]
     ensures { result.now ≡ fill kind.now }
 {
@@ -19,44 +20,40 @@ pub fn fill_of(kind: &Kind) -> &'static [u8]
         Kind::Select | Kind::Switch => b"#fff2cc".as_slice(),
         Kind::Apply(_, _) | Kind::Back => b"#eadcf4".as_slice(),
         Kind::Alloc | Kind::Store | Kind::Fetch => b"#fce5cd".as_slice(),
+        Kind::Ask(_, _) => b"#f4cccc".as_slice(),
         _ => b"#ffffff".as_slice(),
     }
 }
 
-/// The ports of an `apply`: the procedure, and its arguments.
-fn ports_of_call(arguments: Arguments) -> &'static [u8]
-    ensures { result.now ≡ ports_of_call arguments }
+/// So many ports, from 1 to 5, each with its number.
+fn ports(count: usize) -> &'static [u8]
+    ensures { result.now ≡ ports count }
 {
-    match arguments {
-        Arguments::One => b"{{<i1>1|<i2>2}|".as_slice(),
-        Arguments::Two => b"{{<i1>1|<i2>2|<i3>3}|".as_slice(),
-        Arguments::Three => b"{{<i1>1|<i2>2|<i3>3|<i4>4}|".as_slice(),
-        Arguments::Four => b"{{<i1>1|<i2>2|<i3>3|<i4>4|<i5>5}|".as_slice(),
+    match count {
+        1 => b"<i1>".as_slice(),
+        2 => b"{{<i1>1|<i2>2}|".as_slice(),
+        3 => b"{{<i1>1|<i2>2|<i3>3}|".as_slice(),
+        4 => b"{{<i1>1|<i2>2|<i3>3|<i4>4}|".as_slice(),
+        _ => b"{{<i1>1|<i2>2|<i3>3|<i4>4|<i5>5}|".as_slice(),
     }
 }
 
-/// What stands in a label above the number: the ports, where there are two or more.
+/// What stands in a label above the number: the ports.
 pub fn label_above(kind: &Kind) -> &'static [u8]
     ensures { result.now ≡ label_above kind.now }
 {
-    match kind {
-        Kind::Select | Kind::Store => b"{{<i1>1|<i2>2|<i3>3}|".as_slice(),
-        Kind::Binary(_) | Kind::Switch | Kind::Fetch => b"{{<i1>1|<i2>2}|".as_slice(),
-        Kind::Apply(_, arguments) => ports_of_call(*arguments),
-        _ => b"<i1>".as_slice(),
-    }
+    ports(ports_of(kind))
 }
 
-/// What stands in a label below the kind: the two ways out of a `switch`.
+/// What stands in a label below the kind: the two ways out of a `switch`, and what ends the ports if there
+/// are two or more.
 pub fn label_below(kind: &Kind) -> &'static [u8]
     ensures { result.now ≡ label_below kind.now }
 {
     match kind {
         Kind::Switch => b"|{<t>T|<f>F}}".as_slice(),
-        Kind::Select | Kind::Store | Kind::Binary(_) | Kind::Apply(_, _) | Kind::Fetch => {
-            b"}".as_slice()
-        }
-        _ => b"".as_slice(),
+        _ if ports_of(kind) == 1 => b"".as_slice(),
+        _ => b"}".as_slice(),
     }
 }
 

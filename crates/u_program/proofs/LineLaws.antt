@@ -19,16 +19,16 @@ use Rattle.u_program.specs.declared.reading.Line.TheVariants.{Block, Loop, State
 use Rattle.u_program.specs.declared.program.Constant.{Constant}
 use Rattle.u_program.specs.declared.program.Constant.TheVariants as constants
 use Rattle.u_program.specs.declared.program.Kind.{Kind}
-use Rattle.u_program.specs.declared.program.Kind.TheVariants.{Begin, Const, Pass, Unary, Binary, Select, Switch, Enter, Next, Last, Leave, Apply, Back, Alloc, Store, Fetch, End, Param}
+use Rattle.u_program.specs.declared.program.Kind.TheVariants.{Const, Unary, Binary, Enter, Apply, Ask, Param}
 use Rattle.u_program.specs.declared.program.Version.TheVariants as versions
 use Rattle.u_program.specs.declared.program.Arguments.{Arguments}
 use Rattle.u_program.specs.declared.program.Arguments.TheVariants as arguments
 use Rattle.u_program.specs.declared.program.Parameter.{Parameter}
 use Rattle.u_program.specs.declared.program.Parameter.TheVariants as parameters
 use Rattle.u_value.specs.declared.operators.UnaryOperator.{UnaryOperator}
-use Rattle.u_value.specs.declared.operators.UnaryOperator.TheVariants.{Not, Length}
+use Rattle.u_value.specs.declared.operators.UnaryOperator.TheVariants.{Not}
 use Rattle.u_value.specs.declared.operators.BinaryOperator.{BinaryOperator}
-use Rattle.u_value.specs.declared.operators.BinaryOperator.TheVariants.{And, Or, Add, Sub, Mul, Div, Rem, Lt, Le, Eq}
+use Rattle.u_value.specs.declared.operators.BinaryOperator.TheVariants.{And}
 use Rattle.u_program.specs.declared.program.Destination.{Destination}
 use Rattle.u_program.specs.Parts.{StatementParts}
 use Rattle.u_program.specs.Limits.{Limits, IsConstant, IsKind, IsDestination, Ascending, rank, has_otherwise, IsStatement, no_limits}
@@ -48,20 +48,12 @@ all_high w = list_all (λ b. nat_le 45 b) w
 unary_high : (o : UnaryOperator) → all_high (unary_word o) ≡ true
 unfolding all_high
 unary_high Not = refl
-unary_high Length = refl
+unary_high o = refl
 
 binary_high : (o : BinaryOperator) → all_high (binary_word o) ≡ true
 unfolding all_high
 binary_high And = refl
-binary_high Or = refl
-binary_high Add = refl
-binary_high Sub = refl
-binary_high Mul = refl
-binary_high Div = refl
-binary_high Rem = refl
-binary_high Lt = refl
-binary_high Le = refl
-binary_high Eq = refl
+binary_high o = refl
 
 module _ (version : Version) where
   module _ (c : ℕ) where
@@ -82,24 +74,9 @@ module _ (version : Version) where
 
     kind_free : (k : Kind) → c < 45 → Free c (kind_word k)
     unfolding all_high
-    kind_free Begin low = written_free (codes "begin") low refl
-    kind_free (Const k) low = written_free (codes "const") low refl
-    kind_free Pass low = written_free (codes "pass") low refl
     kind_free (Unary o) low = written_free (unary_word o) low (unary_high o)
     kind_free (Binary o) low = written_free (binary_word o) low (binary_high o)
-    kind_free Select low = written_free (codes "select") low refl
-    kind_free Switch low = written_free (codes "switch") low refl
-    kind_free (Enter l) low = written_free (codes "enter") low refl
-    kind_free Next low = written_free (codes "next") low refl
-    kind_free Last low = written_free (codes "last") low refl
-    kind_free Leave low = written_free (codes "leave") low refl
-    kind_free (Apply b n) low = written_free (codes "apply") low refl
-    kind_free (Param p) low = written_free (codes "param") low refl
-    kind_free Back low = written_free (codes "back") low refl
-    kind_free Alloc low = written_free (codes "alloc") low refl
-    kind_free Store low = written_free (codes "store") low refl
-    kind_free Fetch low = written_free (codes "fetch") low refl
-    kind_free End low = written_free (codes "end") low refl
+    kind_free k low = written_free (kind_word k) low refl
 
     constant_free : (k : Constant) → c < 45 → is_block_byte c ≡ false → IsConstant k → Free c (constant_word k)
     constant_free (constants.Int n) low m v = free_signed c n low v
@@ -129,6 +106,7 @@ module _ (version : Version) where
     argument_free (Enter l) low m v = (free_decimal c l low (omega (arith, v.1)), tt)
     argument_free (Apply b n) low m v = (free_decimal c b low (omega (arith, v.1)), counts_free version n low)
     argument_free (Param p) low m v = (place_free p low, tt)
+    argument_free (Ask s n) low m v = (block_free s m v.each, (count_free n low, tt))
     argument_free k low m v = tt
 
     destination_free : (d : Destination) → c < 45 → IsDestination d → Free c (destination_word d)

@@ -5,7 +5,7 @@ use Rattle.std.proofs.Common.{arith}
 use Rattle.u_program.specs.declared.program.Version.{Version}
 use Rattle.u_program.specs.declared.program.Version.TheVariants as versions
 use Rattle.u_program.specs.declared.program.Kind.{Kind}
-use Rattle.u_program.specs.declared.program.Kind.TheVariants.{Param, Apply}
+use Rattle.u_program.specs.declared.program.Kind.TheVariants.{Param, Apply, Ask}
 use Rattle.u_program.specs.declared.program.Destination.{Destination}
 use Rattle.u_program.specs.Parts.{StatementParts, BlockParts}
 use Rattle.u_program.specs.Limits.{HasKind, HasPorts, IsStatement, IsBlockOf, IsProgram, limits_of, the_limits}
@@ -13,6 +13,7 @@ use Rattle.u_program.specs.Limits.{HasKind, HasPorts, IsStatement, IsBlockOf, Is
 has_kind_of_all : (version : Version) (k : Kind) → HasKind version k → HasKind versions.Two k
 has_kind_of_all version (Param k) h = refl
 has_kind_of_all version (Apply b n) h = tt
+has_kind_of_all version (Ask s n) h = absurd h
 has_kind_of_all version k h = tt
 
 has_ports_of_all : (version : Version) (to : List Destination) → HasPorts version to → HasPorts versions.Two to

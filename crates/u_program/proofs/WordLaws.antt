@@ -1,6 +1,7 @@
 -- The readers of words read exactly the words of what they read.
-use Rattle.std.specs.Prelude.{◌≡◌, ℕ, suc, ◌^◌, ◌≤◌, ◌<◌, Bool, true, false, cond, List, [], ◌∷◌, ◌++◌, codes, Option, Some, None, refl}
-use Rattle.std.specs.List.{AllByRecursion}
+use Rattle.std.specs.Prelude.{◌≡◌, ℕ, suc, ◌^◌, ◌≤◌, ◌<◌, Bool, true, false, cond, if◌then◌else◌, List, [], ◌∷◌, ◌++◌, codes, Option, Some, None, refl}
+use Rattle.std.specs.List.{AllByRecursion, list_all}
+use Rattle.std.proofs.lemmas.Bool.{false≢true, and_parts}
 use Rattle.std.proofs.Common.{sym, ◌∙◌, ap, subst, arith, inl, inr}
 use Rattle.std.specs.Fmt.{decimal}
 use lib.IntN.{ℤ, pos, negsuc}
@@ -18,19 +19,19 @@ use Rattle.std.proofs.lemmas.Option.{same_Some, none-some}
 use Rattle.u_program.specs.declared.program.Constant.{Constant}
 use Rattle.u_program.specs.declared.program.Constant.TheVariants as constants
 use Rattle.u_program.specs.declared.program.Kind.{Kind}
-use Rattle.u_program.specs.declared.program.Kind.TheVariants.{Begin, Const, Pass, Unary, Binary, Select, Switch, Enter, Next, Last, Leave, Apply, Back, Alloc, Store, Fetch, End, Param}
+use Rattle.u_program.specs.declared.program.Kind.TheVariants.{Const, Unary, Binary, Enter, Apply, Ask, Param}
 use Rattle.u_program.specs.declared.program.Version.{Version}
 use Rattle.u_program.specs.declared.program.Version.TheVariants as versions
 use Rattle.u_program.specs.declared.program.Arguments.{Arguments}
 use Rattle.u_program.specs.declared.program.Arguments.TheVariants as arguments
 use Rattle.u_program.specs.declared.program.Parameter.{Parameter}
 use Rattle.u_program.specs.declared.program.Parameter.TheVariants as parameters
-use Rattle.u_value.specs.declared.operators.UnaryOperator.TheVariants.{Not, Length}
-use Rattle.u_value.specs.declared.operators.BinaryOperator.TheVariants.{And, Or, Add, Sub, Mul, Div, Rem, Lt, Le, Eq}
+use Rattle.u_value.specs.declared.operators.UnaryOperator.TheVariants.{Not}
+use Rattle.u_value.specs.declared.operators.BinaryOperator.TheVariants.{And}
 use Rattle.u_program.specs.declared.program.Destination.{Destination}
 use Rattle.u_program.specs.Limits.{IsConstant, IsKind, HasKind, HasCount, IsDestination, greatest_port}
-use Rattle.u_program.specs.Text.{arrow, kind_word, constant_word, count_word, place_word, count_words, argument_words, destination_word}
-use Rattle.u_program.specs.Reading.{Words, name_word, dot_at, ported, destination_at, other_constant, constant_at, plain_kinds, kind_among, const_at, enter_at, arguments_at, parameter_at, count_at, apply_at, param_at, plain_at, kind_of, kind_at, arrow_at}
+use Rattle.u_program.specs.Text.{arrow, kind_word, plain_kinds, has_argument, constant_word, count_word, place_word, count_words, argument_words, destination_word}
+use Rattle.u_program.specs.Reading.{Words, name_word, dot_at, ported, destination_at, other_constant, constant_at, kind_among, const_at, enter_at, arguments_at, parameter_at, count_at, apply_at, param_at, plain_at, kind_of, kind_at, arrow_at}
 
 pub name_word_sound : (w name : List ℕ) → name_word w ≡ Some name → IsBlock name × (w ≡ name)
 unfolding name_word
@@ -173,23 +174,52 @@ constant_complete (constants.Int (negsuc n)) v =
 
 -- kinds
 
-IsPlain : Version → Kind → Type 0
-IsPlain version k = IsKind k × HasKind version k × (argument_words version k ≡ [])
+-- a kind without an argument keeps to all limits, in each version
+pub plain_is : (version : Version) (k : Kind) → has_argument k ≡ false → IsKind k × HasKind version k × (argument_words version k ≡ [])
+plain_is version (Const c) e = absurd (false≢true (sym e))
+plain_is version (Enter l) e = absurd (false≢true (sym e))
+plain_is version (Apply b n) e = absurd (false≢true (sym e))
+plain_is version (Param p) e = absurd (false≢true (sym e))
+plain_is version (Ask s n) e = absurd (false≢true (sym e))
+plain_is version k e = (tt, tt, refl)
 
-among_sound : (version : Version) (ks : List Kind) (w : List ℕ) (k : Kind) → AllByRecursion (IsPlain version) ks → kind_among ks w ≡ Some k → IsPlain version k × (w ≡ kind_word k)
+-- each of them is the one that its word says
+pub plain_listed : (k : Kind) → has_argument k ≡ false → kind_among plain_kinds (kind_word k) ≡ Some k
 unfolding kind_among
-among_sound version [] w k v h = absurd (none-some k h)
-among_sound version (j ∷ ks) w k v h =
+plain_listed (Const c) e = absurd (false≢true (sym e))
+plain_listed (Enter l) e = absurd (false≢true (sym e))
+plain_listed (Apply b n) e = absurd (false≢true (sym e))
+plain_listed (Param p) e = absurd (false≢true (sym e))
+plain_listed (Ask s n) e = absurd (false≢true (sym e))
+plain_listed (Unary Not) e = refl
+plain_listed (Binary And) e = refl
+plain_listed k e = refl
+
+-- whether none of the kinds has an argument
+abbrev pub AreBare : List Kind → Type 0
+AreBare = AllByRecursion (λ k. has_argument k ≡ false)
+
+pub plain_are_bare : AreBare plain_kinds
+plain_are_bare = bare plain_kinds refl
+  where
+    bare : (ks : List Kind) → list_all (λ k. if has_argument k then false else true) ks ≡ true → AreBare ks
+    bare [] e = tt
+    bare (k ∷ ks) e = let a = and_parts _ _ e in (one (has_argument k) a.0, bare ks a.1)
+      where
+        one : (b : Bool) → (if b then false else true) ≡ true → b ≡ false
+        one false e = refl
+        one true e = absurd (false≢true e)
+
+among_sound : (ks : List Kind) (w : List ℕ) (k : Kind) → AreBare ks → kind_among ks w ≡ Some k → (has_argument k ≡ false) × (w ≡ kind_word k)
+unfolding kind_among
+among_sound [] w k v h = absurd (none-some k h)
+among_sound (j ∷ ks) w k v h =
     elim (told w (kind_word j) (is w (kind_word j)) refl) [
       | inl a ↦
           let e = same_Some j k (ap (λ b. cond b (Some j) (kind_among ks w)) (sym a.0) ∙ h) in
-          subst (λ k. IsPlain version k × (w ≡ kind_word k)) e (v.0, a.1)
-      | inr a ↦ among_sound version ks w k v.1 (ap (λ b. cond b (Some j) (kind_among ks w)) (sym a) ∙ h)
+          subst (λ k. (has_argument k ≡ false) × (w ≡ kind_word k)) e (v.0, a.1)
+      | inr a ↦ among_sound ks w k v.1 (ap (λ b. cond b (Some j) (kind_among ks w)) (sym a) ∙ h)
     ]
-
-are_plain : (version : Version) → AllByRecursion (IsPlain version) plain_kinds
-unfolding IsPlain
-are_plain version = ((tt, tt, refl), ((tt, tt, refl), ((tt, tt, refl), ((tt, tt, refl), ((tt, tt, refl), ((tt, tt, refl), ((tt, tt, refl), ((tt, tt, refl), ((tt, tt, refl), ((tt, tt, refl), ((tt, tt, refl), ((tt, tt, refl), ((tt, tt, refl), ((tt, tt, refl), ((tt, tt, refl), ((tt, tt, refl), ((tt, tt, refl), ((tt, tt, refl), ((tt, tt, refl), ((tt, tt, refl), ((tt, tt, refl), ((tt, tt, refl), ((tt, tt, refl), ((tt, tt, refl), tt))))))))))))))))))))))))
 
 SaysKind : Version → List ℕ → Words → Kind → Words → Type 0
 SaysKind version w ws k rest = IsKind k × HasKind version k × (w ∷ ws ≡ kind_word k ∷ (argument_words version k ++ rest))
@@ -331,15 +361,16 @@ param_sound versions.Two w (v ∷ ws) k rest e h =
     (tt, refl, ap (λ w. w ∷ v ∷ ws) e ∙ ap (λ v. codes "param" ∷ v ∷ ws) (parameter_sound v a.0 a.1) ∙ ap (λ ws. codes "param" ∷ place_word a.0 ∷ ws) g)
 
 plain_sound : (version : Version) (w : List ℕ) (ws : Words) (k : Kind) (rest : Words) → plain_at w ws ≡ Some (k, rest) → SaysKind version w ws k rest
-unfolding SaysKind IsPlain
+unfolding SaysKind
 plain_sound version w ws k rest h =
     let a = then_some (kind_among plain_kinds w) (λ k. Some (k, ws)) (k, rest) h in
-    let s = among_sound version plain_kinds w a.0 (are_plain version) a.1 in
+    let s = among_sound plain_kinds w a.0 plain_are_bare a.1 in
+    let p = plain_is version a.0 s.0 in
     let o = same_Some (a.0, ws) (k, rest) a.2 in
     let f : a.0 ≡ k = ap (λ t. t.0) o in
     let g : ws ≡ rest = ap (λ t. t.1) o in
     subst (λ k. IsKind k × HasKind version k × (w ∷ ws ≡ kind_word k ∷ (argument_words version k ++ rest))) f
-    (s.0.0, s.0.1, ap (λ w. w ∷ ws) s.1 ∙ ap (λ ws. kind_word a.0 ∷ ws) (g ∙ ap (λ l. l ++ rest) (sym s.0.2)))
+    (p.0, p.1, ap (λ w. w ∷ ws) s.1 ∙ ap (λ ws. kind_word a.0 ∷ ws) (g ∙ ap (λ l. l ++ rest) (sym p.2)))
 
 module _ (version : Version) (w : List ℕ) (ws : Words) (k : Kind) (rest : Words) where
   abbrev param_or : Bool → Option (Kind × Words)
@@ -393,30 +424,10 @@ kind_complete versions.One (Param p) rest v h = absurd (other h)
     other : versions.One ≡ versions.Two → ⊥
     other e = cc
 kind_complete versions.Two (Param p) rest v h = ap (λ r. r then λ p. Some (Param p, rest)) (parameter_complete p)
-kind_complete version Begin rest v h = refl
-kind_complete version Pass rest v h = refl
+kind_complete version (Ask s n) rest v h = absurd h
 kind_complete version (Unary Not) rest v h = refl
-kind_complete version (Unary Length) rest v h = refl
 kind_complete version (Binary And) rest v h = refl
-kind_complete version (Binary Or) rest v h = refl
-kind_complete version (Binary Add) rest v h = refl
-kind_complete version (Binary Sub) rest v h = refl
-kind_complete version (Binary Mul) rest v h = refl
-kind_complete version (Binary Div) rest v h = refl
-kind_complete version (Binary Rem) rest v h = refl
-kind_complete version (Binary Lt) rest v h = refl
-kind_complete version (Binary Le) rest v h = refl
-kind_complete version (Binary Eq) rest v h = refl
-kind_complete version Select rest v h = refl
-kind_complete version Switch rest v h = refl
-kind_complete version Next rest v h = refl
-kind_complete version Last rest v h = refl
-kind_complete version Leave rest v h = refl
-kind_complete version Back rest v h = refl
-kind_complete version Alloc rest v h = refl
-kind_complete version Store rest v h = refl
-kind_complete version Fetch rest v h = refl
-kind_complete version End rest v h = refl
+kind_complete version k rest v h = refl
 
 pub arrow_sound : (ws : Words) (u : Unit {0}) (rest : Words) → arrow_at ws ≡ Some (u, rest) → ws ≡ arrow ∷ rest
 unfolding arrow_at

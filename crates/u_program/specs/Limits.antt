@@ -6,7 +6,7 @@ use Rattle.u_name.specs.Context.{IsBetween}
 use Rattle.u_program.specs.declared.program.Constant.{Constant}
 use Rattle.u_program.specs.declared.program.Constant.TheVariants as constants
 use Rattle.u_program.specs.declared.program.Kind.{Kind}
-use Rattle.u_program.specs.declared.program.Kind.TheVariants.{Const, Param, Switch, Enter, Apply, Store, End}
+use Rattle.u_program.specs.declared.program.Kind.TheVariants.{Const, Param, Switch, Enter, Apply, Store, Ask, End}
 use Rattle.u_program.specs.declared.program.Version.{Version}
 use Rattle.u_program.specs.declared.program.Version.TheVariants as versions
 use Rattle.u_program.specs.declared.program.Arguments.{Arguments}
@@ -67,6 +67,7 @@ abbrev pub IsKind : Kind → Type 0
 IsKind (Const c) = IsConstant c
 IsKind (Enter l) = IsBetween 1 l 99
 IsKind (Apply b n) = IsBetween 1 b 999
+IsKind (Ask s n) = IsBlock s
 IsKind k = Unit {0}
 
 -- an `apply` of version 1 has one argument
@@ -74,10 +75,12 @@ abbrev pub HasCount : Version → Arguments → Type 0
 HasCount versions.One n = n ≡ arguments.One
 HasCount versions.Two n = Unit {0}
 
--- whether statements of the version have the kind: `param`, and an `apply` of several arguments, are of version 2
+-- whether statements of the version have the kind: `param`, and an `apply` of several arguments, are of version 2;
+-- no version has `ask` yet
 abbrev pub HasKind : Version → Kind → Type 0
 HasKind version (Param k) = version ≡ versions.Two
 HasKind version (Apply b n) = HasCount version n
+HasKind version (Ask s n) = ⊥
 HasKind version k = Unit {0}
 
 -- whether a statement of the kind lists destinations

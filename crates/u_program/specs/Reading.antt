@@ -9,10 +9,7 @@ use Rattle.u_base.specs.WholeWords.{◌then◌, whole, is, number_word, number0_
 use Rattle.u_program.specs.declared.program.Constant.{Constant}
 use Rattle.u_program.specs.declared.program.Constant.TheVariants as constants
 use Rattle.u_program.specs.declared.program.Kind.{Kind}
-use Rattle.u_program.specs.declared.program.Kind.TheVariants.{Begin, Const, Pass, Unary, Binary, Select, Switch, Enter, Next, Param}
-use Rattle.u_program.specs.declared.program.Kind.TheVariants.{Last, Leave, Apply, Back, Alloc, Store, Fetch, End}
-use Rattle.u_value.specs.declared.operators.UnaryOperator.TheVariants.{Not, Length}
-use Rattle.u_value.specs.declared.operators.BinaryOperator.TheVariants.{And, Or, Add, Sub, Mul, Div, Rem, Lt, Le, Eq}
+use Rattle.u_program.specs.declared.program.Kind.TheVariants.{Const, Enter, Apply, Param}
 use Rattle.u_program.specs.declared.program.Destination.{Destination}
 use Rattle.u_program.specs.declared.reading.Line.{Line}
 use Rattle.u_program.specs.declared.reading.Line.TheVariants.{Block, Loop, Statement}
@@ -24,7 +21,7 @@ use Rattle.u_program.specs.declared.program.Arguments.TheVariants as arguments
 use Rattle.u_program.specs.declared.program.Parameter.{Parameter}
 use Rattle.u_program.specs.declared.program.Parameter.TheVariants as parameters
 use Rattle.u_program.specs.Limits.{greatest_port, has_list, has_otherwise, rank}
-use Rattle.u_program.specs.Text.{kind_word, arrow, slash}
+use Rattle.u_program.specs.Text.{kind_word, plain_kinds, arrow, slash}
 
 abbrev pub Words : Type 0
 Words = List (List ℕ)
@@ -76,16 +73,6 @@ other_constant (c ∷ cs) = cond (c == 64) (name_word cs then λ name. Some (con
 
 unfoldable pub constant_at : List ℕ → Option Constant
 constant_at w = cond (is w (codes "true")) (Some (constants.Bool true)) (cond (is w (codes "false")) (Some (constants.Bool false)) (other_constant w))
-
--- the kinds without an argument
-abbrev pub plain_kinds : List Kind
-plain_kinds =
-    Begin ∷ Pass ∷ Unary Not ∷ Unary Length
-    ∷ Binary And ∷ Binary Or
-    ∷ Binary Add ∷ Binary Sub ∷ Binary Mul ∷ Binary Div ∷ Binary Rem
-    ∷ Binary Lt ∷ Binary Le ∷ Binary Eq
-    ∷ Select ∷ Switch ∷ Next ∷ Last ∷ Leave ∷ Back
-    ∷ Alloc ∷ Store ∷ Fetch ∷ End ∷ []
 
 -- the first of these kinds that has this word
 unfoldable pub kind_among : List Kind → List ℕ → Option Kind

@@ -5,7 +5,7 @@ use Rattle.u_program.specs.declared.program.Constant.{Constant}
 use Rattle.u_program.specs.declared.program.Constant.TheVariants as constants
 use Rattle.u_program.specs.declared.program.Kind.{Kind}
 use Rattle.u_program.specs.declared.program.Kind.TheVariants.{Begin, Const, Pass, Unary, Binary, Select, Switch, Enter, Next, Param}
-use Rattle.u_program.specs.declared.program.Kind.TheVariants.{Last, Leave, Apply, Back, Alloc, Store, Fetch, End}
+use Rattle.u_program.specs.declared.program.Kind.TheVariants.{Last, Leave, Apply, Back, Alloc, Store, Fetch, Ask, End}
 use Rattle.u_value.specs.declared.operators.UnaryOperator.{UnaryOperator}
 use Rattle.u_value.specs.declared.operators.UnaryOperator.TheVariants.{Not, Length}
 use Rattle.u_value.specs.declared.operators.BinaryOperator.{BinaryOperator}
@@ -66,7 +66,27 @@ kind_word Back = codes "back"
 kind_word Alloc = codes "alloc"
 kind_word Store = codes "store"
 kind_word Fetch = codes "fetch"
+kind_word (Ask s n) = codes "ask"
 kind_word End = codes "end"
+
+-- the kinds without an argument, in the order in which a reader tries them
+abbrev pub plain_kinds : List Kind
+plain_kinds =
+    Begin ∷ Pass ∷ Unary Not ∷ Unary Length
+    ∷ Binary And ∷ Binary Or
+    ∷ Binary Add ∷ Binary Sub ∷ Binary Mul ∷ Binary Div ∷ Binary Rem
+    ∷ Binary Lt ∷ Binary Le ∷ Binary Eq
+    ∷ Select ∷ Switch ∷ Next ∷ Last ∷ Leave ∷ Back
+    ∷ Alloc ∷ Store ∷ Fetch ∷ End ∷ []
+
+-- whether an argument follows the word of the kind
+abbrev pub has_argument : Kind → Bool
+has_argument (Const c) = true
+has_argument (Enter l) = true
+has_argument (Apply b n) = true
+has_argument (Param k) = true
+has_argument (Ask s n) = true
+has_argument k = false
 
 -- `true`, `-7`, `@fact`
 abbrev pub constant_word : Constant → List ℕ
@@ -97,6 +117,7 @@ argument_words version (Const c) = constant_word c ∷ []
 argument_words version (Enter l) = decimal l ∷ []
 argument_words version (Apply b n) = decimal b ∷ count_words version n
 argument_words version (Param k) = place_word k ∷ []
+argument_words version (Ask s n) = s ∷ count_word n ∷ []
 argument_words version k = []
 
 -- `statement.port`

@@ -1,8 +1,7 @@
 //! The kinds of statements: their words, and how many lists they have.
 ghost use Rattle.std.specs.Prelude.{◌≡◌};
 ghost use Rattle.u_program.specs.Limits.{has_list, has_otherwise};
-ghost use Rattle.u_program.specs.Reading.{plain_kinds};
-ghost use Rattle.u_program.specs.Text.{unary_word, binary_word, kind_word, count_word, place_word};
+ghost use Rattle.u_program.specs.Text.{unary_word, binary_word, kind_word, plain_kinds, count_word, place_word};
 
 use crate::program::{Arguments, Kind, Parameter};
 use u_value::{BinaryOperator, UnaryOperator};
@@ -93,6 +92,7 @@ pub fn kind_word(kind: &Kind) -> &'static [u8]
         Kind::Alloc => b"alloc".as_slice(),
         Kind::Store => b"store".as_slice(),
         Kind::Fetch => b"fetch".as_slice(),
+        Kind::Ask(_, _) => b"ask".as_slice(),
         Kind::End => b"end".as_slice(),
     }
 }

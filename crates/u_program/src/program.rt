@@ -134,6 +134,9 @@ pub enum Kind {
     Store,
     /// Gives what is written in the cell of the structure that its second value says, once it is written.
     Fetch,
+    /// Asks the service of that name about as many values, and gives a reference to a structure of one
+    /// cell, which a reply writes.
+    Ask(BlockName, Arguments),
     /// Hands on the result of its block.
     End,
 }

@@ -1,6 +1,7 @@
 //! Lines of a program's text, read.
 ghost use Rattle.std.specs.Prelude.{◌≡◌, ◌≤◌, ◌&&◌, Some, None, MatchOption, MatchResult};
-ghost use Rattle.u_program.specs.Reading.{plain_kinds, name_word, destination_at, is_slash, destinations_at, list_at, otherwise_at, constant_at, kind_among, arguments_at, parameter_at, count_at, param_at, kind_at, arrow_at, statement_at, numbers_at, line_at};
+ghost use Rattle.u_program.specs.Reading.{name_word, destination_at, is_slash, destinations_at, list_at, otherwise_at, constant_at, kind_among, arguments_at, parameter_at, count_at, param_at, kind_at, arrow_at, statement_at, numbers_at, line_at};
+ghost use Rattle.u_program.specs.Text.{plain_kinds};
 ghost use Rattle.u_program.specs.Limits.{greatest_port};
 ghost use Rattle.u_program.specs.Refuses.{Refuses};
 ghost use Rattle.u_base.specs.Pieces.{words};

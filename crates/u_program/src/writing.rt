@@ -4,12 +4,13 @@ ghost use Rattle.u_base.specs.Appending.{Extends};
 ghost use Rattle.u_base.specs.Spaced.{spaced, ended};
 ghost use Rattle.std.specs.Fmt.{decimal};
 ghost use Rattle.u_program.specs.Limits.{IsProgram, limits_of, has_otherwise};
-ghost use Rattle.u_program.specs.Text.{header, kind_word, constant_word, count_words, argument_words, destination_word, otherwise_words, tail_words, loop_line, loop_lines, statement_line, statement_lines, block_line, block_lines, blocks_lines, program_text};
+ghost use Rattle.u_program.specs.Text.{header, kind_word, constant_word, count_word, count_words, argument_words, destination_word, otherwise_words, tail_words, loop_line, loop_lines, statement_line, statement_lines, block_line, block_lines, blocks_lines, program_text};
 
 use crate::kind_words::{count_word, has_otherwise, kind_word, place_word};
 use crate::program::{Arguments, Block, Constant, Destination, Kind, Program, Statement, Version};
 use std::alloc::AllocError;
 use u_base::{cut_back, push_behind, push_long, push_number, push_signed, push_spaced};
+use u_name::BlockName;
 
 #[tactic(auto, using(u_base::proofs::AppendingLaws::extends_same, u_base::proofs::AppendingLaws::extends_behind, std::proofs::Common::append_assoc))]
 fn push_constant(out: &mut Vec<u8>, constant: &Constant) -> Result<(), AllocError>
@@ -49,6 +50,21 @@ fn push_call(
     }
 }
 
+/// Appends the service that an `ask` names, and how many operands it has.
+#[tactic(auto, using(u_base::proofs::AppendingLaws::extends_same, u_base::proofs::AppendingLaws::extends_behind, std::proofs::Common::append_assoc))]
+fn push_question(
+    out: &mut Vec<u8>,
+    service: &BlockName,
+    operands: Arguments,
+) -> Result<(), AllocError>
+    ensures ok { OnOk result
+        (out.new.items ≡ out.old.items ++ spaced (service.now ∷ count_word operands ∷ [])) }
+    ensures err { OnErr result (Extends out.old.items out.new.items) }
+{
+    push_spaced(out, service.as_bytes())?;
+    push_spaced(out, count_word(operands))
+}
+
 /// Appends the kind's words, each behind a space.
 ///
 /// # Errors
@@ -66,6 +82,7 @@ pub fn push_kind(out: &mut Vec<u8>, version: Version, kind: &Kind) -> Result<(),
         Kind::Enter(number) => push_behind(out, b' ', u32::from(*number)),
         Kind::Apply(number, arguments) => push_call(out, version, *number, *arguments),
         Kind::Param(parameter) => push_spaced(out, place_word(*parameter)),
+        Kind::Ask(service, operands) => push_question(out, service, *operands),
         _ => Ok(()),
     }
 }

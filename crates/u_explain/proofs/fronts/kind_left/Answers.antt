@@ -1,7 +1,7 @@
 use Rattle.std.proofs.Common.{codes, subst, List, ℕ}
 use Rattle.u_program.specs.declared.program.Version.{Version}
 use Rattle.u_program.specs.declared.program.Kind.{Kind}
-use Rattle.u_program.specs.Reading.{plain_kinds}
+use Rattle.u_program.specs.Text.{plain_kinds}
 use Rattle.u_explain.specs.declared.fronts.Follows.{Follows}
 use Rattle.u_explain.specs.declared.fronts.Follows.TheVariants as follows
 use Rattle.u_explain.specs.Left.{IsLeft, Behind, Either, Among, Numbered}

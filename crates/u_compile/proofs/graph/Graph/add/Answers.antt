@@ -14,4 +14,4 @@ invariant_of-self-2 c =
     let e : c.push.new.self.items ≡ c.self.inside.statements.items ++ (c.new.result ∷ []) = c.in_ok-push.ensures.items in
     let new : c.new.result ≡ draft c.args.region c.args.kind number = c.new.ensures ∙ ap (λ (n : ℕ). draft c.args.region c.args.kind (n + 1)) count in
     rw (e, new) (with_draft (graph c.self.inside.loops.items c.self.inside.statements.items c.self.inside.links.items) (draft c.args.region c.args.kind number) c.self.invariant (omega arith)
-    (record { region = in_loop; kind = c.requires.kind; enters = enters; shares = own_links c.self.inside.statements.items (draft c.args.region c.args.kind number) c.requires.other refl }))
+    (record { region = in_loop; kind = c.requires.kind; known = c.requires.known; enters = enters; shares = own_links c.self.inside.statements.items (draft c.args.region c.args.kind number) c.requires.other refl }))

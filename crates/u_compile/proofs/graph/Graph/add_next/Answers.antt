@@ -13,4 +13,4 @@ invariant_of-self-2 c =
     let enter : is_enter (draft_at c.self.inside.statements.items c.args.enter) ≡ true = ap (λ (g : GraphParts). is_enter (draft_at g.statements c.args.enter)) c.self.view_is ∙ c.requires.enter in
     let e : c.push.new.self.items ≡ c.self.inside.statements.items ++ (c.new.result ∷ []) = c.in_ok-push.ensures.items in
     rw (e, c.new.ensures) (with_draft (graph c.self.inside.loops.items c.self.inside.statements.items c.self.inside.links.items) new c.self.invariant (omega arith)
-    (record { region = in_loop; kind = tt; enters = refl; shares = test_more is_enter refl c.self.inside.statements.items new c.args.enter enter }))
+    (record { region = in_loop; kind = tt; known = tt; enters = refl; shares = test_more is_enter refl c.self.inside.statements.items new c.args.enter enter }))
