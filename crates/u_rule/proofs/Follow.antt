@@ -1,5 +1,5 @@
 -- What a firing of a checked job gives lies where the job has a port for it.
-use Rattle.std.proofs.Common.{◌≡◌, ℕ, ◌≤◌, ◌-◌, ◌+◌, ◌==◌, ◌&&◌, refl, ap, sym, ◌∙◌, arith, subst, Bool, true, false, List, [], ◌∷◌, length, Option, Some, None, Result, Ok, Err, cond, inl, inr}
+use Rattle.std.proofs.Common.{◌≡◌, ℕ, ◌≤◌, ◌-◌, ◌+◌, ◌==◌, refl, ap, sym, ◌∙◌, arith, subst, Bool, true, false, List, [], ◌∷◌, length, Option, Some, None, Result, Ok, Err, cond, inl, inr}
 use Rattle.std.specs.Prelude.{slice_get, Contains, IsTrue, is_some}
 use Rattle.std.proofs.lemmas.Bool.{false≢true, and_parts, eqb-true}
 use Rattle.std.proofs.lemmas.List.Elements.{All-from_recursion, All-contains}
@@ -15,7 +15,7 @@ use Rattle.u_program.specs.declared.program.Arguments.TheVariants as arguments
 use Rattle.u_program.specs.declared.program.Destination.{Destination}
 use Rattle.u_program.specs.declared.program.Version.{Version}
 use Rattle.u_program.specs.declared.program.Kind.{Kind}
-use Rattle.u_program.specs.declared.program.Kind.TheVariants.{Binary, Select, Switch, Enter, Next, Last, Leave, Apply, Store, Fetch}
+use Rattle.u_program.specs.declared.program.Kind.TheVariants.{Binary, Select, Switch, Enter, Next, Last, Leave, Apply, Store, Fetch, Ask}
 use Rattle.u_check.specs.Kinds.{ports_of, back_named, is_apply, is_end, is_of_loop, crosses, is_store}
 use Rattle.u_check.specs.Rules.{sends, main_name, block_named, statement_at, held_by, IsChecked}
 use Rattle.u_check.proofs.Arcs.{numbered}
@@ -24,9 +24,9 @@ use Rattle.u_check.proofs.Facts.{Target, Returned, main_block, in_to, in_otherwi
 use Rattle.u_base.proofs.Member.{Contains-nil, Contains-cons_cases}
 use Rattle.u_rule.specs.Parts.{TokenParts, token, ValueList}
 use Rattle.u_rule.specs.Fits.{statement_in, statement_of, holder_in, holder_of, fits, fits_at, IsPlaced, IsFitting, AllFit}
-use Rattle.u_rule.specs.Rule.{is_firing_of, is_firing_at, beside, reached, refusal_of, list_of, result_of, first_of, delivered, handed_on, arguments_from, called_first, begun, called_on, called, back_of, brought_back, finished, ended, given, fault_of}
-use Rattle.u_name.specs.Cell.{CellOf}
-use Rattle.u_rule.specs.Structures.{cell_named, has_its_write, wrote, stored, stored_in}
+use Rattle.u_rule.specs.Rule.{is_firing_of, is_firing_at, has_its_form, given_with, beside, reached, refusal_of, list_of, result_of, first_of, delivered, handed_on, arguments_from, called_first, begun, called_on, called, back_of, brought_back, finished, ended, given, fault_of}
+use Rattle.u_name.specs.Cell.{CellOf, cell_of}
+use Rattle.u_rule.specs.Structures.{cell_named, wrote, stored, stored_in, is_answer, replied}
 use Rattle.u_check.specs.Jobs.{JobParts}
 use Rattle.u_rule.specs.declared.firing.Firing.{Firing}
 use Rattle.u_rule.specs.declared.parts.Written.{Written}
@@ -50,6 +50,10 @@ ports_some (Apply n arguments.Three) = omega arith
 ports_some (Apply n arguments.Four) = omega arith
 ports_some Store = omega arith
 ports_some Fetch = omega arith
+ports_some (Ask s arguments.One) = omega arith
+ports_some (Ask s arguments.Two) = omega arith
+ports_some (Ask s arguments.Three) = omega arith
+ports_some (Ask s arguments.Four) = omega arith
 ports_some k = omega arith
 
 -- a token at that statement of the block
@@ -78,6 +82,11 @@ stored_fit : (p : List BlockParts) (a : Activity) (r : Result CellOf FaultKind) 
 stored_fit p a (Ok cell) (structure ∷ index ∷ v ∷ vs) = write_fits p cell a v
 stored_fit p a (Ok cell) vs = none_fit p a faults.Kind
 stored_fit p a (Err kind) vs = none_fit p a kind
+
+-- nor does a reply
+replied_fit : (p : List BlockParts) (a : Activity) (write : Option Written) → AllFit p (replied a write)
+replied_fit p a None = λ x m. absurd (Contains-nil x m)
+replied_fit p a (Some w) = write_fits p (cell_of a 0) w.writer w.value
 
 one_fits : (p : List BlockParts) (t : TokenParts) → IsPlaced p t → AllFit p (entries.Token t ∷ [])
 unfolding IsFitting
@@ -290,9 +299,16 @@ module _ (p : List BlockParts) (c : IsChecked p) where
         at false false true q h = stored_fit p a (cell_named vs) vs
         at false false false q h = handed_fit version vs (result_of s.kind a vs write)
 
-  -- what a statement gives where an activity may execute it
-  pub all_given_fit : (es : List Entry) (version : Version) (s : StatementParts) (a : Activity) (vs : ValueList) (write : Option Written) → es ≡ given version p s a vs write → IsProgram the_limits p → statement_of p a.block a.statement ≡ Some s → fits_at p s.region a ≡ true → AllFit p es
-  all_given_fit es version s a vs write z lim e f = rw z (given_fit s a e f version lim vs write)
+  given_with_fit : (s : StatementParts) (a : Activity) → statement_of p a.block a.statement ≡ Some s → fits_at p s.region a ≡ true → (version : Version) → IsProgram the_limits p → (vs : ValueList) (write : Option Written) → AllFit p (given_with version p s a vs write)
+  given_with_fit s a e f version lim vs write = at (is_answer s.kind write)
+    where
+      at : (x : Bool) → AllFit p (cond x (replied a write) (given version p s a vs write))
+      at true = replied_fit p a write
+      at false = given_fit s a e f version lim vs write
+
+  -- what a firing gives where its activity may execute the statement
+  pub all_given_fit : (es : List Entry) (version : Version) (s : StatementParts) (a : Activity) (vs : ValueList) (write : Option Written) → es ≡ given_with version p s a vs write → IsProgram the_limits p → statement_of p a.block a.statement ≡ Some s → fits_at p s.region a ≡ true → AllFit p es
+  all_given_fit es version s a vs write z lim e f = rw z (given_with_fit s a e f version lim vs write)
 
   -- the argument lies at the first statement of `main`
   started : IsProgram the_limits p → (v : Value) → IsPlaced p (token (activity Top main_name 1 1) 1 v)
@@ -309,7 +325,7 @@ module _ (p : List BlockParts) (c : IsChecked p) where
 
 -- the activity of a firing of a statement fits in its region
 pub at_region : (p : List BlockParts) (s : StatementParts) (f : Firing) → is_firing_at p (Some s) f ≡ true → fits_at p s.region f.activity ≡ true
-at_region p s f e = (and_parts (fits_at p s.region f.activity) (length f.values == ports_of s.kind && has_its_write s.kind f.values f.write) e).0
+at_region p s f e = (and_parts (fits_at p s.region f.activity) (has_its_form s f) e).0
 
 -- the activity of a firing fits
 pub firing_fits : (job : JobParts) (f : Firing) (s : StatementParts) → is_firing_of job f ≡ true → statement_of job.program.blocks f.activity.block f.activity.statement ≡ Some s → fits_at job.program.blocks s.region f.activity ≡ true

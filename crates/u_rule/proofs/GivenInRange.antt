@@ -6,7 +6,7 @@ use Rattle.std.proofs.lemmas.List.Elements.{All-from_recursion, All-contains}
 use Rattle.u_name.specs.Block.{IsBlock}
 use Rattle.u_name.specs.Context.{Tree, Top, InLoop, InCall, depth, IsBetween, IsContext}
 use Rattle.u_name.specs.Name.{Activity, IsName, loop_context, call_context, left, returned}
-use Rattle.u_name.specs.Cell.{CellOf}
+use Rattle.u_name.specs.Cell.{CellOf, cell_of}
 use Rattle.u_value.specs.Reading.{IsValue}
 use Rattle.u_value.specs.declared.value.Value.{Value}
 use Rattle.u_value.specs.declared.value.Value.TheVariants as values
@@ -25,9 +25,9 @@ use Rattle.u_check.proofs.Blocks.{member_at}
 use Rattle.u_base.proofs.Member.{Contains-nil, Contains-cons_cases}
 use Rattle.u_rule.specs.Parts.{token, ValueList}
 use Rattle.u_rule.specs.Fits.{statement_of}
-use Rattle.u_rule.specs.Rule.{reached, refusal_of, list_of, result_of, first_of, beside, delivered, handed_on, arguments_from, called_first, begun, called_on, called, back_of, brought_back, finished, ended, given, fault_of}
+use Rattle.u_rule.specs.Rule.{reached, refusal_of, list_of, result_of, first_of, beside, delivered, handed_on, arguments_from, called_first, begun, called_on, called, back_of, brought_back, finished, ended, given, given_with, fault_of}
 use Rattle.u_rule.specs.Initiations.{last_turn}
-use Rattle.u_rule.specs.Structures.{cell_named, stored, stored_in, wrote}
+use Rattle.u_rule.specs.Structures.{cell_named, stored, stored_in, wrote, is_answer, replied}
 use Rattle.u_rule.specs.EntryReading.{IsEntry}
 use Rattle.u_rule.specs.FiringReading.{AreValues, IsWritten}
 use Rattle.u_rule.specs.declared.entry.Entry.{Entry}
@@ -217,3 +217,15 @@ given_in_range version p s a vs write lim i n f w = at (is_apply s.kind) (is_end
     at false true z = ended_in_range p a (first_of vs) lim n (first_made vs f)
     at false false true = stored_in_range a (cell_named vs) vs n (cell_in_range vs f) f
     at false false false = handed_in_range version s a vs (result_of s.kind a vs write) i n (result_made s.kind a vs write i.kind n f w)
+
+replied_in_range : (a : Activity) (write : Option Written) → IsName a → IsWritten write → AreEntries (replied a write)
+replied_in_range a None n w = none_in_range
+replied_in_range a (Some x) n w = one_in_range (wrote (cell_of a 0) x.writer x.value) (n, record { within = omega arith }, w.0, w.1)
+
+-- what a firing of a statement of a program gives
+pub given_with_in_range : (version : Version) (p : List BlockParts) (s : StatementParts) (a : Activity) (vs : ValueList) (write : Option Written) → IsProgram the_limits p → IsStatement the_limits s → IsName a → AreValues vs → IsWritten write → AreEntries (given_with version p s a vs write)
+given_with_in_range version p s a vs write lim i n f w = at (is_answer s.kind write)
+  where
+    at : (x : Bool) → AreEntries (cond x (replied a write) (given version p s a vs write))
+    at true = replied_in_range a write n w
+    at false = given_in_range version p s a vs write lim i n f w

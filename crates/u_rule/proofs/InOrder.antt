@@ -22,14 +22,14 @@ use Rattle.u_program.specs.declared.program.Version.{Version}
 use Rattle.u_check.specs.Kinds.{is_apply, is_end, is_store}
 use Rattle.u_check.specs.Rules.{block_named}
 use Rattle.std.proofs.lemmas.List.Elements.{Contains-append_cases}
-use Rattle.u_name.specs.Cell.{CellOf}
+use Rattle.u_name.specs.Cell.{CellOf, cell_of}
 use Rattle.u_sets.specs.Rising.{Rises}
 use Rattle.u_base.proofs.Member.{Contains-nil, Contains-cons_cases}
 use Rattle.u_rule.specs.Parts.{token, ValueList}
 use Rattle.u_rule.specs.Fits.{statement_of}
 use Rattle.u_rule.specs.Parameters.{parameters_of}
-use Rattle.u_rule.specs.Rule.{sent, beside, reached, refusal_of, list_of, result_of, first_of, delivered, handed_on, arguments_from, called_first, begun, called_on, called, back_of, brought_back, finished, ended, given, tokens_from, fault_of}
-use Rattle.u_rule.specs.Structures.{cell_named, read_from, write_read, wrote, stored, stored_in}
+use Rattle.u_rule.specs.Rule.{sent, beside, reached, refusal_of, list_of, result_of, first_of, delivered, handed_on, arguments_from, called_first, begun, called_on, called, back_of, brought_back, finished, ended, given, given_with, tokens_from, fault_of}
+use Rattle.u_rule.specs.Structures.{cell_named, read_from, write_read, wrote, stored, stored_in, is_answer, replied}
 use Rattle.u_rule.specs.HandingOn.{IsReachable}
 use Rattle.u_rule.proofs.Linkage.{mapped, reached_beside}
 use Rattle.u_rule.proofs.Destinations.{list_ascends}
@@ -205,6 +205,17 @@ given_rise version p s a vs write i w = at (is_apply s.kind) (is_end s.kind) (is
     at false false true = stored_rise a vs
     at false false false = handed_rise version s.kind s a vs (result_of s.kind a vs write) i w
 
--- what a statement of a program gives stands in order
-pub all_given_rise : (es : List Entry) (version : Version) (p : List BlockParts) (s : StatementParts) (a : Activity) (vs : ValueList) (write : Option Written) → es ≡ given version p s a vs write → IsStatement the_limits s → IsReachable s.kind a → Rises entry_cmp es
-all_given_rise es version p s a vs write e i w = subst (λ (ys : List Entry). Rises entry_cmp ys) (sym e) (given_rise version p s a vs write i w)
+replied_rise : (a : Activity) (write : Option Written) → Rises entry_cmp (replied a write)
+replied_rise a None = tt
+replied_rise a (Some w) = alone (wrote (cell_of a 0) w.writer w.value)
+
+given_with_rise : (version : Version) (p : List BlockParts) (s : StatementParts) (a : Activity) (vs : ValueList) (write : Option Written) → IsStatement the_limits s → IsReachable s.kind a → Rises entry_cmp (given_with version p s a vs write)
+given_with_rise version p s a vs write i w = at (is_answer s.kind write)
+  where
+    at : (x : Bool) → Rises entry_cmp (cond x (replied a write) (given version p s a vs write))
+    at true = replied_rise a write
+    at false = given_rise version p s a vs write i w
+
+-- what a firing of a statement of a program gives stands in order
+pub all_given_rise : (es : List Entry) (version : Version) (p : List BlockParts) (s : StatementParts) (a : Activity) (vs : ValueList) (write : Option Written) → es ≡ given_with version p s a vs write → IsStatement the_limits s → IsReachable s.kind a → Rises entry_cmp es
+all_given_rise es version p s a vs write e i w = subst (λ (ys : List Entry). Rises entry_cmp ys) (sym e) (given_with_rise version p s a vs write i w)

@@ -17,7 +17,7 @@ use Rattle.u_program.specs.Limits.{IsProgram, the_limits}
 use Rattle.u_program.specs.Parts.{StatementParts}
 use Rattle.u_program.specs.declared.program.Kind.{Kind}
 use Rattle.u_program.specs.declared.program.Arguments.TheVariants as arguments
-use Rattle.u_program.specs.declared.program.Kind.TheVariants.{Binary, Select, Switch, Apply, Store, Fetch}
+use Rattle.u_program.specs.declared.program.Kind.TheVariants.{Binary, Select, Switch, Apply, Store, Fetch, Ask}
 use Rattle.u_check.specs.Kinds.{ports_of}
 use Rattle.u_check.specs.Rules.{main_name}
 use Rattle.u_check.specs.Jobs.{JobParts}
@@ -27,15 +27,16 @@ use Rattle.u_base.proofs.Held.{Held-nil, Held-push}
 use Rattle.u_base.proofs.Determinate.{Derivation-along}
 use Rattle.u_rule.specs.Parts.{most_ports, ValueList}
 use Rattle.u_rule.specs.Fits.{statement_of, fits_at}
-use Rattle.u_rule.specs.Rule.{has_its_values, is_firing_at, is_firing_of, tokens_from, needs_of, given_at, gives_of, start_of, system_of}
+use Rattle.u_rule.specs.Rule.{has_its_values, is_own_at, is_firing_of, tokens_from, needs_of, given_at, gives_of, start_of, system_of}
 use Rattle.u_rule.specs.Structures.{cell_named, has_its_write, wrote, read_from, write_read}
 use Rattle.u_rule.specs.EntryReading.{IsEntry}
 use Rattle.u_rule.specs.FiringReading.{AreValues, IsWritten, IsFiring}
 use Rattle.u_rule.specs.declared.entry.Entry.{Entry}
 use Rattle.u_rule.specs.declared.firing.Firing.{Firing}
 use Rattle.u_rule.specs.declared.parts.Written.{Written}
-use Rattle.u_rule.proofs.GivenInRange.{AreEntries, statement_in_range, given_in_range}
-use Rattle.u_rule.proofs.Firings.{at_statement}
+use Rattle.u_rule.proofs.GivenInRange.{AreEntries, statement_in_range, given_with_in_range}
+use Rattle.u_rule.specs.Replies.{IsReply, HasFineReplies}
+use Rattle.u_rule.proofs.Firings.{own_at_statement, own_or_reply}
 
 -- a statement has one port to five
 ports_between : (k : Kind) → IsBetween 1 (ports_of k) most_ports
@@ -48,6 +49,10 @@ ports_between (Apply n arguments.Three) = (omega arith, omega arith)
 ports_between (Apply n arguments.Four) = (omega arith, omega arith)
 ports_between Store = (omega arith, omega arith)
 ports_between Fetch = (omega arith, omega arith)
+ports_between (Ask s arguments.One) = (omega arith, omega arith)
+ports_between (Ask s arguments.Two) = (omega arith, omega arith)
+ports_between (Ask s arguments.Three) = (omega arith, omega arith)
+ports_between (Ask s arguments.Four) = (omega arith, omega arith)
 ports_between k = (omega arith, omega arith)
 
 -- the values of tokens in their ranges, and the activity that they are for
@@ -80,11 +85,20 @@ needing s f h each =
     let w : AreEntries (write_read f.values f.write) = λ e m. each e (Contains-append_right _ _ e m) in
     (name_in_range f.activity f.values (omega (arith, l, b.0)) t, record { count = (omega (arith, l, b.0), omega (arith, l, b.1)) }, values_in_range f.activity 1 f.values t, write_in_range s.kind f.values f.write q.1 w)
 
-pub firing_in_range : (job : JobParts) (f : Firing) → is_firing_of job f ≡ true → AreEntries (needs_of f) → IsFiring f
+-- a reply is, where what was replied is
+replying : (job : JobParts) (f : Firing) → IsReply job f → IsWritten f.write → AreEntries (tokens_from f.activity 1 f.values ++ write_read f.values f.write) → IsFiring f
+replying job f r i each =
+    let b = ports_between r.it.kind in
+    let l = r.count in
+    let t : AreEntries (tokens_from f.activity 1 f.values) = λ e m. each e (Contains-append_left _ _ e m) in
+    (name_in_range f.activity f.values (omega (arith, l, b.0)) t, record { count = (omega (arith, l, b.0), omega (arith, l, b.1)) }, values_in_range f.activity 1 f.values t, i)
+
+pub firing_in_range : (job : JobParts) (f : Firing) → is_firing_of job f ≡ true → (IsReply job f → IsWritten f.write) → AreEntries (needs_of f) → IsFiring f
 unfolding needs_of
-firing_in_range job f h each = at (statement_of job.program.blocks f.activity.block f.activity.statement) (at_statement job f h)
+firing_in_range job f h outside each =
+    elim (own_or_reply job f h) [ inl o ↦ at (statement_of job.program.blocks f.activity.block f.activity.statement) (own_at_statement job f o) | inr r ↦ replying job f r (outside r) each ]
   where
-    at : (o : Option StatementParts) → is_firing_at job.program.blocks o f ≡ true → IsFiring f
+    at : (o : Option StatementParts) → is_own_at job.program.blocks o f ≡ true → IsFiring f
     at None h = absurd (false≢true h)
     at (Some s) h = needing s f (and_parts (fits_at job.program.blocks s.region f.activity) (has_its_values s f) h).1 each
 
@@ -96,7 +110,7 @@ gives_in_range job f lim i = at (statement_of job.program.blocks f.activity.bloc
     at : (o : Option StatementParts) → statement_of job.program.blocks f.activity.block f.activity.statement ≡ o → AreEntries (given_at job.program.version job.program.blocks o f)
     at None e x m = absurd (Contains-nil x m)
     at (Some s) e x m =
-        given_in_range job.program.version job.program.blocks s f.activity f.values f.write lim (statement_in_range job.program.blocks f.activity.block f.activity.statement s lim e) i.0 i.2 i.3 x m
+        given_with_in_range job.program.version job.program.blocks s f.activity f.values f.write lim (statement_in_range job.program.blocks f.activity.block f.activity.statement s lim e) i.0 i.2 i.3 x m
 
 main_is_block : IsBlock main_name
 main_is_block = record { short = omega arith; first = refl; each = (refl, (refl, (refl, (refl, tt)))) }
@@ -118,22 +132,25 @@ module _ (job : JobParts) (lim : IsProgram the_limits job.program.blocks) (fits 
     firings = λ f m. absurd (Contains-nil f m);
   }
 
-  one_more : (fs : List Firing) (f : Firing) → IsInRange job fs → Enabled (system_of job) (Held (system_of job) fs) f → IsInRange job (fs ++ f ∷ [])
-  one_more fs f q en = record {
+  one_more : (fs : List Firing) (f : Firing) → (HasFineReplies job fs → IsInRange job fs) → Enabled (system_of job) (Held (system_of job) fs) f → HasFineReplies job (fs ++ f ∷ []) → IsInRange job (fs ++ f ∷ [])
+  one_more fs f before en fine = record {
     entries = λ e h. elim ((Held-push (system_of job) fs f e).0 h) [ inl k ↦ q.entries e k | inr c ↦ gives_in_range job f lim fires e c ];
     firings = λ g m. elim (Contains-push_cases fs f g m) [ inl k ↦ q.firings g k | inr e ↦ subst (λ (x : Firing). IsFiring x) e fires ];
   }
     where
-      fires : IsFiring f
-      fires = firing_in_range job f en.0 (λ e m. q.entries e (en.1 e m))
+      q : IsInRange job fs
+      q = before (λ g m. fine g (Contains-append_left fs (f ∷ []) g m))
 
-  in_range : (fs : List Firing) → Derivation (system_of job) fs → IsInRange job fs
-  in_range = Derivation-along (system_of job) (IsInRange job) none_fired one_more
+      fires : IsFiring f
+      fires = firing_in_range job f en.0 (fine f (Contains-append_right fs (f ∷ []) f (Contains-head f []))) (λ e m. q.entries e (en.1 e m))
+
+  in_range : (fs : List Firing) → Derivation (system_of job) fs → HasFineReplies job fs → IsInRange job fs
+  in_range = Derivation-along (system_of job) (λ fs. HasFineReplies job fs → IsInRange job fs) (λ w. none_fired) one_more
 
 -- each entry that a run of a job holds is in its ranges
-pub held_in_range : (job : JobParts) → IsProgram the_limits job.program.blocks → FitsSigned w64 job.argument → (fs : List Firing) → Derivation (system_of job) fs → (e : Entry) → Held (system_of job) fs e → IsEntry e
-held_in_range job lim fits fs d = (in_range job lim fits fs d).entries
+pub held_in_range : (job : JobParts) → IsProgram the_limits job.program.blocks → FitsSigned w64 job.argument → (fs : List Firing) → Derivation (system_of job) fs → HasFineReplies job fs → (e : Entry) → Held (system_of job) fs e → IsEntry e
+held_in_range job lim fits fs d w = (in_range job lim fits fs d w).entries
 
 -- and each of its firings is
-pub run_in_range : (job : JobParts) → IsProgram the_limits job.program.blocks → FitsSigned w64 job.argument → (fs : List Firing) → Derivation (system_of job) fs → (f : Firing) → Contains fs f → IsFiring f
-run_in_range job lim fits fs d = (in_range job lim fits fs d).firings
+pub run_in_range : (job : JobParts) → IsProgram the_limits job.program.blocks → FitsSigned w64 job.argument → (fs : List Firing) → Derivation (system_of job) fs → HasFineReplies job fs → (f : Firing) → Contains fs f → IsFiring f
+run_in_range job lim fits fs d w = (in_range job lim fits fs d w).firings

@@ -10,6 +10,7 @@ pub mod Texts
 pub mod FiringShapes
 pub mod Lists
 pub mod Firings
+pub mod Own
 pub mod FirstByteLaws
 pub mod StepLaws
 pub mod PortLaws

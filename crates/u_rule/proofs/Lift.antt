@@ -26,9 +26,9 @@ use Rattle.u_base.proofs.Determinate.{Derivation-along}
 use Rattle.std.proofs.lemmas.List.Elements.{Contains-append_left, Contains-append_right}
 use Rattle.u_rule.specs.Parts.{ValueList}
 use Rattle.u_rule.specs.Fits.{statement_of}
-use Rattle.u_rule.specs.Structures.{stored}
+use Rattle.u_rule.specs.Structures.{stored, is_answer, replied}
 use Rattle.u_rule.specs.Initiations.{last_turn, is_turn, has_turns, wrote_in_turns, fires_in_turns}
-use Rattle.u_rule.specs.Rule.{is_firing_of, is_firing_at, refusal_of, delivered, handed_on, list_of, result_of, first_of, called, ended, given, given_at, gives_of, start_of, system_of}
+use Rattle.u_rule.specs.Rule.{is_firing_of, is_firing_at, refusal_of, delivered, handed_on, list_of, result_of, first_of, called, ended, given, given_with, given_at, gives_of, start_of, system_of}
 use Rattle.u_rule.specs.Lift.{lifted, TurnsLast}
 use Rattle.u_rule.specs.declared.entry.Entry.{Entry}
 use Rattle.u_rule.specs.declared.firing.Firing.{Firing}
@@ -93,6 +93,9 @@ given_alike p s a vs write l =
     ap (λ (es : List Entry). cond (is_apply s.kind) (called p a vs) (cond (is_end s.kind) (ended p a (first_of vs)) (cond (is_store s.kind) (stored a vs) es)))
     (handed_alike s.kind a (list_of s.kind s vs) (result_of s.kind a vs write) l)
 
+given_with_alike : (p : List BlockParts) (s : StatementParts) (a : Activity) (vs : ValueList) (write : Option Written) → (s.kind ≡ Next → a.initiation < last_turn versions.One) → given_with versions.Two p s a vs write ≡ given_with versions.One p s a vs write
+given_with_alike p s a vs write l = ap (λ (es : List Entry). cond (is_answer s.kind write) (replied a write) es) (given_alike p s a vs write l)
+
 module _ (j : JobParts) (one : j.program.version ≡ versions.One) where
   of_version_1 : (f : Firing) → is_firing_of j f ≡ true → fires_in_turns versions.One f ≡ true
   of_version_1 f h = subst (λ (v : Version). fires_in_turns v f ≡ true) one (in_turns j f h)
@@ -120,8 +123,8 @@ module _ (j : JobParts) (one : j.program.version ≡ versions.One) where
       at : (o : Option StatementParts) → statement_of j.program.blocks f.activity.block f.activity.statement ≡ o → given_at versions.Two j.program.blocks o f ≡ given_at j.program.version j.program.blocks o f
       at None e = refl
       at (Some s) e =
-          given_alike j.program.blocks s f.activity f.values f.write (below s e)
-          ∙ ap (λ (v : Version). given v j.program.blocks s f.activity f.values f.write) (sym one)
+          given_with_alike j.program.blocks s f.activity f.values f.write (below s e)
+          ∙ ap (λ (v : Version). given_with v j.program.blocks s f.activity f.values f.write) (sym one)
 
 -- the start is the same
 start_lifted : (j : JobParts) → start_of j ≡ start_of (lifted j)

@@ -2,6 +2,7 @@
 use Rattle.std.proofs.Common.{◌≡◌, refl, arith, Bool, true, false, ℕ, ◌≤◌, ℤ, pos, int_div, int_rem, unsigned_abs, cond, [], ◌∷◌, Option, Some, None, Result, Ok, Err, FitsSigned}
 use Rattle.std.specs.Prelude.{◌+ℤ◌, ◌-ℤ◌, ◌*ℤ◌, int_le, ◌&&◌, IfOk}
 use Rattle.std.specs.Int.{w64}
+use Rattle.std.specs.List.{list_all}
 use Rattle.std.specs.Ordering.{int_eq}
 use Rattle.std.proofs.lemmas.Int.{ints, fits_signed_from_abs}
 use Rattle.u_name.specs.Name.{Activity, IsName}
@@ -22,9 +23,9 @@ use Rattle.u_program.specs.Limits.{IsConstant, IsKind}
 use Rattle.u_program.specs.declared.program.Constant.{Constant}
 use Rattle.u_program.specs.declared.program.Constant.TheVariants as constants
 use Rattle.u_program.specs.declared.program.Kind.{Kind}
-use Rattle.u_program.specs.declared.program.Kind.TheVariants.{Const, Unary, Binary, Select, Switch, Alloc, Fetch}
+use Rattle.u_program.specs.declared.program.Kind.TheVariants.{Const, Unary, Binary, Select, Switch, Alloc, Fetch, Ask}
 use Rattle.u_rule.specs.Parts.{ValueList}
-use Rattle.u_rule.specs.Structures.{is_index, cell_named, allocated, value_read, fetched}
+use Rattle.u_rule.specs.Structures.{is_index, cell_named, is_plain, allocated, asked, value_read, fetched}
 use Rattle.u_rule.specs.Rule.{value_of, first_of, unary_of, binary_of, selected_of, switched_of, result_of}
 use Rattle.u_rule.specs.FiringReading.{AreValues, IsWritten}
 use Rattle.u_rule.specs.declared.parts.Written.{Written}
@@ -131,6 +132,13 @@ allocated_made a (values.Int z ∷ vs) n = at (int_le (pos 0) z && int_le z (pos
     at false h = tt
 allocated_made a vs n = tt
 
+asked_made : (a : Activity) (vs : ValueList) → IsName a → IsMade (asked a vs)
+asked_made a vs n = at (list_all is_plain vs)
+  where
+    at : (x : Bool) → IsMade (cond x (Ok (values.Ref (pointer a 1))) (Err faults.Kind))
+    at true = (n, record { short = omega arith })
+    at false = tt
+
 read_made : (write : Option Written) → IsWritten write → IsMade (value_read write)
 read_made None i = tt
 read_made (Some w) i = i.1
@@ -161,4 +169,5 @@ result_made Select a vs write k n i w = selected_made vs i
 result_made Switch a vs write k n i w = switched_made vs i
 result_made Alloc a vs write k n i w = allocated_made a vs n
 result_made Fetch a vs write k n i w = fetched_made (cell_named vs) write w
+result_made (Ask s c) a vs write k n i w = asked_made a vs n
 result_made other a vs write k n i w = first_made vs i

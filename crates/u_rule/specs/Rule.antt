@@ -1,5 +1,5 @@
 -- The firing rule: which firings a job has, what each needs and what each gives.
-use Rattle.std.specs.Prelude.{ℕ, ◌+◌, Bool, false, ◌&&◌, ◌==◌, nat_le, if◌then◌else◌, List, [], ◌∷◌, length, map, Option, Some, None, Result, Ok, Err, ◌++◌}
+use Rattle.std.specs.Prelude.{ℕ, ◌+◌, Bool, false, ◌&&◌, ◌||◌, ◌==◌, nat_le, if◌then◌else◌, List, [], ◌∷◌, length, map, Option, Some, None, Result, Ok, Err, ◌++◌}
 use Rattle.u_name.specs.Context.{Tree, Top, InLoop, InCall, depth}
 use Rattle.u_name.specs.Name.{Activity, activity, loop_context, call_context, left, returned}
 use Rattle.u_value.specs.declared.value.Value.{Value}
@@ -12,11 +12,11 @@ use Rattle.u_value.specs.Operators.{applied1, applied2, chosen}
 use Rattle.u_program.specs.declared.program.Constant.{Constant}
 use Rattle.u_program.specs.declared.program.Constant.TheVariants as constants
 use Rattle.u_program.specs.declared.program.Kind.{Kind}
-use Rattle.u_program.specs.declared.program.Kind.TheVariants.{Const, Unary, Binary, Select, Switch, Enter, Next, Last, Leave, Alloc, Fetch}
+use Rattle.u_program.specs.declared.program.Kind.TheVariants.{Const, Unary, Binary, Select, Switch, Enter, Next, Last, Leave, Alloc, Fetch, Ask}
 use Rattle.u_program.specs.declared.program.Destination.{Destination}
 use Rattle.u_program.specs.declared.program.Version.{Version}
 use Rattle.u_program.specs.Parts.{StatementParts, BlockParts}
-use Rattle.u_check.specs.Kinds.{ports_of, back_named, is_end, is_apply, is_store}
+use Rattle.u_check.specs.Kinds.{ports_of, back_named, is_end, is_apply, is_store, is_ask}
 use Rattle.u_check.specs.Rules.{main_name, block_named}
 use Rattle.u_check.specs.Jobs.{JobParts}
 use Rattle.u_base.specs.Firing.{System}
@@ -24,7 +24,7 @@ use Rattle.u_rule.specs.Parts.{ValueList, token}
 use Rattle.u_rule.specs.Fits.{statement_of, fits_at}
 use Rattle.u_rule.specs.Initiations.{last_turn, fires_in_turns}
 use Rattle.u_rule.specs.Parameters.{parameters_of}
-use Rattle.u_rule.specs.Structures.{cell_named, has_its_write, write_read, allocated, fetched, stored}
+use Rattle.u_rule.specs.Structures.{cell_named, has_its_write, write_read, allocated, fetched, stored, answers, is_answer, asked, replied}
 use Rattle.u_rule.specs.declared.entry.Entry.{Entry}
 use Rattle.u_rule.specs.declared.entry.Entry.TheVariants as entries
 use Rattle.u_rule.specs.declared.firing.Firing.{Firing}
@@ -33,11 +33,32 @@ use Rattle.u_rule.specs.declared.parts.Written.{Written}
 abbrev pub has_its_values : StatementParts → Firing → Bool
 has_its_values s f = length f.values == ports_of s.kind && has_its_write s.kind f.values f.write
 
--- a firing of that statement has one value for each port, and a write exactly where it reads a cell
+-- Of an `ask` there are replies too. A reply has one value for each port, and what was replied, as a
+-- write that the activity itself makes.
+abbrev pub is_reply_at : StatementParts → Firing → Bool
+is_reply_at s f = is_ask s.kind && (length f.values == ports_of s.kind && answers f.activity f.values f.write)
+
+abbrev pub has_its_form : StatementParts → Firing → Bool
+has_its_form s f = has_its_values s f || is_reply_at s f
+
+-- an own firing of that statement has one value for each port, and a write exactly where it reads a cell
+abbrev pub is_own_at : List BlockParts → Option StatementParts → Firing → Bool
+is_own_at p None f = false
+is_own_at p (Some s) f = fits_at p s.region f.activity && has_its_values s f
+
+-- a firing of that statement is an own one or a reply
 abbrev pub is_firing_at : List BlockParts → Option StatementParts → Firing → Bool
 is_firing_at p None f = false
-is_firing_at p (Some s) f = fits_at p s.region f.activity && has_its_values s f
+is_firing_at p (Some s) f = fits_at p s.region f.activity && has_its_form s f
 
+-- The job's own firings, which a machine fires by itself: all that are no replies. A reply comes from
+-- outside, and is taken.
+unfoldable pub is_own_of : JobParts → Firing → Bool
+is_own_of job f =
+    is_own_at job.program.blocks (statement_of job.program.blocks f.activity.block f.activity.statement) f
+    && fires_in_turns job.program.version f
+
+-- its firings: its own, and replies
 unfoldable pub is_firing_of : JobParts → Firing → Bool
 is_firing_of job f =
     is_firing_at job.program.blocks (statement_of job.program.blocks f.activity.block f.activity.statement) f
@@ -89,6 +110,7 @@ result_of Select a vs write = selected_of vs
 result_of Switch a vs write = switched_of vs
 result_of Alloc a vs write = allocated a vs
 result_of Fetch a vs write = fetched (cell_named vs) write
+result_of (Ask s n) a vs write = asked a vs
 result_of k a vs write = first_of vs
 
 -- where a statement of that kind sends its value: `switch` has a list for each truth value
@@ -185,9 +207,13 @@ given version p s a vs write =
     else if is_store s.kind then stored a vs
     else handed_on version s.kind a (list_of s.kind s vs) (result_of s.kind a vs write)
 
+-- a reply gives what was replied, and any other firing what its statement gives
+abbrev pub given_with : Version → List BlockParts → StatementParts → Activity → ValueList → Option Written → List Entry
+given_with version p s a vs write = if is_answer s.kind write then replied a write else given version p s a vs write
+
 abbrev pub given_at : Version → List BlockParts → Option StatementParts → Firing → List Entry
 given_at version p None f = []
-given_at version p (Some s) f = given version p s f.activity f.values f.write
+given_at version p (Some s) f = given_with version p s f.activity f.values f.write
 
 -- a firing gives its value or its write, or the fault why there is none
 unfoldable pub gives_of : JobParts → Firing → List Entry
@@ -200,3 +226,7 @@ start_of job = entries.Token (token (activity Top main_name 1 1) 1 (values.Int j
 -- a job as a firing system
 abbrev pub system_of : JobParts → System Entry Firing
 system_of job = record { start = start_of job; is_firing = is_firing_of job; needs = needs_of; gives = gives_of job }
+
+-- the same without replies: what a machine fires by itself
+abbrev pub own_of : JobParts → System Entry Firing
+own_of job = record { start = start_of job; is_firing = is_own_of job; needs = needs_of; gives = gives_of job }

@@ -1,7 +1,10 @@
 -- Structures of cells: which cell two values name, and what statements do with structures.
-use Rattle.std.specs.Prelude.{ℕ, ℤ, pos, unsigned_abs, int_le, int_lt, Bool, false, ◌&&◌, if◌then◌else◌, is_ok, is_some, is_none}
+use Rattle.std.specs.Prelude.{ℕ, ℤ, pos, unsigned_abs, int_le, int_lt, Bool, true, false, ◌&&◌, if◌then◌else◌, is_ok, is_some, is_none}
 use Rattle.std.specs.Prelude.{List, [], ◌∷◌, Option, Some, None, Result, Ok, Err}
+use Rattle.std.specs.List.{list_all}
+use Rattle.std.specs.Ordering.{eq_by_cmp}
 use Rattle.u_name.specs.Name.{Activity}
+use Rattle.u_name.specs.NameOrder.{name_cmp}
 use Rattle.u_name.specs.Cell.{CellOf, cell_of}
 use Rattle.u_value.specs.Pointer.{pointer}
 use Rattle.u_value.specs.declared.value.Value.{Value}
@@ -10,6 +13,7 @@ use Rattle.u_value.specs.declared.fault_kind.FaultKind.{FaultKind}
 use Rattle.u_value.specs.declared.fault_kind.FaultKind.TheVariants as faults
 use Rattle.u_program.specs.declared.program.Kind.{Kind}
 use Rattle.u_program.specs.declared.program.Kind.TheVariants.{Fetch}
+use Rattle.u_check.specs.Kinds.{is_ask}
 use Rattle.u_rule.specs.Parts.{ValueList}
 use Rattle.u_rule.specs.declared.entry.Entry.{Entry}
 use Rattle.u_rule.specs.declared.entry.Entry.TheVariants as entries
@@ -33,6 +37,21 @@ reads_cell k vs = false
 abbrev pub has_its_write : Kind → ValueList → Option Written → Bool
 has_its_write k vs write = if reads_cell k vs then is_some write else is_none write
 
+-- a number or a truth value, which is all that is sent outside and comes from there
+abbrev pub is_plain : Value → Bool
+is_plain (values.Int z) = true
+is_plain (values.Bool b) = true
+is_plain v = false
+
+-- whether the write is one that the activity itself makes of a plain value, about plain values
+abbrev pub answers : Activity → ValueList → Option Written → Bool
+answers a vs None = false
+answers a vs (Some w) = eq_by_cmp name_cmp w.writer a && (list_all is_plain vs && is_plain w.value)
+
+-- whether a firing of a statement of that kind is a reply: of an `ask`, where it has a write
+abbrev pub is_answer : Kind → Option Written → Bool
+is_answer k write = is_ask k && is_some write
+
 -- that the activity wrote the value into the cell
 abbrev pub wrote : CellOf → Activity → Value → Entry
 wrote cell writer value = entries.Write (record { cell = cell; writer = writer; value = value })
@@ -50,6 +69,15 @@ write_read vs (Some w) = read_from (cell_named vs) w
 abbrev pub allocated : Activity → ValueList → Result Value FaultKind
 allocated a (values.Int z ∷ vs) = if int_le (pos 0) z && int_le z (pos 1000000) then Ok (values.Ref (pointer a (unsigned_abs z))) else Err faults.Length
 allocated a vs = Err faults.Kind
+
+-- what `ask` gives on plain values: a structure of one cell, which a reply writes
+abbrev pub asked : Activity → ValueList → Result Value FaultKind
+asked a vs = if list_all is_plain vs then Ok (values.Ref (pointer a 1)) else Err faults.Kind
+
+-- what a reply gives: the write into the one cell of what the activity asked for
+abbrev pub replied : Activity → Option Written → List Entry
+replied a None = []
+replied a (Some w) = wrote (cell_of a 0) w.writer w.value ∷ []
 
 -- what is read from a cell: the value of the write that the firing has
 abbrev pub value_read : Option Written → Result Value FaultKind

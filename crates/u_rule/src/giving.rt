@@ -16,8 +16,8 @@ ghost use Rattle.u_check.specs.Kinds.{is_end};
 ghost use Rattle.u_rule.specs.HandingOn.{outcome_of, IsReachable, IsRefusal, IsEndable};
 ghost use Rattle.u_rule.specs.Fits.{statement_of};
 ghost use Rattle.u_rule.specs.HeldEntries.{entries_given};
-ghost use Rattle.u_rule.specs.Structures.{cell_named, allocated, fetched, stored};
-ghost use Rattle.u_rule.specs.Rule.{first_of, result_of, value_of, list_of, beside, reached, refusal_of, handed_on, arguments_from, begun, called, back_of, finished, ended, given, fault_of};
+ghost use Rattle.u_rule.specs.Structures.{cell_named, allocated, fetched, stored, asked, replied};
+ghost use Rattle.u_rule.specs.Rule.{first_of, result_of, value_of, list_of, beside, reached, refusal_of, handed_on, arguments_from, begun, called, back_of, finished, ended, given, given_with, fault_of};
 
 use crate::entry::Entry;
 use crate::firing::Firing;
@@ -26,7 +26,7 @@ use crate::held::{Given, Sending};
 use crate::initiations::last_turn;
 use crate::parameters::parameters_of;
 use crate::parts::{Fault, Token};
-use crate::structures::{cell_named, wrote};
+use crate::structures::{are_plain, cell_named, is_answer, replied, wrote};
 use std::alloc::{AllocError, Global};
 use u_name::{BlockName, Name, NameError, Node};
 use u_program::{Constant, Destination, Kind, Program, Statement, Version};
@@ -77,6 +77,18 @@ fn allocated(alloc: Global, activity: &Name, values: &[Value]) -> Result<Made, A
     }
 }
 
+/// What `ask` makes of plain values: a structure of one cell, with the name of the activity.
+fn asked(alloc: Global, activity: &Name, values: &[Value]) -> Result<Made, AllocError>
+    ensures { IfOk result (λ m. asked activity.now values.now ≡ outcome_of m) }
+{
+    if are_plain(values) {
+        let structure = Reference::new(alloc, activity.copy()?, 1)?;
+        Ok(Made::Value(Value::Ref(structure)))
+    } else {
+        Ok(Made::Fault(FaultKind::Kind))
+    }
+}
+
 /// What `fetch` makes: the value of the firing's write, where its first values name a cell.
 fn fetched(firing: &Firing) -> Result<Made, AllocError>
     ensures { IfOk result
@@ -100,6 +112,7 @@ fn made_by(alloc: Global, kind: &Kind, firing: &Firing) -> Result<Made, AllocErr
         (Kind::Const(constant), _) => Ok(Made::Value(value_of(alloc, constant)?)),
         (Kind::Alloc, values) => allocated(alloc, &firing.activity, values),
         (Kind::Fetch, _) => fetched(firing),
+        (Kind::Ask(_, _), values) => asked(alloc, &firing.activity, values),
         (Kind::Unary(operator), [first, ..]) => Ok(operated(apply1(*operator, first))),
         (Kind::Binary(operator), [first, second, ..]) => {
             Ok(operated(apply2(*operator, first, second)))
@@ -333,7 +346,7 @@ fn stored<'a>(alloc: Global, activity: &Name, values: &[Value]) -> Result<Given<
 }
 
 /// What a statement gives on the values at its ports, and on the write that it reads.
-pub(crate) fn given_at<'a>(
+fn given_own<'a>(
     alloc: Global,
     program: &Program,
     statement: &'a Statement,
@@ -355,4 +368,25 @@ pub(crate) fn given_at<'a>(
         Kind::Store => stored(alloc, activity, values),
         _ => handed_on(alloc, program.version(), statement, firing),
     }
+}
+
+/// What a firing of the statement gives: a reply its write, and any other what the statement gives.
+pub(crate) fn given_at<'a>(
+    alloc: Global,
+    program: &Program,
+    statement: &'a Statement,
+    firing: &Firing,
+) -> Result<Given<'a>, AllocError>
+    requires limits { IsStatement the_limits statement.now }
+    requires reaches { IsReachable statement.now.kind firing.now.activity }
+    requires ends { is_end statement.now.kind ≡ true
+        → IsEndable program.now.blocks firing.now.activity.context }
+    ensures { IfOk result (λ g. entries_given g
+        ≡ given_with program.now.version program.now.blocks statement.now firing.now.activity
+        firing.now.values firing.now.write) }
+{
+    if is_answer(statement.kind(), firing) {
+        return Given::one(alloc, replied(firing)?);
+    }
+    given_own(alloc, program, statement, firing)
 }

@@ -34,8 +34,8 @@ pub use lent::{NameRef, TokenRef};
 pub use parts::{Fault, MOST_PORTS, Token, Write, Written};
 pub use reading::TextError;
 pub use rule::{
-    RuleError, given, given_by, gives, is_firing, is_firing_of_statement, is_fitting, needs, start,
-    statement_at,
+    RuleError, given, given_by, gives, is_firing, is_fitting, is_own, is_own_of_statement,
+    is_reply, needed_by, needs, start, statement_at,
 };
 pub use shared_written::SharedWritten;
 pub use structures::{cell_at, names_cell};

@@ -14,7 +14,8 @@ ghost use Rattle.u_sets.specs.Rising.{Rises};
 ghost use Rattle.u_rule.specs.Fits.{statement_of, fits_at, IsExecutable, IsPlaced, IsFitting, AllFit};
 ghost use Rattle.u_rule.specs.HeldEntries.{entries_given};
 ghost use Rattle.u_rule.specs.Parts.{most_ports};
-ghost use Rattle.u_rule.specs.Rule.{tokens_from, start_of, needs_of, gives_of, is_firing_of, is_firing_at, has_its_values};
+ghost use Rattle.u_rule.specs.Replies.{IsReply};
+ghost use Rattle.u_rule.specs.Rule.{tokens_from, start_of, needs_of, gives_of, is_firing_of, is_firing_at, is_own_of, is_own_at, is_reply_at, has_its_values, has_its_form};
 
 use crate::entry::Entry;
 use crate::firing::Firing;
@@ -24,10 +25,10 @@ use crate::held::Given;
 use crate::initiations::fires_in_turns;
 use crate::lent::NameRef;
 use crate::parts::Token;
-use crate::structures::{add_write, has_its_write};
+use crate::structures::{add_write, answers, has_its_write, is_answer};
 use std::alloc::{AllocError, AllocFailed, Global};
 use thiserror::Error;
-use u_check::{Job, ports_of};
+use u_check::{Job, is_ask, ports_of};
 use u_name::{BlockName, Context, Name};
 use u_program::{Program, Statement};
 use u_value::Value;
@@ -72,19 +73,36 @@ fn has_its_values(statement: &Statement, firing: &Firing) -> bool
         && has_its_write(statement.kind(), firing)
 }
 
-/// Whether the firing is one of that statement: its activity fits, it has one value for each port,
-/// and a write exactly where the statement is a `fetch` and its values name a cell. The place is looked
-/// at last, since that goes through the whole context.
+/// Whether the firing has what a reply of the statement has: an `ask`, with one value for each port, and a
+/// write that the activity itself makes, all of numbers and truth values.
+fn is_reply_at(statement: &Statement, firing: &Firing) -> bool
+    ensures { result ≡ is_reply_at statement.now firing.now }
+{
+    is_ask(statement.kind())
+        && (firing.values.as_slice().len() == ports_of(statement.kind()) && answers(firing))
+}
+
+/// Whether the firing has what an own firing of the statement has, or what a reply has.
+fn has_its_form(statement: &Statement, firing: &Firing) -> bool
+    ensures { result ≡ has_its_form statement.now firing.now }
+{
+    has_its_values(statement, firing) || is_reply_at(statement, firing)
+}
+
+/// Whether the firing is one of that statement: its activity fits, and it has what an own firing has, or
+/// what a reply has. The place is looked at last, since that goes through the whole context.
 #[tactic(auto, using(crate::proofs::Both::with_true, crate::proofs::Both::with_false))]
 fn is_firing_at(program: &Program, statement: &Statement, firing: &Firing) -> bool
     ensures { result ≡ is_firing_at program.now.blocks (Some statement.now) firing.now }
 {
-    has_its_values(statement, firing) && fits_at(program, statement.region(), &firing.activity)
+    has_its_form(statement, firing) && fits_at(program, statement.region(), &firing.activity)
 }
 
 /// Whether it is a firing of the job: an activity that fits, with one value for each port of its
-/// statement, and a write exactly where the statement is a `fetch` and its values name a cell. Where the
-/// program is of version 1, each initiation in it is at most 4294967295, in its values and its write too.
+/// statement, and a write exactly where the statement is a `fetch` and its values name a cell; or a reply.
+/// A reply is of an `ask`, and has a write too, which its own activity makes; its values and what it writes
+/// are numbers and truth values. Where the program is of version 1, each initiation in it is at most
+/// 4294967295, in its values and its write too.
 ///
 /// Promise what-is-a-firing: the answer is true exactly if it is a firing of the job as the rule defines it.
 #[tactic(auto, unfolding(crate::specs::Rule::is_firing_of))]
@@ -96,6 +114,42 @@ pub fn is_firing(job: &Job, firing: &Firing) -> bool
         None => false,
         Some(statement) => is_firing_at(program, statement, firing)
             && fires_in_turns(program, firing),
+    }
+}
+
+/// Whether the firing is an own one of that statement: its activity fits, it has one value for each port,
+/// and a write exactly where the statement is a `fetch` and its values name a cell. The place is looked at
+/// last.
+#[tactic(auto, using(crate::proofs::Both::with_true, crate::proofs::Both::with_false))]
+fn is_own_at(program: &Program, statement: &Statement, firing: &Firing) -> bool
+    ensures { result ≡ is_own_at program.now.blocks (Some statement.now) firing.now }
+{
+    has_its_values(statement, firing) && fits_at(program, statement.region(), &firing.activity)
+}
+
+/// Whether it is an own firing of the job, which a machine fires by itself: all firings are own ones but the
+/// replies, which come from outside.
+#[tactic(auto, unfolding(crate::specs::Rule::is_own_of))]
+pub fn is_own(job: &Job, firing: &Firing) -> bool
+    ensures { result ≡ is_own_of job.now firing.now }
+{
+    let program = job.program();
+    match executed(program, &firing.activity) {
+        None => false,
+        Some(statement) => is_own_at(program, statement, firing) && fires_in_turns(program, firing),
+    }
+}
+
+/// Whether a firing of the job is a reply: one of an `ask` that has a write. It doesn't look whether it is a
+/// firing of the job.
+#[tactic(auto, using(crate::proofs::Own::reply_if_answers, crate::proofs::Own::reply_stands))]
+pub fn is_reply(job: &Job, firing: &Firing) -> bool
+    requires { IsTrue (is_firing_of job.now firing.now) }
+    ensures { IsTrue result ↔ IsReply job.now firing.now }
+{
+    match executed(job.program(), &firing.activity) {
+        None => false,
+        Some(statement) => is_answer(statement.kind(), firing),
     }
 }
 
@@ -127,23 +181,23 @@ pub fn is_fitting(job: &Job, entry: &Entry) -> bool
     }
 }
 
-/// Whether the firing is one of that statement, where its activity fits.
+/// Whether the firing is an own one of that statement, where its activity fits.
 fn is_fitting_firing_at(statement: &Statement, firing: &Firing) -> bool
     ensures { (p : List BlockParts) → fits_at p statement.now.region firing.now.activity ≡ true
-        → result ≡ is_firing_at p (Some statement.now) firing.now }
+        → result ≡ is_own_at p (Some statement.now) firing.now }
 {
     has_its_values(statement, firing)
 }
 
-/// Whether it is a firing of the job, as `is_firing` answers, where its activity may execute the statement
+/// Whether it is an own firing of the job, as `is_own` answers, where its activity may execute the statement
 /// that it names, and this is that statement. It neither looks for the statement nor goes through the
 /// context.
-#[tactic(auto, unfolding(crate::specs::Rule::is_firing_of))]
-pub fn is_firing_of_statement(job: &Job, statement: &Statement, firing: &Firing) -> bool
+#[tactic(auto, unfolding(crate::specs::Rule::is_own_of))]
+pub fn is_own_of_statement(job: &Job, statement: &Statement, firing: &Firing) -> bool
     requires executable { IsExecutable job.now.program.blocks firing.now.activity }
     requires stands { statement_of job.now.program.blocks firing.now.activity.block
         firing.now.activity.statement ≡ Some statement.now }
-    ensures { result ≡ is_firing_of job.now firing.now }
+    ensures { result ≡ is_own_of job.now firing.now }
 {
     is_fitting_firing_at(statement, firing) && fires_in_turns(job.program(), firing)
 }
@@ -275,6 +329,21 @@ fn add_tokens(tokens: &mut Vec<Entry>, activity: &Name, values: &[Value]) -> Res
     Ok(())
 }
 
+/// The entries that a firing needs, as `needs` returns them. It doesn't look whether it is a firing of a job.
+///
+/// # Errors
+/// `AllocError` where there is no memory.
+#[tactic(auto, unfolding(crate::specs::Rule::needs_of), using(crate::proofs::InOrder::needs_rise))]
+pub fn needed_by(alloc: Global, firing: &Firing) -> Result<Vec<Entry>, AllocError>
+    ensures all { IfOk result (λ v. v.items ≡ needs_of firing.now) }
+    ensures order { IfOk result (λ v. Rises entry_cmp v.items) }
+{
+    let mut entries = Vec::new(alloc);
+    add_tokens(&mut entries, &firing.activity, firing.values.as_slice())?;
+    add_write(&mut entries, firing)?;
+    Ok(entries)
+}
+
 /// The entries that a firing of the job needs: the token of its value at each port, from port 1 on, and the
 /// write that it reads.
 ///
@@ -282,7 +351,6 @@ fn add_tokens(tokens: &mut Vec<Entry>, activity: &Name, values: &[Value]) -> Res
 ///
 /// # Errors
 /// `NotAFiring` exactly where it is no firing of the job. `NoMemory` where there is no memory.
-#[tactic(auto, unfolding(crate::specs::Rule::needs_of), using(crate::proofs::InOrder::needs_rise))]
 pub fn needs(alloc: Global, job: &Job, firing: &Firing) -> Result<Vec<Entry>, RuleError>
     ensures ok { IfOk result
         (λ v. IsTrue (is_firing_of job.now firing.now) × (v.items ≡ needs_of firing.now)) }
@@ -292,8 +360,6 @@ pub fn needs(alloc: Global, job: &Job, firing: &Firing) -> Result<Vec<Entry>, Ru
     if !is_firing(job, firing) {
         return Err(RuleError::NotAFiring);
     }
-    let mut entries = Vec::new(alloc);
-    add_tokens(&mut entries, &firing.activity, firing.values.as_slice())?;
-    add_write(&mut entries, firing)?;
+    let entries = needed_by(alloc, firing)?;
     Ok(entries)
 }

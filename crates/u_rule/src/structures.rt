@@ -3,14 +3,16 @@
 //! They are the I-structures of Arvind and Nikhil (1990): a structure is made without values, each of
 //! its cells is written by a `store`, and a `fetch` fires once its cell has a write. That a cell with
 //! several writes is read once for each of them, and the greatest length, is this project's profile.
-ghost use Rattle.std.specs.Prelude.{◌≡◌, ◌↔◌, ◌≤◌, [], ◌∷◌, ◌++◌, IsTrue, IfOk, OnOk, MatchResult, Ok, Err, Some};
+ghost use Rattle.std.specs.Prelude.{◌≡◌, ◌↔◌, ◌≤◌, [], ◌∷◌, ◌++◌, IsTrue, IfOk, OnOk, MatchResult, Ok, Err, Some, is_some};
+ghost use Rattle.std.specs.List.{list_all};
 ghost use Rattle.u_name.specs.Cell.{CellOf, cell_of};
-ghost use Rattle.u_rule.specs.Structures.{is_index, cell_named, reads_cell, has_its_write, wrote, write_read};
+ghost use Rattle.u_rule.specs.Structures.{is_index, cell_named, reads_cell, has_its_write, is_plain, answers, is_answer, wrote, write_read, replied};
 
 use crate::entry::Entry;
 use crate::firing::Firing;
 use crate::parts::Write;
 use std::alloc::AllocError;
+use u_check::is_ask;
 use u_name::{Cell, Name};
 use u_program::Kind;
 use u_value::{FaultKind, Reference, Value};
@@ -60,6 +62,60 @@ pub(crate) fn has_its_write(kind: &Kind, firing: &Firing) -> bool
     } else {
         firing.write.is_none()
     }
+}
+
+/// Whether it is a number or a truth value.
+pub(crate) fn is_plain(value: &Value) -> bool
+    ensures { result ≡ is_plain value.now }
+{
+    matches!(value, Value::Int(_) | Value::Bool(_))
+}
+
+/// Whether each of the values is a number or a truth value.
+pub(crate) fn are_plain(values: &[Value]) -> bool
+    ensures { result ≡ list_all is_plain values.now }
+{
+    values.iter().all(|value| is_plain(value))
+}
+
+/// Whether the firing has a write that its activity makes of a plain value, and plain values.
+pub(crate) fn answers(firing: &Firing) -> bool
+    ensures { result ≡ answers firing.now.activity firing.now.values firing.now.write }
+{
+    match &firing.write {
+        None => false,
+        Some(write) => {
+            let written = write.get();
+            written.writer == firing.activity
+                && (are_plain(firing.values.as_slice()) && is_plain(&written.value))
+        }
+    }
+}
+
+/// Whether a firing of a statement of that kind is a reply: of an `ask`, where it has a write.
+pub(crate) fn is_answer(kind: &Kind, firing: &Firing) -> bool
+    ensures { result ≡ is_answer kind.now firing.now.write }
+{
+    is_ask(kind) && firing.write.is_some()
+}
+
+/// What a reply gives: the write into the one cell of what its activity asked for.
+pub(crate) fn replied(firing: &Firing) -> Result<Entry, AllocError>
+    requires { IsTrue (is_some firing.now.write) }
+    ensures { IfOk result (λ e. replied firing.now.activity firing.now.write ≡ e ∷ []) }
+{
+    let Some(write) = &firing.write else {
+        unreachable!();
+    };
+    let written = write.get();
+    let cell = Cell::new(firing.activity.copy()?, 0);
+    let writer = written.writer.copy()?;
+    let value = written.value.copy()?;
+    Ok(Entry::Write(Write {
+        cell,
+        writer,
+        value,
+    }))
 }
 
 /// That the activity wrote the value into the structure's cell at that index.

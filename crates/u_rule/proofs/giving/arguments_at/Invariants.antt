@@ -1,4 +1,4 @@
-use Rattle.std.proofs.Common.{◌≡◌, ◌+◌, ◌++◌, take}
+use Rattle.std.proofs.Common.{◌≡◌, ◌+◌, take}
 use Rattle.u_rule.specs.Rule.{arguments_from}
 use Rattle.u_rule.proofs.giving.arguments_at.Given as goal
 
