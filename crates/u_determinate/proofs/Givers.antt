@@ -21,7 +21,7 @@ use Rattle.u_check.specs.Jobs.{JobParts}
 use Rattle.u_rule.specs.Parts.{TokenParts, token, ValueList}
 use Rattle.u_rule.specs.Fits.{statement_of}
 use Rattle.u_rule.specs.Parameters.{parameters_of}
-use Rattle.u_rule.specs.Structures.{cell_named, stored_in}
+use Rattle.u_rule.specs.Structures.{cell_named, stored_in, is_answer, replied}
 use Rattle.u_rule.specs.Rule.{first_of, result_of, list_of, reached, refusal_of, sent, fault_of, delivered, handed_on, beside, called_first, arguments_from, begun, called_on, called, back_of, brought_back, finished, ended, given, given_at, gives_of}
 use Rattle.u_rule.specs.declared.entry.Entry.{Entry}
 use Rattle.u_rule.specs.declared.entry.Entry.TheVariants as entries
@@ -41,6 +41,7 @@ pub record ByArc (job : JobParts) (f : Firing) (t : TokenParts) : Type 0 where
   pub activity : t.activity ≡ reached it.kind f.activity to.statement
   pub port : t.port ≡ to.port
   pub hands_on : (is_apply it.kind ≡ false) × (is_end it.kind ≡ false) × (is_store it.kind ≡ false)
+  pub no_answer : is_answer it.kind f.write ≡ false
 
 -- a token that an `apply` gives: the argument at a place goes to the statement of that parameter
 pub record ByApply (job : JobParts) (f : Firing) (t : TokenParts) : Type 0 where
@@ -108,7 +109,7 @@ sides job a s Switch (x ∷ values.Bool false ∷ vs) r v e = record { on_false 
 sides job a s Switch vs r v e = absurd (cc)
 sides job a s k vs r v e = record { on_false = false; list = refl; side = λ q. absurd (cc) }
 
-module _ (job : JobParts) (f : Firing) (t : TokenParts) (s : StatementParts) (e : statement_of job.program.blocks f.activity.block f.activity.statement ≡ Some s) where
+module _ (job : JobParts) (f : Firing) (t : TokenParts) (s : StatementParts) (e : statement_of job.program.blocks f.activity.block f.activity.statement ≡ Some s) (own : is_answer s.kind f.write ≡ false) where
   along : (is_apply s.kind ≡ false) → (is_end s.kind ≡ false) → (is_store s.kind ≡ false) → (r : Result Value FaultKind) → result_of s.kind f.activity f.values f.write ≡ r → Contains (handed_on job.program.version s.kind f.activity (list_of s.kind s f.values) r) (entries.Token t) → ByArc job f t
   along na ne ns (Err k) q m = absurd (no_fault f.activity k t m)
   along na ne ns (Ok v) q m = by (refusal_of job.program.version s.kind f.activity) m
@@ -131,6 +132,7 @@ module _ (job : JobParts) (f : Firing) (t : TokenParts) (s : StatementParts) (e 
             activity = sym (ap (λ (x : TokenParts). x.activity) z);
             port = sym (ap (λ (x : TokenParts). x.port) z);
             hands_on = (na, ne, ns);
+            no_answer = own;
           }
 
   -- an argument among those from that one on
@@ -227,6 +229,11 @@ module _ (job : JobParts) (f : Firing) (t : TokenParts) (s : StatementParts) (e 
       at false false true a b c m = absurd (no_write (cell_named f.values) f.values m)
       at false false false a b c m = inl (along a b c _ refl m)
 
+-- a reply gives no token
+no_reply : (a : Activity) (write : Option Written) (t : TokenParts) → Contains (replied a write) (entries.Token t) → ⊥
+no_reply a None t m = Contains-nil (entries.Token t) m
+no_reply a (Some w) t m = let z = one _ (entries.Token t) m in cc
+
 -- whatever token a firing gives, it gives in one of three ways
 pub giver : (job : JobParts) (f : Firing) (t : TokenParts) → Contains (gives_of job f) (entries.Token t) → Giver job f t
 unfolding gives_of
@@ -234,4 +241,8 @@ giver job f t m = at (statement_of job.program.blocks f.activity.block f.activit
   where
     at : (o : Option StatementParts) → statement_of job.program.blocks f.activity.block f.activity.statement ≡ o → Contains (given_at job.program.version job.program.blocks o f) (entries.Token t) → Giver job f t
     at None e m = absurd (Contains-nil (entries.Token t) m)
-    at (Some s) e m = given_by job f t s e m
+    at (Some s) e m = by (is_answer s.kind f.write) refl m
+      where
+        by : (x : Bool) → is_answer s.kind f.write ≡ x → Contains (cond x (replied f.activity f.write) (given job.program.version job.program.blocks s f.activity f.values f.write)) (entries.Token t) → Giver job f t
+        by true q m = absurd (no_reply f.activity f.write t m)
+        by false q m = given_by job f t s e q m

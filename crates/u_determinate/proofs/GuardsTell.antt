@@ -19,7 +19,7 @@ use Rattle.u_check.specs.Rules.{statement_at, Arc, destination_of, IsChecked}
 use Rattle.u_check.specs.Jobs.{JobParts}
 use Rattle.u_rule.specs.Parts.{TokenParts, token, ValueList}
 use Rattle.u_rule.specs.Fits.{statement_in, statement_of}
-use Rattle.u_rule.specs.Structures.{write_read}
+use Rattle.u_rule.specs.Structures.{write_read, is_answer}
 use Rattle.u_rule.specs.Rule.{is_firing_of, tokens_from, needs_of, first_of, result_of, beside, reached, system_of}
 use Rattle.u_rule.specs.declared.entry.Entry.TheVariants as entries
 use Rattle.u_rule.specs.declared.firing.Firing.{Firing}
@@ -29,6 +29,7 @@ use Rattle.u_determinate.proofs.Named.{named}
 use Rattle.u_determinate.proofs.Checked.{keeps, fires_of}
 use Rattle.u_determinate.proofs.Givers.{Giver, ByEnd}
 use Rattle.u_determinate.proofs.Parameters.{takes_argument}
+use Rattle.u_determinate.proofs.Owning.{own_of_statement}
 use Rattle.u_determinate.proofs.Same.{Trouble, same_activity}
 use Rattle.u_determinate.proofs.Rooted.{Rooted, Called, Entered, given_token, start_place, first_token, all_rooted, enabled_rooted}
 use Rattle.u_determinate.proofs.Senders.{Placed, placed, Sent, sent, sender, looped}
@@ -91,6 +92,7 @@ pub record Gave (job : JobParts) (fs : List Firing) (a : Activity) (c : ℕ) (b 
   pub context : (reached it.kind firing.activity c).context ≡ a.context
   pub initiation : (reached it.kind firing.activity c).initiation ≡ a.initiation
   pub result : result_of it.kind firing.activity firing.values firing.write ≡ Ok (values.Bool b)
+  pub no_answer : is_answer it.kind firing.write ≡ false
 
 pub moved : (job : JobParts) (fs : List Firing) (a e : Activity) (c : ℕ) (b : Bool) → a.context ≡ e.context → a.block ≡ e.block → a.initiation ≡ e.initiation → Gave job fs a c b → Gave job fs e c b
 moved job fs a e c b u n i g = record {
@@ -104,6 +106,7 @@ moved job fs a e c b u n i g = record {
   context = g.context ∙ u;
   initiation = g.initiation ∙ i;
   result = g.result;
+  no_answer = g.no_answer;
 }
 
 nth : (a : Activity) (from : ℕ) (vs : ValueList) (i : ℕ) → i < length vs → (v : Value) × Contains (tokens_from a from vs) (entries.Token (token a (from + i) v))
@@ -175,6 +178,7 @@ module _ (job : JobParts) (sound : IsChecked job.program.blocks) (fs : List Firi
             context = z.0 ∙ sym (ap (λ (x : Activity). x.context) k.by.activity);
             initiation = z.1 ∙ sym (ap (λ (x : Activity). x.initiation) k.by.activity);
             result = k.by.result ∙ ap (λ (x : Value). Ok x) v;
+            no_answer = k.by.no_answer;
           }
 
   -- behind a `pass` it is what was given to that
@@ -400,7 +404,7 @@ module _ (job : JobParts) (sound : IsChecked job.program.blocks) (fs : List Firi
       let same : p.firing.activity ≡ q.firing.activity = same_reached p.firing q.firing x y p.it p.stands names number p.it.kind refl p.no_last c
       (p.context ∙ sym q.context ∙ ap (λ (s : StatementParts). (reached s.kind q.firing.activity c).context) it)
       (p.initiation ∙ sym q.initiation ∙ ap (λ (s : StatementParts). (reached s.kind q.firing.activity c).initiation) it) in
-      elim (same_activity job sound (Held (system_of job) fs) p.firing q.firing x y same) [
+      elim (same_activity job sound (Held (system_of job) fs) p.firing q.firing x y same (own_of_statement job p.firing x.0 p.it p.stands p.no_answer) (own_of_statement job q.firing y.0 q.it q.stands q.no_answer)) [
         | inr z ↦ z
         | inl z ↦ absurd (no_negation b (differ it z))
       ]

@@ -11,6 +11,7 @@ pub mod Named
 pub mod Clash
 pub mod Checked
 pub mod Givers
+pub mod Owning
 pub mod Same
 pub mod Rooted
 pub mod Senders
@@ -23,6 +24,7 @@ pub mod RootAnswers
 pub mod Stricter
 pub mod Rounds
 pub mod Theorem
+pub mod Outside
 pub mod Links
 pub mod Sweeps
 pub mod PortLaws

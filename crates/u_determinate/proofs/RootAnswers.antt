@@ -24,15 +24,17 @@ use Rattle.u_check.specs.Jobs.{JobParts}
 use Rattle.u_rule.specs.Parts.{TokenParts, token, ValueList}
 use Rattle.u_rule.specs.Fits.{statement_of}
 use Rattle.u_rule.specs.Parameters.{parameters_of}
-use Rattle.u_rule.specs.Structures.{cell_named, stored_in}
+use Rattle.u_rule.specs.Structures.{cell_named, stored_in, is_answer, replied}
 use Rattle.u_rule.specs.Rule.{is_firing_of, first_of, result_of, list_of, reached, refusal_of, sent, fault_of, delivered, handed_on, beside, called_first, arguments_from, begun, called_on, called, back_of, brought_back, finished, ended, given, given_at, gives_of, start_of, system_of}
 use Rattle.u_rule.specs.declared.entry.Entry.{Entry}
 use Rattle.u_rule.specs.declared.entry.Entry.TheVariants as entries
 use Rattle.u_rule.specs.declared.firing.Firing.{Firing}
+use Rattle.u_rule.specs.declared.parts.Written.{Written}
 use Rattle.u_determinate.specs.Determinate.{IsDeterminate}
 use Rattle.u_determinate.proofs.Clash.{Cells}
 use Rattle.u_determinate.proofs.Named.{block_of}
 use Rattle.u_determinate.proofs.Checked.{keeps, fires_of}
+use Rattle.u_determinate.proofs.Owning.{end_is_own}
 use Rattle.u_determinate.proofs.Same.{same_activity}
 use Rattle.u_determinate.proofs.Senders.{placed}
 use Rattle.u_determinate.proofs.GuardsTell.{same_place}
@@ -121,13 +123,21 @@ module _ (job : JobParts) (f : Firing) (v : Value) (s : StatementParts) (e : sta
       at false false true b m = absurd (no_stored (cell_named f.values) f.values m)
       at false false false b m = absurd (no_handed _ _ m)
 
+no_reply : (a : Activity) (write : Option Written) (v : Value) → Contains (replied a write) (entries.Answer v) → ⊥
+no_reply a None v m = Contains-nil (entries.Answer v) m
+no_reply a (Some w) v m = let z = one _ (entries.Answer v) m in cc
+
 by_root : (job : JobParts) (f : Firing) (v : Value) → Contains (gives_of job f) (entries.Answer v) → ByRoot job f v
 unfolding gives_of
 by_root job f v m = at (statement_of job.program.blocks f.activity.block f.activity.statement) refl m
   where
     at : (o : Option StatementParts) → statement_of job.program.blocks f.activity.block f.activity.statement ≡ o → Contains (given_at job.program.version job.program.blocks o f) (entries.Answer v) → ByRoot job f v
     at None e m = absurd (Contains-nil (entries.Answer v) m)
-    at (Some s) e m = answered job f v s e m
+    at (Some s) e m = by (is_answer s.kind f.write) m
+      where
+        by : (x : Bool) → Contains (cond x (replied f.activity f.write) (given job.program.version job.program.blocks s f.activity f.values f.write)) (entries.Answer v) → ByRoot job f v
+        by true m = absurd (no_reply f.activity f.write v m)
+        by false m = answered job f v s e m
 
 held_root : (job : JobParts) (fs : List Firing) (v : Value) → Held (system_of job) fs (entries.Answer v) → (f : Firing) × Contains fs f × ByRoot job f v
 unfolding start_of
@@ -158,7 +168,7 @@ module _ (job : JobParts) (sound : IsChecked job.program.blocks) (determinate : 
           let q = placed job g.activity c.it c.stands in
           let k : q.block ≡ p.block = (let a = p.named in let e = q.named in cc) in
           let m = (block_of job determinate f.activity.block p.block p.named).one_end f.activity.statement g.activity.statement (record { it = b.it; stands = p.stands; kind = b.is_end }) (record { it = c.it; stands = ap (λ (z : BlockParts). statement_at z.statements g.activity.statement) (sym k) ∙ q.stands; kind = c.is_end }) in
-          elim (same_activity job sound (Held (system_of job) fs) f g x y (same_place f.activity g.activity (b.context ∙ sym c.context) n m (i.1 ∙ sym j.1))) [
+          elim (same_activity job sound (Held (system_of job) fs) f g x y (same_place f.activity g.activity (b.context ∙ sym c.context) n m (i.1 ∙ sym j.1)) (end_is_own job f x.0 b.it b.stands b.is_end) (end_is_own job g y.0 c.it c.stands c.is_end)) [
             | inl z ↦ inl (let a = b.result in let e = c.result in cc)
             | inr t ↦ elim t [ inl z ↦ inr (derivation_determinate job sound determinate fs d z) | inr z ↦ inr z ]
           ]

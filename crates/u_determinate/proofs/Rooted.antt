@@ -10,7 +10,7 @@ use Rattle.u_name.specs.Name.{Activity, activity}
 use Rattle.u_value.specs.declared.value.Value.{Value}
 use Rattle.u_value.specs.declared.value.Value.TheVariants as values
 use Rattle.u_program.specs.declared.program.Kind.{Kind}
-use Rattle.u_program.specs.declared.program.Kind.TheVariants.{Binary, Select, Switch, Enter, Next, Last, Leave, Apply, Store, Fetch}
+use Rattle.u_program.specs.declared.program.Kind.TheVariants.{Binary, Select, Switch, Enter, Next, Last, Leave, Apply, Store, Fetch, Ask}
 use Rattle.u_program.specs.declared.program.Arguments.TheVariants as arguments
 use Rattle.u_program.specs.Parts.{StatementParts}
 use Rattle.u_check.specs.Kinds.{ports_of}
@@ -105,6 +105,10 @@ some_port (Apply b arguments.Three) = omega arith
 some_port (Apply b arguments.Four) = omega arith
 some_port Store = omega arith
 some_port Fetch = omega arith
+some_port (Ask s arguments.One) = omega arith
+some_port (Ask s arguments.Two) = omega arith
+some_port (Ask s arguments.Three) = omega arith
+some_port (Ask s arguments.Four) = omega arith
 some_port k = omega arith
 
 -- a firing needs a token at its first port

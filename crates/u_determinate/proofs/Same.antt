@@ -1,4 +1,5 @@
--- Two firings of one activity, both enabled over one history, are one, or the history has trouble.
+-- Two own firings of one activity, both enabled over one history, are one, or the history has trouble. Of
+-- any two, as of a question and a reply, the values are.
 use Rattle.std.proofs.Common.{◌≡◌, ℕ, ◌+◌, refl, ap, sym, ◌∙◌, arith, Bool, true, false, List, [], ◌∷◌, length, Option, Some, None, Result, Ok, Err, cond, inl, inr, ◌⊎◌}
 use Rattle.std.specs.Prelude.{Contains, is_ok, is_some, is_none}
 use Rattle.std.proofs.lemmas.Bool.{false≢true}
@@ -18,7 +19,7 @@ use Rattle.u_check.specs.Jobs.{JobParts}
 use Rattle.u_rule.specs.Parts.{token, ValueList}
 use Rattle.u_rule.specs.Fits.{statement_of}
 use Rattle.u_rule.specs.Structures.{cell_named, has_its_write, reads_cell, write_read, wrote}
-use Rattle.u_rule.specs.Rule.{tokens_from, needs_of, system_of}
+use Rattle.u_rule.specs.Rule.{tokens_from, needs_of, is_own_of, system_of}
 use Rattle.u_rule.specs.declared.entry.Entry.{Entry}
 use Rattle.u_rule.specs.declared.entry.Entry.TheVariants as entries
 use Rattle.u_rule.specs.declared.firing.Firing.{Firing}
@@ -92,19 +93,31 @@ module _ (job : JobParts) (sound : IsChecked job.program.blocks) (H : Entry → 
     one_statement : (a b : Fires job f) → (a.it ≡ a.it)
     one_statement a b = refl
 
-    pub same_activity : (f ≡ g) ⊎ Trouble H
-    same_activity = by (fires_of job sound f x.0) (fires_of job sound g y.0)
+    same_it : (a : Fires job f) (b : Fires job g) → a.it ≡ b.it
+    same_it a b =
+        let s : statement_of job.program.blocks f.activity.block f.activity.statement ≡ statement_of job.program.blocks g.activity.block g.activity.statement = ap (λ (n : Activity). statement_of job.program.blocks n.block n.statement) e in
+        (let p = a.stands in let q = b.stands in cc)
+
+    -- they have the same values
+    pub same_values : (f.values ≡ g.values) ⊎ Both Clash H
+    same_values = by (fires_of job sound f x.0) (fires_of job sound g y.0)
+      where
+        by : Fires job f → Fires job g → (f.values ≡ g.values) ⊎ Both Clash H
+        by a b =
+            let l : length f.values ≡ length g.values = a.count ∙ ap (λ (z : StatementParts). ports_of z.kind) (same_it a b) ∙ sym b.count in
+            compare_values f.activity 1 f.values g.values l (tokens f x) (rw e (tokens g y))
+
+    pub same_activity : is_own_of job f ≡ true → is_own_of job g ≡ true → (f ≡ g) ⊎ Trouble H
+    same_activity own other = by (fires_of job sound f x.0) (fires_of job sound g y.0)
       where
         by : Fires job f → Fires job g → (f ≡ g) ⊎ Trouble H
         by a b =
-            let s : statement_of job.program.blocks f.activity.block f.activity.statement ≡ statement_of job.program.blocks g.activity.block g.activity.statement = ap (λ (n : Activity). statement_of job.program.blocks n.block n.statement) e in
-            let t : a.it ≡ b.it = (let p = a.stands in let q = b.stands in cc) in
-            let l : length f.values ≡ length g.values = a.count ∙ ap (λ (z : StatementParts). ports_of z.kind) t ∙ sym b.count in
-            elim (compare_values f.activity 1 f.values g.values l (tokens f x) (rw e (tokens g y))) [
+            let t = same_it a b in
+            elim same_values [
               | inr c ↦ inr (inl c)
               | inl v ↦
-                  let h : has_its_write a.it.kind f.values g.write ≡ true = ap (λ (z : StatementParts). has_its_write z.kind f.values g.write) t ∙ ap (λ (z : ValueList). has_its_write b.it.kind z g.write) v ∙ b.write in
-                  elim (compare_writes a.it.kind f.values f.write g.write a.write h (reads f x) (rw v (reads g y))) [
+                  let h : has_its_write a.it.kind f.values g.write ≡ true = ap (λ (z : StatementParts). has_its_write z.kind f.values g.write) t ∙ ap (λ (z : ValueList). has_its_write b.it.kind z g.write) v ∙ b.write other in
+                  elim (compare_writes a.it.kind f.values f.write g.write (a.write own) h (reads f x) (rw v (reads g y))) [
                     | inr c ↦ inr (inr c)
                     | inl r ↦ inl (same_firing f g e v r)
                   ]

@@ -4,13 +4,14 @@ use Rattle.u_base.specs.Firing.{Held, Derivation, Both, Whole}
 use Rattle.u_check.specs.Rules.{IsChecked}
 use Rattle.u_check.specs.Jobs.{JobParts}
 use Rattle.u_rule.specs.Parts.{token}
-use Rattle.u_rule.specs.Rule.{system_of}
+use Rattle.u_rule.specs.Rule.{system_of, own_of}
 use Rattle.u_rule.specs.declared.entry.Entry.{Entry}
 use Rattle.u_rule.specs.declared.entry.Entry.TheVariants as entries
 use Rattle.u_rule.specs.declared.firing.Firing.{Firing}
+use Rattle.u_rule.proofs.Own.{own_run}
 use Rattle.u_determinate.specs.Strict.{IsStrict}
 use Rattle.u_determinate.specs.Determinate.{IsDeterminate}
-use Rattle.u_determinate.specs.Theorem.{TwoValues, TwoWrites, OneAnswer, IsDeterminateJob}
+use Rattle.u_determinate.specs.Theorem.{TwoValues, TwoWrites, OneAnswer, OnlyWritesClash, IsDeterminateJob}
 use Rattle.u_determinate.proofs.Clash.{Clash, Cells}
 use Rattle.u_determinate.proofs.Stricter.{strict_determinate}
 use Rattle.u_determinate.proofs.OnlyWrites.{derivation_determinate, whole_determinate}
@@ -19,7 +20,7 @@ use Rattle.u_determinate.proofs.RootAnswers.{one_answer, whole_answer}
 clash : (H : Entry → Type 0) → TwoValues H → Both Clash H
 clash H t = (entries.Token (token t.activity t.port t.one), entries.Token (token t.activity t.port t.other), t.has_one, t.has_other, (refl, refl, t.differ))
 
-two_writes : (H : Entry → Type 0) → Both Cells H → TwoWrites H
+pub two_writes : (H : Entry → Type 0) → Both Cells H → TwoWrites H
 two_writes H (entries.Write a, entries.Write b, h, k, (e, n)) = record {
   cell = a.cell;
   one_writer = a.writer;
@@ -63,3 +64,7 @@ module _ (job : JobParts) (checked : IsChecked job.program.blocks) (determinate 
 pub strict_job : (job : JobParts) → IsChecked job.program.blocks → IsStrict job.program.blocks → IsDeterminateJob job
 strict_job job checked strict =
     determinate_job job checked (strict_determinate job.program.blocks checked strict)
+
+-- each run of own firings is one of those
+pub own_runs : (job : JobParts) → IsDeterminateJob job → (fs : List Firing) → Derivation (own_of job) fs → OnlyWritesClash (Held (own_of job) fs)
+own_runs job by fs d = by.runs fs (own_run job fs d)

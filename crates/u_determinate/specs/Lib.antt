@@ -5,6 +5,7 @@ pub mod Tables
 pub mod Guards
 pub mod Determinate
 pub mod Theorem
+pub mod Outside
 pub mod Flow
 pub mod Meetings
 pub mod Findings

@@ -6,6 +6,7 @@
 ghost use Rattle.u_determinate.specs.Strict.{IsStrict};
 ghost use Rattle.u_determinate.specs.Determinate.{IsDeterminate};
 ghost use Rattle.u_determinate.specs.Theorem.{IsDeterminateJob};
+ghost use Rattle.u_determinate.specs.Outside.{HasOneOutcome, QuietIsWhole, RepliesAloneWrite};
 
 use u_check::Job;
 
@@ -14,9 +15,18 @@ use u_check::Job;
 ///
 /// Promise only-writes-clash: if the program is strict or determinate, two values at one port, or two
 /// answers, come only with two writes of one cell.
+///
+/// Promise one-outcome: two runs of a determinate program at their end, with no question open, no cell written
+/// twice, and replies that one function says, hold the same.
+///
+/// Promise whole-with-replies: a run of own firings and of these replies, of which nothing is left, holds all
+/// that such runs hold.
 pub fn only_writes_clash(job: &Job)
     ensures determinate { IsDeterminate job.now.program.blocks → IsDeterminateJob job.now }
     ensures strict { IsStrict job.now.program.blocks → IsDeterminateJob job.now }
+    ensures outcome { IsDeterminate job.now.program.blocks → HasOneOutcome job.now }
+    ensures whole { QuietIsWhole job.now }
+    ensures asked { RepliesAloneWrite job.now }
 {
     // Brings in that the program is checked.
     let _program = job.program();

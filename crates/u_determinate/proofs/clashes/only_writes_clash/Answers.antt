@@ -1,4 +1,5 @@
 use Rattle.u_determinate.proofs.Theorem.{determinate_job, strict_job}
+use Rattle.u_determinate.proofs.Outside.{has_one_outcome, quiet_is_whole, replies_alone_write}
 use Rattle.u_determinate.proofs.clashes.only_writes_clash.Goals as goal
 
 pub returns-clause-determinate : goal.returns-clause-determinate
@@ -6,3 +7,12 @@ returns-clause-determinate c = determinate_job c.args.job.now c.program-program.
 
 pub returns-clause-strict : goal.returns-clause-strict
 returns-clause-strict c = strict_job c.args.job.now c.program-program.ensures.checked
+
+pub returns-clause-outcome : goal.returns-clause-outcome
+returns-clause-outcome c = has_one_outcome c.args.job.now c.program-program.ensures.checked
+
+pub returns-clause-whole : goal.returns-clause-whole
+returns-clause-whole c = quiet_is_whole c.args.job.now
+
+pub returns-clause-asked : goal.returns-clause-asked
+returns-clause-asked c = replies_alone_write c.args.job.now
