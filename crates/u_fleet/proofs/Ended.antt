@@ -7,7 +7,7 @@ use Rattle.std.proofs.lemmas.List.{get_or_default, get_or-map, length-map}
 use Rattle.std.proofs.lemmas.List.Elements.{All-contains, All-drop, All-take}
 use Rattle.u_base.specs.Firing.{Derivation}
 use Rattle.u_check.specs.Jobs.{JobParts}
-use Rattle.u_rule.specs.Rule.{system_of}
+use Rattle.u_rule.specs.Rule.{own_of}
 use Rattle.u_rule.specs.declared.firing.Firing.{Firing}
 use Rattle.u_machine.specs.State.{State, IsMachine, NothingReady}
 use Rattle.u_machine.specs.Headline.{IsWhole}
@@ -27,11 +27,11 @@ one_of xs k n d one small = rw (one, drop-cons xs k d small) refl
 
 -- each firing of runs is sound
 pub runs_sound : (job : JobParts) (lists : List (List Firing)) → AreRuns job lists → (f : Firing) → IsPublished lists f → IsSound job f
-runs_sound job lists runs f p = from_all job p.0 (run_sound job p.0 (All-contains (λ fs. Derivation (system_of job) fs) lists p.0 runs p.1)) f p.2
+runs_sound job lists runs f p = from_all job p.0 (run_sound job p.0 (All-contains (λ fs. Derivation (own_of job) fs) lists p.0 runs p.1)) f p.2
 
 -- a part of runs is runs
 pub part_runs : (job : JobParts) (lists : List (List Firing)) (k n : ℕ) → AreRuns job lists → AreRuns job (take n (drop k lists))
-part_runs job lists k n runs = All-take (λ fs. Derivation (system_of job) fs) n (drop k lists) (All-drop (λ fs. Derivation (system_of job) fs) k lists runs)
+part_runs job lists k n runs = All-take (λ fs. Derivation (own_of job) fs) n (drop k lists) (All-drop (λ fs. Derivation (own_of job) fs) k lists runs)
 
 module _ (job : JobParts) (lists : List (List Firing)) (k : ℕ) (small : k < length lists) (runs : AreRuns job lists) (whole : IsWholeList job (slice_index_or lists k [])) (m : State) where
   at : Contains lists (slice_index_or lists k [])
@@ -47,7 +47,7 @@ module _ (job : JobParts) (lists : List (List Firing)) (k : ℕ) (small : k < le
 
 module _ (may : ℕ → ℕ → Turn → Type 0) (job : JobParts) (plan : FleetPlan) (lists : List (List Firing)) (ends : List End) (ended : HaveEnded may job plan lists ends) where
   pub have_runs : AreRuns job lists
-  have_runs k d small = subst (λ fs. Derivation (system_of job) fs) (get_or_default lists k [] d small) (ended.each k (let n = ended.one_list in omega (arith, n, small))).run
+  have_runs k d small = subst (λ fs. Derivation (own_of job) fs) (get_or_default lists k [] d small) (ended.each k (let n = ended.one_list in omega (arith, n, small))).run
 
   -- the list of a worker that is done
   pub have_whole : (k : ℕ) → k < length ends → slice_index_or ends k Done ≡ Done → IsWholeList job (slice_index_or lists k [])

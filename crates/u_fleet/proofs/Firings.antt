@@ -9,7 +9,7 @@ use Rattle.u_base.proofs.Member.{Contains-nil, Contains-cons_cases}
 use Rattle.u_base.proofs.Held.{Enabled-mono}
 use Rattle.u_base.proofs.Closure.{Cl-mono}
 use Rattle.u_base.proofs.Plain.{EachPlace-nil, EachPlace-push}
-use Rattle.u_rule.specs.Rule.{system_of}
+use Rattle.u_rule.specs.Rule.{own_of}
 use Rattle.u_rule.specs.EntryOrder.{firing_cmp}
 use Rattle.u_rule.specs.declared.firing.Firing.{Firing}
 use Rattle.std.specs.declared.cmp.Ordering.TheVariants.{Less}
@@ -68,7 +68,7 @@ module _ (p : Firing → Bool) (f g : Firing) where
       over false e first (inr k) later = later first k
 
 -- the ready firing at place 0 of those in the mask is the least of them
-pub picked_least : (m : State) (buckets : ℕ) (f : Firing) → IsPickIn m buckets 0 f → (g : Firing) → IsTrue (is_in buckets g) → Enabled (system_of m.job) (Cl (system_of m.job) (Taken m)) g → Taken m g ⊎ firing_le f g
+pub picked_least : (m : State) (buckets : ℕ) (f : Firing) → IsPickIn m buckets 0 f → (g : Firing) → IsTrue (is_in buckets g) → Enabled (own_of m.job) (Cl (own_of m.job) (Taken m)) g → Taken m g ⊎ firing_le f g
 picked_least m buckets f (ready, are, at) g inside en =
     elim (are.1 g en) [ inl k ↦ inr (first_kept (is_in buckets) f g ready are.2 zeroth k inside) | inr t ↦ inl t ]
   where
@@ -106,9 +106,9 @@ module _ (buckets : ℕ) (old m : State) (gs : List Firing) (r : FiresIn buckets
       let q = picked_ready m buckets 0 f p in
       record {
         inside = q.1;
-        enabled = rw r.grows.job at (Enabled-mono (system_of m.job) (Cl (system_of m.job) (Taken m)) (Cl (system_of m.job) (λ g. Taken old g ⊎ Contains gs g)) (Cl-mono (system_of m.job) (Taken m) (λ g. Taken old g ⊎ Contains gs g) there) f q.0.0);
+        enabled = rw r.grows.job at (Enabled-mono (own_of m.job) (Cl (own_of m.job) (Taken m)) (Cl (own_of m.job) (λ g. Taken old g ⊎ Contains gs g)) (Cl-mono (own_of m.job) (Taken m) (λ g. Taken old g ⊎ Contains gs g) there) f q.0.0);
         new = λ t. q.0.1 (back f t);
-        least = λ g inside en. elim (picked_least m buckets f p g inside (Enabled-mono (system_of m.job) (Cl (system_of m.job) (λ g. Taken old g ⊎ Contains gs g)) (Cl (system_of m.job) (Taken m)) (Cl-mono (system_of m.job) (λ g. Taken old g ⊎ Contains gs g) (Taken m) back) g (rw (← r.grows.job) at en))) [ inl t ↦ inl (there g t) | inr l ↦ inr l ];
+        least = λ g inside en. elim (picked_least m buckets f p g inside (Enabled-mono (own_of m.job) (Cl (own_of m.job) (λ g. Taken old g ⊎ Contains gs g)) (Cl (own_of m.job) (Taken m)) (Cl-mono (own_of m.job) (λ g. Taken old g ⊎ Contains gs g) (Taken m) back) g (rw (← r.grows.job) at en))) [ inl t ↦ inl (there g t) | inr l ↦ inr l ];
       }
 
   pub fires_one : (n : State) (f : Firing) → IsPickIn m buckets 0 f → Takes m f n → FiresIn buckets old (gs ++ f ∷ []) n

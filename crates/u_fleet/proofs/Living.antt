@@ -12,7 +12,7 @@ use Rattle.u_base.proofs.Held.{Enabled-mono}
 use Rattle.u_base.proofs.Closure.{Derivation-append, Derivation-nil, Quiet-whole}
 use Rattle.u_base.proofs.Member.{Contains-nil}
 use Rattle.u_check.specs.Jobs.{JobParts}
-use Rattle.u_rule.specs.Rule.{system_of}
+use Rattle.u_rule.specs.Rule.{own_of}
 use Rattle.u_program.specs.declared.program.Version.{Version}
 use Rattle.u_rule.specs.declared.firing.Firing.{Firing}
 use Rattle.u_machine.specs.State.{State, Taken, IsMachine, IsSettled, NothingReady}
@@ -99,26 +99,26 @@ lives_on job life r published gains lives = record {
     same = rw on.1 (take-append-le life.sent life.replica.machine.log on.0 lives.within)
 
 -- all that a worker published is one run of the job
-pub lives_run : (job : JobParts) (life : Life) (published : List Firing) → IsMachine life.replica.machine → Lives job life published → Derivation (system_of job) published
+pub lives_run : (job : JobParts) (life : Life) (published : List Firing) → IsMachine life.replica.machine → Lives job life published → Derivation (own_of job) published
 lives_run job life published is lives =
-    subst (λ fs. Derivation (system_of job) fs) (sym lives.lists) (Derivation-append (system_of job) lives.before (take life.sent life.replica.machine.log) lives.run
-    (Derivation-take (system_of job) life.replica.machine.log life.sent (subst (λ j. Derivation (system_of j) life.replica.machine.log) lives.job_is is.sound.derivation)))
+    subst (λ fs. Derivation (own_of job) fs) (sym lives.lists) (Derivation-append (own_of job) lives.before (take life.sent life.replica.machine.log) lives.run
+    (Derivation-take (own_of job) life.replica.machine.log life.sent (subst (λ j. Derivation (own_of j) life.replica.machine.log) lives.job_is is.sound.derivation)))
 
 -- where nothing is ready each sound firing is applied
 all_applied : (m : State) → IsMachine m → IsSettled m → NothingReady m → (f : Firing) → IsSound m.job f → Contains m.log f
 all_applied m is settled none f sound =
     ⊎_elim (λ (a : Contains m.log f). a) (λ (b : Contains m.parked f). absurd (settled.none f b over)) (Contains-append_cases m.log m.parked f (none f reached))
   where
-    over : Enabled (system_of m.job) (Contains m.history) f
-    over = Enabled-mono (system_of m.job) (systems.Whole (system_of m.job)) (Contains m.history) (λ e. ((quiet_whole m is.sound settled none).1 e).1) f sound
+    over : Enabled (own_of m.job) (Contains m.history) f
+    over = Enabled-mono (own_of m.job) (systems.Whole (own_of m.job)) (Contains m.history) (λ e. ((quiet_whole m is.sound settled none).1 e).1) f sound
 
-    reached : Enabled (system_of m.job) (Cl (system_of m.job) (Taken m)) f
-    reached = Enabled-mono (system_of m.job) (Contains m.history) (Cl (system_of m.job) (Taken m)) (λ e. ((settled_is_Cl m is.sound settled).0 e).0) f over
+    reached : Enabled (own_of m.job) (Cl (own_of m.job) (Taken m)) f
+    reached = Enabled-mono (own_of m.job) (Contains m.history) (Cl (own_of m.job) (Taken m)) (λ e. ((settled_is_Cl m is.sound settled).0 e).0) f over
 
 -- and a run that has all of these is whole
-whole_list : (job : JobParts) (fs : List Firing) → Derivation (system_of job) fs → ((f : Firing) → IsSound job f → Contains fs f) → IsWholeList job fs
+whole_list : (job : JobParts) (fs : List Firing) → Derivation (own_of job) fs → ((f : Firing) → IsSound job f → Contains fs f) → IsWholeList job fs
 whole_list job fs run all = record {
-  held = Quiet-whole (system_of job) fs run (λ f en. all f (Enabled-mono (system_of job) (Held (system_of job) fs) (systems.Whole (system_of job)) (λ e h. (fs, run, h)) f en));
+  held = Quiet-whole (own_of job) fs run (λ f en. all f (Enabled-mono (own_of job) (Held (own_of job) fs) (systems.Whole (own_of job)) (λ e h. (fs, run, h)) f en));
   all = all;
 }
 
@@ -134,7 +134,7 @@ done_whole job life published is settled none sent lives = whole_list job publis
         subst (λ fs. Contains fs f) (sym lives.lists) (Contains-append_right lives.before (take life.sent life.replica.machine.log) f (subst (λ fs. Contains fs f) (sym log_is) there))
 
 -- what a worker leaves that cannot go on
-pub failed : (may : ℕ → ℕ → Turn → Type 0) (job : JobParts) (limit rounds worker : ℕ) (m : State) (published : List Firing) (end : End) → Derivation (system_of job) published
+pub failed : (may : ℕ → ℕ → Turn → Type 0) (job : JobParts) (limit rounds worker : ℕ) (m : State) (published : List Firing) (end : End) → Derivation (own_of job) published
     → m.job ≡ job → m.limit ≡ limit → TookSound m → MayFail m end → HasEnded may job limit rounds worker published end
 failed may job limit rounds worker m published Done run job_is limit_is took fails = absurd fails
 failed may job limit rounds worker m published Stopped run job_is limit_is took fails = absurd fails
@@ -219,7 +219,7 @@ front_text_saved job m version log count (Ok bytes) job_is took version_is same 
 front_text_saved job m version log count (Err e) job_is took version_is same text valid = tt
 
 -- what a worker leaves after its last run
-pub last_worked : (may : ℕ → ℕ → Turn → Type 0) (job : JobParts) (limit rounds worker : ℕ) (m : State) (published : List Firing) (end : End) → Derivation (system_of job) published
+pub last_worked : (may : ℕ → ℕ → Turn → Type 0) (job : JobParts) (limit rounds worker : ℕ) (m : State) (published : List Firing) (end : End) → Derivation (own_of job) published
     → m.job ≡ job → m.limit ≡ limit → TookSound m → LastEnd job limit m published end → HasEnded may job limit rounds worker published end
 last_worked may job limit rounds worker m published Done run job_is limit_is took ended = record { run = run; ends = ended }
 last_worked may job limit rounds worker m published Stopped run job_is limit_is took ended = absurd ended
@@ -260,7 +260,7 @@ first_lives job limit number = record {
   job_is = refl;
   sound = λ f t. absurd (Contains-nil f t);
   before = [];
-  run = Derivation-nil (system_of job);
+  run = Derivation-nil (own_of job);
   lists = refl;
   within = omega arith;
   saved = omega arith;

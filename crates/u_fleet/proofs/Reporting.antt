@@ -10,7 +10,7 @@ use Rattle.u_base.specs.Firing.{Held, Enabled, Derivation, Same}
 use Rattle.u_base.proofs.Held.{Enabled-mono}
 use Rattle.u_base.proofs.Member.{Contains-nil, Contains-head, Contains-cons_cases}
 use Rattle.u_check.specs.Jobs.{JobParts}
-use Rattle.u_rule.specs.Rule.{system_of}
+use Rattle.u_rule.specs.Rule.{own_of}
 use Rattle.u_rule.specs.declared.firing.Firing.{Firing}
 use Rattle.u_machine.specs.State.{State, Taken, IsMachine, IsSettled, NothingReady}
 use Rattle.u_machine.specs.Headline.{IsWhole}
@@ -28,20 +28,20 @@ none_listed [] none = refl
 none_listed (x ∷ xs) none = absurd (none x (Contains-head x xs))
 
 -- each firing of a run whose firings are all taken is enabled over the history of a settled machine
-enabled_in : (m : State) (run : List Firing) (f : Firing) → IsMachine m → IsSettled m → Derivation (system_of m.job) run → ((g : Firing) → Contains run g → Taken m g) → Contains run f
-    → Enabled (system_of m.job) (Contains m.history) f
+enabled_in : (m : State) (run : List Firing) (f : Firing) → IsMachine m → IsSettled m → Derivation (own_of m.job) run → ((g : Firing) → Contains run g → Taken m g) → Contains run f
+    → Enabled (own_of m.job) (Contains m.history) f
 enabled_in m run f is settled d all at =
-    Enabled-mono (system_of m.job) (Held (system_of m.job) (take at.0 run)) (Contains m.history) (λ e h. ((settled_is_Cl m is.sound settled).0 e).1 (take at.0 run, front, within, h)) f
+    Enabled-mono (own_of m.job) (Held (own_of m.job) (take at.0 run)) (Contains m.history) (λ e h. ((settled_is_Cl m is.sound settled).0 e).1 (take at.0 run, front, within, h)) f
     (d.each at.0 f (slice_get-get_or run at.0 f at.1 ∙ ap (λ x. Some x) at.2))
   where
-    front : Derivation (system_of m.job) (take at.0 run)
-    front = Derivation-take (system_of m.job) run at.0 d
+    front : Derivation (own_of m.job) (take at.0 run)
+    front = Derivation-take (own_of m.job) run at.0 d
 
     within : (g : Firing) → Contains (take at.0 run) g → Taken m g
     within g c = all g (subst (λ xs. Contains xs g) (take-append-drop at.0 run) (Contains-append_left (take at.0 run) (drop at.0 run) g c))
 
 -- a settled machine that took what runs have, and nothing else, parks nothing
-pub none_parked : (m : State) (lists : List (List Firing)) → IsMachine m → IsSettled m → ((fs : List Firing) → Contains lists fs → Derivation (system_of m.job) fs) → Same (Taken m) (IsPublished lists) → m.parked ≡ []
+pub none_parked : (m : State) (lists : List (List Firing)) → IsMachine m → IsSettled m → ((fs : List Firing) → Contains lists fs → Derivation (own_of m.job) fs) → Same (Taken m) (IsPublished lists) → m.parked ≡ []
 none_parked m lists is settled runs same = none_listed m.parked (λ f p.
     let there = (same f).0 (Contains-append_right m.log m.parked f p) in
     settled.none f p (enabled_in m there.0 f is settled (runs there.0 there.1) (λ g c. (same g).1 (there.0, there.1, c)) there.2))
@@ -109,11 +109,11 @@ front_published old new lists k fs small at same takes = subst (λ xs. Same (Tak
 
 -- what settles has taken the same
 pub settled_published : (job : JobParts) (lists : List (List Firing)) (before m : State) → before.job ≡ job → Same (Taken before) (IsPublished lists) → Applies before m → IsMachine m → IsSettled m
-    → All (λ fs. Derivation (system_of job) fs) lists → TookPublished job lists m
+    → All (λ fs. Derivation (own_of job) fs) lists → TookPublished job lists m
 settled_published job lists before m job_is same applies is settled runs = record {
   job_is = is_job;
   taken = taken;
-  parked = none_parked m lists is settled (λ fs at. subst (λ j. Derivation (system_of j) fs) (sym is_job) (All-contains (λ gs. Derivation (system_of job) gs) lists fs runs at)) taken;
+  parked = none_parked m lists is settled (λ fs at. subst (λ j. Derivation (own_of j) fs) (sym is_job) (All-contains (λ gs. Derivation (own_of job) gs) lists fs runs at)) taken;
   settled = settled;
 }
   where

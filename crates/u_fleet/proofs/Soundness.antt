@@ -8,7 +8,7 @@ use Rattle.u_base.specs.Firing.{System, Held, Enabled, Derivation, Cl, Whole, Fo
 use Rattle.u_base.proofs.Held.{Enabled-mono, Follows-from_Derivation, Derivation-from_Follows}
 use Rattle.u_base.proofs.Closure.{Cl-whole}
 use Rattle.u_check.specs.Jobs.{JobParts}
-use Rattle.u_rule.specs.Rule.{system_of}
+use Rattle.u_rule.specs.Rule.{own_of}
 use Rattle.u_rule.specs.declared.firing.Firing.{Firing}
 use Rattle.u_machine.specs.State.{State, Taken, IsMachine}
 use Rattle.u_machine.specs.Calls.{Grows, Applies}
@@ -39,8 +39,8 @@ module _ {E F : Type 0} (s : System E F) where
   Derivation-at fs k f d at = Enabled-mono s (Held s (take k fs)) (Whole s) (λ e h. (take k fs, Derivation-take fs k d, h)) f (d.each k f at)
 
 -- each firing of a run of the job is sound
-pub run_sound : (job : JobParts) (fs : List Firing) → Derivation (system_of job) fs → All (IsSound job) fs
-run_sound job fs d k fallback h = Derivation-at (system_of job) fs k (slice_index_or fs k fallback) d (slice_get-get_or fs k fallback h)
+pub run_sound : (job : JobParts) (fs : List Firing) → Derivation (own_of job) fs → All (IsSound job) fs
+run_sound job fs d k fallback h = Derivation-at (own_of job) fs k (slice_index_or fs k fallback) d (slice_get-get_or fs k fallback h)
 
 -- the log of a machine is sound, and so is each part of it
 pub part_sound : (job : JobParts) (m : State) (log : List Firing) (place n : ℕ) → IsMachine m → m.job ≡ job → log ≡ m.log → All (IsSound job) (take n (drop place log))
@@ -78,8 +78,8 @@ answer_gains old new fs (Err lists.NoMemory) all (inr (firings, fits, some)) =
 -- no list of sound firings has one that is none of the job
 none_other : (old : State) (fs : List Firing) (place : ℕ) → All (IsSound old.job) fs → IsFirstOther old.job fs place → ⊥
 none_other old fs place all other =
-    let yes : (system_of old.job).is_firing other.other ≡ true = (from_all old.job fs all other.other (slice_get_Contains fs place other.other other.at)).0 in
-    let no : (system_of old.job).is_firing other.other ≡ false = other.none in
+    let yes : (own_of old.job).is_firing other.other ≡ true = (from_all old.job fs all other.other (slice_get_Contains fs place other.other other.at)).0 in
+    let no : (own_of old.job).is_firing other.other ≡ false = other.none in
     let bad : true ≡ false = sym yes ∙ no in cc
 
 -- where a list is too long more firings are sound than may be taken
@@ -103,5 +103,5 @@ takes_first old new fs (inl u) = (0, omega arith, takes_none old new u.applies)
 takes_first old new fs (inr (firings, fits, some)) = some
 
 -- what is enabled over what any firings reach is sound
-pub reached_sound : (job : JobParts) (M : Firing → Type 0) (f : Firing) → Enabled (system_of job) (Cl (system_of job) M) f → IsSound job f
-reached_sound job M f = Enabled-mono (system_of job) (Cl (system_of job) M) (Whole (system_of job)) (Cl-whole (system_of job) M) f
+pub reached_sound : (job : JobParts) (M : Firing → Type 0) (f : Firing) → Enabled (own_of job) (Cl (own_of job) M) f → IsSound job f
+reached_sound job M f = Enabled-mono (own_of job) (Cl (own_of job) M) (Whole (own_of job)) (Cl-whole (own_of job) M) f

@@ -7,7 +7,7 @@
 use Rattle.std.specs.Prelude.{◌≡◌, ℕ, ◌+◌, List, [], length, ◌<◌, Contains, All, slice_index_or}
 use Rattle.u_base.specs.Firing.{Derivation, Distinct, Held, Whole, Same}
 use Rattle.u_check.specs.Jobs.{JobParts}
-use Rattle.u_rule.specs.Rule.{system_of}
+use Rattle.u_rule.specs.Rule.{own_of}
 use Rattle.u_rule.specs.declared.firing.Firing.{Firing}
 use Rattle.u_machine.specs.State.{State, Taken, IsSettled, NothingReady}
 use Rattle.u_machine.specs.Headline.{IsWhole}
@@ -28,7 +28,7 @@ MoreThan job limit = (fs : List Firing) × Distinct fs × AreSound job fs × (li
 
 -- the list has each sound firing of the job, and holds the whole history
 pub record IsWholeList (job : JobParts) (fs : List Firing) : Type 0 where
-  pub held : Same (Held (system_of job) fs) (Whole (system_of job))
+  pub held : Same (Held (own_of job) fs) (Whole (own_of job))
   pub all : (f : Firing) → IsSound job f → Contains fs f
 
 -- how a worker may end, with all that it has published: its list is whole; the gate may have stopped it after a
@@ -41,7 +41,7 @@ EndsWith may job limit rounds worker published NoMemory = Unit {0}
 
 -- what a worker leaves: all that it published is one run after another of the job, and so one run, and it ended so
 pub record HasEnded (may : ℕ → ℕ → Turn → Type 0) (job : JobParts) (limit rounds worker : ℕ) (published : List Firing) (end : End) : Type 0 where
-  pub run : Derivation (system_of job) published
+  pub run : Derivation (own_of job) published
   pub ends : EndsWith may job limit rounds worker published end
 
 -- one of the lists has the firing
@@ -50,7 +50,7 @@ IsPublished lists f = (fs : List Firing) × Contains lists fs × Contains fs f
 
 -- each of the lists is one run of the job
 abbrev pub AreRuns : JobParts → List (List Firing) → Type 0
-AreRuns job lists = All (λ fs. Derivation (system_of job) fs) lists
+AreRuns job lists = All (λ fs. Derivation (own_of job) fs) lists
 
 -- each worker was stopped
 abbrev pub AreStopped : List End → Type 0

@@ -3,7 +3,7 @@ use Rattle.std.specs.Prelude.{◌≡◌, ℕ, ◌≤◌, List, ◌++◌, length,
 use Rattle.u_name.specs.Context.{IsBetween}
 use Rattle.u_base.specs.Firing.{Derivation}
 use Rattle.u_check.specs.Jobs.{JobParts}
-use Rattle.u_rule.specs.Rule.{system_of}
+use Rattle.u_rule.specs.Rule.{own_of}
 use Rattle.u_rule.specs.declared.firing.Firing.{Firing}
 use Rattle.u_machine.specs.State.{State, IsSettled, NothingReady}
 use Rattle.u_machine.specs.declared.answer.Ran.{Ran}
@@ -41,7 +41,7 @@ pub record Lives (job : JobParts) (life : Life) (published : List Firing) : Type
   pub job_is : life.replica.machine.job ≡ job
   pub sound : TookSound life.replica.machine
   pub before : List Firing
-  pub run : Derivation (system_of job) before
+  pub run : Derivation (own_of job) before
   pub lists : published ≡ before ++ take life.sent life.replica.machine.log
   pub within : life.sent ≤ length life.replica.machine.log
   pub saved : IsSaved job life.replica.machine life.saved

@@ -2,7 +2,7 @@
 use Rattle.std.specs.Prelude.{◌≡◌, ℕ, ◌<◌, ◌≤◌, ◌+◌, List, ◌⊎◌, ◌↔◌, length, IsTrue, Contains, Result, Ok, Err}
 use Rattle.u_base.specs.Firing.{Enabled, Cl, EachPlace}
 use Rattle.u_claims.specs.declared.rule.Hand.{Hand}
-use Rattle.u_rule.specs.Rule.{system_of}
+use Rattle.u_rule.specs.Rule.{own_of}
 use Rattle.u_rule.specs.declared.firing.Firing.{Firing}
 use Rattle.u_machine.specs.Masks.{is_in}
 use Rattle.u_machine.specs.State.{State, Taken, IsSettled, count_of, IsReadyIn}
@@ -15,10 +15,10 @@ use Rattle.u_fleet.specs.declared.answer.WorkFault.TheVariants.{Full, NoMemory}
 -- f is the least, of those in the mask, that are enabled over the closure of what was taken with `done` and are in neither
 pub record IsNextIn (buckets : ℕ) (m : State) (done : List Firing) (f : Firing) : Type 0 where
   pub inside : IsTrue (is_in buckets f)
-  pub enabled : Enabled (system_of m.job) (Cl (system_of m.job) (λ g. Taken m g ⊎ Contains done g)) f
+  pub enabled : Enabled (own_of m.job) (Cl (own_of m.job) (λ g. Taken m g ⊎ Contains done g)) f
   pub new : (Taken m f ⊎ Contains done f) → ⊥
   pub least :
-      (g : Firing) → IsTrue (is_in buckets g) → Enabled (system_of m.job) (Cl (system_of m.job) (λ h. Taken m h ⊎ Contains done h)) g
+      (g : Firing) → IsTrue (is_in buckets g) → Enabled (own_of m.job) (Cl (own_of m.job) (λ h. Taken m h ⊎ Contains done h)) g
       → (Taken m g ⊎ Contains done g) ⊎ firing_le f g
 
 -- gs were fired one after another, each the least that was ready and in the mask; nothing else was taken, and nothing is lost

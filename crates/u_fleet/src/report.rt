@@ -4,7 +4,7 @@
 //! are taken.
 ghost use Rattle.std.specs.Prelude.{◌≡◌, ◌<◌, ◌⊎◌, ℕ, [], IfOk, IfErr, OnOk, IfSome, IsNone, Contains, length, slice_index_or};
 ghost use Rattle.u_base.specs.Firing.{Derivation, Same};
-ghost use Rattle.u_rule.specs.Rule.{system_of};
+ghost use Rattle.u_rule.specs.Rule.{own_of};
 ghost use Rattle.u_machine.specs.State.{Taken, NothingReady};
 ghost use Rattle.u_machine.specs.Headline.{IsWhole};
 ghost use Rattle.u_machine.specs.Taking.{TakesAll};
@@ -36,7 +36,7 @@ pub struct Report<'a> {
 /// Takes the firings of one run of the job.
 fn take_run<J: Named>(replica: &mut Replica<'_>, run: &Firings) -> Result<(), FleetFault>
     requires job { replica.old.machine.job ≡ J.job }
-    requires run { Derivation (system_of J.job) run.now }
+    requires run { Derivation (own_of J.job) run.now }
     ensures takes { OnOk result (TakesAll replica.old.machine run.now replica.new.machine) }
     ensures gains { Gains replica.old.machine replica.new.machine }
     ensures full { IfErr result (λ e. e ≡ FleetFault.Full → MayBeFull replica.old.machine) }

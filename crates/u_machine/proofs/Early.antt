@@ -3,7 +3,7 @@ use Rattle.std.proofs.Common.{◌<◌, inl, inr, take}
 use Rattle.std.specs.Prelude.{IsTrue, Contains}
 use Rattle.std.proofs.lemmas.List.Elements.{Contains-append_cases}
 use Rattle.u_rule.specs.declared.firing.Firing.{Firing}
-use Rattle.u_rule.specs.Rule.{system_of}
+use Rattle.u_rule.specs.Rule.{own_of}
 use Rattle.u_machine.specs.declared.parts.Parts.{Parts}
 use Rattle.u_machine.specs.State.{Taken, count_of}
 use Rattle.u_machine.specs.Calls.{IsNew}
@@ -14,5 +14,5 @@ module _ (p : Parts) (f : Firing) (unapplied : Contains p.log.items f → ⊥) (
   pub untaken : Taken (state_of p) f → ⊥
   untaken t = elim (Contains-append_cases (take p.applied_count p.log.items) (parked_of p) f t) [ inl a ↦ unapplied (Contains-taken p.applied_count p.log.items f a) | inr b ↦ unparked b ]
 
-  pub early_is_new : IsTrue ((system_of p.job.now).is_firing f) → count_of (state_of p) < p.limit → IsNew (state_of p) f
+  pub early_is_new : IsTrue ((own_of p.job.now).is_firing f) → count_of (state_of p) < p.limit → IsNew (state_of p) f
   early_is_new firing room = record { firing = firing; new = untaken; room = room }

@@ -2,7 +2,7 @@
 use Rattle.std.proofs.Common.{◌≡◌, ◌↔◌, inl, inr, sym, subst, arith, ℕ, [], ◌∷◌}
 use Rattle.std.specs.Prelude.{Contains}
 use Rattle.u_check.specs.Jobs.{JobParts}
-use Rattle.u_rule.specs.Rule.{system_of}
+use Rattle.u_rule.specs.Rule.{own_of}
 use Rattle.u_rule.specs.EntryOrder.{entry_cmp, EntryList, FiringList}
 use Rattle.u_rule.specs.ExactOrders.{entry_cmp_total}
 use Rattle.u_rule.specs.declared.entry.Entry.{Entry}
@@ -30,27 +30,27 @@ only_one h e r w = one_list entry_cmp entry_cmp_total h (e ∷ []) r ((λ y m. a
     back x m = elim (Contains-cons_cases e x [] m) [ inl p ↦ (w x).1 (inr p) | inr n ↦ absurd (Contains-nil x n) ]
 
 module _ (job : JobParts) (limit : ℕ) where
-  fresh : IsSound (state job limit [] [] ((system_of job).start ∷ []))
+  fresh : IsSound (state job limit [] [] ((own_of job).start ∷ []))
   fresh = record {
     firings = λ f t. absurd (Contains-nil f t);
-    derivation = Derivation-nil (system_of job);
+    derivation = Derivation-nil (own_of job);
     distinct = tt;
     within = omega arith;
-    has = λ e k. subst (λ (x : Entry). Contains ((system_of job).start ∷ []) x) (sym (Held-nil (system_of job) e k)) (Contains-head (system_of job).start []);
-    lies = λ e m. elim (Contains-cons_cases (system_of job).start e [] m) [ inl p ↦ subst (Cl (system_of job) (Contains [])) p (Cl-start (system_of job) (Contains [])) | inr n ↦ absurd (Contains-nil e n) ];
+    has = λ e k. subst (λ (x : Entry). Contains ((own_of job).start ∷ []) x) (sym (Held-nil (own_of job) e k)) (Contains-head (own_of job).start []);
+    lies = λ e m. elim (Contains-cons_cases (own_of job).start e [] m) [ inl p ↦ subst (Cl (own_of job) (Contains [])) p (Cl-start (own_of job) (Contains [])) | inr n ↦ absurd (Contains-nil e n) ];
   }
 
-  pub fresh_log : IsLogged job limit [] 0 [] ((system_of job).start ∷ [])
+  pub fresh_log : IsLogged job limit [] 0 [] ((own_of job).start ∷ [])
   fresh_log = record {
     is = fresh;
     place = omega arith;
-    derivation = Derivation-nil (system_of job);
+    derivation = Derivation-nil (own_of job);
     apart = tt;
     begun = λ f m. absurd (Contains-nil f m);
-    lies = λ e m. elim (Contains-cons_cases (system_of job).start e [] m) [ inl p ↦ subst (Held (system_of job) []) p (Held-start (system_of job) []) | inr n ↦ absurd (Contains-nil e n) ];
+    lies = λ e m. elim (Contains-cons_cases (own_of job).start e [] m) [ inl p ↦ subst (Held (own_of job) []) p (Held-start (own_of job) []) | inr n ↦ absurd (Contains-nil e n) ];
   }
 
-  pub fresh_partitioned : (history : EntryList) (woken ready : FiringList) → IsWith [] (system_of job).start history → ((f : Firing) → Contains woken f ↔ (Contains ((system_of job).needs f) (system_of job).start × Enabled (system_of job) (Contains history) f)) → Same (Contains ready) (Contains woken) → IsPartitioned job [] [] ready [] history
+  pub fresh_partitioned : (history : EntryList) (woken ready : FiringList) → IsWith [] (own_of job).start history → ((f : Firing) → Contains woken f ↔ (Contains ((own_of job).needs f) (own_of job).start × Enabled (own_of job) (Contains history) f)) → Same (Contains ready) (Contains woken) → IsPartitioned job [] [] ready [] history
   fresh_partitioned history woken ready w exact same = record {
     logged = λ f m. absurd (Contains-nil f m);
     fit = λ f m. (((exact f).0 ((same f).0 m)).1, λ t. Contains-nil f t);
@@ -59,7 +59,7 @@ module _ (job : JobParts) (limit : ℕ) where
     all = λ f en. inl ((same f).1 ((exact f).1 (first f en, en)));
   }
     where
-      first : (f : Firing) → Enabled (system_of job) (Contains history) f → Contains ((system_of job).needs f) (system_of job).start
+      first : (f : Firing) → Enabled (own_of job) (Contains history) f → Contains ((own_of job).needs f) (own_of job).start
       first f en =
-          elim (enabled_with (system_of job) (Contains []) (Contains history) (system_of job).start f (λ x. (w x).0) en)
+          elim (enabled_with (own_of job) (Contains []) (Contains history) (own_of job).start f (λ x. (w x).0) en)
           [ inl n ↦ n | inr k ↦ (let s = needs_some job f en.0 in absurd (Contains-nil s.0 (k.1 s.0 s.1))) ]

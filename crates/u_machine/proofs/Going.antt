@@ -3,7 +3,7 @@ use Rattle.std.proofs.Common.{◌≡◌, ◌++◌, ◌⊎◌, inl, inr, List, []
 use Rattle.std.specs.Prelude.{slice_get, Some, Contains}
 use Rattle.u_rule.specs.declared.entry.Entry.{Entry}
 use Rattle.u_rule.specs.declared.firing.Firing.{Firing}
-use Rattle.u_rule.specs.Rule.{system_of}
+use Rattle.u_rule.specs.Rule.{own_of}
 use Rattle.u_rule.specs.EntryOrder.{FiringList, EntryList}
 use Rattle.u_machine.proofs.Lists.{le_split}
 use Rattle.u_machine.specs.declared.parts.Parts.{Parts}
@@ -60,8 +60,8 @@ pub still_on : (a b c : Parts) → SameButApplied a b → SameButApplied b c →
 still_on a b c p q = record { job = q.job ∙ p.job; log = q.log ∙ p.log; woken = q.woken ∙ p.woken; matcher = q.matcher ∙ p.matcher }
 
 -- all has entered that the firing at that place gives, which were these
-pub entered_here : (a b : Parts) (place : ℕ) (f : Firing) (es : EntryList) → GoesOn a b → place < length a.log.items → slice_get a.log.items place ≡ Some f → es ≡ (system_of a.job.now).gives f → ((e : Entry) → Contains es e → Contains b.matcher e) → HasEntered b place
+pub entered_here : (a b : Parts) (place : ℕ) (f : Firing) (es : EntryList) → GoesOn a b → place < length a.log.items → slice_get a.log.items place ≡ Some f → es ≡ (own_of a.job.now).gives f → ((e : Entry) → Contains es e → Contains b.matcher e) → HasEntered b place
 entered_here a b place f es p l at is has g there e m =
     let same : Some g ≡ Some f = sym (slice_get_before a.log.items p.log.0 place g l (rw p.log.1 at there)) ∙ at in
     let one : g ≡ f = cc in
-    has e (rw is (subst (λ (h : Firing). Contains ((system_of a.job.now).gives h) e) one (rw p.job at m)))
+    has e (rw is (subst (λ (h : Firing). Contains ((own_of a.job.now).gives h) e) one (rw p.job at m)))

@@ -12,7 +12,7 @@ use Rattle.u_rule.specs.declared.entry.Entry.{Entry}
 use Rattle.u_rule.specs.declared.entry.Entry.TheVariants.{Token as token_entry}
 use Rattle.u_rule.specs.declared.firing.Firing.{Firing}
 use Rattle.u_rule.specs.Parts.{TokenParts}
-use Rattle.u_rule.specs.Rule.{system_of}
+use Rattle.u_rule.specs.Rule.{own_of}
 use Rattle.u_rule.specs.EntryOrder.{FiringList, EntryList}
 use Rattle.u_match.specs.Waking.{IsWokenBy}
 use Rattle.u_machine.specs.Invariant.{IsPartitioned, HasLate, Waits, GainsSome}
@@ -226,16 +226,16 @@ module _ (job : JobParts) (taken all_ready ready woken : FiringList) (late histo
             [ inl q ↦ inl (all f ((exact f).1 (subst (λ (y : Entry). IsWokenBy job y (Contains history) f) (sym q) k))) | inr s ↦ inr (x, s, k) ]
 
   -- an entry enters
-  module _ (e : Entry) (more : EntryList) (none : woken ≡ []) (fresh : Contains history e → ⊥) (w : IsWith history e more) (fit : (f : Firing) → Contains all_ready f → Enabled (system_of job) (Contains history) f) where
+  module _ (e : Entry) (more : EntryList) (none : woken ≡ []) (fresh : Contains history e → ⊥) (w : IsWith history e more) (fit : (f : Firing) → Contains all_ready f → Enabled (own_of job) (Contains history) f) where
     grows : (x : Entry) (f : Firing) → IsWokenBy job x (Contains history) f → IsWokenBy job x (Contains more) f
-    grows x f k = (k.0, Enabled-mono (system_of job) (Contains history) (Contains more) (λ y m. (w y).1 (inl m)) f k.1)
+    grows x f k = (k.0, Enabled-mono (own_of job) (Contains history) (Contains more) (λ y m. (w y).1 (inl m)) f k.1)
 
-    no_need : (f : Firing) → Contains all_ready f → Contains ((system_of job).needs f) e → ⊥
+    no_need : (f : Firing) → Contains all_ready f → Contains ((own_of job).needs f) e → ⊥
     no_need f m k = fresh ((fit f m).1 e k)
 
     -- what is enabled now needs it, or was enabled before
-    split : (f : Firing) → Enabled (system_of job) (Contains more) f → Contains ((system_of job).needs f) e ⊎ Enabled (system_of job) (Contains history) f
-    split f = enabled_with (system_of job) (Contains history) (Contains more) e f (λ x. (w x).0)
+    split : (f : Firing) → Enabled (own_of job) (Contains more) f → Contains ((own_of job).needs f) e ⊎ Enabled (own_of job) (Contains history) f
+    split f = enabled_with (own_of job) (Contains history) (Contains more) e f (λ x. (w x).0)
 
     -- what it wakes is to be sorted out, and was not taken while a token is late
     pub enters_late : (woken_now : FiringList) → AreThose (IsWokenBy job e (Contains more)) woken_now → ((f : Firing) (x : Entry) → Contains woken_now f → Contains taken f → Contains late x → ⊥) → HasLate job taken all_ready ready woken_now late more
@@ -262,9 +262,9 @@ module _ (job : JobParts) (taken all_ready ready woken : FiringList) (late histo
     module _ (fs : FiringList) (exact : AreThose (IsWokenBy job e (Contains more)) fs) (free : (f : Firing) → Contains fs f → Contains taken f → ⊥) where
       pub put_late_partitioned : (log : FiringList) → IsPartitioned job log taken all_ready woken history → IsPartitioned job log taken (all_ready ++ fs) woken more
       put_late_partitioned log s = record {
-        logged = λ f m. Enabled-mono (system_of job) (Contains history) (Contains more) (λ y k. (w y).1 (inl k)) f (s.logged f m);
+        logged = λ f m. Enabled-mono (own_of job) (Contains history) (Contains more) (λ y k. (w y).1 (inl k)) f (s.logged f m);
         fit = λ f m. elim (Contains-append_cases all_ready fs f m) [
-          | inl a ↦ (Enabled-mono (system_of job) (Contains history) (Contains more) (λ y k. (w y).1 (inl k)) f (s.fit f a).0, (s.fit f a).1)
+          | inl a ↦ (Enabled-mono (own_of job) (Contains history) (Contains more) (λ y k. (w y).1 (inl k)) f (s.fit f a).0, (s.fit f a).1)
           | inr b ↦ (((exact f).0 b).1, free f b)
         ];
         neither = λ f m. absurd (Contains-nil f (rw none at m));
@@ -289,8 +289,8 @@ module _ (job : JobParts) (taken all_ready ready woken : FiringList) (late histo
       }
         where
           -- what needs a late token and was enabled before needs one that was late before
-          earlier : (f : Firing) (x : Entry) → Contains late_now x → Contains ((system_of job).needs f) x → Enabled (system_of job) (Contains history) f → Waits job late history f
-          earlier f x m n en = elim ((v x).0 m) [ inl k ↦ (x, k, (n, en)) | inr q ↦ absurd (fresh (en.1 e (subst (λ (y : Entry). Contains ((system_of job).needs f) y) (sym q) n))) ]
+          earlier : (f : Firing) (x : Entry) → Contains late_now x → Contains ((own_of job).needs f) x → Enabled (own_of job) (Contains history) f → Waits job late history f
+          earlier f x m n en = elim ((v x).0 m) [ inl k ↦ (x, k, (n, en)) | inr q ↦ absurd (fresh (en.1 e (subst (λ (y : Entry). Contains ((own_of job).needs f) y) (sym q) n))) ]
 
           to : (f : Firing) → Contains (all_ready ++ fs) f → (Contains ready f ⊎ Waits job late_now more f) × (Contains woken f → ⊥)
           to f m = (

@@ -7,7 +7,7 @@ use Rattle.u_check.specs.Jobs.{JobParts}
 use Rattle.u_sets.specs.Members.{IsWith, AreThose, HasOr}
 use Rattle.u_rule.specs.declared.entry.Entry.{Entry}
 use Rattle.u_rule.specs.declared.firing.Firing.{Firing}
-use Rattle.u_rule.specs.Rule.{system_of}
+use Rattle.u_rule.specs.Rule.{own_of}
 use Rattle.u_rule.specs.EntryOrder.{EntryList, FiringList}
 use Rattle.u_match.specs.Waking.{IsWokenBy}
 use Rattle.u_machine.proofs.Counting.{all_there, Distinct-right}
@@ -40,7 +40,7 @@ pub woken_with : (job : JobParts) (e : Entry) (history more : EntryList) (fs : F
 woken_with job e history more fs w exact f = ((λ m. let k = (exact f).0 m in (k.0, (k.1.0, λ x n. (w x).1 (k.1.1 x n)))), λ k. (exact f).1 (k.0, (k.1.0, λ x n. (w x).0 (k.1.1 x n))))
 
 -- where no firing is parked that waits for its needs, none was taken that needs an entry which is new
-pub untaken_new : (p : Parts) (k : Invariant p) → length (parked_of p) ≤ length p.log.items - p.applied_count → (e : Entry) → (Contains p.matcher e → ⊥) → (f : Firing) → Contains ((system_of p.job.now).needs f) e → Contains (taken_of p) f → ⊥
+pub untaken_new : (p : Parts) (k : Invariant p) → length (parked_of p) ≤ length p.log.items - p.applied_count → (e : Entry) → (Contains p.matcher e → ⊥) → (f : Firing) → Contains ((own_of p.job.now).needs f) e → Contains (taken_of p) f → ⊥
 untaken_new p k few e fresh f n t =
     elim (Contains-append_cases (take p.applied_count p.log.items) (parked_of p) f t)
     [ inl a ↦ logged (Contains-taken p.applied_count p.log.items f a) | inr b ↦ logged (Contains-dropped p.applied_count p.log.items f (begun b)) ]

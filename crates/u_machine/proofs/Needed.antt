@@ -7,7 +7,7 @@ use Rattle.u_program.specs.Parts.{StatementParts, BlockParts}
 use Rattle.u_check.specs.Jobs.{JobParts}
 use Rattle.u_check.specs.Kinds.{ports_of}
 use Rattle.u_rule.specs.Parts.{token, ValueList}
-use Rattle.u_rule.specs.Rule.{is_firing_of, is_firing_at, needs_of, tokens_from, system_of}
+use Rattle.u_rule.specs.Rule.{is_own_at, needs_of, tokens_from, own_of}
 use Rattle.u_rule.specs.Fits.{statement_of, fits_at}
 use Rattle.u_rule.specs.Structures.{has_its_write, write_read}
 use Rattle.u_rule.specs.declared.entry.Entry.{Entry}
@@ -15,9 +15,9 @@ use Rattle.u_rule.specs.declared.entry.Entry.TheVariants as entries
 use Rattle.u_rule.specs.declared.firing.Firing.{Firing}
 use Rattle.u_base.proofs.Member.{Contains-head}
 use Rattle.u_check.proofs.KindTests.{few_ports}
-use Rattle.u_rule.proofs.Firings.{at_statement}
+use Rattle.u_rule.proofs.Firings.{own_at_statement}
 
-some_value : (p : List BlockParts) (s : Option StatementParts) (f : Firing) → is_firing_at p s f ≡ true → 1 ≤ length f.values
+some_value : (p : List BlockParts) (s : Option StatementParts) (f : Firing) → is_own_at p s f ≡ true → 1 ≤ length f.values
 some_value p None f h = cc
 some_value p (Some s) f h =
     let r = (and_parts (fits_at p s.region f.activity) _ h).1 in
@@ -29,6 +29,6 @@ first_token : (a : Activity) (vs : ValueList) (more : List Entry) → 1 ≤ leng
 first_token a [] more l = absurd (omega arith)
 first_token a (v ∷ vs) more l = (entries.Token (token a 1 v), Contains-head _ _)
 
-pub needs_some : (job : JobParts) (f : Firing) → IsTrue ((system_of job).is_firing f) → (e : Entry) × Contains ((system_of job).needs f) e
+pub needs_some : (job : JobParts) (f : Firing) → IsTrue ((own_of job).is_firing f) → (e : Entry) × Contains ((own_of job).needs f) e
 unfolding needs_of
-needs_some job f h = first_token f.activity f.values (write_read f.values f.write) (some_value job.program.blocks (statement_of job.program.blocks f.activity.block f.activity.statement) f (at_statement job f h))
+needs_some job f h = first_token f.activity f.values (write_read f.values f.write) (some_value job.program.blocks (statement_of job.program.blocks f.activity.block f.activity.statement) f (own_at_statement job f h))

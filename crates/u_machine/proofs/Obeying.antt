@@ -6,7 +6,7 @@ use Rattle.std.specs.declared.alloc.AllocError.{AllocError}
 use Rattle.u_rule.specs.declared.firing.Firing.{Firing}
 use Rattle.u_rule.specs.EntryOrder.{entry_cmp}
 use Rattle.u_rule.specs.ExactOrders.{entry_cmp_total}
-use Rattle.u_rule.specs.Rule.{system_of}
+use Rattle.u_rule.specs.Rule.{own_of}
 use Rattle.u_base.specs.Firing.{Same, Cl}
 use Rattle.u_sets.proofs.Places.{one_list}
 use Rattle.u_base.proofs.Closure.{Cl-mono, Cl-whole}
@@ -175,14 +175,14 @@ is_closure m is st = (settled_is_Cl m is st).0
 
 -- the promise of one machine
 pub keeps_its_promise : (m : State) → IsMachine m → KeepsItsPromise m
-keeps_its_promise m is = record { run = is.sound.derivation; reached = λ e k. Cl-whole (system_of m.job) (Taken m) e (is.sound.lies e k); closure = is_closure m is.sound; whole = quiet_whole m is.sound }
+keeps_its_promise m is = record { run = is.sound.derivation; reached = λ e k. Cl-whole (own_of m.job) (Taken m) e (is.sound.lies e k); closure = is_closure m is.sound; whole = quiet_whole m is.sound }
 
 -- two settled machines of one job that took the same have the same history
 pub agree : (a b : State) → IsMachine a → IsMachine b → Agree a b
-agree a b is_a is_b st_a st_b job same = one_list entry_cmp entry_cmp_total b.history a.history is_b.history_rises is_a.history_rises (λ e. ((λ k. (ca e).1 (Cl-mono (system_of a.job) (Taken b) (Taken a) (λ f. (same f).0) e ((cb e).0 k))), λ k. (cb e).1 (Cl-mono (system_of a.job) (Taken a) (Taken b) (λ f. (same f).1) e ((ca e).0 k))))
+agree a b is_a is_b st_a st_b job same = one_list entry_cmp entry_cmp_total b.history a.history is_b.history_rises is_a.history_rises (λ e. ((λ k. (ca e).1 (Cl-mono (own_of a.job) (Taken b) (Taken a) (λ f. (same f).0) e ((cb e).0 k))), λ k. (cb e).1 (Cl-mono (own_of a.job) (Taken a) (Taken b) (λ f. (same f).1) e ((ca e).0 k))))
   where
     ca : IsClosure a
     ca = is_closure a is_a.sound st_a
 
-    cb : Same (Contains b.history) (Cl (system_of a.job) (Taken b))
+    cb : Same (Contains b.history) (Cl (own_of a.job) (Taken b))
     cb = rw job at (is_closure b is_b.sound st_b)

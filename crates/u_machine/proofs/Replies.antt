@@ -5,7 +5,7 @@ use Rattle.std.specs.Result.{IsErrAnd}
 use Rattle.std.proofs.lemmas.List.{take_all}
 use Rattle.std.proofs.lemmas.List.Elements.{Contains-append_right}
 use Rattle.u_rule.specs.declared.firing.Firing.{Firing}
-use Rattle.u_rule.specs.Rule.{system_of}
+use Rattle.u_rule.specs.Rule.{own_of}
 use Rattle.u_rule.specs.EntryOrder.{FiringList}
 use Rattle.u_check.specs.Jobs.{JobParts}
 use Rattle.u_machine.specs.declared.answer.StepIn.{StepIn}
@@ -54,7 +54,7 @@ settles_trans a b c p q = record { applies = applies_trans a b c p.applies q.app
 module _ (a b c : State) (f : Firing) (s : Settles a b) where
   new_before : IsNew b f → IsNew a f
   new_before n = record {
-    firing = subst (λ (job : JobParts). IsTrue ((system_of job).is_firing f)) s.applies.grows.job n.firing;
+    firing = subst (λ (job : JobParts). IsTrue ((own_of job).is_firing f)) s.applies.grows.job n.firing;
     new = λ t. n.new ((s.applies.taken f).0 t);
     room = room_before a b f s.applies n.new n.room;
   }
@@ -66,9 +66,9 @@ module _ (a b c : State) (f : Firing) (s : Settles a b) where
   take_after (Ok took.Known) (t, q) = ((s.applies.taken f).1 t, settles_trans a b c s q)
   take_after (Ok took.Taken) (n, t, l, st) = (new_before n, takes_before t, l, st)
   take_after (Ok took.Parked) (n, t, l, st) = (new_before n, takes_before t, l, st)
-  take_after (Err untaken.NotAFiring) (e, q) = (subst (λ (job : JobParts). (system_of job).is_firing f ≡ false) s.applies.grows.job e, settles_trans a b c s q)
+  take_after (Err untaken.NotAFiring) (e, q) = (subst (λ (job : JobParts). (own_of job).is_firing f ≡ false) s.applies.grows.job e, settles_trans a b c s q)
   take_after (Err untaken.Full) (i, n, e, q) = (
-    subst (λ (job : JobParts). IsTrue ((system_of job).is_firing f)) s.applies.grows.job i,
+    subst (λ (job : JobParts). IsTrue ((own_of job).is_firing f)) s.applies.grows.job i,
     (λ t. n ((s.applies.taken f).0 t)),
     sym s.applies.count ∙ e ∙ s.applies.grows.limit,
     settles_trans a b c s q,

@@ -17,7 +17,7 @@ use Rattle.u_machine.specs.declared.answer.Ran.{Ran}
 use Rattle.u_machine.specs.declared.answer.Ran.TheVariants as ran
 use Rattle.u_machine.specs.declared.answer.Refusal.{Refusal}
 use Rattle.u_machine.specs.declared.answer.Refusal.TheVariants.{Full, NoMemory}
-use Rattle.u_rule.specs.Rule.{system_of}
+use Rattle.u_rule.specs.Rule.{own_of}
 use Rattle.u_rule.specs.EntryOrder.{firing_cmp}
 use Rattle.u_machine.proofs.Lists.{slice_get_Contains, nil_of_length}
 use Rattle.u_machine.proofs.States.{grows_trans, settled_is_Cl, ready_after, nothing_after}
@@ -32,7 +32,7 @@ first_least (x ∷ xs) f g r e m =
     elim (Contains-cons_cases x g xs m) [ inl p ↦ inr (sym i ∙ p) | inr k ↦ inl (rw (← i) (r.0 g k)) ]
 
 -- the ready firing at place 0
-pub picked_first : (m : State) (f : Firing) → IsPick m 0 f → IsReady m f × ((g : Firing) → Enabled (system_of m.job) (Cl (system_of m.job) (Taken m)) g → Taken m g ⊎ firing_le f g)
+pub picked_first : (m : State) (f : Firing) → IsPick m 0 f → IsReady m f × ((g : Firing) → Enabled (own_of m.job) (Cl (own_of m.job) (Taken m)) g → Taken m g ⊎ firing_le f g)
 picked_first m f (ready, are, at) = (are.0 f (slice_get_Contains ready 0 f zeroth), λ g en. elim (are.1 g en) [ inl k ↦ inr (first_least ready f g are.2 zeroth k) | inr t ↦ inl t ])
   where
     zeroth : slice_get ready 0 ≡ Some f
@@ -46,13 +46,13 @@ module _ (old m : State) (gs : List Firing) (r : Fires old gs m) where
   back g = (r.taken g).1
 
   -- what is next on the machine is next after gs
-  pub next_after : (f : Firing) → IsPick m 0 f → IsNextFrom (system_of old.job) firing_le (Taken old) gs f
+  pub next_after : (f : Firing) → IsPick m 0 f → IsNextFrom (own_of old.job) firing_le (Taken old) gs f
   next_after f p =
       let q = picked_first m f p in
       record {
-        enabled = rw r.grows.job at (Enabled-mono (system_of m.job) (Cl (system_of m.job) (Taken m)) (Cl (system_of m.job) (λ g. Taken old g ⊎ Contains gs g)) (Cl-mono (system_of m.job) (Taken m) (λ g. Taken old g ⊎ Contains gs g) there) f q.0.0);
+        enabled = rw r.grows.job at (Enabled-mono (own_of m.job) (Cl (own_of m.job) (Taken m)) (Cl (own_of m.job) (λ g. Taken old g ⊎ Contains gs g)) (Cl-mono (own_of m.job) (Taken m) (λ g. Taken old g ⊎ Contains gs g) there) f q.0.0);
         new = λ t. q.0.1 (back f t);
-        least = λ g en. elim (q.1 g (Enabled-mono (system_of m.job) (Cl (system_of m.job) (λ g. Taken old g ⊎ Contains gs g)) (Cl (system_of m.job) (Taken m)) (Cl-mono (system_of m.job) (λ g. Taken old g ⊎ Contains gs g) (Taken m) back) g (rw (← r.grows.job) at en))) [ inl t ↦ inl (there g t) | inr l ↦ inr l ];
+        least = λ g en. elim (q.1 g (Enabled-mono (own_of m.job) (Cl (own_of m.job) (λ g. Taken old g ⊎ Contains gs g)) (Cl (own_of m.job) (Taken m)) (Cl-mono (own_of m.job) (λ g. Taken old g ⊎ Contains gs g) (Taken m) back) g (rw (← r.grows.job) at en))) [ inl t ↦ inl (there g t) | inr l ↦ inr l ];
       }
 
 -- with nothing parked, what is applied is what was taken
@@ -102,7 +102,7 @@ takes_alone a b f t new in_log e = (grown, nil_of_length b.parked last)
 pub Fires-nil : (old m : State) → Applies old m → Fires old [] m
 Fires-nil old m p = record {
   grows = p.grows;
-  each = EachPlace-nil (IsNextFrom (system_of old.job) firing_le (Taken old));
+  each = EachPlace-nil (IsNextFrom (own_of old.job) firing_le (Taken old));
   taken = λ g. ((λ t. inl ((p.taken g).1 t)), λ s. elim s [ inl t ↦ (p.taken g).0 t | inr n ↦ absurd (Contains-nil g n) ]);
   count = let x = p.count in omega arith;
 }
@@ -124,7 +124,7 @@ Runs-applies old m n gs r p = record { fires = Fires-applies old m n gs r.fires 
 pub Fires-push : (old m n : State) (gs : List Firing) (f : Firing) → Fires old gs m → IsPick m 0 f → Takes m f n → Fires old (gs ++ f ∷ []) n
 Fires-push old m n gs f r p t = record {
   grows = grows_trans old m n r.grows t.grows;
-  each = EachPlace-push (IsNextFrom (system_of old.job) firing_le (Taken old)) gs f r.each (next_after old m gs r f p);
+  each = EachPlace-push (IsNextFrom (own_of old.job) firing_le (Taken old)) gs f r.each (next_after old m gs r f p);
   taken = λ g. ((λ k. to g ((t.taken g).0 k)), λ k. (t.taken g).1 (from g k));
   count = let x = t.count in let y = r.count in let z = length-append gs (f ∷ []) in omega arith;
 }
@@ -165,31 +165,31 @@ some_ready m [] r l = absurd (omega arith)
 some_ready m (f ∷ fs) r l = (f, r.0 f (0, omega arith, refl))
 
 -- a new machine: what it applies is the plain list
-pub run_plain : (old new : State) (budget : ℕ) (gs : List Firing) → Runs old gs new → old.log ≡ [] → old.parked ≡ [] → length gs ≤ budget → (length gs ≡ budget) ⊎ NothingReady new → (new.log ≡ gs) × (new.parked ≡ []) × Plain (system_of old.job) firing_le budget new.log
+pub run_plain : (old new : State) (budget : ℕ) (gs : List Firing) → Runs old gs new → old.log ≡ [] → old.parked ≡ [] → length gs ≤ budget → (length gs ≡ budget) ⊎ NothingReady new → (new.log ≡ gs) × (new.parked ≡ []) × Plain (own_of old.job) firing_le budget new.log
 run_plain old new budget gs r log parked few full =
     let q = r.alone parked in
     let e : new.log ≡ gs = q.0 ∙ ap (λ (xs : List Firing). xs ++ gs) log in
-    (e, q.1, rw e (Plain-from_nothing (system_of old.job) firing_le (Taken old) none budget gs r.fires.each few (ended full)))
+    (e, q.1, rw e (Plain-from_nothing (own_of old.job) firing_le (Taken old) none budget gs r.fires.each few (ended full)))
   where
     none : (f : Firing) → Taken old f → ⊥
     none f t = Contains-nil f (rw (log, parked) at t)
 
-    ended : (length gs ≡ budget) ⊎ NothingReady new → (length gs ≡ budget) ⊎ IsExhausted (system_of old.job) (λ g. Taken old g ⊎ Contains gs g)
+    ended : (length gs ≡ budget) ⊎ NothingReady new → (length gs ≡ budget) ⊎ IsExhausted (own_of old.job) (λ g. Taken old g ⊎ Contains gs g)
     ended (inl e) = inl e
     ended (inr n) =
-        inr (λ f en. (r.fires.taken f).0 (n f (rw (← r.fires.grows.job) at (Enabled-mono (system_of old.job) (Cl (system_of old.job) (λ g. Taken old g ⊎ Contains gs g)) (Cl (system_of old.job) (Taken new)) (Cl-mono (system_of old.job) (λ g. Taken old g ⊎ Contains gs g) (Taken new) (λ g. (r.fires.taken g).1)) f en))))
+        inr (λ f en. (r.fires.taken f).0 (n f (rw (← r.fires.grows.job) at (Enabled-mono (own_of old.job) (Cl (own_of old.job) (λ g. Taken old g ⊎ Contains gs g)) (Cl (own_of old.job) (Taken new)) (Cl-mono (own_of old.job) (λ g. Taken old g ⊎ Contains gs g) (Taken new) (λ g. (r.fires.taken g).1)) f en))))
 
 pub fails_with : (old new : State) (budget : ℕ) (x : Refusal) (r : Result Ran Refusal) → IsErrAnd r (λ e. e ≡ x) → RunAnswer old budget (Err x) new → RunAnswer old budget r new
 fails_with old new budget x (Ok t) h a = absurd h
 fails_with old new budget x (Err e) h a = subst (λ (y : Refusal). RunAnswer old budget (Err y) new) (sym h) a
 
-pub run_done : (old new : State) (budget : ℕ) (end : Ran) → RunAnswer old budget (Ok end) new → old.log ≡ [] → old.parked ≡ [] → IsSound new → IsPlainRun old budget new × (end ≡ ran.Quiet → Same (Held (system_of old.job) new.log) (Whole (system_of old.job)))
+pub run_done : (old new : State) (budget : ℕ) (end : Ran) → RunAnswer old budget (Ok end) new → old.log ≡ [] → old.parked ≡ [] → IsSound new → IsPlainRun old budget new × (end ≡ ran.Quiet → Same (Held (own_of old.job) new.log) (Whole (own_of old.job)))
 run_done old new budget ran.Quiet (gs, r, few, st, none, all) log parked is =
     let q = run_plain old new budget gs r log parked few (inr none) in
     let h = settled_is_Cl new is st in
     (record { job = r.fires.grows.job; parked = q.1; plain = q.2; held = rw (← r.fires.grows.job) h.1 }, λ _ e. ((λ k. (whole e).0 ((h.1 e).1 (rw r.fires.grows.job k))), λ w. rw r.fires.grows.job at ((h.1 e).0 ((whole e).1 w))))
   where
-    whole : Same (Contains new.history) (Whole (system_of old.job))
+    whole : Same (Contains new.history) (Whole (own_of old.job))
     whole = rw (← r.fires.grows.job) all.1
 run_done old new budget ran.Paused (gs, r, few, st, ready) log parked is =
     let q = run_plain old new budget gs r log parked (omega (arith, few)) (inl few) in

@@ -11,7 +11,7 @@ use Rattle.u_base.proofs.Held.{Enabled-mono}
 use Rattle.u_base.proofs.Member.{Contains-nil, Contains-head, Contains-cons_cases}
 use Rattle.u_rule.specs.declared.entry.Entry.{Entry}
 use Rattle.u_rule.specs.declared.firing.Firing.{Firing}
-use Rattle.u_rule.specs.Rule.{system_of}
+use Rattle.u_rule.specs.Rule.{own_of}
 use Rattle.u_rule.specs.EntryOrder.{firing_cmp, FiringList, EntryList}
 use Rattle.u_machine.proofs.Lists.{Contains-taken, Contains-dropped, le_split, place_behind}
 use Rattle.u_machine.proofs.Counting.{no_more, Distinct-right}
@@ -32,7 +32,7 @@ module _ (p : Parts) (k : Invariant p) where
     whole = take_all p.applied_count p.log.items (omega (arith, st))
 
     -- each firing that is enabled over the history is ready or applied
-    pub each_enabled : (f : Firing) → Enabled (system_of p.job.now) (Contains p.matcher) f → Contains k.all_ready f ⊎ Contains (take p.applied_count p.log.items) f
+    pub each_enabled : (f : Firing) → Enabled (own_of p.job.now) (Contains p.matcher) f → Contains k.all_ready f ⊎ Contains (take p.applied_count p.log.items) f
     each_enabled f en = over (k.partitioned.all f en)
       where
         over : Contains k.all_ready f ⊎ Contains p.log.items f ⊎ Contains (woken_of p) f → Contains k.all_ready f ⊎ Contains (take p.applied_count p.log.items) f
@@ -51,9 +51,9 @@ module _ (p : Parts) (k : Invariant p) where
 
     -- all that is ready, made or not, is ready
     pub is_ready_there : (f : Firing) → Contains k.all_ready f → IsReady (state_of p) f
-    is_ready_there f m = (Enabled-mono (system_of p.job.now) (Contains p.matcher) (Cl (system_of p.job.now) (Taken (state_of p))) (λ e. ((settled_is_Cl (state_of p) k.logged.is settled_there).0 e).0) f (k.partitioned.fit f m).0, not_taken f m)
+    is_ready_there f m = (Enabled-mono (own_of p.job.now) (Contains p.matcher) (Cl (own_of p.job.now) (Taken (state_of p))) (λ e. ((settled_is_Cl (state_of p) k.logged.is settled_there).0 e).0) f (k.partitioned.fit f m).0, not_taken f m)
 
-    pub ready_is_there : (f : Firing) → Enabled (system_of p.job.now) (Cl (system_of p.job.now) (Taken (state_of p))) f → Contains k.all_ready f ⊎ Taken (state_of p) f
+    pub ready_is_there : (f : Firing) → Enabled (own_of p.job.now) (Cl (own_of p.job.now) (Taken (state_of p))) f → Contains k.all_ready f ⊎ Taken (state_of p) f
     ready_is_there f en = elim (each_enabled f (over_history (state_of p) k.logged.is settled_there f en)) [ inl a ↦ inl a | inr b ↦ inr (Contains-append_left (take p.applied_count p.log.items) (parked_of p) f b) ]
 
     -- a list of them in order
@@ -107,23 +107,23 @@ module _ (p : Parts) (k : Invariant p) (f : Firing) (rest : FiringList) (next : 
       elim (Contains-append_cases (take p.applied_count p.log.items) (parked_of p) f t)
       [ inl a ↦ absurd (not_logged (Contains-taken p.applied_count p.log.items f a)) | inr b ↦ b ]
 
-  pub enabled_first : Enabled (system_of p.job.now) (Contains p.matcher) f
+  pub enabled_first : Enabled (own_of p.job.now) (Contains p.matcher) f
   enabled_first = (k.partitioned.neither f woken_first).0
 
   pub not_idle : woken_of p ≡ [] → ⊥
   not_idle e = Contains-nil f (rw e at woken_first)
 
 -- what has all that it needs, and is not ready and not to be sorted out, is in the log, and the log has nothing else
-pub begun_if : (p : Parts) → Invariant p → (f : Firing) → Contains p.log.items f ↔ (Enabled (system_of p.job.now) (Contains p.matcher) f × (Contains p.ready f → ⊥) × (Contains (woken_of p) f → ⊥) × NeedsNoLate p f)
+pub begun_if : (p : Parts) → Invariant p → (f : Firing) → Contains p.log.items f ↔ (Enabled (own_of p.job.now) (Contains p.matcher) f × (Contains p.ready f → ⊥) × (Contains (woken_of p) f → ⊥) × NeedsNoLate p f)
 begun_if p k f = (to, back)
   where
-    to : Contains p.log.items f → Enabled (system_of p.job.now) (Contains p.matcher) f × (Contains p.ready f → ⊥) × (Contains (woken_of p) f → ⊥) × NeedsNoLate p f
+    to : Contains p.log.items f → Enabled (own_of p.job.now) (Contains p.matcher) f × (Contains p.ready f → ⊥) × (Contains (woken_of p) f → ⊥) × NeedsNoLate p f
     to m =
         let en = k.partitioned.logged f m in
         let t = log_taken _ _ _ _ _ _ k.logged f m in
         (en, (λ r. (k.partitioned.fit f (made_is_ready _ _ _ _ _ _ _ k.late f r)).1 t), (λ w. (k.partitioned.neither f w).2 m), λ e i n. k.late.untaken f (e, i, (n, en)) t)
 
-    back : Enabled (system_of p.job.now) (Contains p.matcher) f × (Contains p.ready f → ⊥) × (Contains (woken_of p) f → ⊥) × NeedsNoLate p f → Contains p.log.items f
+    back : Enabled (own_of p.job.now) (Contains p.matcher) f × (Contains p.ready f → ⊥) × (Contains (woken_of p) f → ⊥) × NeedsNoLate p f → Contains p.log.items f
     back (en, unready, unwoken, free) = elim (k.partitioned.all f en) [
       | inl r ↦ elim ((k.late.whole f).0 r).0 [ inl m ↦ absurd (unready m) | inr (e, i, w) ↦ absurd (free e i w.0) ]
       | inr s ↦ elim s [ inl m ↦ m | inr w ↦ absurd (unwoken w) ]
@@ -166,7 +166,7 @@ pub settles_itself : (p : Parts) → Invariant p → p.applied_count ≡ length 
 settles_itself p k st = record { applies = Applies-refl (state_of p); settled = settled_there p k st; still = λ _. refl }
 
 -- where all has entered that the begun firings give, the history has all that the log holds
-pub all_held : (p : Parts) → Invariant p → EnteredBefore p (length p.log.items) → (e : Entry) → Held (system_of p.job.now) p.log.items e → Contains p.matcher e
+pub all_held : (p : Parts) → Invariant p → EnteredBefore p (length p.log.items) → (e : Entry) → Held (own_of p.job.now) p.log.items e → Contains p.matcher e
 all_held p k all e (inl s) = k.logged.is.has e (inl s)
 all_held p k all e (inr (f, m, g)) = at (Contains-append_cases (take p.applied_count p.log.items) (drop p.applied_count p.log.items) f (rw take-append-drop m))
   where

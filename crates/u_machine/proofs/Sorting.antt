@@ -10,7 +10,7 @@ use Rattle.u_base.proofs.Held.{Enabled-mono}
 use Rattle.u_check.specs.Jobs.{JobParts}
 use Rattle.u_rule.specs.declared.entry.Entry.{Entry}
 use Rattle.u_rule.specs.declared.firing.Firing.{Firing}
-use Rattle.u_rule.specs.Rule.{system_of}
+use Rattle.u_rule.specs.Rule.{own_of}
 use Rattle.u_rule.specs.EntryOrder.{FiringList, EntryList, firing_cmp}
 use Rattle.u_rule.specs.ExactOrders.{firing_cmp_total}
 use Rattle.u_machine.specs.Invariant.{IsPartitioned}
@@ -18,17 +18,17 @@ use Rattle.u_machine.proofs.Once.{enabled_with, Distinct-from_Rises}
 
 module _ (job : JobParts) (log taken ready woken : FiringList) (history : EntryList) (s : IsPartitioned job log taken ready woken history) where
   -- the history gained an entry, and these are the firings that it enables
-  pub woken_more : (e : Entry) (more : EntryList) (woken_now : FiringList) → woken ≡ [] → (Contains history e → ⊥) → IsWith history e more → ((f : Firing) → Contains woken_now f ↔ (Contains ((system_of job).needs f) e × Enabled (system_of job) (Contains more) f)) → Rises firing_cmp woken_now → IsPartitioned job log taken ready woken_now more
+  pub woken_more : (e : Entry) (more : EntryList) (woken_now : FiringList) → woken ≡ [] → (Contains history e → ⊥) → IsWith history e more → ((f : Firing) → Contains woken_now f ↔ (Contains ((own_of job).needs f) e × Enabled (own_of job) (Contains more) f)) → Rises firing_cmp woken_now → IsPartitioned job log taken ready woken_now more
   woken_more e more woken_now none fresh w exact r = record {
     logged = λ f m. grows f (s.logged f m);
     fit = λ f m. (grows f (s.fit f m).0, (s.fit f m).1);
     neither = λ f m. let p = (exact f).0 m in (p.1, (λ k. fresh ((s.fit f k).0.1 e p.0)), λ k. fresh ((s.logged f k).1 e p.0));
     once = Distinct-from_Rises firing_cmp firing_cmp_total woken_now r;
-    all = λ f en. elim (enabled_with (system_of job) (Contains history) (Contains more) e f (λ x. (w x).0) en) [ inl n ↦ inr (inr ((exact f).1 (n, en))) | inr k ↦ before f (s.all f k) ];
+    all = λ f en. elim (enabled_with (own_of job) (Contains history) (Contains more) e f (λ x. (w x).0) en) [ inl n ↦ inr (inr ((exact f).1 (n, en))) | inr k ↦ before f (s.all f k) ];
   }
     where
-      grows : (f : Firing) → Enabled (system_of job) (Contains history) f → Enabled (system_of job) (Contains more) f
-      grows f = Enabled-mono (system_of job) (Contains history) (Contains more) (λ x k. (w x).1 (inl k)) f
+      grows : (f : Firing) → Enabled (own_of job) (Contains history) f → Enabled (own_of job) (Contains more) f
+      grows f = Enabled-mono (own_of job) (Contains history) (Contains more) (λ x k. (w x).1 (inl k)) f
 
       before : (f : Firing) → Contains ready f ⊎ Contains log f ⊎ Contains woken f → Contains ready f ⊎ Contains log f ⊎ Contains woken_now f
       before f (inl a) = inl a
@@ -48,9 +48,9 @@ module _ (job : JobParts) (log taken ready woken : FiringList) (history : EntryL
       first : Contains woken f
       first = rw is (Contains-head f rest)
 
-      is_fit : (g : Firing) → Contains ready g ⊎ (f ≡ g) → Enabled (system_of job) (Contains history) g × (Contains taken g → ⊥)
+      is_fit : (g : Firing) → Contains ready g ⊎ (f ≡ g) → Enabled (own_of job) (Contains history) g × (Contains taken g → ⊥)
       is_fit g (inl k) = s.fit g k
-      is_fit g (inr e) = subst (λ (h : Firing). Enabled (system_of job) (Contains history) h × (Contains taken h → ⊥)) e ((s.neither f first).0, new)
+      is_fit g (inr e) = subst (λ (h : Firing). Enabled (own_of job) (Contains history) h × (Contains taken h → ⊥)) e ((s.neither f first).0, new)
 
       not_ready : (g : Firing) → Contains rest g → (Contains ready g → ⊥) → Contains ready g ⊎ (f ≡ g) → ⊥
       not_ready g m no_more (inl k) = no_more k
@@ -64,7 +64,7 @@ module _ (job : JobParts) (log taken ready woken : FiringList) (history : EntryL
   -- the next one was taken: it goes to the end of the log
   pub sorts_logged : (f : Firing) (rest : FiringList) → woken ≡ f ∷ rest → IsPartitioned job (log ++ f ∷ []) taken ready rest history
   sorts_logged f rest is = record {
-    logged = λ g m. elim (Contains-push_cases log f g m) [ inl a ↦ s.logged g a | inr e ↦ subst (λ (h : Firing). Enabled (system_of job) (Contains history) h) e (s.neither f first).0 ];
+    logged = λ g m. elim (Contains-push_cases log f g m) [ inl a ↦ s.logged g a | inr e ↦ subst (λ (h : Firing). Enabled (own_of job) (Contains history) h) e (s.neither f first).0 ];
     fit = s.fit;
     neither = λ g m. let p = s.neither g (rw is (Contains-tail f g rest m)) in (p.0, p.1, λ k. elim (Contains-push_cases log f g k) [ inl a ↦ p.2 a | inr e ↦ (rw is at s.once).0 (subst (λ (h : Firing). Contains rest h) (sym e) m) ]);
     once = (rw is at s.once).1;
@@ -94,7 +94,7 @@ module _ (job : JobParts) (log taken ready woken : FiringList) (history : EntryL
   -- a ready firing is taken, and goes to the end of the log
   pub takes_ready : (f : Firing) (more less : FiringList) → woken ≡ [] → Contains ready f → IsWith taken f more → IsWithout ready f less → IsPartitioned job (log ++ f ∷ []) more less woken history
   takes_ready f more less none was w v = record {
-    logged = λ g m. elim (Contains-push_cases log f g m) [ inl a ↦ s.logged g a | inr e ↦ subst (λ (h : Firing). Enabled (system_of job) (Contains history) h) e (s.fit f was).0 ];
+    logged = λ g m. elim (Contains-push_cases log f g m) [ inl a ↦ s.logged g a | inr e ↦ subst (λ (h : Firing). Enabled (own_of job) (Contains history) h) e (s.fit f was).0 ];
     fit = λ g m. let p = s.fit g (v.less g m) in (p.0, λ k. elim ((w g).0 k) [ inl a ↦ p.1 a | inr e ↦ v.gone (subst (λ (h : Firing). Contains less h) (sym e) m) ]);
     neither = λ g m. absurd (Contains-nil g (rw none at m));
     once = s.once;

@@ -11,7 +11,7 @@ use Rattle.std.specs.Result.{IsErrAnd}
 use Rattle.u_machine.specs.declared.answer.Refusal.{Refusal}
 use Rattle.u_machine.specs.declared.answer.Refusal.TheVariants.{NoMemory}
 use Rattle.u_machine.specs.declared.answer.Step.{Step}
-use Rattle.u_rule.specs.Rule.{system_of}
+use Rattle.u_rule.specs.Rule.{own_of}
 use Rattle.u_machine.specs.State.{NothingReady, IsReady, AreReady, count_of, State, state, Taken, IsSound, IsSettled}
 use Rattle.u_machine.specs.Headline.{IsWhole}
 use Rattle.u_machine.specs.Calls.{FireAnswer, Grows, Takes, Applies}
@@ -43,14 +43,14 @@ applies_trans a b c p q = record {
 }
 
 -- a settled machine holds the closure of its taken set
-pub settled_is_Cl : (m : State) → IsSound m → IsSettled m → Same (Contains m.history) (Cl (system_of m.job) (Taken m)) × Same (Contains m.history) (Held (system_of m.job) m.log)
+pub settled_is_Cl : (m : State) → IsSound m → IsSettled m → Same (Contains m.history) (Cl (own_of m.job) (Taken m)) × Same (Contains m.history) (Held (own_of m.job) m.log)
 settled_is_Cl m is st = ((λ e. ((λ k. (held e).0 (st.held e k)), (λ k. is.has e ((held e).1 k)))), (λ e. (st.held e, is.has e)))
   where
-    all : (f : Firing) → Taken m f → Enabled (system_of m.job) (Held (system_of m.job) m.log) f → Contains m.log f
-    all f t en = elim (Contains-append_cases m.log m.parked f t) [ inl a ↦ a | inr b ↦ absurd (st.none f b (Enabled-mono (system_of m.job) (Held (system_of m.job) m.log) (Contains m.history) is.has f en)) ]
+    all : (f : Firing) → Taken m f → Enabled (own_of m.job) (Held (own_of m.job) m.log) f → Contains m.log f
+    all f t en = elim (Contains-append_cases m.log m.parked f t) [ inl a ↦ a | inr b ↦ absurd (st.none f b (Enabled-mono (own_of m.job) (Held (own_of m.job) m.log) (Contains m.history) is.has f en)) ]
 
-    held : Same (Held (system_of m.job) m.log) (Cl (system_of m.job) (Taken m))
-    held = Settled-is_Cl (system_of m.job) (Taken m) m.log is.derivation (λ f a. Contains-append_left m.log m.parked f a) all
+    held : Same (Held (own_of m.job) m.log) (Cl (own_of m.job) (Taken m))
+    held = Settled-is_Cl (own_of m.job) (Taken m) m.log is.derivation (λ f a. Contains-append_left m.log m.parked f a) all
 
 -- a taken firing stays the only new one where taken firings are applied before and after
 pub takes_between : (a b c d : State) (f : Firing) → Applies a b → Takes b f c → Applies c d → Takes a f d
@@ -80,34 +80,34 @@ module _ (a b : State) (f : Firing) (p : Applies a b) (new : Taken b f → ⊥) 
 
 -- what is ready on a settled machine
 module _ (m : State) (is : IsSound m) (st : IsSettled m) where
-  pub over_history : (f : Firing) → Enabled (system_of m.job) (Cl (system_of m.job) (Taken m)) f → Enabled (system_of m.job) (Contains m.history) f
-  over_history f = Enabled-mono (system_of m.job) (Cl (system_of m.job) (Taken m)) (Contains m.history) (λ e. ((settled_is_Cl m is st).0 e).1) f
+  pub over_history : (f : Firing) → Enabled (own_of m.job) (Cl (own_of m.job) (Taken m)) f → Enabled (own_of m.job) (Contains m.history) f
+  over_history f = Enabled-mono (own_of m.job) (Cl (own_of m.job) (Taken m)) (Contains m.history) (λ e. ((settled_is_Cl m is st).0 e).1) f
 
   pub quiet_whole : NothingReady m → IsWhole m
   quiet_whole none = (closed, λ e. ((λ k. (whole e).0 (((settled_is_Cl m is st).1 e).0 k)), (λ w. ((settled_is_Cl m is st).1 e).1 ((whole e).1 w))))
     where
-      held_in : (e : Entry) → Held (system_of m.job) m.log e → Contains m.history e
+      held_in : (e : Entry) → Held (own_of m.job) m.log e → Contains m.history e
       held_in e = ((settled_is_Cl m is st).1 e).1
 
-      all : (f : Firing) → Enabled (system_of m.job) (Contains m.history) f → Contains m.log f
+      all : (f : Firing) → Enabled (own_of m.job) (Contains m.history) f → Contains m.log f
       all f en =
-          elim (Contains-append_cases m.log m.parked f (none f (Enabled-mono (system_of m.job) (Contains m.history) (Cl (system_of m.job) (Taken m)) (λ e. ((settled_is_Cl m is st).0 e).0) f en)))
+          elim (Contains-append_cases m.log m.parked f (none f (Enabled-mono (own_of m.job) (Contains m.history) (Cl (own_of m.job) (Taken m)) (λ e. ((settled_is_Cl m is st).0 e).0) f en)))
           [ inl a ↦ a | inr b ↦ absurd (st.none f b en) ]
 
-      whole : Same (Held (system_of m.job) m.log) (Whole (system_of m.job))
-      whole = Quiet-whole (system_of m.job) m.log is.derivation (λ f en. all f (Enabled-mono (system_of m.job) (Held (system_of m.job) m.log) (Contains m.history) held_in f en))
+      whole : Same (Held (own_of m.job) m.log) (Whole (own_of m.job))
+      whole = Quiet-whole (own_of m.job) m.log is.derivation (λ f en. all f (Enabled-mono (own_of m.job) (Held (own_of m.job) m.log) (Contains m.history) held_in f en))
 
-      closed : Closed (system_of m.job) (Contains m.history)
+      closed : Closed (own_of m.job) (Contains m.history)
       closed f en e g = held_in e (inr (f, all f en, g))
 
 module _ (a b : State) (p : Applies a b) where
-  enabled_before : (f : Firing) → Enabled (system_of b.job) (Cl (system_of b.job) (Taken b)) f → Enabled (system_of a.job) (Cl (system_of a.job) (Taken a)) f
+  enabled_before : (f : Firing) → Enabled (own_of b.job) (Cl (own_of b.job) (Taken b)) f → Enabled (own_of a.job) (Cl (own_of a.job) (Taken a)) f
   enabled_before f en =
-      rw (← p.grows.job) (Enabled-mono (system_of b.job) (Cl (system_of b.job) (Taken b)) (Cl (system_of b.job) (Taken a)) (Cl-mono (system_of b.job) (Taken b) (Taken a) (λ g. (p.taken g).1)) f en)
+      rw (← p.grows.job) (Enabled-mono (own_of b.job) (Cl (own_of b.job) (Taken b)) (Cl (own_of b.job) (Taken a)) (Cl-mono (own_of b.job) (Taken b) (Taken a) (λ g. (p.taken g).1)) f en)
 
-  enabled_after : (f : Firing) → Enabled (system_of a.job) (Cl (system_of a.job) (Taken a)) f → Enabled (system_of b.job) (Cl (system_of b.job) (Taken b)) f
+  enabled_after : (f : Firing) → Enabled (own_of a.job) (Cl (own_of a.job) (Taken a)) f → Enabled (own_of b.job) (Cl (own_of b.job) (Taken b)) f
   enabled_after f en =
-      rw p.grows.job (Enabled-mono (system_of a.job) (Cl (system_of a.job) (Taken a)) (Cl (system_of a.job) (Taken b)) (Cl-mono (system_of a.job) (Taken a) (Taken b) (λ g. (p.taken g).0)) f en)
+      rw p.grows.job (Enabled-mono (own_of a.job) (Cl (own_of a.job) (Taken a)) (Cl (own_of a.job) (Taken b)) (Cl-mono (own_of a.job) (Taken a) (Taken b) (λ g. (p.taken g).0)) f en)
 
   pub ready_before : (f : Firing) → IsReady b f → IsReady a f
   ready_before f r = (enabled_before f r.0, λ t. r.1 ((p.taken f).0 t))

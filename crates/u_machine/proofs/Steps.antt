@@ -13,7 +13,7 @@ use Rattle.u_base.proofs.Closure.{Cl-held, Cl-mono, Derivation-push}
 use Rattle.u_check.specs.Jobs.{JobParts}
 use Rattle.u_rule.specs.declared.entry.Entry.{Entry}
 use Rattle.u_rule.specs.declared.firing.Firing.{Firing}
-use Rattle.u_rule.specs.Rule.{system_of}
+use Rattle.u_rule.specs.Rule.{own_of}
 use Rattle.u_rule.specs.EntryOrder.{FiringList, EntryList, firing_cmp}
 use Rattle.u_rule.specs.ExactOrders.{firing_cmp_total}
 use Rattle.u_machine.specs.State.{state}
@@ -30,11 +30,11 @@ module _ (job : JobParts) (limit : ℕ) (log : FiringList) (applied_count : ℕ)
       elim (Contains-append_cases (take applied_count log) (drop applied_count log) f (rw take-append-drop m))
       [ inl a ↦ Contains-append_left (take applied_count log) parked f a | inr b ↦ Contains-append_right (take applied_count log) parked f (l.begun f b) ]
 
-  pub held_in : (e : Entry) → Held (system_of job) log e → Cl (system_of job) (Contains (take applied_count log ++ parked)) e
-  held_in e h = Cl-held (system_of job) (Contains (take applied_count log ++ parked)) log l.derivation log_taken e h
+  pub held_in : (e : Entry) → Held (own_of job) log e → Cl (own_of job) (Contains (take applied_count log ++ parked)) e
+  held_in e h = Cl-held (own_of job) (Contains (take applied_count log ++ parked)) log l.derivation log_taken e h
 
   -- an entry enters that a firing of the log gives
-  pub entered : (f : Firing) (e : Entry) (new : EntryList) → Contains log f → Contains ((system_of job).gives f) e → IsWith history e new → IsLogged job limit log applied_count parked new
+  pub entered : (f : Firing) (e : Entry) (new : EntryList) → Contains log f → Contains ((own_of job).gives f) e → IsWith history e new → IsLogged job limit log applied_count parked new
   entered f e new m g w = record {
     is = record {
       firings = l.is.firings;
@@ -51,19 +51,19 @@ module _ (job : JobParts) (limit : ℕ) (log : FiringList) (applied_count : ℕ)
     lies = λ x k. lies x ((w x).0 k);
   }
     where
-      lies : (x : Entry) → Contains history x ⊎ (e ≡ x) → Held (system_of job) log x
+      lies : (x : Entry) → Contains history x ⊎ (e ≡ x) → Held (own_of job) log x
       lies x (inl k) = l.lies x k
-      lies x (inr p) = subst (Held (system_of job) log) p (inr (f, m, g))
+      lies x (inr p) = subst (Held (own_of job) log) p (inr (f, m, g))
 
   -- a parked firing that is enabled goes to the end of the log
-  pub begins : (f : Firing) → Contains parked f → (Contains log f → ⊥) → Enabled (system_of job) (Contains history) f → IsLogged job limit (log ++ f ∷ []) applied_count parked history
+  pub begins : (f : Firing) → Contains parked f → (Contains log f → ⊥) → Enabled (own_of job) (Contains history) f → IsLogged job limit (log ++ f ∷ []) applied_count parked history
   begins f k new en = record {
     is = rw shorter l.is;
     place = let a = length-append log (f ∷ []) in let b = l.place in omega arith;
-    derivation = Derivation-push (system_of job) log f l.derivation (Enabled-mono (system_of job) (Contains history) (Held (system_of job) log) l.lies f en);
+    derivation = Derivation-push (own_of job) log f l.derivation (Enabled-mono (own_of job) (Contains history) (Held (own_of job) log) l.lies f en);
     apart = Distinct-push log f new l.apart;
     begun = λ g m. elim (Contains-push_cases (drop applied_count log) f g (rw (drop-append-le applied_count log (f ∷ []) l.place) at m)) [ inl a ↦ l.begun g a | inr p ↦ subst (λ (h : Firing). Contains parked h) p k ];
-    lies = λ e h. Held-append_left (system_of job) log (f ∷ []) e (l.lies e h);
+    lies = λ e h. Held-append_left (own_of job) log (f ∷ []) e (l.lies e h);
   }
     where
       shorter : take applied_count (log ++ f ∷ []) ≡ take applied_count log
@@ -87,7 +87,7 @@ module _ (job : JobParts) (limit : ℕ) (log : FiringList) (applied_count : ℕ)
       back (inr e) = Contains-append_right (take applied_count log) parked_new g ((p g).1 (inr e))
 
   -- a firing is taken and parked
-  pub parks : (f : Firing) (parked_new : FiringList) → (Contains (take applied_count log ++ parked) f → ⊥) → IsTrue ((system_of job).is_firing f) → length (take applied_count log) + length parked < limit → IsWith parked f parked_new → Rises firing_cmp parked_new → length parked_new ≡ length parked + 1 → IsLogged job limit log applied_count parked_new history
+  pub parks : (f : Firing) (parked_new : FiringList) → (Contains (take applied_count log ++ parked) f → ⊥) → IsTrue ((own_of job).is_firing f) → length (take applied_count log) + length parked < limit → IsWith parked f parked_new → Rises firing_cmp parked_new → length parked_new ≡ length parked + 1 → IsLogged job limit log applied_count parked_new history
   parks f parked_new new is room p r count = record {
     is = record {
       firings = λ g m. firing g ((taken_more f parked_new p g).0 m);
@@ -95,7 +95,7 @@ module _ (job : JobParts) (limit : ℕ) (log : FiringList) (applied_count : ℕ)
       distinct = Distinct-join (take applied_count log) parked_new (Distinct-left (take applied_count log) parked l.is.distinct) (Distinct-from_Rises firing_cmp firing_cmp_total parked_new r) apart;
       within = omega (arith, room, count);
       has = l.is.has;
-      lies = λ e k. Cl-mono (system_of job) (Contains (take applied_count log ++ parked)) (Contains (take applied_count log ++ parked_new)) (λ g m. (taken_more f parked_new p g).1 (inl m)) e (l.is.lies e k);
+      lies = λ e k. Cl-mono (own_of job) (Contains (take applied_count log ++ parked)) (Contains (take applied_count log ++ parked_new)) (λ g m. (taken_more f parked_new p g).1 (inl m)) e (l.is.lies e k);
     };
     place = l.place;
     derivation = l.derivation;
@@ -104,9 +104,9 @@ module _ (job : JobParts) (limit : ℕ) (log : FiringList) (applied_count : ℕ)
     lies = l.lies;
   }
     where
-      firing : (g : Firing) → Contains (take applied_count log ++ parked) g ⊎ (f ≡ g) → IsTrue ((system_of job).is_firing g)
+      firing : (g : Firing) → Contains (take applied_count log ++ parked) g ⊎ (f ≡ g) → IsTrue ((own_of job).is_firing g)
       firing g (inl m) = l.is.firings g m
-      firing g (inr e) = subst (λ (h : Firing). IsTrue ((system_of job).is_firing h)) e is
+      firing g (inr e) = subst (λ (h : Firing). IsTrue ((own_of job).is_firing h)) e is
 
       apart : (g : Firing) → Contains (take applied_count log) g → Contains parked_new g → ⊥
       apart g a b =
@@ -164,15 +164,15 @@ module _ (job : JobParts) (limit : ℕ) (log : FiringList) (applied_count : ℕ)
       count = let a = length-append (take applied_count log) (f ∷ []) in let b = ap length longer in omega (arith, count);
     }
 
-    pub applied : Rises firing_cmp less → length parked ≡ length less + 1 → ((e : Entry) → Contains ((system_of job).gives f) e → Contains history e) → IsLogged job limit log (applied_count + 1) less history
+    pub applied : Rises firing_cmp less → length parked ≡ length less + 1 → ((e : Entry) → Contains ((own_of job).gives f) e → Contains history e) → IsLogged job limit log (applied_count + 1) less history
     applied r count all = record {
       is = record {
         firings = λ g m. l.is.firings g ((taken_still g).1 m);
-        derivation = rw longer (Derivation-push (system_of job) (take applied_count log) f l.is.derivation (l.derivation.each applied_count f (slice_get_at log applied_count f below at)));
+        derivation = rw longer (Derivation-push (own_of job) (take applied_count log) f l.is.derivation (l.derivation.each applied_count f (slice_get_at log applied_count f below at)));
         distinct = Distinct-join (take (applied_count + 1) log) less (Distinct-left (take (applied_count + 1) log) (drop (applied_count + 1) log) (rw take-append-drop l.apart)) (Distinct-from_Rises firing_cmp firing_cmp_total less r) apart;
         within = let a = length-append (take applied_count log) (f ∷ []) in let b = ap length longer in let c = l.is.within in omega (arith, count);
-        has = λ e h. has e ((Held-push (system_of job) (take applied_count log) f e).0 (rw longer at h));
-        lies = λ e k. Cl-mono (system_of job) (Contains (take applied_count log ++ parked)) (Contains (take (applied_count + 1) log ++ less)) (λ g. (taken_still g).0) e (l.is.lies e k);
+        has = λ e h. has e ((Held-push (own_of job) (take applied_count log) f e).0 (rw longer at h));
+        lies = λ e k. Cl-mono (own_of job) (Contains (take applied_count log ++ parked)) (Contains (take (applied_count + 1) log ++ less)) (λ g. (taken_still g).0) e (l.is.lies e k);
       };
       place = omega (arith, below);
       derivation = l.derivation;
@@ -181,7 +181,7 @@ module _ (job : JobParts) (limit : ℕ) (log : FiringList) (applied_count : ℕ)
       lies = l.lies;
     }
       where
-        has : (e : Entry) → Held (system_of job) (take applied_count log) e ⊎ Contains ((system_of job).gives f) e → Contains history e
+        has : (e : Entry) → Held (own_of job) (take applied_count log) e ⊎ Contains ((own_of job).gives f) e → Contains history e
         has e (inl h) = l.is.has e h
         has e (inr g) = all e g
 
@@ -221,7 +221,7 @@ module _ (job : JobParts) (limit : ℕ) (log : FiringList) (applied_count : ℕ)
       count = let a = length-take (length log) log in let b = length-take applied_count log in let c = l.place in omega (arith, none);
     }
 
-    pub all_applied : ((e : Entry) → Held (system_of job) log e → Contains history e) → IsLogged job limit log (length log) [] history
+    pub all_applied : ((e : Entry) → Held (own_of job) log e → Contains history e) → IsLogged job limit log (length log) [] history
     all_applied all = record {
       is = record {
         firings = λ g m. l.is.firings g ((all_taken_still g).1 m);
@@ -229,7 +229,7 @@ module _ (job : JobParts) (limit : ℕ) (log : FiringList) (applied_count : ℕ)
         distinct = rw all_of l.apart;
         within = let a = length-take (length log) log in let b = length-take applied_count log in let c = l.place in let w = l.is.within in omega (arith, none);
         has = λ e h. all e (rw (take_all (length log) log (omega arith)) at h);
-        lies = λ e k. Cl-mono (system_of job) (Contains (take applied_count log ++ parked)) (Contains (take (length log) log ++ [])) (λ g. (all_taken_still g).0) e (l.is.lies e k);
+        lies = λ e k. Cl-mono (own_of job) (Contains (take applied_count log ++ parked)) (Contains (take (length log) log ++ [])) (λ g. (all_taken_still g).0) e (l.is.lies e k);
       };
       place = omega arith;
       derivation = l.derivation;

@@ -5,7 +5,7 @@ use Rattle.std.specs.Result.{IsErrAnd}
 use Rattle.std.proofs.lemmas.List.{take_more}
 use Rattle.std.proofs.lemmas.List.Elements.{Contains-get_or, Contains-append_left, Contains-append_right, Contains-push, Contains-push_cases}
 use Rattle.u_rule.specs.declared.firing.Firing.{Firing}
-use Rattle.u_rule.specs.Rule.{system_of}
+use Rattle.u_rule.specs.Rule.{own_of}
 use Rattle.u_sets.specs.Members.{GoesLast, IsWith}
 use Rattle.u_base.proofs.Apart.{Distinct-push}
 use Rattle.u_base.proofs.Member.{Contains-nil}
@@ -156,7 +156,7 @@ module _ (start mid new : State) (fs news : List Firing) (i : ℕ) (f : Firing) 
   never_full room a = let n = room_for start mid fs (take i fs) news f is r are (λ g. Contains-taken i fs g) listed a.1 room in let e = a.2 in omega (arith, n)
 
   pub never_other : AreFirings start.job fs → TakeAnswer mid f (Err untaken.NotAFiring) new → ⊥
-  never_other all a = let h = rw r.grows.job at a.0 in not_both ((system_of start.job).is_firing f) (all f listed) h
+  never_other all a = let h = rw r.grows.job at a.0 in not_both ((own_of start.job).is_firing f) (all f listed) h
 
 pub all_no_memory : (old new : State) (fs : List Firing) (r : Result (Unit {0}) ListRefusal) → IsErrAnd r (λ e. e ≡ NoMemory) → TakeAllAnswer old fs (Err NoMemory) new → TakeAllAnswer old fs r new
 all_no_memory old new fs (Ok u) h a = absurd h

@@ -4,7 +4,7 @@ use Rattle.std.specs.declared.cmp.Ordering.TheVariants.{Less}
 use Rattle.u_base.specs.Firing.{EachPlace, IsNextFrom, Plain, Held, Same}
 use Rattle.u_rule.specs.declared.entry.Entry.{Entry}
 use Rattle.u_rule.specs.declared.firing.Firing.{Firing}
-use Rattle.u_rule.specs.Rule.{system_of}
+use Rattle.u_rule.specs.Rule.{own_of}
 use Rattle.u_rule.specs.EntryOrder.{firing_cmp}
 use Rattle.u_machine.specs.State.{State, Taken, IsSettled, count_of, IsReady, IsPick, IsReadyIn, IsPickIn, NothingReady}
 use Rattle.u_machine.specs.Headline.{IsWhole}
@@ -90,7 +90,7 @@ FireInAnswer old buckets pick (Err NoMemory) new =
 
 -- f is a firing of the job that is not taken, and there is room for it
 pub record IsNew (m : State) (f : Firing) : Type 0 where
-  pub firing : IsTrue ((system_of m.job).is_firing f)
+  pub firing : IsTrue ((own_of m.job).is_firing f)
   pub new : Taken m f → ⊥
   pub room : count_of m < m.limit
 
@@ -100,8 +100,8 @@ abbrev pub TakeAnswer : State → Firing → Result Took TakeRefusal → State �
 TakeAnswer old f (Ok took.Known) new = Taken old f × Settles old new
 TakeAnswer old f (Ok took.Taken) new = IsNew old f × Takes old f new × Contains new.log f × IsSettled new
 TakeAnswer old f (Ok took.Parked) new = IsNew old f × Takes old f new × Contains new.parked f × IsSettled new
-TakeAnswer old f (Err untaken.NotAFiring) new = ((system_of old.job).is_firing f ≡ false) × Settles old new
-TakeAnswer old f (Err untaken.Full) new = IsTrue ((system_of old.job).is_firing f) × (Taken old f → ⊥) × (count_of old ≡ old.limit) × Settles old new
+TakeAnswer old f (Err untaken.NotAFiring) new = ((own_of old.job).is_firing f ≡ false) × Settles old new
+TakeAnswer old f (Err untaken.Full) new = IsTrue ((own_of old.job).is_firing f) × (Taken old f → ⊥) × (count_of old ≡ old.limit) × Settles old new
 TakeAnswer old f (Err untaken.NoMemory) new = StaysUnsettled old new ⊎ (IsNew old f × TakesOrNot old f new)
 
 -- f is g, or before it
@@ -111,7 +111,7 @@ firing_le f g = (firing_cmp f g ≡ Less) ⊎ (f ≡ g)
 -- gs were fired one after another, each the least that was ready
 pub record Fires (old : State) (gs : List Firing) (new : State) : Type 0 where
   pub grows : Grows old new
-  pub each : EachPlace (IsNextFrom (system_of old.job) firing_le (Taken old)) gs
+  pub each : EachPlace (IsNextFrom (own_of old.job) firing_le (Taken old)) gs
   pub taken : (g : Firing) → Taken new g ↔ (Taken old g ⊎ Contains gs g)
   pub count : count_of new ≡ count_of old + length gs
 
@@ -141,8 +141,8 @@ IsFresh m = (m.log ≡ []) × (m.parked ≡ [])
 pub record IsPlainRun (old : State) (budget : ℕ) (new : State) : Type 0 where
   pub job : new.job ≡ old.job
   pub parked : new.parked ≡ []
-  pub plain : Plain (system_of old.job) firing_le budget new.log
-  pub held : Same (Contains new.history) (Held (system_of old.job) new.log)
+  pub plain : Plain (own_of old.job) firing_le budget new.log
+  pub held : Same (Contains new.history) (Held (own_of old.job) new.log)
 
 -- what a run of a machine leaves that had taken nothing: the plain run, where it is not refused; and it is not
 -- refused for want of room where the budget is at most the limit

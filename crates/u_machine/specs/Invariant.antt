@@ -3,7 +3,7 @@
 use Rattle.std.specs.Prelude.{◌≡◌, ◌↔◌, Bool, true, false, ℕ, ◌+◌, ◌≤◌, ◌<◌, [], ◌∷◌, ◌++◌, Some, ◌⊎◌, length, reverse, take, drop, Contains, slice_get}
 use Rattle.std.specs.declared.cmp.Ordering.TheVariants.{Less}
 use Rattle.u_check.specs.Jobs.{JobParts}
-use Rattle.u_rule.specs.Rule.{system_of}
+use Rattle.u_rule.specs.Rule.{own_of}
 use Rattle.u_rule.specs.EntryOrder.{FiringList, EntryList, firing_cmp}
 use Rattle.u_rule.specs.Parts.{TokenParts}
 use Rattle.u_rule.specs.declared.entry.Entry.{Entry}
@@ -50,19 +50,19 @@ IsNext p f = (rest : FiringList) × (woken_of p ≡ f ∷ rest)
 pub record IsLogged (job : JobParts) (limit : ℕ) (log : FiringList) (applied_count : ℕ) (parked : FiringList) (history : EntryList) : Type 0 where
   pub is : IsSound (state job limit (take applied_count log) parked history)
   pub place : applied_count ≤ length log
-  pub derivation : Derivation (system_of job) log
+  pub derivation : Derivation (own_of job) log
   pub apart : Distinct log
   pub begun : (f : Firing) → Contains (drop applied_count log) f → Contains parked f
-  pub lies : (e : Entry) → Contains history e → Held (system_of job) log e
+  pub lies : (e : Entry) → Contains history e → Held (own_of job) log e
 
 -- each firing that is enabled over the history is in one of three lists: it is ready, or in the log, or
 -- was woken and is still to be sorted out
 pub record IsPartitioned (job : JobParts) (log taken ready woken : FiringList) (history : EntryList) : Type 0 where
-  pub logged : (f : Firing) → Contains log f → Enabled (system_of job) (Contains history) f
-  pub fit : (f : Firing) → Contains ready f → Enabled (system_of job) (Contains history) f × (Contains taken f → ⊥)
-  pub neither : (f : Firing) → Contains woken f → Enabled (system_of job) (Contains history) f × (Contains ready f → ⊥) × (Contains log f → ⊥)
+  pub logged : (f : Firing) → Contains log f → Enabled (own_of job) (Contains history) f
+  pub fit : (f : Firing) → Contains ready f → Enabled (own_of job) (Contains history) f × (Contains taken f → ⊥)
+  pub neither : (f : Firing) → Contains woken f → Enabled (own_of job) (Contains history) f × (Contains ready f → ⊥) × (Contains log f → ⊥)
   pub once : Distinct woken
-  pub all : (f : Firing) → Enabled (system_of job) (Contains history) f → Contains ready f ⊎ Contains log f ⊎ Contains woken f
+  pub all : (f : Firing) → Enabled (own_of job) (Contains history) f → Contains ready f ⊎ Contains log f ⊎ Contains woken f
 
 -- f needs one of the late tokens, and is enabled over the history
 abbrev pub Waits : JobParts → EntryList → EntryList → Firing → Type 0
@@ -89,11 +89,11 @@ pub record Invariant (p : Parts) : Type 0 where
 
 -- a firing that is being applied gives the entry
 abbrev pub Gives : Parts → Entry → Type 0
-Gives p e = (f : Firing) × (place : ℕ) × (p.applied_count ≤ place) × (slice_get p.log.items place ≡ Some f) × Contains ((system_of p.job.now).gives f) e
+Gives p e = (f : Firing) × (place : ℕ) × (p.applied_count ≤ place) × (slice_get p.log.items place ≡ Some f) × Contains ((own_of p.job.now).gives f) e
 
 -- all that the firing at that place of the log gives has entered
 abbrev pub HasEntered : Parts → ℕ → Type 0
-HasEntered p place = (f : Firing) → slice_get p.log.items place ≡ Some f → (e : Entry) → Contains ((system_of p.job.now).gives f) e → Contains p.matcher e
+HasEntered p place = (f : Firing) → slice_get p.log.items place ≡ Some f → (e : Entry) → Contains ((own_of p.job.now).gives f) e → Contains p.matcher e
 
 -- of the firings that are being applied and stand before that place of the log, all that they give has entered
 abbrev pub EnteredBefore : Parts → ℕ → Type 0
@@ -126,12 +126,12 @@ pub record Begins (old : Parts) (place : ℕ) (new : Parts) : Type 0 where
 
 -- f needs no late token
 abbrev pub NeedsNoLate : Parts → Firing → Type 0
-NeedsNoLate p f = (e : Entry) → Contains p.late e → Contains ((system_of p.job.now).needs f) e → ⊥
+NeedsNoLate p f = (e : Entry) → Contains p.late e → Contains ((own_of p.job.now).needs f) e → ⊥
 
 -- the first of the ready firings that were made stands before all that need a late token
 abbrev pub KnowsLeast : Parts → Type 0
 KnowsLeast p =
-    (f g : Firing) (e : Entry) → slice_get p.ready 0 ≡ Some f → Contains p.late e → Contains ((system_of p.job.now).needs g) e
+    (f g : Firing) (e : Entry) → slice_get p.ready 0 ≡ Some f → Contains p.late e → Contains ((own_of p.job.now).needs g) e
     → firing_cmp f g ≡ Less
 
 -- nothing changes but what is made: tokens that were late may be late no more

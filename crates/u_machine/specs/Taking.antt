@@ -3,7 +3,7 @@ use Rattle.std.specs.Prelude.{◌≡◌, ℕ, ◌<◌, ◌≤◌, ◌+◌, List,
 use Rattle.u_base.specs.Firing.{Distinct}
 use Rattle.u_rule.specs.declared.firing.Firing.{Firing}
 use Rattle.u_check.specs.Jobs.{JobParts}
-use Rattle.u_rule.specs.Rule.{system_of}
+use Rattle.u_rule.specs.Rule.{own_of}
 use Rattle.u_machine.specs.declared.answer.ListRefusal.{ListRefusal}
 use Rattle.u_machine.specs.declared.answer.ListRefusal.TheVariants.{NotAFiring, Full, NoMemory}
 use Rattle.u_machine.specs.State.{State, Taken, IsSettled, count_of}
@@ -11,13 +11,13 @@ use Rattle.u_machine.specs.Calls.{Grows, Settles, StaysUnsettled}
 
 -- each of the list is a firing of the job
 abbrev pub AreFirings : JobParts → List Firing → Type 0
-AreFirings job fs = (f : Firing) → Contains fs f → IsTrue ((system_of job).is_firing f)
+AreFirings job fs = (f : Firing) → Contains fs f → IsTrue ((own_of job).is_firing f)
 
 -- the one at that place is the first that is none
 pub record IsFirstOther (job : JobParts) (fs : List Firing) (place : ℕ) : Type 0 where
   pub other : Firing
   pub at : slice_get fs place ≡ Some other
-  pub none : (system_of job).is_firing other ≡ false
+  pub none : (own_of job).is_firing other ≡ false
   pub before : AreFirings job (take place fs)
 
 -- fs are taken besides, and nothing is lost; taken firings may be applied

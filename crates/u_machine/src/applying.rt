@@ -14,7 +14,7 @@
 //! A firing stands in the log before its entries enter. Else half of its entries could enable a firing,
 //! which would then stand before it.
 ghost use Rattle.std.specs.Prelude.{◌≡◌, ◌↔◌, ◌<◌, ◌≤◌, ◌+◌, [], ◌∷◌, OnOk, IfOk, IsOk, IsTrue, IsFalse, Contains, ◌-◌, length, true, false};
-ghost use Rattle.u_rule.specs.Rule.{system_of};
+ghost use Rattle.u_rule.specs.Rule.{own_of};
 ghost use Rattle.u_rule.specs.Fits.{IsFitting, AllFit};
 ghost use Rattle.u_rule.specs.HeldEntries.{entries_given};
 ghost use Rattle.u_rule.specs.declared.entry.Entry.{Entry};
@@ -334,6 +334,7 @@ impl<'a> Parts<'a> {
 
     /// Lets all enter that the firing at that place of the log gives, one of those that are being
     /// applied.
+    #[tactic(auto, using(u_rule::proofs::Firings::own_is_firing))]
     fn enter_given(&mut self, place: usize) -> Result<(), AllocError>
         requires kept { Invariant self.old }
         requires idle { woken_of self.old ≡ [] }

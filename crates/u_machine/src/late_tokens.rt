@@ -9,7 +9,7 @@
 ghost use Rattle.std.specs.Prelude.{◌≡◌, ◌<◌, ◌≤◌, ◌+◌, ◌-◌, [], OnOk, OnErr, IfOk, IfSome, IfNone, IsTrue, IsFalse, Contains, length};
 ghost use Rattle.u_name.specs.Context.{IsBetween};
 ghost use Rattle.u_rule.specs.Parts.{token, most_ports};
-ghost use Rattle.u_rule.specs.Rule.{system_of, tokens_from};
+ghost use Rattle.u_rule.specs.Rule.{own_of, tokens_from};
 ghost use Rattle.u_rule.specs.declared.entry.Entry.{Entry};
 ghost use Rattle.u_rule.specs.declared.entry.Entry.TheVariants.{Token as token_entry};
 ghost use Rattle.u_sets.specs.Members.{HasOr, IsUnion};
@@ -126,7 +126,7 @@ impl<'a> Parts<'a> {
     fn late_need(&self, firing: &Firing) -> Result<Option<Entry>, AllocError>
         requires { Invariant self.now }
         ensures some { IfOk result (λ o. IfSome o (λ e. Contains self.now.late e
-            × Contains ((system_of self.now.job.now).needs firing.now) e)) }
+            × Contains ((own_of self.now.job.now).needs firing.now) e)) }
         ensures none { IfOk result (λ o. IfNone o (NeedsNoLate self.now firing.now)) }
     {
         if self.late.len() == 0 {
@@ -141,7 +141,7 @@ impl<'a> Parts<'a> {
     pub(crate) fn needs_late(&self, firing: &Firing) -> Result<bool, AllocError>
         requires { Invariant self.now }
         ensures late { IfOk result (λ b. IsTrue b → (e : Entry) × Contains self.now.late e
-            × Contains ((system_of self.now.job.now).needs firing.now) e) }
+            × Contains ((own_of self.now.job.now).needs firing.now) e) }
         ensures none { IfOk result (λ b. IsFalse b → NeedsNoLate self.now firing.now) }
     {
         match self.late_need(firing)? {

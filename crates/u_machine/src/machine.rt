@@ -10,7 +10,7 @@
 //! nothing is taken.
 ghost use Rattle.std.specs.Prelude.{◌≡◌, ◌↔◌, ◌++◌, [], ◌∷◌, IfOk, IfSome, IsFalse, IsOk, IsTrue, OnOk};
 ghost use Rattle.u_base.specs.Firing.{Distinct};
-ghost use Rattle.u_rule.specs.Rule.{system_of};
+ghost use Rattle.u_rule.specs.Rule.{own_of};
 ghost use Rattle.u_machine.specs.State.{state, IsMachine, IsPick, IsSettled, IsQuiet, NothingReady, Taken};
 ghost use Rattle.u_machine.specs.Headline.{KeepsItsPromise, Agree};
 ghost use Rattle.u_machine.specs.Calls.{FireAnswer, FireInAnswer, RunAnswer, TakeAnswer, Applies, IsFresh, RunsPlainly};
@@ -56,7 +56,7 @@ impl<'a> Machine<'a> {
     /// `AllocError` where there is no memory.
     pub fn new(alloc: Global, job: &'a Job, limit: usize) -> Result<Machine<'a>, AllocError>
         ensures { IfOk result
-            (λ m. m ≡ state job.now limit [] [] ((system_of job.now).start ∷ [])) }
+            (λ m. m ≡ state job.now limit [] [] ((own_of job.now).start ∷ [])) }
     {
         let parts = Box::new(alloc, Parts::new(alloc, job, limit)?)?;
         Ok(Machine { parts })

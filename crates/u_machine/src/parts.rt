@@ -4,7 +4,7 @@
 //! entries enter and firings be applied, and `firing` fires what is ready. `masks` fires by buckets, and
 //! `late_tokens` makes the firings of tokens that were put off.
 ghost use Rattle.std.specs.Prelude.{◌≡◌, ◌↔◌, [], ◌∷◌, IfOk, IsTrue, Contains, length};
-ghost use Rattle.u_rule.specs.Rule.{system_of};
+ghost use Rattle.u_rule.specs.Rule.{own_of};
 ghost use Rattle.u_machine.specs.State.{IsSettled, state};
 ghost use Rattle.u_base.specs.Firing.{Same};
 ghost use Rattle.u_machine.specs.Invariant.{state_of, Invariant, parked_of};
@@ -60,7 +60,7 @@ impl<'a> Parts<'a> {
     pub(crate) fn new(alloc: Global, job: &'a Job, limit: usize) -> Result<Parts<'a>, AllocError>
         ensures kept { IfOk result Invariant }
         ensures state { IfOk result
-            (λ p. state_of p ≡ state job.now limit [] [] ((system_of job.now).start ∷ [])) }
+            (λ p. state_of p ≡ state job.now limit [] [] ((own_of job.now).start ∷ [])) }
     {
         let mut matcher = Matcher::new(alloc);
         let woken = matcher.enter(job, &start(job))?;

@@ -9,7 +9,7 @@
 //! A list is taken as a whole, or refused as a whole. Its new firings are counted only if the whole list
 //! would be too long: in a set, or, without memory for one, by comparing each with those before it.
 ghost use Rattle.std.specs.Prelude.{◌≡◌, ◌↔◌, ◌<◌, ◌≤◌, ◌+◌, ◌++◌, [], ◌∷◌, OnOk, OnErr, IfOk, IfErr, Ok, IfSome, IfNone, IsTrue, IsFalse, Contains, length, slice_get, Some};
-ghost use Rattle.u_rule.specs.Rule.{system_of};
+ghost use Rattle.u_rule.specs.Rule.{own_of};
 ghost use Rattle.u_machine.specs.State.{Taken, count_of};
 ghost use Rattle.u_machine.specs.Calls.{Takes, TakeAnswer};
 ghost use Rattle.u_machine.specs.Taking.{AreFirings, IsFirstOther, AreNew, HasSoManyNew, GainsNew, Fits, IsTooLong, TakeAllAnswer};
@@ -21,7 +21,7 @@ use crate::answer::{ListRefusal, TakeRefusal, Took};
 use crate::parts::Parts;
 use std::alloc::AllocError;
 use u_check::Job;
-use u_rule::{Firing, is_firing};
+use u_rule::{Firing, is_own};
 use u_sets::{PlacedSet, push_into_room};
 
 /// The place of the first that is no firing of the job.
@@ -30,7 +30,7 @@ fn first_other(job: &Job, firings: &[Firing]) -> Option<usize>
     ensures none { IfNone result (AreFirings job.now firings.now) }
 {
     for (place, firing) in firings.iter().enumerate() {
-        if !is_firing(job, firing) {
+        if !is_own(job, firing) {
             return Some(place);
         }
     }
@@ -268,7 +268,7 @@ impl<'a> Parts<'a> {
         requires unapplied { Contains self.old.log.items firing.now → ⊥ }
         requires unready { Contains self.old.ready firing.now → ⊥ }
         requires made { NeedsNoLate self.old firing.now }
-        requires firing { IsTrue ((system_of self.old.job.now).is_firing firing.now) }
+        requires firing { IsTrue ((own_of self.old.job.now).is_firing firing.now) }
         requires room { count_of (state_of self.old) < self.old.limit }
         ensures kept { Invariant self.new }
         ensures answer { IfOk result
@@ -307,7 +307,7 @@ impl<'a> Parts<'a> {
         requires unapplied { Contains self.old.log.items firing.now → ⊥ }
         requires unready { Contains self.old.ready firing.now → ⊥ }
         requires made { NeedsNoLate self.old firing.now }
-        requires firing { IsTrue ((system_of self.old.job.now).is_firing firing.now) }
+        requires firing { IsTrue ((own_of self.old.job.now).is_firing firing.now) }
         requires room { count_of (state_of self.old) < self.old.limit }
         ensures kept { Invariant self.new }
         ensures answer { TakeAnswer (state_of self.old) firing.now result (state_of self.new) }
@@ -324,7 +324,7 @@ impl<'a> Parts<'a> {
         requires kept { Invariant self.old }
         requires settled { self.old.applied_count ≡ length self.old.log.items }
         requires unapplied { Contains self.old.log.items firing.now → ⊥ }
-        requires firing { IsTrue ((system_of self.old.job.now).is_firing firing.now) }
+        requires firing { IsTrue ((own_of self.old.job.now).is_firing firing.now) }
         requires room { count_of (state_of self.old) < self.old.limit }
         ensures kept { Invariant self.new }
         ensures answer { TakeAnswer (state_of self.old) firing.now result (state_of self.new) }
@@ -346,7 +346,7 @@ impl<'a> Parts<'a> {
         requires settled { self.old.applied_count ≡ length self.old.log.items }
         requires unapplied { Contains self.old.log.items firing.now → ⊥ }
         requires unready { Contains self.old.ready firing.now → ⊥ }
-        requires firing { IsTrue ((system_of self.old.job.now).is_firing firing.now) }
+        requires firing { IsTrue ((own_of self.old.job.now).is_firing firing.now) }
         ensures kept { Invariant self.new }
         ensures answer { TakeAnswer (state_of self.old) firing.now result (state_of self.new) }
     {
@@ -376,7 +376,7 @@ impl<'a> Parts<'a> {
         if self.has_begun(firing) {
             return Ok(Took::Known);
         }
-        if !is_firing(self.job, firing) {
+        if !is_own(self.job, firing) {
             return Err(TakeRefusal::NotAFiring);
         }
         self.take_early(firing)

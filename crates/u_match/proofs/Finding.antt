@@ -13,7 +13,7 @@ use Rattle.u_program.specs.Parts.{StatementParts, BlockParts}
 use Rattle.u_check.specs.Jobs.{JobParts}
 use Rattle.u_check.specs.Kinds.{ports_of}
 use Rattle.u_rule.specs.Parts.{token, ValueList}
-use Rattle.u_rule.specs.Rule.{system_of, is_firing_of, is_firing_at, needs_of, tokens_from}
+use Rattle.u_rule.specs.Rule.{own_of, is_own_of, is_own_at, needs_of, tokens_from}
 use Rattle.u_rule.specs.Fits.{statement_of, fits_at}
 use Rattle.u_rule.specs.Structures.{cell_named, reads_cell, has_its_write, write_read}
 use Rattle.u_rule.specs.declared.entry.Entry.{Entry}
@@ -21,7 +21,7 @@ use Rattle.u_rule.specs.declared.entry.Entry.TheVariants as entries
 use Rattle.u_rule.specs.declared.firing.Firing.{Firing}
 use Rattle.u_match.specs.ReadCells.{HasReadCell}
 use Rattle.u_rule.proofs.FiringShapes.{read_or_none, reads}
-use Rattle.u_rule.proofs.Firings.{at_statement}
+use Rattle.u_rule.proofs.Firings.{own_at_statement}
 
 -- each of a list, the first and the others
 pub within_cons : {X : Type 0} (P : X → Type 0) (x : X) (xs : List X) → Within P (x ∷ xs) ↔ (P x × Within P xs)
@@ -35,7 +35,7 @@ pub named_two : (v w : Value) (vs : ValueList) → cell_named (v ∷ w ∷ vs) �
 named_two (values.Ref p) (values.Int z) vs = refl
 named_two v w vs = refl
 
-read_of : (p : List BlockParts) (s : Option StatementParts) (f : Firing) → is_firing_at p s f ≡ true → HasReadCell f
+read_of : (p : List BlockParts) (s : Option StatementParts) (f : Firing) → is_own_at p s f ≡ true → HasReadCell f
 read_of p None f h w e = cc
 read_of p (Some s) f h w e =
     let r = (and_parts (fits_at p s.region f.activity) _ h).1 in
@@ -47,11 +47,11 @@ read_of p (Some s) f h w e =
     ]
 
 -- a firing that read a write has a cell
-pub reads_its_cell : (job : JobParts) (f : Firing) → is_firing_of job f ≡ true → HasReadCell f
-reads_its_cell job f h = read_of job.program.blocks (statement_of job.program.blocks f.activity.block f.activity.statement) f (at_statement job f h)
+pub reads_its_cell : (job : JobParts) (f : Firing) → is_own_of job f ≡ true → HasReadCell f
+reads_its_cell job f h = read_of job.program.blocks (statement_of job.program.blocks f.activity.block f.activity.statement) f (own_at_statement job f h)
 
 -- a firing of the job is enabled where its tokens and the write that it read are there
-pub enabled_if : (job : JobParts) (f : Firing) (H : Entry → Type 0) → is_firing_of job f ≡ true → Enabled (system_of job) H f ↔ (Within H (tokens_from f.activity 1 f.values) × Within H (write_read f.values f.write))
+pub enabled_if : (job : JobParts) (f : Firing) (H : Entry → Type 0) → is_own_of job f ≡ true → Enabled (own_of job) H f ↔ (Within H (tokens_from f.activity 1 f.values) × Within H (write_read f.values f.write))
 unfolding needs_of
 enabled_if job f H is = (
   (λ en. (

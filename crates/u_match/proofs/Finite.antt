@@ -10,7 +10,7 @@ use Rattle.u_value.specs.declared.value.Value.{Value}
 use Rattle.u_value.specs.declared.fault_kind.FaultKind.{FaultKind}
 use Rattle.u_check.specs.Jobs.{JobParts}
 use Rattle.u_rule.specs.Parts.{TokenParts, ValueList}
-use Rattle.u_rule.specs.Rule.{is_firing_of}
+use Rattle.u_rule.specs.Rule.{is_own_of}
 use Rattle.u_rule.specs.EntryOrder.{entry_cmp, firing, write_of, written}
 use Rattle.u_rule.specs.Structures.{cell_named}
 use Rattle.u_rule.specs.declared.entry.Entry.{Entry}
@@ -79,12 +79,12 @@ module _ {X : Type 0} where
 
 -- the firing, or none
 kept : (job : JobParts) (g : Firing) → Finite (IsKept job g)
-kept job g = at (is_firing_of job g) refl
+kept job g = at (is_own_of job g) refl
   where
-    moved : (f : Firing) → g ≡ f → IsTrue (is_firing_of job g) ↔ IsTrue (is_firing_of job f)
-    moved f e = (subst (λ (x : Firing). IsTrue (is_firing_of job x)) e, subst (λ (x : Firing). IsTrue (is_firing_of job x)) (sym e))
+    moved : (f : Firing) → g ≡ f → IsTrue (is_own_of job g) ↔ IsTrue (is_own_of job f)
+    moved f e = (subst (λ (x : Firing). IsTrue (is_own_of job x)) e, subst (λ (x : Firing). IsTrue (is_own_of job x)) (sym e))
 
-    at : (b : Bool) → is_firing_of job g ≡ b → Finite (IsKept job g)
+    at : (b : Bool) → is_own_of job g ≡ b → Finite (IsKept job g)
     at true e = (g ∷ [], λ f. ((λ m. let h = (one_member g f).0 m in (h, (moved f h).0 e)), λ k. (one_member g f).1 k.0))
     at false e = none (IsKept job g) (λ f k. let h = (moved f k.0).1 k.1 in cc)
 

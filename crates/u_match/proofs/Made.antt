@@ -10,7 +10,7 @@ use Rattle.u_check.specs.Kinds.{ports_of}
 use Rattle.u_rule.specs.Parts.{most_ports, TokenParts, token, ValueList}
 use Rattle.u_rule.specs.Fits.{statement_of, fits_at}
 use Rattle.u_match.specs.Ports.{ports_in, ports_at}
-use Rattle.u_rule.specs.Rule.{is_firing_of, is_firing_at, needs_of, tokens_from}
+use Rattle.u_rule.specs.Rule.{is_own_of, is_own_at, needs_of, tokens_from}
 use Rattle.u_rule.specs.EntryOrder.{firing}
 use Rattle.u_rule.specs.Structures.{cell_named, wrote, has_its_write}
 use Rattle.u_rule.specs.declared.entry.Entry.{Entry}
@@ -24,17 +24,17 @@ use Rattle.u_match.proofs.MetValues.{Held, own_token, met_held, held_met, same_t
 use Rattle.u_match.proofs.Choices.{IsAmong, its_place, needed_token, tokens_needed, needs_tokens, own_chosen, held_chosen, chosen_of}
 use Rattle.u_check.proofs.KindTests.{few_ports}
 use Rattle.u_rule.proofs.FiringShapes.{TwoValues, Reading, Shape, shape_of, rebuilt, needs_two, needs_read}
-use Rattle.u_rule.proofs.Firings.{at_statement}
+use Rattle.u_rule.proofs.Firings.{own_at_statement}
 
 -- a firing has as many values as its activity has ports
-counted_at : (p : List BlockParts) (s : Option StatementParts) (f : Firing) → is_firing_at p s f ≡ true → length f.values ≡ ports_in s
+counted_at : (p : List BlockParts) (s : Option StatementParts) (f : Firing) → is_own_at p s f ≡ true → length f.values ≡ ports_in s
 counted_at p None f h = cc
 counted_at p (Some s) f h =
     let r = (and_parts (fits_at p s.region f.activity) _ h).1 in
     eqb-true (length f.values) (ports_of s.kind) (and_parts (length f.values == ports_of s.kind) (has_its_write s.kind f.values f.write) r).0
 
-pub counted : (job : JobParts) (f : Firing) → IsTrue (is_firing_of job f) → length f.values ≡ ports_at job f.activity
-counted job f h = counted_at job.program.blocks (statement_of job.program.blocks f.activity.block f.activity.statement) f (at_statement job f h)
+pub counted : (job : JobParts) (f : Firing) → IsTrue (is_own_of job f) → length f.values ≡ ports_at job f.activity
+counted job f h = counted_at job.program.blocks (statement_of job.program.blocks f.activity.block f.activity.statement) f (own_at_statement job f h)
 
 -- as many ports as its statement
 pub ports_of_stated : (job : JobParts) (a : Activity) (s : StatementParts) → statement_of job.program.blocks a.block a.statement ≡ Some s → ports_of s.kind ≡ ports_at job a
@@ -57,7 +57,7 @@ module _ (H : Entry → Type 0) (t : TokenParts) (job : JobParts) where
   TwoMet f = (v : Value) × IsMet H t 1 v × ((w : Value) × IsMet H t 2 w × JoinsTwo job H t.activity v w f)
 
   -- a firing of the job that needs the token, and nothing that is not held
-  woken : (g f : Firing) → g ≡ f → IsTrue (is_firing_of job f) → Contains (needs_of g) (entries.Token t) → ((e : Entry) → Contains (needs_of g) e → Held H t e) → Woken f
+  woken : (g f : Firing) → g ≡ f → IsTrue (is_own_of job f) → Contains (needs_of g) (entries.Token t) → ((e : Entry) → Contains (needs_of g) e → Held H t e) → Woken f
   woken g f e is own all = (subst (λ (x : Firing). Contains (needs_of x) (entries.Token t)) e own, (is, λ x m. all x (subst (λ (y : Firing). Contains (needs_of y) x) (sym e) m)))
 
   -- the token is one of two

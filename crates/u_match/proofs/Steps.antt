@@ -5,7 +5,7 @@ use Rattle.u_name.specs.Cell.{CellOf}
 use Rattle.u_name.specs.Name.{Activity}
 use Rattle.u_value.specs.declared.value.Value.{Value}
 use Rattle.u_check.specs.Jobs.{JobParts}
-use Rattle.u_rule.specs.Rule.{is_firing_of}
+use Rattle.u_rule.specs.Rule.{is_own_of}
 use Rattle.u_rule.specs.Structures.{cell_named}
 use Rattle.u_rule.specs.declared.entry.Entry.{Entry}
 use Rattle.u_rule.specs.declared.firing.Firing.{Firing}
@@ -34,14 +34,14 @@ pub same_firing : (g h : Firing) (old new : List Firing) → g ≡ h → Gains o
 same_firing g h old new e s = subst (λ (x : Firing). Gains old (λ f. x ≡ f) new) e s
 
 -- a firing of the job is put in, and another is left out
-pub put_in : (job : JobParts) (g : Firing) (old new : List Firing) → IsTrue (is_firing_of job g) → Gains old (λ f. g ≡ f) new → Gains old (IsKept job g) new
+pub put_in : (job : JobParts) (g : Firing) (old new : List Firing) → IsTrue (is_own_of job g) → Gains old (λ f. g ≡ f) new → Gains old (IsKept job g) new
 put_in job g old new is s f = (
-  (λ m. elim ((s f).0 m) [ inl k ↦ inl k | inr e ↦ inr (e, subst (λ (x : Firing). IsTrue (is_firing_of job x)) e is) ]),
+  (λ m. elim ((s f).0 m) [ inl k ↦ inl k | inr e ↦ inr (e, subst (λ (x : Firing). IsTrue (is_own_of job x)) e is) ]),
   (λ t. elim t [ inl k ↦ (s f).1 (inl k) | inr p ↦ (s f).1 (inr p.0) ]),
 )
 
-pub left_out : (job : JobParts) (g : Firing) (old : List Firing) → (IsTrue (is_firing_of job g) → ⊥) → Gains old (IsKept job g) old
-left_out job g old no_firing = nothing (IsKept job g) old (λ f p. no_firing (subst (λ (x : Firing). IsTrue (is_firing_of job x)) (sym_of p.0) p.1))
+pub left_out : (job : JobParts) (g : Firing) (old : List Firing) → (IsTrue (is_own_of job g) → ⊥) → Gains old (IsKept job g) old
+left_out job g old no_firing = nothing (IsKept job g) old (λ f p. no_firing (subst (λ (x : Firing). IsTrue (is_own_of job x)) (sym_of p.0) p.1))
   where
     sym_of : {f : Firing} → g ≡ f → f ≡ g
     sym_of e = cc

@@ -4,7 +4,7 @@ use Rattle.std.specs.Ordering.{is_eq}
 use Rattle.std.specs.Cmp.{tied_itself, Equal-is}
 use Rattle.std.specs.declared.cmp.Ordering.TheVariants.{Equal}
 use Rattle.u_check.specs.Jobs.{JobParts}
-use Rattle.u_rule.specs.Rule.{is_firing_of, needs_of}
+use Rattle.u_rule.specs.Rule.{is_own_of, needs_of}
 use Rattle.u_rule.specs.EntryOrder.{entry_cmp}
 use Rattle.u_rule.specs.ExactOrders.{entry_cmp_total, entry_cmp_ties}
 use Rattle.u_rule.specs.declared.entry.Entry.{Entry}
@@ -32,7 +32,7 @@ pub among : (W : Firing → Type 0) (gs : List Firing) (f : Firing) → SomeOf g
 among W gs f = ((λ (g, m, (e, w)). (subst (λ (x : Firing). Contains gs x) e m, w)), λ p. (f, p.0, (refl, p.1)))
 
 -- a firing that needs the entry, and whose needs are all held
-pub tested : (job : JobParts) (entry : Entry) (H : Entry → Type 0) (f : Firing) (ns first second : List Entry) (h r : Bool) → ns ≡ needs_of f → first ≡ ns → second ≡ ns → IsTrue (is_firing_of job f) → h ≡ true → IsTrue h ↔ Contains first entry → IsTrue r ↔ ((x : Entry) → Contains second x → H x) → IsTrue r ↔ IsWokenBy job entry H f
+pub tested : (job : JobParts) (entry : Entry) (H : Entry → Type 0) (f : Firing) (ns first second : List Entry) (h r : Bool) → ns ≡ needs_of f → first ≡ ns → second ≡ ns → IsTrue (is_own_of job f) → h ≡ true → IsTrue h ↔ Contains first entry → IsTrue r ↔ ((x : Entry) → Contains second x → H x) → IsTrue r ↔ IsWokenBy job entry H f
 tested job entry H f ns first second h r n x y is t has held = (
   (λ p. (subst (λ (xs : List Entry). Contains xs entry) (x ∙ n) (has.0 t), (is, λ e m. held.0 p e (subst (λ (xs : List Entry). Contains xs e) (sym (y ∙ n)) m)))),
   (λ w. held.1 (λ e m. w.1.1 e (subst (λ (xs : List Entry). Contains xs e) (y ∙ n) m))),

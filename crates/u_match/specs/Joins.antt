@@ -7,7 +7,7 @@ use Rattle.u_check.specs.Jobs.{JobParts}
 use Rattle.u_rule.specs.Parts.{ValueList}
 use Rattle.u_program.specs.Parts.{StatementParts}
 use Rattle.u_rule.specs.Fits.{statement_of, IsExecutable}
-use Rattle.u_rule.specs.Rule.{is_firing_of}
+use Rattle.u_rule.specs.Rule.{is_own_of}
 use Rattle.u_rule.specs.EntryOrder.{firing, written}
 use Rattle.u_rule.specs.Structures.{cell_named}
 use Rattle.u_rule.specs.declared.entry.Entry.{Entry}
@@ -24,7 +24,7 @@ IsKnown known job a s = (statement_of job.program.blocks a.block a.statement ≡
 
 -- f is that firing, and one of the job
 abbrev pub IsKept : JobParts → Firing → Firing → Type 0
-IsKept job g f = (g ≡ f) × IsTrue (is_firing_of job f)
+IsKept job g f = (g ≡ f) × IsTrue (is_own_of job f)
 
 -- f is of one value, of two, and of two with a write
 abbrev pub IsOne : JobParts → Activity → Value → Firing → Type 0

@@ -2,7 +2,7 @@
 use Rattle.std.specs.Prelude.{◌≡◌, List, [], ◌∷◌, Contains, Result, Ok, Err}
 use Rattle.std.specs.declared.alloc.AllocError.{AllocError}
 use Rattle.u_check.specs.Jobs.{JobParts}
-use Rattle.u_rule.specs.Rule.{system_of}
+use Rattle.u_rule.specs.Rule.{own_of}
 use Rattle.u_rule.specs.Parts.{TokenParts}
 use Rattle.u_rule.specs.EntryOrder.{firing_cmp}
 use Rattle.u_rule.specs.declared.entry.Entry.{Entry}
@@ -16,7 +16,7 @@ use Rattle.u_match.specs.declared.matcher.Entered.TheVariants as entered
 
 -- f needs the entry, and is enabled over H
 abbrev pub IsWokenBy : JobParts → Entry → (Entry → Type 0) → Firing → Type 0
-IsWokenBy job entry H f = Contains ((system_of job).needs f) entry × Enabled (system_of job) H f
+IsWokenBy job entry H f = Contains ((own_of job).needs f) entry × Enabled (own_of job) H f
 
 -- the entry is a token, and the firings that it wakes over H are those of a list that has some
 pub record WakesSome (job : JobParts) (entry : Entry) (H : Entry → Type 0) : Type 0 where

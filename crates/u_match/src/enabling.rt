@@ -6,7 +6,7 @@ ghost use Rattle.u_name.specs.Cell.{CellOf};
 ghost use Rattle.u_rule.specs.declared.entry.Entry.{Entry};
 ghost use Rattle.u_rule.specs.declared.entry.Entry.TheVariants as entries;
 ghost use Rattle.u_rule.specs.Parts.{token, most_ports};
-ghost use Rattle.u_rule.specs.Rule.{system_of, tokens_from};
+ghost use Rattle.u_rule.specs.Rule.{own_of, tokens_from};
 ghost use Rattle.u_rule.specs.Structures.{cell_named, wrote, write_read};
 ghost use Rattle.u_base.specs.Firing.{Enabled, Within};
 ghost use Rattle.u_match.specs.ReadCells.{HasCell, HasReadCell};
@@ -15,7 +15,7 @@ use std::alloc::AllocError;
 use u_check::Job;
 use u_history::History;
 use u_name::{Cell, Name};
-use u_rule::{Entry, Firing, Token, Write, Written, cell_at, is_firing};
+use u_rule::{Entry, Firing, Token, Write, Written, cell_at, is_own};
 use u_value::Value;
 
 /// That token.
@@ -133,13 +133,13 @@ fn has_read(history: &History, firing: &Firing) -> Result<bool, AllocError>
 /// `AllocError` where so many share a name or a value already that no copy can be made.
 pub(crate) fn has_all_of(history: &History, job: &Job, firing: &Firing) -> Result<bool, AllocError>
     ensures { IfOk result
-        (λ b. IsTrue b ↔ Enabled (system_of job.now) (Contains history.now) firing.now) }
+        (λ b. IsTrue b ↔ Enabled (own_of job.now) (Contains history.now) firing.now) }
 {
     let there = has_tokens(history, &firing.activity, 1, firing.values.as_slice())?;
     if !there {
         return Ok(false);
     }
-    if !is_firing(job, firing) {
+    if !is_own(job, firing) {
         return Ok(false);
     }
     let read = has_read(history, firing)?;

@@ -7,7 +7,7 @@ ghost use Rattle.std.specs.Prelude.{◌≡◌, ◌↔◌, ◌⊎◌, ◌+◌, []
 ghost use Rattle.u_name.specs.Context.{IsBetween};
 ghost use Rattle.u_rule.specs.declared.entry.Entry.TheVariants.{Token as token_entry};
 ghost use Rattle.u_rule.specs.EntryOrder.{firing_cmp};
-ghost use Rattle.u_rule.specs.Rule.{is_firing_of};
+ghost use Rattle.u_rule.specs.Rule.{is_own_of};
 ghost use Rattle.u_sets.specs.Rising.{Rises};
 ghost use Rattle.u_sets.specs.Members.{SomeOf, AreThose, Gains, HasOr};
 ghost use Rattle.u_sets.specs.Columns.{MayNumber};
@@ -26,7 +26,7 @@ use std::alloc::{AllocError, Global};
 use u_check::{Job, ports_of};
 use u_history::NumberedHistory;
 use u_program::Statement;
-use u_rule::{Firing, NameRef, TokenRef, Written, cell_at, is_firing, is_firing_of_statement};
+use u_rule::{Firing, NameRef, TokenRef, Written, cell_at, is_own, is_own_of_statement};
 use u_value::Value;
 
 /// How firings of an activity are made.
@@ -68,12 +68,12 @@ impl Joining<'_> {
         requires known { IsKnown self.now.making.is_executable self.now.job.now
             self.now.activity.now self.now.statement.now }
         requires own { firing.now.activity ≡ self.now.activity.now }
-        ensures { result ≡ is_firing_of self.now.job.now firing.now }
+        ensures { result ≡ is_own_of self.now.job.now firing.now }
     {
         if self.making.is_executable {
-            return is_firing_of_statement(self.job, self.statement, firing);
+            return is_own_of_statement(self.job, self.statement, firing);
         }
-        is_firing(self.job, firing)
+        is_own(self.job, firing)
     }
 
     /// Adds the firing, if it is one of the job.

@@ -8,7 +8,7 @@ ghost use Rattle.u_rule.specs.declared.entry.Entry.{Entry};
 ghost use Rattle.u_rule.specs.declared.entry.Entry.TheVariants.{Token as token_entry};
 ghost use Rattle.u_rule.specs.declared.firing.Firing.{Firing};
 ghost use Rattle.u_rule.specs.EntryOrder.{firing_cmp};
-ghost use Rattle.u_rule.specs.Rule.{system_of};
+ghost use Rattle.u_rule.specs.Rule.{own_of};
 ghost use Rattle.u_rule.specs.Fits.{IsFitting};
 ghost use Rattle.u_base.specs.Firing.{Enabled};
 ghost use Rattle.u_sets.specs.Rising.{Rises};
@@ -298,7 +298,7 @@ impl Matcher {
     /// `AllocError` where so many share a name or a value already, 2^63, that no copy can be made.
     pub fn has_all_of(&self, job: &Job, firing: &Firing) -> Result<bool, AllocError>
         ensures { IfOk result
-            (λ b. IsTrue b ↔ Enabled (system_of job.now) (Contains self.now) firing.now) }
+            (λ b. IsTrue b ↔ Enabled (own_of job.now) (Contains self.now) firing.now) }
     {
         has_all_of(&self.history, job, firing)
     }

@@ -18,7 +18,7 @@ use crate::ordering::put_in_order;
 use std::alloc::{AllocError, Global};
 use u_check::Job;
 use u_history::NumberedHistory;
-use u_rule::{Entry, Firing, NameRef, RuleError, Write, Written, needs};
+use u_rule::{Entry, Firing, NameRef, Write, Written, is_own, needed_by};
 use u_sets::{has, place_in};
 
 /// Whether the two are one entry.
@@ -93,18 +93,17 @@ pub(crate) struct Entering<'a> {
 }
 
 impl Entering<'_> {
-    /// Whether it is a firing of the job that needs the entry, and the set has all else that it needs.
+    /// Whether it is an own firing of the job that needs the entry, and the set has all else that it needs.
     fn is_woken(&self, firing: &Firing) -> Result<bool, AllocError>
         ensures { IfOk result
             (λ b. IsTrue b
             ↔ IsWokenBy self.now.job.now self.now.entry.now
             (HasOr self.now.entries.now.entries self.now.entry.now) firing.now) }
     {
-        let needs = match needs(self.alloc, self.job, firing) {
-            Ok(needs) => needs,
-            Err(RuleError::NotAFiring) => return Ok(false),
-            Err(RuleError::NoMemory) => return Err(AllocError),
-        };
+        if !is_own(self.job, firing) {
+            return Ok(false);
+        }
+        let needs = needed_by(self.alloc, firing)?;
         if !has(&needs, self.entry) {
             return Ok(false);
         }

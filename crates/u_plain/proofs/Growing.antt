@@ -14,23 +14,23 @@ use Rattle.u_base.proofs.Member.{Contains-head, Contains-tail}
 use Rattle.u_sets.specs.Members.{SomeOf}
 use Rattle.u_rule.specs.Parts.{TokenParts, token, ValueList, most_ports}
 use Rattle.u_rule.specs.Fits.{statement_of, fits_at}
-use Rattle.u_rule.specs.Rule.{system_of, needs_of, tokens_from, is_firing_of, is_firing_at, has_its_values}
+use Rattle.u_rule.specs.Rule.{own_of, needs_of, tokens_from, is_own_of, is_own_at, has_its_values}
 use Rattle.u_rule.specs.Structures.{cell_named, has_its_write, wrote, read_from, write_read}
 use Rattle.u_rule.specs.EntryOrder.{firing, write_of}
 use Rattle.u_rule.specs.declared.entry.Entry.{Entry}
 use Rattle.u_rule.specs.declared.entry.Entry.TheVariants as entries
 use Rattle.u_rule.specs.declared.firing.Firing.{Firing}
 use Rattle.u_rule.specs.declared.parts.Written.{Written}
-use Rattle.u_rule.proofs.Firings.{at_statement}
+use Rattle.u_rule.proofs.Firings.{own_at_statement}
 use Rattle.u_check.proofs.KindTests.{few_ports}
 use Rattle.u_rule.proofs.FiringShapes.{Reading, Shape, shape_of}
 use Rattle.u_plain.specs.Tries.{EnabledOver, Extends, longer, FitsRead, FitsLonger, FitsFirst}
 
 -- a firing has one value for each port of its statement
-values_counted : (job : JobParts) (f : Firing) → is_firing_of job f ≡ true → (1 ≤ length f.values) × (length f.values ≤ most_ports)
-values_counted job f h = at (statement_of job.program.blocks f.activity.block f.activity.statement) (at_statement job f h)
+values_counted : (job : JobParts) (f : Firing) → is_own_of job f ≡ true → (1 ≤ length f.values) × (length f.values ≤ most_ports)
+values_counted job f h = at (statement_of job.program.blocks f.activity.block f.activity.statement) (own_at_statement job f h)
   where
-    at : (o : Option StatementParts) → is_firing_at job.program.blocks o f ≡ true → (1 ≤ length f.values) × (length f.values ≤ most_ports)
+    at : (o : Option StatementParts) → is_own_at job.program.blocks o f ≡ true → (1 ≤ length f.values) × (length f.values ≤ most_ports)
     at None e = absurd (false≢true e)
     at (Some s) e =
         let r = (and_parts (fits_at job.program.blocks s.region f.activity) (has_its_values s f) e).1 in
@@ -155,13 +155,13 @@ module _ (job : JobParts) (h : List Entry) where
   )
 
 -- what is enabled has a first token
-pub first_enabled : (job : JobParts) (h : List Entry) (f : Firing) → SomeOf h (FitsFirst job h) f ↔ Enabled (system_of job) (Contains h) f
+pub first_enabled : (job : JobParts) (h : List Entry) (f : Firing) → SomeOf h (FitsFirst job h) f ↔ Enabled (own_of job) (Contains h) f
 first_enabled job h f = (to, λ en. from en f.values refl)
   where
-    to : SomeOf h (FitsFirst job h) f → Enabled (system_of job) (Contains h) f
+    to : SomeOf h (FitsFirst job h) f → Enabled (own_of job) (Contains h) f
     to (x, m, (t, k, p, g, en)) = en
 
-    from : Enabled (system_of job) (Contains h) f → (vs : ValueList) → f.values ≡ vs → SomeOf h (FitsFirst job h) f
+    from : Enabled (own_of job) (Contains h) f → (vs : ValueList) → f.values ≡ vs → SomeOf h (FitsFirst job h) f
     from en [] e = absurd (omega (arith, (values_counted job f en.0).0, ap length e))
     from en (v ∷ rest) e =
         (entries.Token (token f.activity 1 v), token_held job h f en [] v rest e, (token f.activity 1 v, refl, refl, (refl, (rest, e)), en))

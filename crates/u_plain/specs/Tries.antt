@@ -3,7 +3,7 @@ use Rattle.std.specs.Prelude.{◌≡◌, ◌+◌, List, [], ◌∷◌, ◌++◌,
 use Rattle.u_value.specs.declared.value.Value.{Value}
 use Rattle.u_check.specs.Jobs.{JobParts}
 use Rattle.u_rule.specs.Parts.{TokenParts, ValueList}
-use Rattle.u_rule.specs.Rule.{system_of}
+use Rattle.u_rule.specs.Rule.{own_of}
 use Rattle.u_rule.specs.EntryOrder.{firing, written}
 use Rattle.u_rule.specs.declared.parts.Write.{Write}
 use Rattle.u_rule.specs.declared.entry.Entry.{Entry}
@@ -13,7 +13,7 @@ use Rattle.u_base.specs.Firing.{Enabled}
 
 -- what is enabled over the list
 abbrev pub EnabledOver : JobParts → List Entry → Firing → Type 0
-EnabledOver job held f = Enabled (system_of job) (Contains held) f
+EnabledOver job held f = Enabled (own_of job) (Contains held) f
 
 -- of the same activity, with the same values and perhaps more behind them
 abbrev pub Extends : Firing → Firing → Type 0

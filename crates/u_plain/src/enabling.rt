@@ -5,7 +5,7 @@
 //!
 //! No table is kept, since this is compared with code that is clever.
 ghost use Rattle.std.specs.Prelude.{◌≡◌, ◌↔◌, ◌⊎◌, ◌+◌, ◌<◌, [], ◌∷◌, length, Contains, IfOk, OnOk, IsTrue, None, MatchOption};
-ghost use Rattle.u_rule.specs.Rule.{system_of, needs_of};
+ghost use Rattle.u_rule.specs.Rule.{own_of, needs_of};
 ghost use Rattle.u_rule.specs.EntryOrder.{firing};
 ghost use Rattle.u_rule.specs.Parts.{TokenParts, most_ports};
 ghost use Rattle.u_rule.specs.declared.entry.Entry.TheVariants as entries;
@@ -19,7 +19,7 @@ use crate::among::add_new;
 use std::alloc::{AllocError, Global};
 use u_check::Job;
 use u_rule::{
-    Entry, Firing, MOST_PORTS, RuleError, SharedWritten, Token, Values, Write, Written, needs,
+    Entry, Firing, MOST_PORTS, SharedWritten, Token, Values, Write, Written, is_own, needed_by,
 };
 use u_value::Value;
 
@@ -55,7 +55,7 @@ pub fn are_in(list: &[Entry], entries: &[Entry]) -> bool
     true
 }
 
-/// Whether it is a firing of the job that is enabled over the entries: all that it needs is there.
+/// Whether it is an own firing of the job that is enabled over the entries: all that it needs is there.
 ///
 /// # Errors
 /// `AllocError` where there is no memory.
@@ -66,13 +66,13 @@ pub fn is_enabled(
     firing: &Firing,
 ) -> Result<bool, AllocError>
     ensures { IfOk result
-        (λ b. IsTrue b ↔ Enabled (system_of job.now) (Contains held.now) firing.now) }
+        (λ b. IsTrue b ↔ Enabled (own_of job.now) (Contains held.now) firing.now) }
 {
-    match needs(alloc, job, firing) {
-        Ok(needed) => Ok(are_in(held, &needed)),
-        Err(RuleError::NotAFiring) => Ok(false),
-        Err(RuleError::NoMemory) => Err(AllocError),
+    if !is_own(job, firing) {
+        return Ok(false);
     }
+    let needed = needed_by(alloc, firing)?;
+    Ok(are_in(held, &needed))
 }
 
 /// The record of the token's activity with its value.
@@ -246,7 +246,7 @@ fn add_firings(
 pub fn enabled(alloc: Global, job: &Job, held: &[Entry]) -> Result<Vec<Firing>, AllocError>
     ensures { IfOk result
         (λ v. (f : Firing)
-        → Contains v.items f ↔ Enabled (system_of job.now) (Contains held.now) f) }
+        → Contains v.items f ↔ Enabled (own_of job.now) (Contains held.now) f) }
 {
     let mut found = Vec::new(alloc);
     for left in held {

@@ -1,20 +1,20 @@
 //! What a list of firings holds.
 ghost use Rattle.std.specs.Prelude.{◌≡◌, ◌↔◌, ◌++◌, Contains, IfOk, OnOk, IsTrue};
-ghost use Rattle.u_rule.specs.Rule.{system_of, is_firing_of};
+ghost use Rattle.u_rule.specs.Rule.{own_of, is_own_of};
 ghost use Rattle.u_rule.specs.declared.entry.Entry.{Entry};
 ghost use Rattle.u_rule.specs.declared.firing.Firing.{Firing};
 ghost use Rattle.u_base.specs.Firing.{Held, Within};
 
 use std::alloc::{AllocError, Global};
 use u_check::Job;
-use u_rule::{Entry, Firing, gives, is_firing, start};
+use u_rule::{Entry, Firing, gives, is_own, start};
 
 /// Whether each of the list is a firing of the job.
 pub fn are_firings(job: &Job, firings: &[Firing]) -> bool
-    ensures { IsTrue result ↔ Within (λ f. IsTrue (is_firing_of job.now f)) firings.now }
+    ensures { IsTrue result ↔ Within (λ f. IsTrue (is_own_of job.now f)) firings.now }
 {
     for firing in firings {
-        if !is_firing(job, firing) {
+        if !is_own(job, firing) {
             return false;
         }
     }
@@ -23,7 +23,7 @@ pub fn are_firings(job: &Job, firings: &[Firing]) -> bool
 
 /// The entries that a firing of the job gives. Want of memory is the one refusal that comes.
 fn given_by(alloc: Global, job: &Job, firing: &Firing) -> Result<Vec<Entry>, AllocError>
-    ensures { IfOk result (λ v. v.items ≡ (system_of job.now).gives firing.now) }
+    ensures { IfOk result (λ v. v.items ≡ (own_of job.now).gives firing.now) }
 {
     match gives(alloc, job, firing) {
         Ok(entries) => Ok(entries),
@@ -47,9 +47,9 @@ fn add_all(all: &mut Vec<Entry>, more: &[Entry]) -> Result<(), AllocError>
 /// # Errors
 /// `AllocError` where there is no memory.
 pub fn held(alloc: Global, job: &Job, firings: &[Firing]) -> Result<Vec<Entry>, AllocError>
-    requires { Within (λ f. IsTrue (is_firing_of job.now f)) firings.now }
+    requires { Within (λ f. IsTrue (is_own_of job.now f)) firings.now }
     ensures { IfOk result
-        (λ v. (e : Entry) → Contains v.items e ↔ Held (system_of job.now) firings.now e) }
+        (λ v. (e : Entry) → Contains v.items e ↔ Held (own_of job.now) firings.now e) }
 {
     let mut all = Vec::new(alloc);
     all.push(start(job))?;

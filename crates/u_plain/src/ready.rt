@@ -1,6 +1,6 @@
 //! The firings that are enabled over a history and have not been taken.
 ghost use Rattle.std.specs.Prelude.{◌≡◌, ◌⊎◌, IfOk, OnOk, Contains};
-ghost use Rattle.u_rule.specs.Rule.{system_of};
+ghost use Rattle.u_rule.specs.Rule.{own_of};
 ghost use Rattle.u_rule.specs.declared.firing.Firing.{Firing};
 ghost use Rattle.u_rule.specs.EntryOrder.{firing_cmp};
 ghost use Rattle.u_base.specs.Firing.{Enabled};
@@ -68,9 +68,9 @@ pub fn ready_firings(
 ) -> Result<Vec<Firing>, AllocError>
     ensures exact { IfOk result
         (λ v. (f : Firing) → Contains v.items f
-        → Enabled (system_of job.now) (Contains history.now) f × (Contains taken.now f → ⊥)) }
+        → Enabled (own_of job.now) (Contains history.now) f × (Contains taken.now f → ⊥)) }
     ensures all { IfOk result
-        (λ v. (f : Firing) → Enabled (system_of job.now) (Contains history.now) f
+        (λ v. (f : Firing) → Enabled (own_of job.now) (Contains history.now) f
         → Contains v.items f ⊎ Contains taken.now f) }
     ensures rises { IfOk result (λ v. Rises firing_cmp v.items) }
 {

@@ -14,7 +14,7 @@ use u_match::Matcher;
 use u_names::Names;
 use u_plain::examples::{DOUBLE, job};
 use u_replica::Replica;
-use u_rule::{Entry, Firing, is_firing};
+use u_rule::{Entry, Firing, is_own};
 
 /// Whether what is new and empty is so.
 fn new_are_empty(alloc: Global) -> bool {
@@ -32,7 +32,7 @@ struct End<'a> {
 /// bucket.
 fn knows_all(machine: &Machine<'_>, firings: &[Firing]) -> bool {
     for firing in firings {
-        let known = machine.knows(firing) && is_firing(machine.job(), firing);
+        let known = machine.knows(firing) && is_own(machine.job(), firing);
         if !known || firing != firing || bucket_of(&firing.activity) >= 64 {
             return false;
         }

@@ -15,7 +15,7 @@ use Rattle.u_base.proofs.Apart.{Distinct-left}
 use Rattle.u_program.specs.declared.program.Version.{Version}
 use Rattle.u_program.specs.declared.program.Version.TheVariants as versions
 use Rattle.u_check.specs.Jobs.{JobParts}
-use Rattle.u_rule.specs.Rule.{system_of}
+use Rattle.u_rule.specs.Rule.{own_of}
 use Rattle.u_rule.specs.declared.firing.Firing.{Firing}
 use Rattle.u_rule.specs.FiringText.{firing_text}
 use Rattle.u_rule.specs.FiringReading.{IsFiring}
@@ -264,7 +264,7 @@ module _ (base mid new : State) (bytes rest others : List ℕ) (count : ℕ) (fr
         | inr k ↦ read_has version text ending (before ++ fs) f (l.fires.valid f k) read (in_text f k)
       ];
       front = λ f c. subst (λ (xs : List Firing). Contains xs f) log_is (logged f (subst (λ (xs : List Firing). Contains xs f) (front_of before fs) c));
-      firings = λ f c. subst (λ (j : JobParts). IsTrue ((system_of j).is_firing f)) takes.grows.job
+      firings = λ f c. subst (λ (j : JobParts). IsTrue ((own_of j).is_firing f)) takes.grows.job
           (is.sound.firings f (Contains-append_left new.log new.parked f (logged f (subst (λ (xs : List Firing). Contains xs f) (front_of before fs) c))));
       few = omega (arith, length-append before fs);
     }

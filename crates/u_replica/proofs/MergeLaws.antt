@@ -3,7 +3,7 @@ use Rattle.std.proofs.Common.{inl, inr, subst, sym, ◌∙◌, ℕ, append-nil, 
 use Rattle.std.specs.Prelude.{Contains, Result, Ok, Err, IsTrue, true, false}
 use Rattle.u_rule.specs.declared.entry.Entry.{Entry}
 use Rattle.u_rule.specs.declared.firing.Firing.{Firing}
-use Rattle.u_rule.specs.Rule.{system_of}
+use Rattle.u_rule.specs.Rule.{own_of}
 use Rattle.u_base.specs.Firing.{Same, Cl, Held, Derivation}
 use Rattle.u_base.proofs.Held.{Held-start, Enabled-mono}
 use Rattle.u_base.proofs.Closure.{Cl-mono, Cl-closed, Cl-least, Merge-union}
@@ -26,18 +26,18 @@ taken_log m none f = (
 
 module _ (a b new : State) (p : IsSound a) (q : IsSound b) (c : IsClosure new) (same : b.job ≡ a.job) (t : TakesAll a (all_of b) new) where
   abbrev Has : Entry → Type 0
-  Has e = Cl (system_of a.job) (Taken new) e
+  Has e = Cl (own_of a.job) (Taken new) e
 
   history_is : Same (Contains new.history) Has
   history_is = rw t.grows.job at c
 
-  right_lies : (e : Entry) → Contains b.history e → Cl (system_of a.job) (Taken b) e
+  right_lies : (e : Entry) → Contains b.history e → Cl (own_of a.job) (Taken b) e
   right_lies = rw same at q.lies
 
-  right_run : Derivation (system_of a.job) b.log
+  right_run : Derivation (own_of a.job) b.log
   right_run = rw same at q.derivation
 
-  right_has : (e : Entry) → Held (system_of a.job) b.log e → Contains b.history e
+  right_has : (e : Entry) → Held (own_of a.job) b.log e → Contains b.history e
   right_has = rw same at q.has
 
   from_right : (f : Firing) → Taken b f → Taken new f
@@ -47,23 +47,23 @@ module _ (a b new : State) (p : IsSound a) (q : IsSound b) (c : IsClosure new) (
   left_in = t.grows.history
 
   right_in : LiesIn b.history new.history
-  right_in e k = (history_is e).1 (Cl-mono (system_of a.job) (Taken b) (Taken new) from_right e (right_lies e k))
+  right_in e k = (history_is e).1 (Cl-mono (own_of a.job) (Taken b) (Taken new) from_right e (right_lies e k))
 
   closed_in : IsClosedUnder a.job (Taken new) new.history
-  closed_in f m en e g = (history_is e).1 (Cl-closed (system_of a.job) (Taken new) f m (Enabled-mono (system_of a.job) (Contains new.history) Has (λ e. (history_is e).0) f en) e g)
+  closed_in f m en e g = (history_is e).1 (Cl-closed (own_of a.job) (Taken new) f m (Enabled-mono (own_of a.job) (Contains new.history) Has (λ e. (history_is e).0) f en) e g)
 
   least_in : (h : List Entry) → IsAbove a b (Taken new) h → LiesIn new.history h
-  least_in h x e k = Cl-least (system_of a.job) (Taken new) (Contains h) (x.left (system_of a.job).start (p.has (system_of a.job).start (Held-start (system_of a.job) a.log))) x.closed e ((history_is e).0 k)
+  least_in h x e k = Cl-least (own_of a.job) (Taken new) (Contains h) (x.left (own_of a.job).start (p.has (own_of a.job).start (Held-start (own_of a.job) a.log))) x.closed e ((history_is e).0 k)
 
   together_in : a.parked ≡ [] → b.parked ≡ [] → Same (Contains new.history) (λ e. Contains a.history e ⊎ Contains b.history e)
   together_in x y e = (there, elim [ inl k ↦ left_in e k | inr k ↦ right_in e k ])
     where
-      union : Cl (system_of a.job) (λ f. Taken a f ⊎ Taken b f) e → Held (system_of a.job) a.log e ⊎ Held (system_of a.job) b.log e
-      union = (Merge-union (system_of a.job) (Taken a) (Taken b) a.log b.log p.derivation right_run (taken_log a x) (taken_log b y) e).0
+      union : Cl (own_of a.job) (λ f. Taken a f ⊎ Taken b f) e → Held (own_of a.job) a.log e ⊎ Held (own_of a.job) b.log e
+      union = (Merge-union (own_of a.job) (Taken a) (Taken b) a.log b.log p.derivation right_run (taken_log a x) (taken_log b y) e).0
 
       there : Contains new.history e → Contains a.history e ⊎ Contains b.history e
       there k =
-          elim (union (Cl-mono (system_of a.job) (Taken new) (λ f. Taken a f ⊎ Taken b f) (λ f. (t.taken f).0) e ((history_is e).0 k)))
+          elim (union (Cl-mono (own_of a.job) (Taken new) (λ f. Taken a f ⊎ Taken b f) (λ f. (t.taken f).0) e ((history_is e).0 k)))
           [ inl h ↦ inl (p.has e h) | inr h ↦ inr (right_has e h) ]
 
   least_taken : (m : State) → IsTakenWithin a m → IsTakenWithin b m → IsTakenWithin new m
@@ -90,7 +90,7 @@ module _ (a b new : State) (p : IsMachine a) (q : IsMachine b) (same : b.job ≡
   pub none_other : (fs : List Firing) (place : ℕ) → fs ≡ all_of b → TakeAllAnswer a fs (Err (lists.NotAFiring place)) new → ⊥
   none_other fs place e t =
       let f : IsFirstOther a.job (all_of b) place = subst (λ (fs : List Firing). IsFirstOther a.job fs place) e t.0 in
-      let is : IsTrue ((system_of a.job).is_firing f.other) = rw same at (q.sound.firings f.other (slice_get_Contains (all_of b) place f.other f.at)) in
+      let is : IsTrue ((own_of a.job).is_firing f.other) = rw same at (q.sound.firings f.other (slice_get_Contains (all_of b) place f.other f.at)) in
       (let n : true ≡ false = sym is ∙ f.none in cc)
 
   pub merged_full : (fs : List Firing) → fs ≡ all_of b → TakeAllAnswer a fs (Err lists.Full) new → MergeAnswer a b (Err merges.Full) new

@@ -7,7 +7,7 @@ use Rattle.std.proofs.lemmas.List.{length-take}
 use Rattle.u_base.specs.Firing.{Same}
 use Rattle.u_base.proofs.Member.{Contains-nil, Contains-cons_cases}
 use Rattle.u_check.specs.Jobs.{JobParts}
-use Rattle.u_rule.specs.Rule.{system_of}
+use Rattle.u_rule.specs.Rule.{own_of}
 use Rattle.u_program.specs.declared.program.Version.{Version}
 use Rattle.u_rule.specs.declared.firing.Firing.{Firing}
 use Rattle.u_machine.specs.State.{State, Taken, IsSettled, count_of}
@@ -59,7 +59,7 @@ same_length saved = length-append saved.log saved.parked
 module _ (job : JobParts) (saved : State) (m : MaySave job saved) where
   -- what it took may be written
   may_write : MayWrite job (all_of saved)
-  may_write = (m.2, λ f k. subst (λ j. IsTrue ((system_of j).is_firing f)) m.1 (m.0.sound.firings f k))
+  may_write = (m.2, λ f k. subst (λ j. IsTrue ((own_of j).is_firing f)) m.1 (m.0.sound.firings f k))
 
   -- no more firings than it took are too many only where it took more than the limit
   no_room_saved : (limit : ℕ) (fs : List Firing) (e : RestoreError) → length fs ≤ count_of saved → IsNoRoomFor job limit fs e → IsNoRoom saved limit e
@@ -122,7 +122,7 @@ module _ (job : JobParts) (limit number life : ℕ) (bytes : List ℕ) where
     -- where all of them are firings of the job
     no_room : (r : ListRefusal) → AreFirings job c.firings → IsUntaken (blank job limit) c.firings r → IsNoRoomFor job limit c.firings (error_of_taking r)
     no_room (lists.NotAFiring place) own f =
-        let there : IsTrue ((system_of job).is_firing f.other) = own f.other (slice_get_Contains c.firings place f.other f.at) in
+        let there : IsTrue ((own_of job).is_firing f.other) = own f.other (slice_get_Contains c.firings place f.other f.at) in
         absurd (let n : true ≡ false = sym there ∙ f.none in cc)
     no_room lists.Full own t = inr (refl, t.1)
     no_room lists.NoMemory own t = inl refl
@@ -169,4 +169,4 @@ module _ (version : Version) (bytes : List ℕ) (l : length bytes < 2 ^ 64) (r :
 
 -- nothing was taken yet, and so nothing is left to be applied
 pub blank_settled : (job : JobParts) (limit : ℕ) → IsSettled (blank job limit)
-blank_settled job limit = record { held = λ e k. elim (Contains-cons_cases (system_of job).start e [] k) [ inl p ↦ inl (sym p) | inr n ↦ absurd (Contains-nil e n) ]; none = λ f k. absurd (Contains-nil f k) }
+blank_settled job limit = record { held = λ e k. elim (Contains-cons_cases (own_of job).start e [] k) [ inl p ↦ inl (sym p) | inr n ↦ absurd (Contains-nil e n) ]; none = λ f k. absurd (Contains-nil f k) }

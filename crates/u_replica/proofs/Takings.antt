@@ -7,7 +7,7 @@ use Rattle.std.proofs.lemmas.List.Elements.{Contains-append_left, Contains-appen
 use Rattle.u_machine.proofs.Once.{Distinct-join}
 use Rattle.u_base.proofs.Member.{Contains-nil}
 use Rattle.u_check.specs.Jobs.{JobParts}
-use Rattle.u_rule.specs.Rule.{system_of}
+use Rattle.u_rule.specs.Rule.{own_of}
 use Rattle.u_rule.specs.declared.firing.Firing.{Firing}
 use Rattle.u_machine.specs.State.{State, Taken, IsSound, IsMachine}
 use Rattle.u_machine.specs.Calls.{Applies, IsFresh}
@@ -209,7 +209,7 @@ module _ (base mid new : State) (before fs : List Firing) (count : ℕ) (t : Too
       record {
         other = o.other;
         at = get_behind before fs place o.other o.at;
-        none = subst (λ (j : JobParts). (system_of j).is_firing o.other ≡ false) e o.none;
+        none = subst (λ (j : JobParts). (own_of j).is_firing o.other ≡ false) e o.none;
         before = subst (AreFirings base.job) (sym (take-append-add before fs place))
             (both_firings base.job before (take place fs) (λ f c. t.firings f (in_front f c)) (firings_of base mid (take place fs) e o.before));
       }

@@ -2,7 +2,7 @@
 use Rattle.std.specs.Prelude.{◌≡◌, List, [], ◌++◌, ◌⊎◌, ◌↔◌, Contains, Result, Ok, Err}
 use Rattle.u_base.specs.Firing.{Enabled, Same}
 use Rattle.u_check.specs.Jobs.{JobParts}
-use Rattle.u_rule.specs.Rule.{system_of}
+use Rattle.u_rule.specs.Rule.{own_of}
 use Rattle.u_rule.specs.declared.entry.Entry.{Entry}
 use Rattle.u_rule.specs.declared.firing.Firing.{Firing}
 use Rattle.u_machine.specs.State.{State, Taken, IsSettled}
@@ -22,7 +22,7 @@ IsTakenWithin a b = (f : Firing) → Taken a f → Taken b f
 
 -- the set has all that firings of M give which are enabled over it
 abbrev pub IsClosedUnder : JobParts → (Firing → Type 0) → List Entry → Type 0
-IsClosedUnder job M h = (f : Firing) → M f → Enabled (system_of job) (Contains h) f → (e : Entry) → Contains ((system_of job).gives f) e → Contains h e
+IsClosedUnder job M h = (f : Firing) → M f → Enabled (own_of job) (Contains h) f → (e : Entry) → Contains ((own_of job).gives f) e → Contains h e
 
 -- each entry of the first is one of the second
 abbrev pub LiesIn : List Entry → List Entry → Type 0

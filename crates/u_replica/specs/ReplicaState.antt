@@ -3,7 +3,7 @@ use Rattle.std.specs.Prelude.{◌≡◌, ℕ, ◌^◌, ◌≤◌, ◌<◌, List,
 use Rattle.std.specs.Coded.{Coded, code_by, coded×, coded_ℕ, coded_list}
 use Rattle.u_name.specs.Context.{IsBetween}
 use Rattle.u_check.specs.Jobs.{JobParts}
-use Rattle.u_rule.specs.Rule.{system_of}
+use Rattle.u_rule.specs.Rule.{own_of}
 use Rattle.u_machine.specs.State.{State, state, state_code, IsMachine}
 use Rattle.u_machine.specs.Headline.{KeepsItsPromise}
 use Rattle.u_delta.specs.declared.message.Mark.{Mark}
@@ -43,7 +43,7 @@ pub record HoldsAlways (r : ReplicaState) : Type 0 where
 
 -- a new replica: it holds the start alone, lives its first life, and knows nothing of any other
 abbrev pub fresh : JobParts → ℕ → ℕ → ReplicaState
-fresh job limit number = replica (state job limit [] [] ((system_of job).start ∷ [])) number 1 fresh_marks
+fresh job limit number = replica (state job limit [] [] ((own_of job).start ∷ [])) number 1 fresh_marks
 
 -- the machine alone changes
 abbrev pub ChangesMachine : ReplicaState → ReplicaState → Type 0

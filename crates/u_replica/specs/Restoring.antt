@@ -4,7 +4,7 @@ use Rattle.u_base.specs.Pieces.{pieces}
 use Rattle.u_base.specs.Firing.{Same}
 use Rattle.u_program.specs.declared.program.Version.{Version}
 use Rattle.u_check.specs.Jobs.{JobParts}
-use Rattle.u_rule.specs.Rule.{system_of}
+use Rattle.u_rule.specs.Rule.{own_of}
 use Rattle.u_rule.specs.declared.firing.Firing.{Firing}
 use Rattle.u_delta.specs.Lines as texts
 use Rattle.u_machine.specs.State.{State, state, Taken, IsMachine, IsSettled, count_of}
@@ -26,7 +26,7 @@ use Rattle.u_replica.specs.ReplicaState.{ReplicaState, replica}
 
 -- a machine of the job that has taken nothing
 abbrev pub blank : JobParts → ℕ → State
-blank job limit = state job limit [] [] ((system_of job).start ∷ [])
+blank job limit = state job limit [] [] ((own_of job).start ∷ [])
 
 -- a job of the version read some firings of the bytes, which ended so
 pub record WasRead (version : Version) (bytes : List ℕ) (P : List Firing → Type 0) : Type 0 where

@@ -8,7 +8,7 @@ use Rattle.u_base.specs.Firing.{EachPlace, IsNextFrom}
 use Rattle.u_base.proofs.Member.{Contains-nil, Contains-head, Contains-cons_cases}
 use Rattle.u_base.proofs.Plain.{EachPlace-nil}
 use Rattle.u_check.specs.Jobs.{JobParts}
-use Rattle.u_rule.specs.Rule.{system_of}
+use Rattle.u_rule.specs.Rule.{own_of}
 use Rattle.u_rule.specs.declared.firing.Firing.{Firing}
 use Rattle.u_machine.specs.State.{State, Taken}
 use Rattle.u_machine.specs.Calls.{firing_le}
@@ -24,9 +24,9 @@ use Rattle.u_share.proofs.Written.{appends_none, front_none, front_all, kept_app
 use Rattle.u_share.proofs.Going.{gains_same, next_same, goes_on}
 
 -- the next firings, where no line was read
-fired_alone : (old : State) (fs : List Firing) → EachPlace (IsNextFrom (system_of old.job) firing_le (Taken old)) fs → AreFired old [] fs
+fired_alone : (old : State) (fs : List Firing) → EachPlace (IsNextFrom (own_of old.job) firing_le (Taken old)) fs → AreFired old [] fs
 fired_alone old fs each =
-    ((λ n. 0), (λ n. omega arith), (λ n. omega arith), λ k f at. next_same (system_of old.job) firing_le (Taken old) (IsKnownFrom old []) (take k fs) (take k fs) f (to (take k fs)) (back (take k fs)) (each k f at))
+    ((λ n. 0), (λ n. omega arith), (λ n. omega arith), λ k f at. next_same (own_of old.job) firing_le (Taken old) (IsKnownFrom old []) (take k fs) (take k fs) f (to (take k fs)) (back (take k fs)) (each k f at))
   where
     to : (ds : List Firing) (g : Firing) → Taken old g ⊎ Contains ds g → IsKnownFrom old [] g ⊎ Contains ds g
     to ds g (inl t) = inl (inl t)
@@ -38,7 +38,7 @@ fired_alone old fs each =
     back ds g (inr c) = inr c
 
 -- a step in which no line ends
-pub goes_within : (old new : Member) (bs r : List ℕ) (fs : List Firing) → pieces 10 (old.begun ++ bs) ≡ ([], r) → Gains old.machine (Contains fs) new.machine → EachPlace (IsNextFrom (system_of old.machine.job) firing_le (Taken old.machine)) fs → new.begun ≡ first_of r → new.ended ≡ old.ended → Goes old bs fs [] new
+pub goes_within : (old new : Member) (bs r : List ℕ) (fs : List Firing) → pieces 10 (old.begun ++ bs) ≡ ([], r) → Gains old.machine (Contains fs) new.machine → EachPlace (IsNextFrom (own_of old.machine.job) firing_le (Taken old.machine)) fs → new.begun ≡ first_of r → new.ended ≡ old.ended → Goes old bs fs [] new
 goes_within old new bs r fs e gains each begun ended =
     let none : lines (old.begun ++ bs) ≡ [] = ap (λ p. p.0) e in
     record {
@@ -70,8 +70,8 @@ gains_nothing m = record { job = refl; limit = refl; taken = λ f. ((λ t. inl t
 pub stays_nothing : (a b : State) → Stays a b → Gains a (Contains []) b
 stays_nothing a b p = gains_same a b (λ f. ⊥) (Contains []) p (λ f c. Contains-nil f c) (λ f n. absurd n)
 
-none_fired : (m : State) → EachPlace (IsNextFrom (system_of m.job) firing_le (Taken m)) []
-none_fired m = EachPlace-nil (IsNextFrom (system_of m.job) firing_le (Taken m))
+none_fired : (m : State) → EachPlace (IsNextFrom (own_of m.job) firing_le (Taken m)) []
+none_fired m = EachPlace-nil (IsNextFrom (own_of m.job) firing_le (Taken m))
 
 pub goes_stays : (old : Member) (new : State) → IsBegun old.begun → Stays old.machine new → Goes old [] [] [] (member new old.begun old.ended)
 goes_stays old new h p =

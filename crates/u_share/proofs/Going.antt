@@ -12,7 +12,7 @@ use Rattle.u_base.proofs.Held.{Enabled-mono}
 use Rattle.u_base.proofs.Closure.{Cl-mono}
 use Rattle.u_base.proofs.Plain.{EachPlace-push}
 use Rattle.u_check.specs.Jobs.{JobParts}
-use Rattle.u_rule.specs.Rule.{system_of}
+use Rattle.u_rule.specs.Rule.{own_of}
 use Rattle.u_rule.specs.declared.firing.Firing.{Firing}
 use Rattle.u_machine.specs.State.{State, Taken}
 use Rattle.u_machine.specs.Calls.{firing_le}
@@ -57,11 +57,11 @@ each_append {F} P fs (g ∷ gs) a b =
 
 -- it is next once so many of the lines were read
 abbrev NextAt : State → List (List ℕ) → List Firing → Firing → ℕ → Type 0
-NextAt old lines done f n = IsNextFrom (system_of old.job) firing_le (IsKnownFrom old (take n lines)) done f
+NextAt old lines done f n = IsNextFrom (own_of old.job) firing_le (IsKnownFrom old (take n lines)) done f
 
 next_more : (old : State) (ls rest : List (List ℕ)) (done : List Firing) (f : Firing) (n : ℕ) → n ≤ length ls → NextAt old ls done f n → NextAt old (ls ++ rest) done f n
 next_more old ls rest done f n l p =
-    subst (λ (xs : List (List ℕ)). IsNextFrom (system_of old.job) firing_le (IsKnownFrom old xs) done f) (sym (take-append-le n ls rest l)) p
+    subst (λ (xs : List (List ℕ)). IsNextFrom (own_of old.job) firing_le (IsKnownFrom old xs) done f) (sym (take-append-le n ls rest l)) p
 
 -- how many lines were read: r says it of the first firings, so many, and s of those behind them, by the lines behind the first ones
 module _ (many before : ℕ) (r s : ℕ → ℕ) where
@@ -131,10 +131,10 @@ module _ (a b : State) (ls : List (List ℕ)) (fs : List Firing) (p : Gains a (�
   next_behind xs ys done f n e q =
       let few : fronts (longest + 1) (take n xs) ≡ fronts (longest + 1) (take n ys) =
       sym (take-map (take (longest + 1)) n xs) ∙ ap (λ (zs : List (List ℕ)). take n zs) e ∙ take-map (take (longest + 1)) n ys in
-      let moved : IsNextFrom (system_of a.job) firing_le (IsKnownFrom b (take n xs)) done f =
-      subst (λ (j : JobParts). IsNextFrom (system_of j) firing_le (IsKnownFrom b (take n xs)) done f) p.job q in
-      subst (λ (zs : List (List ℕ)). IsNextFrom (system_of a.job) firing_le (IsKnownFrom a zs) (fs ++ done) f) (sym (take-append-add ls ys n))
-      (next_same (system_of a.job) firing_le (IsKnownFrom b (take n xs)) (IsKnownFrom a (ls ++ take n ys)) done (fs ++ done) f (known_to (take n xs) (take n ys) done few) (known_back (take n xs) (take n ys) done few) moved)
+      let moved : IsNextFrom (own_of a.job) firing_le (IsKnownFrom b (take n xs)) done f =
+      subst (λ (j : JobParts). IsNextFrom (own_of j) firing_le (IsKnownFrom b (take n xs)) done f) p.job q in
+      subst (λ (zs : List (List ℕ)). IsNextFrom (own_of a.job) firing_le (IsKnownFrom a zs) (fs ++ done) f) (sym (take-append-add ls ys n))
+      (next_same (own_of a.job) firing_le (IsKnownFrom b (take n xs)) (IsKnownFrom a (ls ++ take n ys)) done (fs ++ done) f (known_to (take n xs) (take n ys) done few) (known_back (take n xs) (take n ys) done few) moved)
 
   -- all that is fired
   pub fired_append : (xs ys : List (List ℕ)) (gs : List Firing) → fronts (longest + 1) xs ≡ fronts (longest + 1) ys → AreFired a ls fs → AreFired b xs gs → AreFired a (ls ++ ys) (fs ++ gs)

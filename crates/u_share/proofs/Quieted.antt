@@ -11,7 +11,7 @@ use Rattle.u_base.proofs.Closure.{Derivation-nil, Derivation-push, Cl-whole}
 use Rattle.u_base.proofs.Plain.{EachPlace-along}
 use Rattle.u_base.proofs.Apart.{Distinct-push, Distinct-left}
 use Rattle.u_check.specs.Jobs.{JobParts}
-use Rattle.u_rule.specs.Rule.{system_of}
+use Rattle.u_rule.specs.Rule.{own_of}
 use Rattle.u_rule.specs.EntryOrder.{entry_cmp}
 use Rattle.u_rule.specs.ExactOrders.{entry_cmp_total}
 use Rattle.u_rule.specs.FiringText.{firing_text}
@@ -47,23 +47,23 @@ printed_true job limit ls fs (read, rises, within, each) =
     more : (gs : List Firing) (f : Firing) → Distinct gs × ((g : Firing) → Contains gs g → IsTrueFiring job g) → WasNext (blank job limit) ls read gs f → Distinct (gs ++ f ∷ []) × ((g : Firing) → Contains (gs ++ f ∷ []) g → IsTrueFiring job g)
     more gs f q p = (
       Distinct-push gs f (λ c. p.new (inr c)) q.0,
-      λ g m. elim (Contains-push_cases gs f g m) [ inl k ↦ q.1 g k | inr e ↦ subst (λ (x : Firing). IsTrueFiring job x) e (Enabled-mono (system_of job) _ (Whole (system_of job)) (Cl-whole (system_of job) _) f p.enabled) ],
+      λ g m. elim (Contains-push_cases gs f g m) [ inl k ↦ q.1 g k | inr e ↦ subst (λ (x : Firing). IsTrueFiring job x) e (Enabled-mono (own_of job) _ (Whole (own_of job)) (Cl-whole (own_of job) _) f p.enabled) ],
     )
 
 -- a machine that is quiet has applied exactly the true firings
 module _ (m : State) (is : IsMachine m) (q : IsQuietAndWhole m) where
-  in_history : (e : Entry) → Whole (system_of m.job) e → Contains m.history e
+  in_history : (e : Entry) → Whole (own_of m.job) e → Contains m.history e
   in_history e w = (q.1.1 e).1 w
 
   logged_true : (f : Firing) → Contains m.log f → IsTrueFiring m.job f
-  logged_true f k = (derived (system_of m.job) m.log is.sound.derivation).1 f k
+  logged_true f k = (derived (own_of m.job) m.log is.sound.derivation).1 f k
 
   unparked : (f : Firing) → IsTrueFiring m.job f → Contains m.parked f → ⊥
-  unparked f t k = q.0.0.none f k (Enabled-mono (system_of m.job) (Whole (system_of m.job)) (Contains m.history) in_history f t)
+  unparked f t k = q.0.0.none f k (Enabled-mono (own_of m.job) (Whole (own_of m.job)) (Contains m.history) in_history f t)
 
   true_taken : (f : Firing) → IsTrueFiring m.job f → Taken m f
   true_taken f t =
-      q.0.1 f (Enabled-mono (system_of m.job) (Whole (system_of m.job)) (Cl (system_of m.job) (Taken m)) (λ e w. ((settled_is_Cl m is.sound q.0.0).0 e).0 (in_history e w)) f t)
+      q.0.1 f (Enabled-mono (own_of m.job) (Whole (own_of m.job)) (Cl (own_of m.job) (Taken m)) (λ e w. ((settled_is_Cl m is.sound q.0.0).0 e).0 (in_history e w)) f t)
 
   true_logged : (f : Firing) → IsTrueFiring m.job f → Contains m.log f
   true_logged f t = elim (Contains-append_cases m.log m.parked f (true_taken f t)) [ inl a ↦ a | inr b ↦ absurd (unparked f t b) ]
@@ -161,8 +161,8 @@ counts_agree a b ia ib qa qb e =
 
 pub holds_agree : (a b : State) → IsQuietAndWhole a → IsQuietAndWhole b → b.job ≡ a.job → Same (Contains b.history) (Contains a.history)
 holds_agree a b qa qb e x = (
-  (λ k. (qa.1.1 x).1 (subst (λ (j : JobParts). Whole (system_of j) x) e ((qb.1.1 x).0 k))),
-  λ k. (qb.1.1 x).1 (subst (λ (j : JobParts). Whole (system_of j) x) (sym e) ((qa.1.1 x).0 k)),
+  (λ k. (qa.1.1 x).1 (subst (λ (j : JobParts). Whole (own_of j) x) e ((qb.1.1 x).0 k))),
+  λ k. (qb.1.1 x).1 (subst (λ (j : JobParts). Whole (own_of j) x) (sym e) ((qa.1.1 x).0 k)),
 )
 
 pub members_agree : (a b : State) → IsMachine a → IsMachine b → Agree a b

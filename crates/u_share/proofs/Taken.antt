@@ -4,7 +4,7 @@ use Rattle.std.proofs.Common.{sym, ◌∙◌, subst, inl, inr, arith}
 use Rattle.std.proofs.lemmas.Bool.{false≢true}
 use Rattle.u_check.specs.Jobs.{JobParts}
 use Rattle.u_rule.specs.FiringReading.{IsFiringOf}
-use Rattle.u_rule.specs.Rule.{system_of}
+use Rattle.u_rule.specs.Rule.{own_of}
 use Rattle.u_rule.specs.declared.firing.Firing.{Firing}
 use Rattle.u_machine.specs.State.{State, Taken, IsMachine}
 use Rattle.u_machine.specs.Calls.{Applies, Takes, TakeAnswer}
@@ -81,7 +81,7 @@ line_seen old new line f (Ok (Some NotOfThisJob)) s t (is, stays) =
     ((s, (f, t, is)), gains_same old new (λ g. ⊥) (IsLineOf old.job line) stays (λ g p. clash g p) (λ g n. absurd n))
   where
     clash : (g : Firing) → IsLineOf old.job line g → ⊥
-    clash g p = false≢true (sym is ∙ subst (λ (x : Firing). (system_of old.job).is_firing x ≡ true) (same_firing line g f p.text t) p.of_job)
+    clash g p = false≢true (sym is ∙ subst (λ (x : Firing). (own_of old.job).is_firing x ≡ true) (same_firing line g f p.text t) p.of_job)
 line_seen old new line f (Ok (Some TooLong)) s t a = absurd a
 line_seen old new line f (Ok (Some NotAllowed)) s t a = absurd a
 line_seen old new line f (Ok (Some CutShort)) s t a = absurd a

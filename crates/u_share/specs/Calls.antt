@@ -2,7 +2,7 @@
 use Rattle.std.specs.Prelude.{◌≡◌, ℕ, ◌+◌, ◌≤◌, ◌++◌, List, [], ◌∷◌, Bool, true, false, IsTrue, Option, Some, None, Result, Ok, Err, length, take}
 use Rattle.std.specs.Io.KnownBytes.{Appends, Consumes, IsAtEnd, Keeps}
 use Rattle.u_base.specs.Pieces.{pieces}
-use Rattle.u_rule.specs.Rule.{system_of}
+use Rattle.u_rule.specs.Rule.{own_of}
 use Rattle.u_rule.specs.FiringText.{firing_text}
 use Rattle.u_rule.specs.declared.firing.Firing.{Firing}
 use Rattle.u_machine.specs.State.{State, IsPick}
@@ -37,9 +37,9 @@ Stays old new = Gains old (λ f. ⊥) new
 
 -- the firing is taken, or was taken before; or it is none of the job; or there is no room for it
 abbrev pub FiringAnswer : State → Firing → Result (Option LineFault) ShareFault → State → Type 0
-FiringAnswer old f (Ok None) new = IsTrue ((system_of old.job).is_firing f) × Gains old (λ g. f ≡ g) new
-FiringAnswer old f (Ok (Some NotOfThisJob)) new = ((system_of old.job).is_firing f ≡ false) × Stays old new
-FiringAnswer old f (Err faults.Full) new = IsTrue ((system_of old.job).is_firing f) × Stays old new × HasNoRoomFor new f
+FiringAnswer old f (Ok None) new = IsTrue ((own_of old.job).is_firing f) × Gains old (λ g. f ≡ g) new
+FiringAnswer old f (Ok (Some NotOfThisJob)) new = ((own_of old.job).is_firing f ≡ false) × Stays old new
+FiringAnswer old f (Err faults.Full) new = IsTrue ((own_of old.job).is_firing f) × Stays old new × HasNoRoomFor new f
 FiringAnswer old f (Err faults.NoMemory) new = Unit {0}
 FiringAnswer old f result new = ⊥
 

@@ -7,7 +7,7 @@ use Rattle.std.specs.Io.KnownBytes.{Appends, Consumes, IsAtEnd}
 use Rattle.u_base.specs.Pieces.{lines, pieces}
 use Rattle.u_base.specs.Firing.{Enabled, Whole, Distinct, EachPlace, IsNextFrom}
 use Rattle.u_check.specs.Jobs.{JobParts}
-use Rattle.u_rule.specs.Rule.{system_of}
+use Rattle.u_rule.specs.Rule.{own_of}
 use Rattle.u_rule.specs.FiringReading.{IsFiringOf}
 use Rattle.u_rule.specs.declared.firing.Firing.{Firing}
 use Rattle.u_machine.specs.State.{State, state, Taken, IsQuiet, IsReady, count_of}
@@ -56,7 +56,7 @@ IsKnownFrom old lines f = Taken old f ⊎ IsAmong old.job lines f
 -- f is fired behind the n of `done`: once `read n` of the lines were read, it is the least that is ready
 abbrev pub WasNext : State → List (List ℕ) → (ℕ → ℕ) → List Firing → Firing → Type 0
 WasNext old lines read done f =
-    IsNextFrom (system_of old.job) firing_le (IsKnownFrom old (take (read (length done)) lines)) done f
+    IsNextFrom (own_of old.job) firing_le (IsKnownFrom old (take (read (length done)) lines)) done f
 
 -- Each of the firings was the least that was ready, and was not known, as it was fired; and no fewer lines were
 -- read by then than when those before it were.
@@ -75,7 +75,7 @@ pub record Goes (old : Member) (bytes : List ℕ) (fired : List Firing) (told : 
 
 -- a machine of the job that has taken nothing
 abbrev pub blank : JobParts → ℕ → State
-blank job limit = state job limit [] [] ((system_of job).start ∷ [])
+blank job limit = state job limit [] [] ((own_of job).start ∷ [])
 
 -- a member that has read nothing
 abbrev pub newcomer : JobParts → ℕ → Member
@@ -83,7 +83,7 @@ newcomer job limit = member (blank job limit) [] 0
 
 -- the firings that some run of the job makes
 abbrev pub IsTrueFiring : JobParts → Firing → Type 0
-IsTrueFiring job f = Enabled (system_of job) (Whole (system_of job)) f
+IsTrueFiring job f = Enabled (own_of job) (Whole (own_of job)) f
 
 -- each line is empty, or the text of a firing that some run of the job makes
 abbrev pub AreTrueLines : JobParts → List (List ℕ) → Type 0

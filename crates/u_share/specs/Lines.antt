@@ -1,7 +1,7 @@
 -- The lines of a bus: the firings among them, and what is told of the others.
 use Rattle.std.specs.Prelude.{◌≡◌, ℕ, ◌+◌, ◌<◌, ◌≤◌, ◌⊎◌, List, [], ◌∷◌, ◌++◌, length, take, IsTrue, Contains, Option, Some, None, false, codes, decimal}
 use Rattle.u_check.specs.Jobs.{JobParts}
-use Rattle.u_rule.specs.Rule.{system_of}
+use Rattle.u_rule.specs.Rule.{own_of}
 use Rattle.u_rule.specs.FiringText.{firing_text}
 use Rattle.u_rule.specs.FiringReading.{IsFiringOf}
 use Rattle.u_rule.specs.declared.firing.Firing.{Firing}
@@ -25,7 +25,7 @@ text_of (f ∷ fs) = firing_text f ++ (10 ∷ text_of fs)
 pub record IsLineOf (job : JobParts) (line : List ℕ) (f : Firing) : Type 0 where
   pub short : length line ≤ longest
   pub text : IsFiringOf line f
-  pub of_job : IsTrue ((system_of job).is_firing f)
+  pub of_job : IsTrue ((own_of job).is_firing f)
 
 -- one of the lines is the text of f, a firing of the job
 abbrev pub IsAmong : JobParts → List (List ℕ) → Firing → Type 0
@@ -45,7 +45,7 @@ notice n fault = codes "u: line " ++ (decimal n ++ (32 ∷ (words_of fault ++ (1
 abbrev pub IsFaultOf : JobParts → List ℕ → LineFault → Type 0
 IsFaultOf job line TooLong = longest < length line
 IsFaultOf job line NotAllowed = (length line ≤ longest) × (line ≡ [] → ⊥) × ((f : Firing) → IsFiringOf line f → ⊥)
-IsFaultOf job line NotOfThisJob = (length line ≤ longest) × ((f : Firing) × IsFiringOf line f × ((system_of job).is_firing f ≡ false))
+IsFaultOf job line NotOfThisJob = (length line ≤ longest) × ((f : Firing) × IsFiringOf line f × ((own_of job).is_firing f ≡ false))
 IsFaultOf job line CutShort = ⊥
 
 -- whether a line that ended is skipped: it is empty, or a firing of the job; or why it is

@@ -6,7 +6,7 @@ use Rattle.std.proofs.lemmas.Option.{slice_get-get_or}
 use Rattle.u_base.specs.Firing.{System, Held, Enabled, Derivation, Whole, Follows}
 use Rattle.u_base.proofs.Held.{Enabled-mono, Follows-from_Derivation, Derivation-from_Follows}
 use Rattle.u_check.specs.Jobs.{JobParts}
-use Rattle.u_rule.specs.Rule.{system_of}
+use Rattle.u_rule.specs.Rule.{own_of}
 use Rattle.u_rule.specs.declared.firing.Firing.{Firing}
 use Rattle.u_machine.specs.State.{State, IsMachine}
 use Rattle.u_outlet.specs.Sound.{IsSound}
@@ -28,7 +28,7 @@ module _ {E F : Type 0} (s : System E F) where
 
 -- the log of a machine is sound
 log_sound : (m : State) → IsMachine m → All (IsSound m.job) m.log
-log_sound m is k d h = Derivation-at (system_of m.job) m.log k (slice_index_or m.log k d) is.sound.derivation (slice_get-get_or m.log k d h)
+log_sound m is k d h = Derivation-at (own_of m.job) m.log k (slice_index_or m.log k d) is.sound.derivation (slice_get-get_or m.log k d h)
 
 -- and so is each front of it, for the job that the machine runs
 pub front_sound : (job : JobParts) (m : State) (log : List Firing) (n : ℕ) → IsMachine m → job ≡ m.job → log ≡ m.log → All (IsSound job) (take n log)

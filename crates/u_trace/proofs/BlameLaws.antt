@@ -16,7 +16,7 @@ use Rattle.u_name.specs.ExactOrders.{cell_cmp_total, cell_cmp_ties}
 use Rattle.u_value.specs.declared.value.Value.{Value}
 use Rattle.u_check.specs.Jobs.{JobParts}
 use Rattle.u_rule.specs.Parts.{token}
-use Rattle.u_rule.specs.Rule.{system_of, start_of}
+use Rattle.u_rule.specs.Rule.{own_of, start_of}
 use Rattle.u_rule.specs.EntryOrder.{write_of, written}
 use Rattle.u_rule.specs.declared.parts.Write.{Write}
 use Rattle.u_rule.specs.declared.entry.Entry.{Entry}
@@ -38,6 +38,7 @@ use Rattle.u_determinate.specs.Strict.{IsStrict}
 use Rattle.u_determinate.specs.Determinate.{IsDeterminate}
 use Rattle.u_trace.specs.declared.blame_error.BlameError.{BlameError}
 use Rattle.u_determinate.specs.Theorem.{IsDeterminateJob, TwoWrites, TwoValues}
+use Rattle.u_determinate.proofs.Theorem.{own_runs}
 use Rattle.u_trace.specs.Holding.{GivenBy}
 use Rattle.u_trace.specs.Givers.{AreGivers}
 use Rattle.u_trace.specs.Stories.{IsStory}
@@ -175,38 +176,38 @@ module _ (H K : Entry → Type 0) (same : Same H K) where
   least_same : (c : CellOf) → IsLeastTwice H c → IsLeastTwice K c
   least_same c l = record { twice = two_to c l.twice; least = λ d two. l.least d (two_back d two) }
 
-module _ (job : JobParts) (fs : List Firing) (es : List Entry) (same : Same (Contains es) (Held (system_of job) fs)) (o : Outcome) (is : IsOutcomeOf (Contains es) o) where
+module _ (job : JobParts) (fs : List Firing) (es : List Entry) (same : Same (Contains es) (Held (own_of job) fs)) (o : Outcome) (is : IsOutcomeOf (Contains es) o) where
   -- what the clashes in cells say of the firings
-  cells_of : IsListOf cell_clash_order (IsCellClash (Held (system_of job) fs)) (map cell_pairs o.cell_clashes)
-  cells_of = (outcome_same (Contains es) (Held (system_of job) fs) same o.answers (map cell_pairs o.cell_clashes) (map port_values o.port_clashes) o.faults is).all_cells
+  cells_of : IsListOf cell_clash_order (IsCellClash (Held (own_of job) fs)) (map cell_pairs o.cell_clashes)
+  cells_of = (outcome_same (Contains es) (Held (own_of job) fs) same o.answers (map cell_pairs o.cell_clashes) (map port_values o.port_clashes) o.faults is).all_cells
 
   pub no_cell : None ≡ slice_get o.cell_clashes 0 → BlameAmong job fs None
   no_cell q c two = over o.cell_clashes q is.all_cells
     where
       over : (ks : List CellClash) → None ≡ slice_get ks 0 → IsListOf cell_clash_order (IsCellClash (Contains es)) (map cell_pairs ks) → ⊥
-      over [] q l = none_twice es l c (two_back (Contains es) (Held (system_of job) fs) same c two)
+      over [] q l = none_twice es l c (two_back (Contains es) (Held (own_of job) fs) same c two)
       over (k ∷ ks) q l = absurd (cc)
 
-  pub cell_clash : (k : CellClash) → Some k ≡ slice_get o.cell_clashes 0 → IsCellClash (Held (system_of job) fs) (cell_pairs k)
+  pub cell_clash : (k : CellClash) → Some k ≡ slice_get o.cell_clashes 0 → IsCellClash (Held (own_of job) fs) (cell_pairs k)
   cell_clash k q = over o.cell_clashes q cells_of
     where
-      over : (ks : List CellClash) → Some k ≡ slice_get ks 0 → IsListOf cell_clash_order (IsCellClash (Held (system_of job) fs)) (map cell_pairs ks) → IsCellClash (Held (system_of job) fs) (cell_pairs k)
+      over : (ks : List CellClash) → Some k ≡ slice_get ks 0 → IsListOf cell_clash_order (IsCellClash (Held (own_of job) fs)) (map cell_pairs ks) → IsCellClash (Held (own_of job) fs) (cell_pairs k)
       over [] q l = absurd (cc)
-      over (j ∷ ks) q l = let e : j ≡ k = cc in subst (λ (x : CellClash). IsCellClash (Held (system_of job) fs) (cell_pairs x)) e ((l.exact (cell_pairs j)).0 (Contains-head (cell_pairs j) (map cell_pairs ks)))
+      over (j ∷ ks) q l = let e : j ≡ k = cc in subst (λ (x : CellClash). IsCellClash (Held (own_of job) fs) (cell_pairs x)) e ((l.exact (cell_pairs j)).0 (Contains-head (cell_pairs j) (map cell_pairs ks)))
 
-  pub least_cell : (k : CellClash) → Some k ≡ slice_get o.cell_clashes 0 → IsLeastTwice (Held (system_of job) fs) k.cell
+  pub least_cell : (k : CellClash) → Some k ≡ slice_get o.cell_clashes 0 → IsLeastTwice (Held (own_of job) fs) k.cell
   least_cell k q = over o.cell_clashes q is.all_cells
     where
-      over : (ks : List CellClash) → Some k ≡ slice_get ks 0 → IsListOf cell_clash_order (IsCellClash (Contains es)) (map cell_pairs ks) → IsLeastTwice (Held (system_of job) fs) k.cell
+      over : (ks : List CellClash) → Some k ≡ slice_get ks 0 → IsListOf cell_clash_order (IsCellClash (Contains es)) (map cell_pairs ks) → IsLeastTwice (Held (own_of job) fs) k.cell
       over [] q l = absurd (cc)
-      over (j ∷ ks) q l = let e : j ≡ k = cc in least_same (Contains es) (Held (system_of job) fs) same k.cell (subst (λ (x : CellClash). IsLeastTwice (Contains es) x.cell) e (first_least es (cell_pairs j) (map cell_pairs ks) l))
+      over (j ∷ ks) q l = let e : j ≡ k = cc in least_same (Contains es) (Held (own_of job) fs) same k.cell (subst (λ (x : CellClash). IsLeastTwice (Contains es) x.cell) e (first_least es (cell_pairs j) (map cell_pairs ks) l))
 
 -- the least cell, with its writes
-pub blames_cell : (job : JobParts) (fs : List Firing) (cell : CellOf) (b : Blame) → IsLeastTwice (Held (system_of job) fs) cell → HasWritesOf job fs cell b → BlameAmong job fs (Some b)
-blames_cell job fs cell b least has = subst (λ (c : CellOf). IsLeastTwice (Held (system_of job) fs) c × HasWritesOf job fs c b) (sym has.cell_is) (least, has)
+pub blames_cell : (job : JobParts) (fs : List Firing) (cell : CellOf) (b : Blame) → IsLeastTwice (Held (own_of job) fs) cell → HasWritesOf job fs cell b → BlameAmong job fs (Some b)
+blames_cell job fs cell b least has = subst (λ (c : CellOf). IsLeastTwice (Held (own_of job) fs) c × HasWritesOf job fs c b) (sym has.cell_is) (least, has)
 
 -- a write is not the start, so some firing gives it
-pub write_given : (job : JobParts) (fs : List Firing) (w : Write) → Held (system_of job) fs (entries.Write w) → GivenBy (system_of job) fs (entries.Write w)
+pub write_given : (job : JobParts) (fs : List Firing) (w : Write) → Held (own_of job) fs (entries.Write w) → GivenBy (own_of job) fs (entries.Write w)
 unfolding start_of
 write_given job fs w (inl q) = absurd (cc)
 write_given job fs w (inr g) = g
@@ -236,15 +237,15 @@ module _ {E F : Type 0} (s : System E F) (log : List F) (d : Derivation s log) (
 
 -- the first two values of a list are the two least of those that it lists
 module _ (job : JobParts) (log : List Firing) (n : Activity) (p : ℕ) where
-  pub least_tokens : (vs : List Value) (found : Option (Entry × Entry)) → IsListOf value_order (ValueAt (Held (system_of job) log) n p) vs → AreFirstTokens n p vs found → AreLeastTokens job log n p found
-  least_tokens vs None is few = too_few value_order (ValueAt (Held (system_of job) log) n p) vs is few
-  least_tokens vs (Some q) is (v, w, rest, e, are) = (v, w, record { others = rest; list = subst (IsListOf value_order (ValueAt (Held (system_of job) log) n p)) e is }, are)
+  pub least_tokens : (vs : List Value) (found : Option (Entry × Entry)) → IsListOf value_order (ValueAt (Held (own_of job) log) n p) vs → AreFirstTokens n p vs found → AreLeastTokens job log n p found
+  least_tokens vs None is few = too_few value_order (ValueAt (Held (own_of job) log) n p) vs is few
+  least_tokens vs (Some q) is (v, w, rest, e, are) = (v, w, record { others = rest; list = subst (IsListOf value_order (ValueAt (Held (own_of job) log) n p)) e is }, are)
 
-  pub one_held : (q : Entry × Entry) → AreLeastTokens job log n p (Some q) → Held (system_of job) log q.0
-  one_held q (v, w, least, are) = subst (Held (system_of job) log) (sym are.0) (has_first value_order (ValueAt (Held (system_of job) log) n p) v w least)
+  pub one_held : (q : Entry × Entry) → AreLeastTokens job log n p (Some q) → Held (own_of job) log q.0
+  one_held q (v, w, least, are) = subst (Held (own_of job) log) (sym are.0) (has_first value_order (ValueAt (Held (own_of job) log) n p) v w least)
 
-  pub other_held : (q : Entry × Entry) → AreLeastTokens job log n p (Some q) → Held (system_of job) log q.1
-  other_held q (v, w, least, are) = subst (Held (system_of job) log) (sym are.1) (has_second value_order (ValueAt (Held (system_of job) log) n p) v w least)
+  pub other_held : (q : Entry × Entry) → AreLeastTokens job log n p (Some q) → Held (own_of job) log q.1
+  other_held q (v, w, least, are) = subst (Held (own_of job) log) (sym are.1) (has_second value_order (ValueAt (Held (own_of job) log) n p) v w least)
 
   pub found_at : (q : Entry × Entry) (found : Option Blame) → AreLeastTokens job log n p (Some q) → IsFoundAmong job log q.0 q.1 found → IsFoundAt job log n p found
   found_at q found (v, w, least, are) among = record {
@@ -256,7 +257,7 @@ module _ (job : JobParts) (log : List Firing) (n : Activity) (p : ℕ) where
 
 -- where only writes clash, some cell is blamed
 module _ (job : JobParts) (log : List Firing) (n : Activity) (p : ℕ) (found : Option Blame) (at : IsFoundAt job log n p found) (by : IsDeterminateJob job) where
-  two_values : TwoValues (Held (system_of job) at.stories.joined)
+  two_values : TwoValues (Held (own_of job) at.stories.joined)
   two_values = record {
     activity = n;
     port = p;
@@ -264,17 +265,17 @@ module _ (job : JobParts) (log : List Firing) (n : Activity) (p : ℕ) (found : 
     other = at.other;
     has_one = at.stories.joins.has_one;
     has_other = at.stories.joins.has_other;
-    differ = differ value_order (ValueAt (Held (system_of job) log) n p) value_laws.total-law at.one at.other at.least;
+    differ = differ value_order (ValueAt (Held (own_of job) log) n p) value_laws.total-law at.one at.other at.least;
   }
 
-  two_pairs : (t : TwoWrites (Held (system_of job) at.stories.joined)) → HasTwo (PairIn (Held (system_of job) at.stories.joined) t.cell)
+  two_pairs : (t : TwoWrites (Held (own_of job) at.stories.joined)) → HasTwo (PairIn (Held (own_of job) at.stories.joined) t.cell)
   two_pairs t = (written t.one_writer t.one, written t.other_writer t.other, t.has_one, t.has_other, λ e. t.differ (ap (λ (x : Written). x.writer) e, ap (λ (x : Written). x.value) e))
 
   pub some_cell : IsSome found
   some_cell = over found at.stories.among
     where
       over : (f : Option Blame) → BlameAmong job at.stories.joined f → IsSome f
-      over None none = let t = (by.runs at.stories.joined at.stories.joins.derivation).values two_values in absurd (none t.cell (two_pairs t))
+      over None none = let t = (own_runs job by at.stories.joined at.stories.joins.derivation).values two_values in absurd (none t.cell (two_pairs t))
       over (Some b) among = refl
 
 -- so it is of strict and of determinate programs

@@ -9,7 +9,7 @@ use Rattle.u_base.proofs.Member.{Contains-nil}
 use Rattle.u_base.proofs.Determinate.{Derivation-enabled}
 use Rattle.u_sets.specs.Members.{SomeOf, IsWith, Gains, AreThose}
 use Rattle.u_check.specs.Jobs.{JobParts}
-use Rattle.u_rule.specs.Rule.{system_of}
+use Rattle.u_rule.specs.Rule.{own_of}
 use Rattle.u_rule.specs.declared.entry.Entry.{Entry}
 use Rattle.u_rule.specs.declared.firing.Firing.{Firing}
 use Rattle.u_machine.specs.State.{State, Taken, IsMachine, IsQuiet}
@@ -80,14 +80,14 @@ causes_passing s e p es held found pass has all f = (
 
 -- where nothing is ready, the applied firings that give e are all that are enabled over the history and give it
 module _ (m : State) (is : IsMachine m) (quiet : IsQuiet m) (e : Entry) where
-  applied : (f : Firing) → Enabled (system_of m.job) (Contains m.history) f → Contains m.log f
+  applied : (f : Firing) → Enabled (own_of m.job) (Contains m.history) f → Contains m.log f
   applied f en =
-      elim (Contains-append_cases m.log m.parked f (quiet.1 f (Enabled-mono (system_of m.job) (Contains m.history) (Cl (system_of m.job) (Taken m)) is.sound.lies f en)))
+      elim (Contains-append_cases m.log m.parked f (quiet.1 f (Enabled-mono (own_of m.job) (Contains m.history) (Cl (own_of m.job) (Taken m)) is.sound.lies f en)))
       [ inl k ↦ k | inr k ↦ absurd (quiet.0.none f k en) ]
 
   pub quiet_causes : (f : Firing) → IsGiverIn m.job m.log e f ↔ IsCause m.job m.history e f
   quiet_causes f = (
-    (λ g. (Enabled-mono (system_of m.job) (Held (system_of m.job) m.log) (Contains m.history) is.sound.has f (Derivation-enabled (system_of m.job) m.log is.sound.derivation f g.0), g.1)),
+    (λ g. (Enabled-mono (own_of m.job) (Held (own_of m.job) m.log) (Contains m.history) is.sound.has f (Derivation-enabled (own_of m.job) m.log is.sound.derivation f g.0), g.1)),
     (λ c. (applied f c.0, c.1)),
   )
 

@@ -5,7 +5,7 @@ use Rattle.std.proofs.lemmas.Bool.{eq-eqb, false≢true}
 use Rattle.std.proofs.lemmas.List.Elements.{Contains-append_cases}
 use Rattle.u_base.proofs.Member.{Contains-nil, Contains-cons_cases}
 use Rattle.u_name.specs.Name.{Activity}
-use Rattle.u_name.specs.Cell.{CellOf}
+use Rattle.u_name.specs.Cell.{CellOf, cell_of}
 use Rattle.u_value.specs.declared.value.Value.{Value}
 use Rattle.u_value.specs.declared.value.Value.TheVariants as values
 use Rattle.u_value.specs.declared.fault_kind.FaultKind.{FaultKind}
@@ -17,7 +17,7 @@ use Rattle.u_check.specs.Jobs.{JobParts}
 use Rattle.u_check.specs.Kinds.{is_apply, is_end, is_store, is_leave}
 use Rattle.u_rule.specs.Parts.{TokenParts, ValueList, token}
 use Rattle.u_rule.specs.Fits.{statement_of}
-use Rattle.u_rule.specs.Structures.{cell_named, stored_in, wrote, read_from, write_read}
+use Rattle.u_rule.specs.Structures.{cell_named, stored_in, wrote, read_from, write_read, is_answer, replied}
 use Rattle.u_rule.specs.Rule.{first_of, result_of, list_of, reached, refusal_of, sent, fault_of, delivered, handed_on, called, ended, given, given_at, gives_of, tokens_from, needs_of}
 use Rattle.u_rule.specs.declared.entry.Entry.{Entry}
 use Rattle.u_rule.specs.declared.entry.Entry.TheVariants as entries
@@ -108,13 +108,22 @@ module _ (job : JobParts) (f : Firing) (s : StatementParts) where
   sends (entries.Fault x) m = refl
   sends (entries.Answer v) m = answer_sent v (is_apply s.kind) (is_end s.kind) (is_store s.kind) (is_leave s.kind) m
 
+-- what a reply gives is a write
+replied_sent : (s : StatementParts) (a : Activity) (write : Option Written) (e : Entry) → Contains (replied a write) e → may_send s e ≡ true
+replied_sent s a None e m = absurd (Contains-nil e m)
+replied_sent s a (Some w) e m = subst (λ (x : Entry). may_send s x ≡ true) (one (wrote (cell_of a 0) w.writer w.value) e m) refl
+
 pub gives_may : (job : JobParts) (f : Firing) (e : Entry) → Contains (gives_of job f) e → may_give job f.activity e ≡ true
 unfolding gives_of
 gives_may job f e m = at (statement_of job.program.blocks f.activity.block f.activity.statement) m
   where
     at : (o : Option StatementParts) → Contains (given_at job.program.version job.program.blocks o f) e → may_send_at o e ≡ true
     at None m = refl
-    at (Some s) m = sends job f s e m
+    at (Some s) m = by (is_answer s.kind f.write) m
+      where
+        by : (x : Bool) → Contains (cond x (replied f.activity f.write) (given job.program.version job.program.blocks s f.activity f.values f.write)) e → may_send s e ≡ true
+        by true k = replied_sent s f.activity f.write e k
+        by false k = sends job f s e k
 
 module _ (job : JobParts) (e : Entry) where
   tokens_matter : (a : Activity) (p : ℕ) (vs : ValueList) (x : Entry) → may_give job a e ≡ true → Contains (tokens_from a p vs) x → matters job e x ≡ true

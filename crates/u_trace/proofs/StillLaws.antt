@@ -16,7 +16,7 @@ use Rattle.u_check.specs.Jobs.{JobParts}
 use Rattle.u_check.specs.Kinds.{ports_of}
 use Rattle.u_rule.specs.Fits.{statement_of, fits_at}
 use Rattle.u_rule.specs.Parts.{ValueList, token}
-use Rattle.u_rule.specs.Rule.{system_of, is_firing_of, needs_of, tokens_from}
+use Rattle.u_rule.specs.Rule.{own_of, is_own_of, needs_of, tokens_from}
 use Rattle.u_rule.specs.Structures.{cell_named, has_its_write, write_read, read_from, wrote}
 use Rattle.u_rule.specs.EntryOrder.{write_of}
 use Rattle.u_rule.specs.declared.entry.Entry.{Entry}
@@ -29,12 +29,12 @@ use Rattle.u_trace.specs.Still.{AreStill}
 use Rattle.u_trace.specs.declared.activities.WaitingActivity.{WaitingActivity}
 use Rattle.u_trace.specs.declared.reads.DeferredRead.{DeferredRead}
 use Rattle.u_trace.proofs.ReadLaws.{fetches}
-use Rattle.u_rule.proofs.Firings.{at_statement}
+use Rattle.u_rule.proofs.Firings.{own_at_statement}
 
 -- a firing has a value for each port of its statement, and a write where it reads a cell
-values_fit : (job : JobParts) (f : Firing) (s : StatementParts) → is_firing_of job f ≡ true → statement_of job.program.blocks f.activity.block f.activity.statement ≡ Some s → ((length f.values == ports_of s.kind) ≡ true) × (has_its_write s.kind f.values f.write ≡ true)
+values_fit : (job : JobParts) (f : Firing) (s : StatementParts) → is_own_of job f ≡ true → statement_of job.program.blocks f.activity.block f.activity.statement ≡ Some s → ((length f.values == ports_of s.kind) ≡ true) × (has_its_write s.kind f.values f.write ≡ true)
 values_fit job f s e q =
-    let both = and_parts (fits_at job.program.blocks s.region f.activity) (length f.values == ports_of s.kind && has_its_write s.kind f.values f.write) (rw q at (at_statement job f e)) in
+    let both = and_parts (fits_at job.program.blocks s.region f.activity) (length f.values == ports_of s.kind && has_its_write s.kind f.values f.write) (rw q at (own_at_statement job f e)) in
     and_parts (length f.values == ports_of s.kind) (has_its_write s.kind f.values f.write) both.1
 
 -- it needs the token of each of its values
@@ -56,15 +56,15 @@ reads_a_write k vs o c q e h =
     subst (λ (x : Result CellOf FaultKind). cond (is_ok x) (is_some o) (is_none o) ≡ true) e (subst (λ (j : Kind). has_its_write j vs o ≡ true) q h)
 
 module _ (job : JobParts) (H : Entry → Type 0) where
-  needs_token : (f : Firing) → Enabled (system_of job) H f → (e : Entry) → Contains (tokens_from f.activity 1 f.values) e → H e
+  needs_token : (f : Firing) → Enabled (own_of job) H f → (e : Entry) → Contains (tokens_from f.activity 1 f.values) e → H e
   unfolding needs_of
   needs_token f en e m = en.1 e (Contains-append_left (tokens_from f.activity 1 f.values) (write_read f.values f.write) e m)
 
-  needs_write : (f : Firing) → Enabled (system_of job) H f → (e : Entry) → Contains (write_read f.values f.write) e → H e
+  needs_write : (f : Firing) → Enabled (own_of job) H f → (e : Entry) → Contains (write_read f.values f.write) e → H e
   unfolding needs_of
   needs_write f en e m = en.1 e (Contains-append_right (tokens_from f.activity 1 f.values) (write_read f.values f.write) e m)
 
-  waiting_still : (w : WaitingActivity) (f : Firing) → IsWaiting job.program.blocks H w → Enabled (system_of job) H f → f.activity ≡ w.activity → ⊥
+  waiting_still : (w : WaitingActivity) (f : Firing) → IsWaiting job.program.blocks H w → Enabled (own_of job) H f → f.activity ≡ w.activity → ⊥
   waiting_still w f is en q =
       let k = is.missing.0 in
       let p = (is.lacks k).0 is.missing.1 in
@@ -76,7 +76,7 @@ module _ (job : JobParts) (H : Entry → Type 0) where
       let t = token_needed f.activity 1 f.values k low (omega (arith, n, high)) in
       p.1 (t.0, subst (λ (a : Activity). H (entries.Token (token a k t.0))) q (needs_token f en (entries.Token (token f.activity k t.0)) t.1))
 
-  deferred_still : (r : DeferredRead) (f : Firing) → IsDeferred job.program.blocks H r → Enabled (system_of job) H f → f.activity ≡ r.reader → cell_named f.values ≡ Ok r.cell → ⊥
+  deferred_still : (r : DeferredRead) (f : Firing) → IsDeferred job.program.blocks H r → Enabled (own_of job) H f → f.activity ≡ r.reader → cell_named f.values ≡ Ok r.cell → ⊥
   deferred_still r f d en q c =
       let e = subst (λ (a : Activity). statement_of job.program.blocks a.block a.statement ≡ Some d.statement) (sym q) d.executes in
       let h = (values_fit job f d.statement en.0 e).1 in

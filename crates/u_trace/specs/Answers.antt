@@ -3,7 +3,7 @@ use Rattle.std.specs.Prelude.{List, Result, Ok, Err}
 use Rattle.std.specs.Global.{Vec}
 use Rattle.u_base.specs.Firing.{Held}
 use Rattle.u_check.specs.Jobs.{JobParts}
-use Rattle.u_rule.specs.Rule.{system_of}
+use Rattle.u_rule.specs.Rule.{own_of}
 use Rattle.u_rule.specs.declared.entry.Entry.{Entry}
 use Rattle.u_rule.specs.declared.firing.Firing.{Firing}
 use Rattle.u_machine.specs.State.{State}
@@ -14,8 +14,8 @@ use Rattle.u_trace.specs.Stories.{IsStory, Tells}
 -- the story of an entry that the list holds; or it is none that the list holds; or there is no memory
 abbrev pub StoryOf : JobParts → List Firing → Entry → Result (Vec Firing) TraceError → Type 0
 StoryOf job log e (Ok told) =
-    Held (system_of job) log e × IsStory (system_of job) log e told.items × Tells (system_of job) log e told.items
-StoryOf job log e (Err NotHeld) = Held (system_of job) log e → ⊥
+    Held (own_of job) log e × IsStory (own_of job) log e told.items × Tells (own_of job) log e told.items
+StoryOf job log e (Err NotHeld) = Held (own_of job) log e → ⊥
 StoryOf job log e (Err NoMemory) = Unit {0}
 
 -- of the applied firings of m

@@ -15,7 +15,7 @@ use Rattle.u_check.specs.Jobs.{JobParts}
 use Rattle.u_determinate.specs.Strict.{IsStrict}
 use Rattle.u_determinate.specs.Determinate.{IsDeterminate}
 use Rattle.u_rule.specs.Parts.{token}
-use Rattle.u_rule.specs.Rule.{system_of}
+use Rattle.u_rule.specs.Rule.{own_of}
 use Rattle.u_rule.specs.EntryOrder.{write_of}
 use Rattle.u_rule.specs.declared.entry.Entry.{Entry}
 use Rattle.u_rule.specs.declared.entry.Entry.TheVariants as entries
@@ -36,7 +36,7 @@ pub record AreTwoLeast {X : Type 0} (R : X → X → Ordering) (P : X → Type 0
 
 -- v and w are the two least values at the port, of those that the firings hold
 abbrev pub AreLeastValues : JobParts → List Firing → Activity → ℕ → Value → Value → Type 0
-AreLeastValues job log n p v w = AreTwoLeast value_order (ValueAt (Held (system_of job) log) n p) v w
+AreLeastValues job log n p v w = AreTwoLeast value_order (ValueAt (Held (own_of job) log) n p) v w
 
 -- the tokens of v and w at the port
 abbrev pub AreTokensOf : Activity → ℕ → Value → Value → Entry × Entry → Type 0
@@ -49,7 +49,7 @@ AreFirstTokens n p vs (Some q) = (v : Value) × (w : Value) × (rest : List Valu
 
 -- the tokens of the two least values; or the firings do not hold two
 abbrev pub AreLeastTokens : JobParts → List Firing → Activity → ℕ → Option (Entry × Entry) → Type 0
-AreLeastTokens job log n p None = HasTwo (ValueAt (Held (system_of job) log) n p) → ⊥
+AreLeastTokens job log n p None = HasTwo (ValueAt (Held (own_of job) log) n p) → ⊥
 AreLeastTokens job log n p (Some q) = (v : Value) × (w : Value) × AreLeastValues job log n p v w × AreTokensOf n p v w q
 
 -- The story of a, and that of b behind it. They are a run of their own, which has both entries.
@@ -70,24 +70,24 @@ pub record IsLeastTwice (H : Entry → Type 0) (cell : CellOf) : Type 0 where
 
 -- its firing is the first of these that gives its write in the cell
 abbrev pub IsWriteIn : JobParts → List Firing → CellOf → BlamedWrite → Type 0
-IsWriteIn job fs cell w = GivesFirst (system_of job) fs (entries.Write (write_of cell w.pair.writer w.pair.value)) w.firing
+IsWriteIn job fs cell w = GivesFirst (own_of job) fs (entries.Write (write_of cell w.pair.writer w.pair.value)) w.firing
 
 -- b has the two least pairs of the cell among what the firings give, each with its firing
 pub record HasWritesOf (job : JobParts) (fs : List Firing) (cell : CellOf) (b : Blame) : Type 0 where
   pub cell_is : b.cell ≡ cell
-  pub pairs : AreTwoLeast written_order (PairIn (Held (system_of job) fs) cell) b.first.pair b.second.pair
+  pub pairs : AreTwoLeast written_order (PairIn (Held (own_of job) fs) cell) b.first.pair b.second.pair
   pub first : IsWriteIn job fs cell b.first
   pub second : IsWriteIn job fs cell b.second
 
 -- the least cell with two pairs among what the firings give, and its two least pairs; or there is none
 abbrev pub BlameAmong : JobParts → List Firing → Option Blame → Type 0
-BlameAmong job fs None = (c : CellOf) → HasTwo (PairIn (Held (system_of job) fs) c) → ⊥
-BlameAmong job fs (Some b) = IsLeastTwice (Held (system_of job) fs) b.cell × HasWritesOf job fs b.cell b
+BlameAmong job fs None = (c : CellOf) → HasTwo (PairIn (Held (own_of job) fs) c) → ⊥
+BlameAmong job fs (Some b) = IsLeastTwice (Held (own_of job) fs) b.cell × HasWritesOf job fs b.cell b
 
 -- what is found among the joined stories of a and b
 pub record IsFoundAmong (job : JobParts) (log : List Firing) (a b : Entry) (found : Option Blame) : Type 0 where
   pub joined : List Firing
-  pub joins : JoinsStories (system_of job) log a b joined
+  pub joins : JoinsStories (own_of job) log a b joined
   pub among : BlameAmong job joined found
 
 -- what is found for the two least values at the port
@@ -99,7 +99,7 @@ pub record IsFoundAt (job : JobParts) (log : List Firing) (n : Activity) (p : �
 
 -- the firings do not hold two values at the port; or there is no memory
 abbrev pub IsNotBlamed : JobParts → List Firing → Activity → ℕ → BlameError → Type 0
-IsNotBlamed job log n p NotClashed = HasTwo (ValueAt (Held (system_of job) log) n p) → ⊥
+IsNotBlamed job log n p NotClashed = HasTwo (ValueAt (Held (own_of job) log) n p) → ⊥
 IsNotBlamed job log n p NoMemory = Unit {0}
 
 abbrev pub BlameOf : JobParts → List Firing → Activity → ℕ → Result (Option Blame) BlameError → Type 0

@@ -4,7 +4,7 @@
 //! of their own, so in a determinate program they have a cell with two writes. Of several values the two
 //! least are taken, so the answer is fixed by the log.
 ghost use Rattle.std.specs.Prelude.{◌≡◌, IfOk};
-ghost use Rattle.u_rule.specs.Rule.{system_of};
+ghost use Rattle.u_rule.specs.Rule.{own_of};
 ghost use Rattle.u_rule.specs.Parts.{token, most_ports};
 ghost use Rattle.u_rule.specs.declared.entry.Entry.TheVariants as entries;
 ghost use Rattle.u_name.specs.Context.{IsBetween};
@@ -65,7 +65,7 @@ fn two_least(
     port: u8,
 ) -> Result<Option<(Entry, Entry)>, AllocError>
     requires port { IsBetween 1 port most_ports }
-    requires firings { AreFirings (system_of job.now) log.now }
+    requires firings { AreFirings (own_of job.now) log.now }
     ensures { IfOk result (AreLeastTokens job.now log.now activity.now port) }
 {
     let held = held_by(alloc, job, log)?;
@@ -82,9 +82,9 @@ fn blame_stories(
     one: &Entry,
     other: &Entry,
 ) -> Result<Option<Blame>, AllocError>
-    requires derivation { Derivation (system_of job.now) log.now }
-    requires one { Held (system_of job.now) log.now one.now }
-    requires other { Held (system_of job.now) log.now other.now }
+    requires derivation { Derivation (own_of job.now) log.now }
+    requires one { Held (own_of job.now) log.now one.now }
+    requires other { Held (own_of job.now) log.now other.now }
     ensures { IfOk result (IsFoundAmong job.now log.now one.now other.now) }
 {
     let joined = joined_stories(alloc, job, log, one, other)?;
@@ -105,7 +105,7 @@ fn blame_in(
     port: u8,
 ) -> Result<Option<Blame>, BlameError>
     requires port { IsBetween 1 port most_ports }
-    requires derivation { Derivation (system_of job.now) log.now }
+    requires derivation { Derivation (own_of job.now) log.now }
     ensures { BlameOf job.now log.now activity.now port result }
 {
     match two_least(alloc, job, log, activity, port)? {

@@ -5,7 +5,7 @@
 //! enter, so the matcher's answers have each of them, and those that give the entry are kept. That is
 //! one pass over the history, for any kind of statement.
 ghost use Rattle.std.specs.Prelude.{◌≡◌, ◌↔◌, IfOk, OnOk, IsTrue, Contains, Err};
-ghost use Rattle.u_rule.specs.Rule.{system_of};
+ghost use Rattle.u_rule.specs.Rule.{own_of};
 ghost use Rattle.u_rule.specs.EntryOrder.{firing_cmp};
 ghost use Rattle.u_rule.specs.declared.firing.Firing.{Firing};
 ghost use Rattle.u_sets.specs.Rising.{Rises, IsListOf};
@@ -27,11 +27,11 @@ use u_sets::{has, place_in};
 ///
 /// # Errors
 /// `AllocError` where there is no memory.
-#[tactic(auto, using(crate::proofs::SendLaws::gives_may))]
+#[tactic(auto, using(crate::proofs::SendLaws::gives_may, u_rule::proofs::Firings::own_is_firing))]
 fn does_give(alloc: Global, job: &Job, firing: &Firing, entry: &Entry) -> Result<bool, AllocError>
-    requires { IsTrue ((system_of job.now).is_firing firing.now) }
+    requires { IsTrue ((own_of job.now).is_firing firing.now) }
     ensures { IfOk result
-        (λ b. IsTrue b ↔ Contains ((system_of job.now).gives firing.now) entry.now) }
+        (λ b. IsTrue b ↔ Contains ((own_of job.now).gives firing.now) entry.now) }
 {
     if !may_give(job, &firing.activity, entry) {
         return Ok(false);
@@ -52,7 +52,7 @@ fn keep(
     found: &mut Vec<Firing>,
 ) -> Result<(), AllocError>
     requires rises { Rises firing_cmp found.old.items }
-    requires firing { IsTrue ((system_of job.now).is_firing firing.now) }
+    requires firing { IsTrue ((own_of job.now).is_firing firing.now) }
     ensures rises { Rises firing_cmp found.new.items }
     ensures ok { OnOk result
         (Gains found.old.items (IsKept job.now entry.now firing.now) found.new.items) }
@@ -76,7 +76,7 @@ pub(crate) fn keep_all(
 ) -> Result<(), AllocError>
     requires rises { Rises firing_cmp found.old.items }
     requires firings { (f : Firing) → Contains firings.now f
-        → IsTrue ((system_of job.now).is_firing f) }
+        → IsTrue ((own_of job.now).is_firing f) }
     ensures rises { Rises firing_cmp found.new.items }
     ensures ok { OnOk result
         (Gains found.old.items (SomeOf firings.now (IsKept job.now entry.now)) found.new.items) }

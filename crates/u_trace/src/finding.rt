@@ -1,6 +1,6 @@
 //! The cell that is to blame among what firings give.
 ghost use Rattle.std.specs.Prelude.{◌≡◌, ◌<◌, IfOk, Contains, Some, length, slice_get};
-ghost use Rattle.u_rule.specs.Rule.{system_of};
+ghost use Rattle.u_rule.specs.Rule.{own_of};
 ghost use Rattle.u_rule.specs.EntryOrder.{write_of};
 ghost use Rattle.u_rule.specs.declared.entry.Entry.TheVariants as entries;
 ghost use Rattle.u_base.specs.Firing.{Held, Same};
@@ -54,11 +54,11 @@ impl Given<'_> {
 
     /// The first of the firings that gives the entry.
     fn giver(&self, entry: &Entry) -> Result<Firing, AllocError>
-        requires givers { AreGivers (system_of self.now.job.now) self.now.firings.now
+        requires givers { AreGivers (own_of self.now.job.now) self.now.firings.now
             (place_in self.now.givers.now) }
-        requires given { GivenBy (system_of self.now.job.now) self.now.firings.now entry.now }
+        requires given { GivenBy (own_of self.now.job.now) self.now.firings.now entry.now }
         ensures { IfOk result
-            (GivesFirst (system_of self.now.job.now) self.now.firings.now entry.now) }
+            (GivesFirst (own_of self.now.job.now) self.now.firings.now entry.now) }
     {
         let found = self.givers.of(entry)?;
         match found {
@@ -69,9 +69,9 @@ impl Given<'_> {
 
     /// The write of that pair in the cell.
     fn write(&self, cell: &Cell, pair: &Written) -> Result<BlamedWrite, AllocError>
-        requires givers { AreGivers (system_of self.now.job.now) self.now.firings.now
+        requires givers { AreGivers (own_of self.now.job.now) self.now.firings.now
             (place_in self.now.givers.now) }
-        requires given { PairIn (GivenBy (system_of self.now.job.now) self.now.firings.now)
+        requires given { PairIn (GivenBy (own_of self.now.job.now) self.now.firings.now)
             cell.now pair.now }
         ensures pair { IfOk result (λ w. w.pair ≡ pair.now) }
         ensures firing { IfOk result
@@ -87,9 +87,9 @@ impl Given<'_> {
 
     /// The cell, with its two least pairs.
     fn blame(&self, clash: &CellClash) -> Result<Blame, AllocError>
-        requires givers { AreGivers (system_of self.now.job.now) self.now.firings.now
+        requires givers { AreGivers (own_of self.now.job.now) self.now.firings.now
             (place_in self.now.givers.now) }
-        requires clash { IsCellClash (Held (system_of self.now.job.now) self.now.firings.now)
+        requires clash { IsCellClash (Held (own_of self.now.job.now) self.now.firings.now)
             (cell_pairs clash.now) }
         ensures { IfOk result
             (HasWritesOf self.now.job.now self.now.firings.now clash.now.cell) }
@@ -112,8 +112,8 @@ fn blame_cell(
     firings: &[Firing],
     clash: &CellClash,
 ) -> Result<Blame, AllocError>
-    requires firings { AreFirings (system_of job.now) firings.now }
-    requires clash { IsCellClash (Held (system_of job.now) firings.now) (cell_pairs clash.now) }
+    requires firings { AreFirings (own_of job.now) firings.now }
+    requires clash { IsCellClash (Held (own_of job.now) firings.now) (cell_pairs clash.now) }
     ensures { IfOk result (HasWritesOf job.now firings.now clash.now.cell) }
 {
     let givers = givers_of(alloc, job, firings)?;
@@ -134,8 +134,8 @@ fn blame_held(
     firings: &[Firing],
     held: &History,
 ) -> Result<Option<Blame>, AllocError>
-    requires firings { AreFirings (system_of job.now) firings.now }
-    requires held { Same (Contains held.now) (Held (system_of job.now) firings.now) }
+    requires firings { AreFirings (own_of job.now) firings.now }
+    requires held { Same (Contains held.now) (Held (own_of job.now) firings.now) }
     ensures { IfOk result (BlameAmong job.now firings.now) }
 {
     let outcome = held.outcome()?;
@@ -157,7 +157,7 @@ pub(crate) fn blame_among(
     job: &Job,
     firings: &[Firing],
 ) -> Result<Option<Blame>, AllocError>
-    requires { AreFirings (system_of job.now) firings.now }
+    requires { AreFirings (own_of job.now) firings.now }
     ensures { IfOk result (BlameAmong job.now firings.now) }
 {
     let held = held_by(alloc, job, firings)?;

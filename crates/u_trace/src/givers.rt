@@ -1,6 +1,6 @@
 //! Which firing of a list is the first to give each entry.
 ghost use Rattle.std.specs.Prelude.{IfOk, OnOk};
-ghost use Rattle.u_rule.specs.Rule.{system_of};
+ghost use Rattle.u_rule.specs.Rule.{own_of};
 ghost use Rattle.u_rule.specs.HeldEntries.{entries_given};
 ghost use Rattle.u_trace.specs.Table.{place_in, Owns, StillOwns};
 ghost use Rattle.u_trace.specs.Givers.{Notes, AreGivers, AreFirings};
@@ -53,8 +53,8 @@ fn note_given(givers: &mut Givers, all: &Given<'_>, place: usize) -> Result<(), 
 /// # Errors
 /// `AllocError` where there is no memory.
 pub(crate) fn givers_of(alloc: Global, job: &Job, log: &[Firing]) -> Result<Givers, AllocError>
-    requires { AreFirings (system_of job.now) log.now }
-    ensures givers { IfOk result (λ t. AreGivers (system_of job.now) log.now (place_in t)) }
+    requires { AreFirings (own_of job.now) log.now }
+    ensures givers { IfOk result (λ t. AreGivers (own_of job.now) log.now (place_in t)) }
     ensures owners { IfOk result (λ t. Owns t log.now) }
 {
     let mut givers = Givers::new(alloc);

@@ -1,6 +1,6 @@
 //! What firings hold.
 ghost use Rattle.std.specs.Prelude.{IfOk, OnOk, Contains};
-ghost use Rattle.u_rule.specs.Rule.{system_of};
+ghost use Rattle.u_rule.specs.Rule.{own_of};
 ghost use Rattle.u_sets.specs.Members.{IsUnion};
 ghost use Rattle.u_base.specs.Firing.{Held, Same};
 ghost use Rattle.u_trace.specs.Givers.{AreFirings};
@@ -28,8 +28,8 @@ fn put_given(
     firings: &[Firing],
     held: &mut History,
 ) -> Result<(), AllocError>
-    requires { AreFirings (system_of job.now) firings.now }
-    ensures { OnOk result (GainsGiven (system_of job.now) held.old firings.now held.new) }
+    requires { AreFirings (own_of job.now) firings.now }
+    ensures { OnOk result (GainsGiven (own_of job.now) held.old firings.now held.new) }
 {
     for firing in firings {
         let given = given_by(alloc, job, firing)?;
@@ -43,8 +43,8 @@ fn put_given(
 /// # Errors
 /// `AllocError` where there is no memory.
 pub(crate) fn held_by(alloc: Global, job: &Job, firings: &[Firing]) -> Result<History, AllocError>
-    requires { AreFirings (system_of job.now) firings.now }
-    ensures { IfOk result (λ h. Same (Contains h) (Held (system_of job.now) firings.now)) }
+    requires { AreFirings (own_of job.now) firings.now }
+    ensures { IfOk result (λ h. Same (Contains h) (Held (own_of job.now) firings.now)) }
 {
     let mut held = History::new(alloc);
     let _ = held.insert(start(job))?;

@@ -1,6 +1,6 @@
 //! Two stories, one behind the other.
 ghost use Rattle.std.specs.Prelude.{IfOk};
-ghost use Rattle.u_rule.specs.Rule.{system_of};
+ghost use Rattle.u_rule.specs.Rule.{own_of};
 ghost use Rattle.u_base.specs.Firing.{Held, Derivation};
 ghost use Rattle.u_trace.specs.Table.{place_in};
 ghost use Rattle.u_trace.specs.Givers.{AreGivers};
@@ -24,11 +24,11 @@ pub(crate) fn joined_stories(
     one: &Entry,
     other: &Entry,
 ) -> Result<Vec<Firing>, AllocError>
-    requires derivation { Derivation (system_of job.now) log.now }
-    requires one { Held (system_of job.now) log.now one.now }
-    requires other { Held (system_of job.now) log.now other.now }
+    requires derivation { Derivation (own_of job.now) log.now }
+    requires one { Held (own_of job.now) log.now one.now }
+    requires other { Held (own_of job.now) log.now other.now }
     ensures { IfOk result
-        (λ v. JoinsStories (system_of job.now) log.now one.now other.now v.items) }
+        (λ v. JoinsStories (own_of job.now) log.now one.now other.now v.items) }
 {
     let givers = givers_of(alloc, job, log)?;
     let mut joined = applied_story(alloc, job, log, &givers, one)?;

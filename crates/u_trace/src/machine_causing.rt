@@ -3,7 +3,7 @@
 //! Where nothing is ready, the machine applied each firing that is enabled over its history. So those
 //! that give the entry are found among the applied ones, and no entry has to enter a matcher.
 ghost use Rattle.std.specs.Prelude.{◌≡◌, ◌↔◌, IfOk, Contains, Err};
-ghost use Rattle.u_rule.specs.Rule.{system_of};
+ghost use Rattle.u_rule.specs.Rule.{own_of};
 ghost use Rattle.u_rule.specs.EntryOrder.{firing_cmp};
 ghost use Rattle.u_sets.specs.Rising.{IsListOf};
 ghost use Rattle.u_trace.specs.Causes.{IsCause, IsGiverIn};
@@ -27,7 +27,7 @@ fn givers_among(
     log: &[Firing],
     entry: &Entry,
 ) -> Result<Vec<Firing>, AllocError>
-    requires { AreFirings (system_of job.now) log.now }
+    requires { AreFirings (own_of job.now) log.now }
     ensures { IfOk result
         (λ v. IsListOf firing_cmp (IsGiverIn job.now log.now entry.now) v.items) }
 {

@@ -5,7 +5,7 @@
 //! derivation, so one pass is enough.
 ghost use Rattle.std.specs.Prelude.{◌≡◌, ◌↔◌, ◌<◌, ℕ, ◌≤◌, IfOk, OnOk, IsTrue, length, false, replicate};
 ghost use Rattle.u_rule.specs.Parts.{most_ports};
-ghost use Rattle.u_rule.specs.Rule.{system_of, start_of, needs_of, tokens_from};
+ghost use Rattle.u_rule.specs.Rule.{own_of, start_of, needs_of, tokens_from};
 ghost use Rattle.u_rule.specs.declared.entry.Entry.TheVariants as entries;
 ghost use Rattle.u_sets.specs.Members.{SomeOf};
 ghost use Rattle.u_base.specs.Firing.{Derivation};
@@ -25,7 +25,7 @@ use u_value::Value;
 /// The entries that a firing of the job needs, in a list. The caller's firing is one of the job, so want of
 /// memory is the one refusal that comes.
 fn needs_of(alloc: Global, job: &Job, firing: &Firing) -> Result<Vec<Entry>, AllocError>
-    ensures { IfOk result (λ v. v.items ≡ (system_of job.now).needs firing.now) }
+    ensures { IfOk result (λ v. v.items ≡ (own_of job.now).needs firing.now) }
 {
     match needs(alloc, job, firing) {
         Ok(entries) => Ok(entries),
@@ -206,7 +206,7 @@ impl Applied<'_> {
         requires below { LieBelow (place_in self.now.givers.now) (length self.now.log.now) }
         requires owners { Owns self.now.givers.now self.now.log.now }
         ensures { OnOk result
-            (MarksBehind (system_of self.now.job.now) self.now.start.now self.now.log.now
+            (MarksBehind (own_of self.now.job.now) self.now.start.now self.now.log.now
             (place_in self.now.givers.now) place marks.old marks.new) }
     {
         if !is_marked(marks, place) {
@@ -219,15 +219,15 @@ impl Applied<'_> {
     /// Marks all firings of the list that the entry's story has.
     fn mark_story(&self, entry: &Entry, marks: &mut [bool]) -> Result<(), AllocError>
         requires start { self.now.start.now ≡ start_of self.now.job.now }
-        requires derivation { Derivation (system_of self.now.job.now) self.now.log.now }
-        requires givers { AreGivers (system_of self.now.job.now) self.now.log.now
+        requires derivation { Derivation (own_of self.now.job.now) self.now.log.now }
+        requires givers { AreGivers (own_of self.now.job.now) self.now.log.now
             (place_in self.now.givers.now) }
         requires owners { Owns self.now.givers.now self.now.log.now }
         requires count { length marks.old ≡ length self.now.log.now }
         requires none { (k : ℕ) → IsMarked marks.old k → ⊥ }
         ensures { OnOk result
             ((k : ℕ) → IsMarked marks.new k
-            ↔ InStory (system_of self.now.job.now) self.now.log.now entry.now k) }
+            ↔ InStory (own_of self.now.job.now) self.now.log.now entry.now k) }
     {
         mark(self.start, self.givers, entry, marks)?;
         let mut left = self.log.len();
@@ -261,13 +261,13 @@ pub(crate) fn marks_of(
     givers: &Givers,
     entry: &Entry,
 ) -> Result<Vec<bool>, AllocError>
-    requires derivation { Derivation (system_of job.now) log.now }
-    requires givers { AreGivers (system_of job.now) log.now (place_in givers.now) }
+    requires derivation { Derivation (own_of job.now) log.now }
+    requires givers { AreGivers (own_of job.now) log.now (place_in givers.now) }
     requires owners { Owns givers.now log.now }
     ensures count { IfOk result (λ v. length v.items ≡ length log.now) }
     ensures marked { IfOk result
         (λ v. (k : ℕ)
-        → IsMarked v.items k ↔ InStory (system_of job.now) log.now entry.now k) }
+        → IsMarked v.items k ↔ InStory (own_of job.now) log.now entry.now k) }
 {
     let mut marks = unmarked(alloc, log.len())?;
     let first = start(job);

@@ -3,7 +3,7 @@
 //! After want of memory a history may have an entry whose giver is not applied yet. It has causes and no
 //! story.
 ghost use Rattle.std.specs.Prelude.{◌≡◌, ◌↔◌, ◌⊎◌, IfOk, IsTrue, IsSome};
-ghost use Rattle.u_rule.specs.Rule.{system_of, start_of};
+ghost use Rattle.u_rule.specs.Rule.{own_of, start_of};
 ghost use Rattle.u_base.specs.Firing.{Derivation};
 ghost use Rattle.u_trace.specs.Table.{place_in, Owns};
 ghost use Rattle.u_trace.specs.Givers.{AreGivers};
@@ -44,10 +44,10 @@ pub(crate) fn applied_story(
     givers: &Givers,
     entry: &Entry,
 ) -> Result<Vec<Firing>, AllocError>
-    requires derivation { Derivation (system_of job.now) log.now }
-    requires givers { AreGivers (system_of job.now) log.now (place_in givers.now) }
+    requires derivation { Derivation (own_of job.now) log.now }
+    requires givers { AreGivers (own_of job.now) log.now (place_in givers.now) }
     requires owners { Owns givers.now log.now }
-    ensures { IfOk result (λ v. IsStory (system_of job.now) log.now entry.now v.items) }
+    ensures { IfOk result (λ v. IsStory (own_of job.now) log.now entry.now v.items) }
 {
     let marks = marks_of(alloc, job, log, givers, entry)?;
     let found = picked(alloc, log, &marks)?;
@@ -64,7 +64,7 @@ fn story_of(
     log: &[Firing],
     entry: &Entry,
 ) -> Result<Vec<Firing>, TraceError>
-    requires { Derivation (system_of job.now) log.now }
+    requires { Derivation (own_of job.now) log.now }
     ensures { StoryOf job.now log.now entry.now result }
 {
     let givers = givers_of(alloc, job, log)?;

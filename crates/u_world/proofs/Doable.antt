@@ -7,7 +7,7 @@ use Rattle.std.proofs.lemmas.Bool.{ltb-true, and_parts, cond_both, cases_lt}
 use Rattle.u_name.specs.Context.{IsBetween}
 use Rattle.rand_pcg.specs.Lcg.{Lcg}
 use Rattle.u_check.specs.Jobs.{JobParts}
-use Rattle.u_rule.specs.Rule.{system_of}
+use Rattle.u_rule.specs.Rule.{own_of}
 use Rattle.u_delta.specs.declared.message.Delta.{Delta}
 use Rattle.u_delta.specs.declared.message.Message.{Message}
 use Rattle.u_delta.specs.declared.message.Message.TheVariants as messages
@@ -162,7 +162,7 @@ module _ (w : WorldState) (is : IsWorld w) (new : WorldState) where
 
   never_list : (old after : State) (d : Delta) → AreFirings old.job d.firings → (x : ListRefusal) → BadEvent ≡ of_list x → TakeAllAnswer old d.firings (Err x) after → ⊥
   never_list old after d all (unlisted.NotAFiring place) e (first, settles) =
-      let yes : IsTrue ((system_of old.job).is_firing first.other) = all first.other (slice_get_Contains d.firings place first.other first.at) in
+      let yes : IsTrue ((own_of old.job).is_firing first.other) = all first.other (slice_get_Contains d.firings place first.other first.at) in
       let no = first.none in
       absurd (cc)
   never_list old after d all unlisted.Full e t = absurd (cc)

@@ -5,7 +5,7 @@ use Rattle.std.proofs.lemmas.List.{length-set}
 use Rattle.u_name.specs.Context.{IsBetween}
 use Rattle.u_check.specs.Jobs.{JobParts}
 use Rattle.u_rule.specs.declared.firing.Firing.{Firing}
-use Rattle.u_rule.specs.Rule.{system_of}
+use Rattle.u_rule.specs.Rule.{own_of}
 use Rattle.u_delta.specs.declared.message.Ask.{Ask}
 use Rattle.u_delta.specs.declared.message.Delta.{Delta}
 use Rattle.u_delta.specs.declared.message.Message.{Message}
@@ -211,8 +211,8 @@ module _ (old : WorldState) (is : IsWorld old) where
   part_firings : (k : ℕ) (r : ReplicaState) (fs : List Firing) (place : ℕ) → At old.replicas k r → fs ≡ part_from r.machine.log place → AreFirings old.job fs
   part_firings k r fs place at e f c =
       let i = is.members k r at in
-      let own : IsTrue ((system_of r.machine.job).is_firing f) = i.is.machine.sound.firings f (in_log f (subst (λ (fs : List Firing). Contains fs f) e c)) in
-      subst (λ j. IsTrue ((system_of j).is_firing f)) i.job own
+      let own : IsTrue ((own_of r.machine.job).is_firing f) = i.is.machine.sound.firings f (in_log f (subst (λ (fs : List Firing). Contains fs f) e c)) in
+      subst (λ j. IsTrue ((own_of j).is_firing f)) i.job own
     where
       in_log : (f : Firing) → Contains (part_from r.machine.log place) f → Taken r.machine f
       in_log f c = Contains-append_left r.machine.log r.machine.parked f (Contains-dropped place r.machine.log f (Contains-taken most_firings (drop place r.machine.log) f c))

@@ -4,7 +4,7 @@ use Rattle.std.proofs.Common.{sym, ap, subst, arith, inl, inr, ◌∙◌}
 use Rattle.u_base.proofs.Member.{Contains-nil}
 use Rattle.u_check.specs.Jobs.{JobParts}
 use Rattle.u_rule.specs.declared.entry.Entry.{Entry}
-use Rattle.u_rule.specs.Rule.{system_of}
+use Rattle.u_rule.specs.Rule.{own_of}
 use Rattle.u_delta.specs.declared.message.Message.{Message}
 use Rattle.u_delta.specs.declared.message.Message.TheVariants as messages
 use Rattle.u_rule.specs.declared.firing.Firing.{Firing}
@@ -147,7 +147,7 @@ stay_settled old es (Err (errors.NoMemory place)) new s = tt
 blank_settled : (job : JobParts) (limit : ℕ) → IsSettled (blank job limit)
 blank_settled job limit = record { held = λ e c. inl (only e c); none = λ f c. absurd (Contains-nil f c) }
   where
-    only : (e : Entry) → Contains ((system_of job).start ∷ []) e → e ≡ (system_of job).start
+    only : (e : Entry) → Contains ((own_of job).start ∷ []) e → e ≡ (own_of job).start
     only e (zero, l, p) = sym p
     only e (suc k, l, p) = absurd (omega (arith, l))
 

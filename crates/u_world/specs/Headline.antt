@@ -8,7 +8,7 @@
 -- are those of `specs/Happenings.antt`, the sets of one machine those of `u_machine/specs/Headline.antt`.
 use Rattle.std.specs.Prelude.{◌≡◌, ℕ, List, [], ◌∷◌, length, Contains, Result, Ok, Err}
 use Rattle.u_base.specs.Firing.{Derivation, Held, Whole, Same}
-use Rattle.u_rule.specs.Rule.{system_of}
+use Rattle.u_rule.specs.Rule.{own_of}
 use Rattle.u_rule.specs.declared.entry.Entry.{Entry}
 use Rattle.u_machine.specs.State.{Taken, IsSettled, NothingReady}
 use Rattle.u_machine.specs.Headline.{IsClosure, IsWhole, Agree}
@@ -45,9 +45,9 @@ IsFixedByItsSet w = OfEach w (λ r. IsClosure r.machine)
 -- One run: the applied firings are a run of the job, and the history is what that run holds, so each
 -- entry is one that a run of the job reaches.
 pub record IsOfOneRun (r : ReplicaState) : Type 0 where
-  pub run : Derivation (system_of r.machine.job) r.machine.log
-  pub held : Same (Contains r.machine.history) (Held (system_of r.machine.job) r.machine.log)
-  pub reached : (e : Entry) → Contains r.machine.history e → Whole (system_of r.machine.job) e
+  pub run : Derivation (own_of r.machine.job) r.machine.log
+  pub held : Same (Contains r.machine.history) (Held (own_of r.machine.job) r.machine.log)
+  pub reached : (e : Entry) → Contains r.machine.history e → Whole (own_of r.machine.job) e
 
 abbrev pub AreOfOneRun : WorldState → Type 0
 AreOfOneRun w = OfEach w IsOfOneRun

@@ -8,7 +8,7 @@ use Rattle.u_match.proofs.Finding.{reads_its_cell, enabled_if}
 use Rattle.u_match.proofs.enabling.has_all_of.Goals as goal
 
 pub has_read-requires : goal.has_read-requires
-has_read-requires c = reads_its_cell c.args.job.now c.args.firing.now (sym c.is_firing.ensures ∙ c.if-not-is_firing.false)
+has_read-requires c = reads_its_cell c.args.job.now c.args.firing.now (sym c.is_own.ensures ∙ c.if-not-is_own.false)
 
 pub returns-then-not-there : goal.returns-then-not-there
 returns-then-not-there c =
@@ -17,6 +17,6 @@ returns-then-not-there c =
 
 pub returns : goal.returns
 returns c =
-    let s = enabled_if c.args.job.now c.args.firing.now (Contains c.args.history.now) (sym c.is_firing.ensures ∙ c.if-not-is_firing.false) in
+    let s = enabled_if c.args.job.now c.args.firing.now (Contains c.args.history.now) (sym c.is_own.ensures ∙ c.if-not-is_own.false) in
     let h = subst (λ (vs : ValueList). IsTrue c.in_ok-there.there ↔ Within (Contains c.args.history.now) (tokens_from c.args.firing.now.activity 1 vs)) c.as_slice.ensures.values c.in_ok-there.ensures in
     ((λ t. s.1 (h.0 c.if-not-there.false, c.in_ok-read.ensures.0 t)), λ en. c.in_ok-read.ensures.1 (s.0 en).1)

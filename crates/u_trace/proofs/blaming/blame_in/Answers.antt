@@ -1,12 +1,12 @@
 use Rattle.std.proofs.Common.{subst}
 use Rattle.u_trace.specs.Blames.{AreLeastTokens}
-use Rattle.u_rule.specs.Rule.{system_of}
+use Rattle.u_rule.specs.Rule.{own_of}
 use Rattle.u_trace.proofs.GiverLaws.{are_firings}
 use Rattle.u_trace.proofs.BlameLaws.{one_held, other_held, found_at}
 use Rattle.u_trace.proofs.blaming.blame_in.Goals as goal
 
 pub two_least-requires : goal.two_least-requires
-two_least-requires c = record { port = c.requires.port; firings = are_firings (system_of c.args.job.now) c.args.log.now c.requires.derivation }
+two_least-requires c = record { port = c.requires.port; firings = are_firings (own_of c.args.job.now) c.args.log.now c.requires.derivation }
 
 pub blame_stories-requires-clause-one : goal.blame_stories-requires-clause-one
 blame_stories-requires-clause-one c =

@@ -3,7 +3,7 @@ use Rattle.std.specs.Prelude.{IfOk}
 use Rattle.std.proofs.lemmas.List.Elements.{Contains-append_left}
 use Rattle.u_check.specs.Jobs.{JobParts}
 use Rattle.u_rule.specs.EntryOrder.{firing_cmp}
-use Rattle.u_rule.specs.Rule.{system_of}
+use Rattle.u_rule.specs.Rule.{own_of}
 use Rattle.u_rule.specs.declared.entry.Entry.{Entry}
 use Rattle.u_rule.specs.declared.firing.Firing.{Firing}
 use Rattle.u_sets.specs.Rising.{IsListOf}
@@ -19,7 +19,7 @@ returns-then-not-is_quiet-clause-ok c =
     let of_job = subst (λ (j : JobParts). IfOk found (λ v. IsListOf firing_cmp (IsCause j c.history-history.result.now c.args.entry.now) v.items)) c.job-job.ensures c.causes.ensures.ok in
     subst (λ (es : List Entry). IfOk found (λ v. IsListOf firing_cmp (IsCause c.args.machine.now.job es c.args.entry.now) v.items)) c.history-history.ensures of_job
 
-applied_firings : (m : State) (job : JobParts) (log : List Firing) → job ≡ m.job → log ≡ m.log → IsMachine m → AreFirings (system_of job) log
+applied_firings : (m : State) (job : JobParts) (log : List Firing) → job ≡ m.job → log ≡ m.log → IsMachine m → AreFirings (own_of job) log
 applied_firings m job log j l is = rw (j, l) (λ f k. is.sound.firings f (Contains-append_left m.log m.parked f k))
 
 pub givers_among-requires : goal.givers_among-requires

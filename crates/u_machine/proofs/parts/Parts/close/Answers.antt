@@ -1,7 +1,6 @@
-use Rattle.std.proofs.Common.{◌≡◌, ◌∙◌, ◌+◌, false, sym, get_or, length}
+use Rattle.std.proofs.Common.{◌≡◌, ◌∙◌, ◌+◌, sym, get_or, length}
 use Rattle.u_sets.specs.Members.{IsWithout}
 use Rattle.std.proofs.lemmas.Bool.{false≢true}
-use Rattle.u_rule.specs.declared.firing.Firing.{Firing}
 use Rattle.u_machine.specs.Invariant.{parked_with, parked_of}
 use Rattle.u_machine.proofs.Flight.{as_they_wait}
 use Rattle.u_machine.proofs.Lists.{slice_get_at}

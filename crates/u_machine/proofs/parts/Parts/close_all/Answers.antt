@@ -1,4 +1,4 @@
-use Rattle.std.proofs.Common.{◌≡◌, ◌∙◌, [], sym, ap, length, arith}
+use Rattle.std.proofs.Common.{◌≡◌, ◌∙◌, [], sym, length, arith}
 use Rattle.std.proofs.lemmas.Bool.{false≢true}
 use Rattle.u_machine.specs.Invariant.{parked_with}
 use Rattle.u_machine.proofs.Flight.{as_they_wait}

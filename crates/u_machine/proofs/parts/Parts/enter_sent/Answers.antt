@@ -2,7 +2,7 @@ use Rattle.std.proofs.Common.{◌≤◌, length, arith, Contains}
 use Rattle.std.proofs.lemmas.List.{take_all}
 use Rattle.u_rule.specs.declared.entry.Entry.{Entry}
 use Rattle.u_rule.specs.declared.entry.Entry.TheVariants as entries
-use Rattle.u_machine.proofs.Going.{goes_on, gives_still, slice_get_below}
+use Rattle.u_machine.proofs.Going.{goes_on, gives_still}
 use Rattle.u_machine.proofs.Lists.{slice_get_Contains, one_more}
 use Rattle.u_machine.proofs.States.{applies_trans}
 use Rattle.u_machine.proofs.parts.Parts.enter_sent.Goals as goal

@@ -1,4 +1,4 @@
-use Rattle.std.proofs.Common.{◌≡◌, ap, inl, inr, sym, ◌∙◌, arith, subst, length, Some, ℕ, take, false}
+use Rattle.std.proofs.Common.{◌≡◌, inl, inr, sym, ◌∙◌, arith, subst, length, Some, ℕ, take, false}
 use Rattle.std.specs.Prelude.{slice_get}
 use Rattle.u_rule.specs.declared.firing.Firing.{Firing}
 use Rattle.u_machine.specs.State.{IsPick}

@@ -1,5 +1,4 @@
 use Rattle.std.proofs.Common.{◌≡◌, ◌≤◌, ◌-◌, ap, length, arith}
-use Rattle.u_rule.specs.EntryOrder.{FiringList}
 use Rattle.u_machine.specs.Invariant.{parked_of}
 use Rattle.u_machine.proofs.Flight.{as_they_wait, few_parked}
 use Rattle.u_machine.proofs.Settled.{no_woken_parked}

@@ -1,4 +1,4 @@
-use Rattle.std.proofs.Common.{◌≡◌, ◌∙◌, ◌+◌, ◌≤◌, ◌<◌, [], ℕ, sym, ap, subst, length, drop, take, arith}
+use Rattle.std.proofs.Common.{◌≡◌, ◌+◌, [], ℕ, sym, ap, subst, length, take, arith}
 use Rattle.std.proofs.lemmas.Bool.{false≢true}
 use Rattle.std.proofs.lemmas.List.{length-drop}
 use Rattle.u_rule.specs.EntryOrder.{FiringList}

@@ -1,5 +1,5 @@
 use Rattle.std.proofs.Common.{◌≡◌, ◌∙◌, [], ◌∷◌, subst, ap, refl}
-use Rattle.u_rule.specs.Rule.{start_of, system_of}
+use Rattle.u_rule.specs.Rule.{start_of, own_of}
 use Rattle.u_rule.specs.declared.entry.Entry.{Entry}
 use Rattle.u_rule.specs.declared.firing.Firing.{Firing}
 use Rattle.std.specs.Prelude.{Contains, ◌↔◌}
@@ -29,7 +29,7 @@ returns-clause-kept c = record {
   logged = rw (c.new.ensures.items, c.new-2.ensures, held c) (fresh_log c.args.job.now c.args.limit);
   partitioned = rw (c.new.ensures.items, c.new-2.ensures, c.new-4.ensures.items)
       (fresh_partitioned c.args.job.now c.args.limit c.enter.new.self c.in_ok-woken.woken.items c.in_ok-ready.ready (starts c)
-      (subst (λ (e : Entry). (f : Firing) → Contains c.in_ok-woken.woken.items f ↔ (Contains ((system_of c.args.job.now).needs f) e × Enabled (system_of c.args.job.now) (Contains c.enter.new.self) f)) c.start.ensures.start c.in_ok-woken.ensures.exact)
+      (subst (λ (e : Entry). (f : Firing) → Contains c.in_ok-woken.woken.items f ↔ (Contains ((own_of c.args.job.now).needs f) e × Enabled (own_of c.args.job.now) (Contains c.enter.new.self) f)) c.start.ensures.start c.in_ok-woken.ensures.exact)
       (subst (λ (fs : FiringList). Same (Contains c.in_ok-ready.ready) (Contains fs)) c.deref.ensures.value c.in_ok-ready.ensures));
   late = rw (c.new-2.ensures, c.new-3.ensures, c.new-4.ensures.items) (none_late c.args.job.now [] c.in_ok-ready.ready c.enter.new.self);
   idle = λ e. rw c.new-4.ensures.items refl;

@@ -1,4 +1,4 @@
-use Rattle.std.proofs.Common.{◌≡◌, ◌<◌, ◌∷◌, reverse, length, arith}
+use Rattle.std.proofs.Common.{◌≡◌, ◌∷◌, reverse, arith}
 use Rattle.std.proofs.lemmas.List.{length-reverse}
 use Rattle.u_rule.specs.EntryOrder.{FiringList}
 use Rattle.u_rule.specs.declared.firing.Firing.{Firing}

@@ -1,4 +1,4 @@
-use Rattle.std.proofs.Common.{◌<◌, ◌∙◌, ap, arith, length}
+use Rattle.std.proofs.Common.{◌<◌, arith, length}
 use Rattle.u_machine.proofs.States.{applies_trans}
 use Rattle.u_machine.proofs.Going.{lengthens_on, lengthens_le, goes_on, entered_more, entered_longer}
 use Rattle.u_machine.proofs.Settled.{log_within}

@@ -13,8 +13,8 @@ returns-then-has_begun-clause-answer c = (
   settles_itself c.args.self.now c.requires.kept c.requires.settled,
 )
 
-pub returns-then-not-is_firing-clause-answer : goal.returns-then-not-is_firing-clause-answer
-returns-then-not-is_firing-clause-answer c = (sym c.is_firing.ensures ∙ c.if-not-is_firing.true, settles_itself c.args.self.now c.requires.kept c.requires.settled)
+pub returns-then-not-is_own-clause-answer : goal.returns-then-not-is_own-clause-answer
+returns-then-not-is_own-clause-answer c = (sym c.is_own.ensures ∙ c.if-not-is_own.true, settles_itself c.args.self.now c.requires.kept c.requires.settled)
 
 pub take_early-requires-clause-unapplied : goal.take_early-requires-clause-unapplied
 take_early-requires-clause-unapplied c m = not_both c.has_begun.result (c.has_begun.ensures.1 m) c.if-has_begun.false
@@ -23,4 +23,4 @@ pub take_early-requires-clause-unready : goal.take_early-requires-clause-unready
 take_early-requires-clause-unready c m = not_both c.contains.result (c.contains.ensures.1 m) c.if-contains.false
 
 pub take_early-requires-clause-firing : goal.take_early-requires-clause-firing
-take_early-requires-clause-firing c = sym c.is_firing.ensures ∙ c.if-not-is_firing.false
+take_early-requires-clause-firing c = sym c.is_own.ensures ∙ c.if-not-is_own.false
