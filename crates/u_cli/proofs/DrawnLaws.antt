@@ -2,7 +2,7 @@
 use Rattle.std.proofs.Common.{◌≡◌, subst, ℕ, List, Contains}
 use Rattle.u_check.specs.Jobs.{JobParts}
 use Rattle.u_base.specs.Firing.{Held, Same}
-use Rattle.u_rule.specs.Rule.{system_of}
+use Rattle.u_rule.specs.Rule.{own_of}
 use Rattle.u_rule.specs.declared.entry.Entry.{Entry}
 use Rattle.u_rule.specs.declared.firing.Firing.{Firing}
 use Rattle.u_machine.specs.State.{State}
@@ -24,6 +24,6 @@ draws_run job origins firings state m report text status left shown ran e shows 
   fs = m.log;
   run = ran.run;
   shows = subst (λ (fs : List Firing). ShowsFirings job origins fs text) e shows;
-  ended = status_same (Contains m.history) (Held (system_of job) m.log) ran.held state status reports.ended;
+  ended = status_same (Contains m.history) (Held (own_of job) m.log) ran.held state status reports.ended;
   leaves = leaves;
 }

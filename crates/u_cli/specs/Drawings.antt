@@ -5,7 +5,7 @@ use Rattle.u_check.specs.Jobs.{JobParts}
 use Rattle.u_base.specs.Firing.{Held, Plain}
 use Rattle.u_sets.specs.Rising.{IsListOf}
 use Rattle.u_rule.specs.EntryOrder.{entry_cmp}
-use Rattle.u_rule.specs.Rule.{system_of}
+use Rattle.u_rule.specs.Rule.{own_of}
 use Rattle.u_rule.specs.declared.entry.Entry.{Entry}
 use Rattle.u_rule.specs.declared.firing.Firing.{Firing}
 use Rattle.u_machine.specs.Calls.{firing_le}
@@ -28,14 +28,14 @@ DrawsProgram program origins text status =
 -- the picture of the firings and of all entries that they hold
 pub record ShowsFirings (job : JobParts) (origins : List BlockOrigins) (fs : List Firing) (text : List ℕ) : Type 0 where
   pub entries : List Entry
-  pub exact : IsListOf entry_cmp (Held (system_of job) fs) entries
+  pub exact : IsListOf entry_cmp (Held (own_of job) fs) entries
   pub is : text ≡ picture_text origins job fs entries
 
 -- How many firings of the plain run, of 1000000 at most, the picture of fs leaves out: none if it is quiet.
 abbrev pub LeavesOut : JobParts → Ending → List Firing → ℕ → Type 0
 LeavesOut job states.Quiet fs left = left ≡ 0
 LeavesOut job states.Paused fs left =
-    (whole : List Firing) × Plain (system_of job) firing_le 1000000 whole × (left ≡ length whole - length fs)
+    (whole : List Firing) × Plain (own_of job) firing_le 1000000 whole × (left ≡ length whole - length fs)
 
 -- The picture of the plain run of the job, with so many firings at most; the status that `run` has for it;
 -- and how many firings are left out.
@@ -44,17 +44,17 @@ pub record DrawsRun (job : JobParts) (origins : List BlockOrigins) (firings : �
   pub fs : List Firing
   pub run : RunsTo job firings state fs
   pub shows : ShowsFirings job origins fs text
-  pub ended : IsStatusOf (Held (system_of job) fs) state status
+  pub ended : IsStatusOf (Held (own_of job) fs) state status
   pub leaves : LeavesOut job state fs left
 
 -- fs is the plain run of the job, with so many firings at most. It holds the entry. The picture is that of
 -- the entry's story in it.
 pub record ShowsStory (job : JobParts) (origins : List BlockOrigins) (firings : ℕ) (e : Entry) (fs : List Firing) (text : List ℕ) : Type 0 where
-  pub plain : Plain (system_of job) firing_le firings fs
-  pub held : Held (system_of job) fs e
+  pub plain : Plain (own_of job) firing_le firings fs
+  pub held : Held (own_of job) fs e
   pub story : List Firing
-  pub is_story : IsStory (system_of job) fs e story
-  pub tells : Tells (system_of job) fs e story
+  pub is_story : IsStory (own_of job) fs e story
+  pub tells : Tells (own_of job) fs e story
   pub shows : ShowsFirings job origins story text
 
 abbrev pub DrawsStoryOf : JobParts → List BlockOrigins → ℕ → Entry → List ℕ → Type 0

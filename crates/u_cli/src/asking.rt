@@ -217,8 +217,8 @@ pub fn tell_texts<V: Watch>(
 ) -> Result<Told, CommandError>
     requires { JobAllowed ask }
     ensures { MatchResult result
-        (λ t. OfTask texts.entry
-        (λ job origins. TellsOfJob ask.entry texts.entry.other.now job origins t.text.items t.status))
+        (λ t. OfTask texts.entry (λ job origins.
+        TellsOfJob ask.entry texts.entry.other.now job origins t.text.items t.status))
         (λ fault. TextsRefused texts.entry ask.entry fault) }
 {
     let task = match Task::read(alloc, texts.path, texts.file, texts.argument) {

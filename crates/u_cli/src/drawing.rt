@@ -4,7 +4,7 @@
 //! a run leaves out is counted by its machine, which goes on once it is drawn.
 ghost use Rattle.std.specs.Prelude.{◌≡◌, ◌≤◌, ◌-◌, length, IfOk, IfErr, MatchResult, IsTrue, List, ℕ};
 ghost use Rattle.u_base.specs.Firing.{Plain, Within};
-ghost use Rattle.u_rule.specs.Rule.{is_firing_of, system_of};
+ghost use Rattle.u_rule.specs.Rule.{is_own_of, own_of};
 ghost use Rattle.u_machine.specs.Calls.{firing_le};
 ghost use Rattle.u_commands.specs.Runs.{RanTo};
 ghost use Rattle.u_history.specs.declared.report.Ending.TheVariants as states;
@@ -44,13 +44,14 @@ pub fn draw_program(alloc: Global, input: &Input) -> Result<Told, CommandError>
 }
 
 /// The picture of the firings of a job, and of all entries that they hold.
+#[tactic(auto, using(u_rule::proofs::Firings::own_is_firing))]
 fn picture_of(
     alloc: Global,
     job: &Job,
     origins: &[BlockOrigins],
     firings: &[Firing],
 ) -> Result<Vec<u8>, AllocError>
-    requires { Within (λ f. IsTrue (is_firing_of job.now f)) firings.now }
+    requires { Within (λ f. IsTrue (is_own_of job.now f)) firings.now }
     ensures { IfOk result (λ v. ShowsFirings job.now origins.now firings.now v.items) }
 {
     let entries = held(alloc, job, firings)?;
@@ -64,7 +65,8 @@ fn more_of(machine: &mut Machine<'_>, firings: usize) -> Result<usize, CommandEr
     requires ran { RanTo machine.old.job firings states.Paused machine.old }
     requires few { firings ≤ 1000000 }
     requires limit { machine.old.limit ≡ 1000000 }
-    ensures ok { IfOk result (λ left. LeavesOut machine.old.job states.Paused machine.old.log left) }
+    ensures ok { IfOk result
+        (λ left. LeavesOut machine.old.job states.Paused machine.old.log left) }
     ensures memory { IfErr result (λ e. e ≡ faults.NoMemory) }
 {
     let drawn = machine.applied().len();
@@ -167,7 +169,8 @@ pub fn draw_story(
 ) -> Result<Told, CommandError>
     requires { firings ≤ 1000000 }
     ensures { MatchResult result
-        (λ t. DrawsStory task.now.job task.now.origins.items entry.now firings t.text.items t.status)
+        (λ t.
+        DrawsStory task.now.job task.now.origins.items entry.now firings t.text.items t.status)
         (λ fault. StoryNotDrawn task.now.job entry.now firings fault) }
 {
     let entry = match entry_of(alloc, entry) {

@@ -4,7 +4,7 @@ ghost use Rattle.u_base.specs.Firing.{Held, Within};
 ghost use Rattle.u_sets.specs.Members.{IsWith};
 ghost use Rattle.u_sets.specs.Rising.{IsListOf};
 ghost use Rattle.u_rule.specs.EntryOrder.{entry_cmp};
-ghost use Rattle.u_rule.specs.Rule.{is_firing_of, system_of};
+ghost use Rattle.u_rule.specs.Rule.{is_own_of, own_of};
 ghost use Rattle.u_rule.specs.declared.entry.Entry.{Entry};
 
 use std::alloc::{AllocError, Global};
@@ -34,15 +34,16 @@ fn put_all(history: &mut History, entries: &[Entry]) -> Result<(), AllocError>
 }
 
 /// Puts in what the firing gives.
+#[tactic(auto, using(u_rule::proofs::Firings::own_is_firing))]
 fn put_given(
     alloc: Global,
     history: &mut History,
     job: &Job,
     firing: &Firing,
 ) -> Result<(), AllocError>
-    requires { IsTrue (is_firing_of job.now firing.now) }
+    requires { IsTrue (is_own_of job.now firing.now) }
     ensures { OnOk result ((e : Entry) → Contains history.new e
-        ↔ (Contains history.old e ⊎ Contains ((system_of job.now).gives firing.now) e)) }
+        ↔ (Contains history.old e ⊎ Contains ((own_of job.now).gives firing.now) e)) }
 {
     let given = given_by(alloc, job, firing)?;
     put_all(history, &given)
@@ -50,9 +51,9 @@ fn put_given(
 
 /// The entries that the firings of a job hold, in order: the start token, and all that each of them gives.
 pub fn held(alloc: Global, job: &Job, firings: &[Firing]) -> Result<Vec<Entry>, AllocError>
-    requires { Within (λ f. IsTrue (is_firing_of job.now f)) firings.now }
+    requires { Within (λ f. IsTrue (is_own_of job.now f)) firings.now }
     ensures { IfOk result
-        (λ v. IsListOf entry_cmp (Held (system_of job.now) firings.now) v.items) }
+        (λ v. IsListOf entry_cmp (Held (own_of job.now) firings.now) v.items) }
 {
     let mut history = History::new(alloc);
     put(&mut history, start(job))?;

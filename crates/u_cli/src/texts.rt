@@ -23,7 +23,9 @@ use u_commands::{
 /// What `check` tells of the texts.
 #[tactic(auto, using(crate::proofs::AskingLaws::both))]
 fn check_told(alloc: Global, program: &[u8], asked: Asked) -> Result<Told, CommandError>
-    ensures { MatchResult result (λ t. TellsCheck program.now asked t.text.items t.status) (CheckNotTold program.now) }
+    ensures { MatchResult result
+        (λ t. TellsCheck program.now asked t.text.items t.status)
+        (CheckNotTold program.now) }
 {
     match checked_of(alloc, program) {
         Ok(checked) => check(alloc, &checked, asked),
@@ -45,8 +47,10 @@ pub fn check_text<W: Write>(
     asked: Asked,
     writer: &mut W,
 ) -> Result<u8, CommandError>
-    ensures { TextAnswer (TellsCheck program.now asked) (CheckNotTold program.now) (W.contents writer.old) result
-        (W.contents writer.new) }
+    ensures { TextAnswer
+        (TellsCheck program.now asked)
+        (CheckNotTold program.now)
+        (W.contents writer.old) result (W.contents writer.new) }
 {
     finish(check_told(alloc, program, asked), writer)
 }
@@ -60,7 +64,9 @@ fn run_told(
     firings: usize,
 ) -> Result<Told, CommandError>
     requires { firings ≤ 1000000 }
-    ensures { MatchResult result (λ t. TellsRun program.now argument.now firings t.text.items t.status) (RunNotTold program.now argument.now) }
+    ensures { MatchResult result
+        (λ t. TellsRun program.now argument.now firings t.text.items t.status)
+        (RunNotTold program.now argument.now) }
 {
     match job_of(alloc, program, argument) {
         Ok(job) => run(alloc, &job, firings, &mut Unwatched),
@@ -86,8 +92,10 @@ pub fn run_text<W: Write>(
     writer: &mut W,
 ) -> Result<u8, CommandError>
     requires { firings ≤ 1000000 }
-    ensures { TextAnswer (TellsRun program.now argument.now firings) (RunNotTold program.now argument.now) (W.contents writer.old) result
-        (W.contents writer.new) }
+    ensures { TextAnswer
+        (TellsRun program.now argument.now firings)
+        (RunNotTold program.now argument.now)
+        (W.contents writer.old) result (W.contents writer.new) }
 {
     finish(run_told(alloc, program, argument, firings), writer)
 }
@@ -101,7 +109,9 @@ fn save_told(
     firings: usize,
 ) -> Result<Told, CommandError>
     requires { firings ≤ 1000000 }
-    ensures { MatchResult result (λ t. TellsSave program.now argument.now firings t.text.items t.status) (RunNotTold program.now argument.now) }
+    ensures { MatchResult result
+        (λ t. TellsSave program.now argument.now firings t.text.items t.status)
+        (RunNotTold program.now argument.now) }
 {
     match job_of(alloc, program, argument) {
         Ok(job) => save(alloc, &job, firings, &mut Unwatched),
@@ -122,8 +132,10 @@ pub fn save_text<W: Write>(
     writer: &mut W,
 ) -> Result<u8, CommandError>
     requires { firings ≤ 1000000 }
-    ensures { TextAnswer (TellsSave program.now argument.now firings) (RunNotTold program.now argument.now) (W.contents writer.old) result
-        (W.contents writer.new) }
+    ensures { TextAnswer
+        (TellsSave program.now argument.now firings)
+        (RunNotTold program.now argument.now)
+        (W.contents writer.old) result (W.contents writer.new) }
 {
     finish(save_told(alloc, program, argument, firings), writer)
 }
@@ -150,7 +162,9 @@ fn trace_told(
     firings: usize,
 ) -> Result<Told, CommandError>
     requires { firings ≤ 1000000 }
-    ensures { MatchResult result (λ t. TellsTrace program.now argument.now entry.now firings t.text.items t.status) (TraceNotTold program.now argument.now entry.now firings) }
+    ensures { MatchResult result
+        (λ t. TellsTrace program.now argument.now entry.now firings t.text.items t.status)
+        (TraceNotTold program.now argument.now entry.now firings) }
 {
     match job_of(alloc, program, argument) {
         Ok(job) => trace_job(alloc, job, entry, firings),
@@ -172,8 +186,10 @@ pub fn trace_text<W: Write>(
     writer: &mut W,
 ) -> Result<u8, CommandError>
     requires { firings ≤ 1000000 }
-    ensures { TextAnswer (TellsTrace program.now argument.now entry.now firings) (TraceNotTold program.now argument.now entry.now firings) (W.contents writer.old) result
-        (W.contents writer.new) }
+    ensures { TextAnswer
+        (TellsTrace program.now argument.now entry.now firings)
+        (TraceNotTold program.now argument.now entry.now firings)
+        (W.contents writer.old) result (W.contents writer.new) }
 {
     finish(trace_told(alloc, program, argument, entry, firings), writer)
 }
@@ -187,7 +203,9 @@ fn restore_told(
     checkpoint: &[u8],
     firings: usize,
 ) -> Result<Told, CommandError>
-    ensures { MatchResult result (λ t. TellsRestore program.now argument.now checkpoint.now firings t.text.items t.status) (RestoreNotTold program.now argument.now checkpoint.now firings) }
+    ensures { MatchResult result
+        (λ t. TellsRestore program.now argument.now checkpoint.now firings t.text.items t.status)
+        (RestoreNotTold program.now argument.now checkpoint.now firings) }
 {
     match job_of(alloc, program, argument) {
         Ok(job) => restore(alloc, &job, checkpoint, firings, &mut Unwatched),
@@ -208,8 +226,10 @@ pub fn restore_text<W: Write>(
     firings: usize,
     writer: &mut W,
 ) -> Result<u8, CommandError>
-    ensures { TextAnswer (TellsRestore program.now argument.now checkpoint.now firings) (RestoreNotTold program.now argument.now checkpoint.now firings) (W.contents writer.old) result
-        (W.contents writer.new) }
+    ensures { TextAnswer
+        (TellsRestore program.now argument.now checkpoint.now firings)
+        (RestoreNotTold program.now argument.now checkpoint.now firings)
+        (W.contents writer.old) result (W.contents writer.new) }
 {
     finish(
         restore_told(alloc, program, argument, checkpoint, firings),
@@ -226,7 +246,9 @@ fn world_told(
     plan: WorldPlan<'_>,
 ) -> Result<Told, CommandError>
     requires { IsBetween 1 plan.replicas 8 }
-    ensures { MatchResult result (λ t. TellsWorldOf program.now argument.now plan.entry t.text.items t.status) (WorldNotTold program.now argument.now plan.entry) }
+    ensures { MatchResult result
+        (λ t. TellsWorldOf program.now argument.now plan.entry t.text.items t.status)
+        (WorldNotTold program.now argument.now plan.entry) }
 {
     match job_of(alloc, program, argument) {
         Ok(job) => world(alloc, &job, plan, &mut Unwatched),
@@ -247,8 +269,10 @@ pub fn world_text<W: Write>(
     writer: &mut W,
 ) -> Result<u8, CommandError>
     requires { IsBetween 1 plan.replicas 8 }
-    ensures { TextAnswer (TellsWorldOf program.now argument.now plan.entry) (WorldNotTold program.now argument.now plan.entry) (W.contents writer.old) result
-        (W.contents writer.new) }
+    ensures { TextAnswer
+        (TellsWorldOf program.now argument.now plan.entry)
+        (WorldNotTold program.now argument.now plan.entry)
+        (W.contents writer.old) result (W.contents writer.new) }
 {
     finish(world_told(alloc, program, argument, plan), writer)
 }
@@ -265,7 +289,9 @@ fn fleet_told<R: Threads + Wait + Sync>(
 ) -> Result<Told, CommandError>
     requires workers { IsBetween 1 workers 8 }
     requires rounds { rounds ≤ 1000 }
-    ensures { MatchResult result (λ t. TellsFleetOf program.now argument.now workers rounds t.text.items t.status) (FleetNotTold program.now argument.now) }
+    ensures { MatchResult result
+        (λ t. TellsFleetOf program.now argument.now workers rounds t.text.items t.status)
+        (FleetNotTold program.now argument.now) }
 {
     match job_of(alloc, program, argument) {
         Ok(job) => fleet(rt, alloc, &job, workers, rounds),
@@ -289,8 +315,10 @@ pub fn fleet_text<R: Threads + Wait + Sync, W: Write>(
 ) -> Result<u8, CommandError>
     requires workers { IsBetween 1 workers 8 }
     requires rounds { rounds ≤ 1000 }
-    ensures { TextAnswer (TellsFleetOf program.now argument.now workers rounds) (FleetNotTold program.now argument.now) (W.contents writer.old) result
-        (W.contents writer.new) }
+    ensures { TextAnswer
+        (TellsFleetOf program.now argument.now workers rounds)
+        (FleetNotTold program.now argument.now)
+        (W.contents writer.old) result (W.contents writer.new) }
 {
     finish(
         fleet_told(rt, alloc, program, argument, workers, rounds),

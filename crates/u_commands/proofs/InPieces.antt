@@ -6,7 +6,7 @@ use Rattle.u_base.specs.Firing.{System, Cl, EachPlace, IsNextFrom}
 use Rattle.u_base.proofs.Held.{Enabled-mono}
 use Rattle.u_base.proofs.Closure.{Cl-mono}
 use Rattle.u_base.proofs.Plain.{EachPlace-push}
-use Rattle.u_rule.specs.Rule.{system_of}
+use Rattle.u_rule.specs.Rule.{own_of}
 use Rattle.u_rule.specs.declared.firing.Firing.{Firing}
 use Rattle.u_machine.specs.State.{State, Taken}
 use Rattle.u_machine.specs.Calls.{firing_le, Fires, Runs, RunAnswer}
@@ -41,15 +41,15 @@ module _ (old mid : State) (gs : List Firing) (first : Fires old gs mid) where
   back hs g (inl t) = inl ((first.taken g).1 (inl t))
   back hs g (inr c) = elim (Contains-append_cases gs hs g c) [ inl a ↦ inl ((first.taken g).1 (inr a)) | inr b ↦ inr b ]
 
-  next_on : (hs : List Firing) (f : Firing) → IsNextFrom (system_of mid.job) firing_le (Taken mid) hs f → IsNextFrom (system_of old.job) firing_le (Taken old) (gs ++ hs) f
+  next_on : (hs : List Firing) (f : Firing) → IsNextFrom (own_of mid.job) firing_le (Taken mid) hs f → IsNextFrom (own_of old.job) firing_le (Taken old) (gs ++ hs) f
   next_on hs f n =
-      next_along (system_of old.job) firing_le (Taken mid) (Taken old) hs (gs ++ hs) (there hs) (back hs) f (rw first.grows.job at n)
+      next_along (own_of old.job) firing_le (Taken mid) (Taken old) hs (gs ++ hs) (there hs) (back hs) f (rw first.grows.job at n)
 
   -- firings after firings
   pub fires_on : (new : State) (hs : List Firing) → Fires mid hs new → Fires old (gs ++ hs) new
   fires_on new hs next = record {
     grows = grows_trans old mid new first.grows next.grows;
-    each = each_append (IsNextFrom (system_of old.job) firing_le (Taken old)) gs hs first.each (λ k f e. next_on (take k hs) f (next.each k f e));
+    each = each_append (IsNextFrom (own_of old.job) firing_le (Taken old)) gs hs first.each (λ k f e. next_on (take k hs) f (next.each k f e));
     taken = λ g. ((λ t. there hs g ((next.taken g).0 t)), (λ t. (next.taken g).1 (back hs g t)));
     count = let x = next.count in let y = first.count in let z = length-append gs hs in omega arith;
   }

@@ -9,7 +9,8 @@ use Rattle.u_base.proofs.Plain.{Plain-derivation}
 use Rattle.u_determinate.specs.Strict.{IsStrict}
 use Rattle.u_determinate.specs.Determinate.{IsDeterminate}
 use Rattle.u_determinate.specs.Theorem.{IsDeterminateJob}
-use Rattle.u_rule.specs.Rule.{system_of}
+use Rattle.u_determinate.proofs.Theorem.{own_runs}
+use Rattle.u_rule.specs.Rule.{own_of}
 use Rattle.u_rule.specs.EntryOrder.{FiringList}
 use Rattle.u_rule.specs.declared.entry.Entry.{Entry}
 use Rattle.u_rule.specs.declared.firing.Firing.{Firing}
@@ -40,17 +41,17 @@ module _ (m : State) (is : IsMachine m) (st : IsSettled m) (alone : m.parked ≡
   logged_taken : (f : Firing) → Contains m.log f → Taken m f
   logged_taken f c = subst (λ (xs : FiringList). Contains xs f) (sym (ap (λ (xs : FiringList). m.log ++ xs) alone ∙ append-nil m.log)) c
 
-  held_closed : (e : Entry) → Held (system_of m.job) m.log e → Cl (system_of m.job) (Taken m) e
+  held_closed : (e : Entry) → Held (own_of m.job) m.log e → Cl (own_of m.job) (Taken m) e
   held_closed e h = let s = settled_is_Cl m is.sound st in (s.0 e).0 ((s.1 e).1 h)
 
-  closed_held : (e : Entry) → Cl (system_of m.job) (Taken m) e → Held (system_of m.job) m.log e
+  closed_held : (e : Entry) → Cl (own_of m.job) (Taken m) e → Held (own_of m.job) m.log e
   closed_held e c = let s = settled_is_Cl m is.sound st in (s.1 e).0 ((s.0 e).1 c)
 
-  none_left : NothingReady m → (f : Firing) → Enabled (system_of m.job) (Held (system_of m.job) m.log) f → Contains m.log f
-  none_left n f en = taken_logged f (n f (Enabled-mono (system_of m.job) (Held (system_of m.job) m.log) (Cl (system_of m.job) (Taken m)) held_closed f en))
+  none_left : NothingReady m → (f : Firing) → Enabled (own_of m.job) (Held (own_of m.job) m.log) f → Contains m.log f
+  none_left n f en = taken_logged f (n f (Enabled-mono (own_of m.job) (Held (own_of m.job) m.log) (Cl (own_of m.job) (Taken m)) held_closed f en))
 
-  some_left : (f : Firing) × IsReady m f → (f : Firing) × Enabled (system_of m.job) (Held (system_of m.job) m.log) f × (Contains m.log f → ⊥)
-  some_left (f, r) = (f, Enabled-mono (system_of m.job) (Cl (system_of m.job) (Taken m)) (Held (system_of m.job) m.log) closed_held f r.0, λ c. r.1 (logged_taken f c))
+  some_left : (f : Firing) × IsReady m f → (f : Firing) × Enabled (own_of m.job) (Held (own_of m.job) m.log) f × (Contains m.log f → ⊥)
+  some_left (f, r) = (f, Enabled-mono (own_of m.job) (Cl (own_of m.job) (Taken m)) (Held (own_of m.job) m.log) closed_held f r.0, λ c. r.1 (logged_taken f c))
 
 -- where nothing is parked, the count is 0
 none_parked : (new : State) (s : Ending) (report : List ℕ) → new.parked ≡ [] → IsReportOf (Contains new.history) s (length new.log) (length new.parked) report → IsReportOf (Contains new.history) s (length new.log) 0 report
@@ -58,7 +59,7 @@ none_parked new s report e r = subst (λ (fs : FiringList). IsReportOf (Contains
 
 module _ (old new : State) (budget : ℕ) (log : old.log ≡ []) (parked : old.parked ≡ []) (is : IsMachine new) where
   -- the machine's log is the run, and its history is what the log holds
-  ran_to : (end : Ran) → RunAnswer old budget (Ok end) new → RunsTo old.job budget (ending_of end) new.log × Same (Contains new.history) (Held (system_of old.job) new.log)
+  ran_to : (end : Ran) → RunAnswer old budget (Ok end) new → RunsTo old.job budget (ending_of end) new.log × Same (Contains new.history) (Held (own_of old.job) new.log)
   ran_to ran.Quiet a =
       let d = run_done old new budget ran.Quiet a log parked is.sound in (
         record {
@@ -138,10 +139,10 @@ reports_run job budget end m report status determinate strict to r =
       run = record {
         run = to.run;
         clashes = λ e.
-            let derivation = Plain-derivation (system_of job) firing_le budget m.log to.run.plain in
-            elim e [ inl s ↦ (strict s).runs m.log derivation | inr d ↦ (determinate d).runs m.log derivation ];
-        reported = report_same (Contains m.history) (Held (system_of job) m.log) to.held end (length m.log) 0 report (none_parked m end report to.parked r.reported);
-        ended = status_same (Contains m.history) (Held (system_of job) m.log) to.held end status r.ended;
+            let derivation = Plain-derivation (own_of job) firing_le budget m.log to.run.plain in
+            elim e [ inl s ↦ own_runs job (strict s) m.log derivation | inr d ↦ own_runs job (determinate d) m.log derivation ];
+        reported = report_same (Contains m.history) (Held (own_of job) m.log) to.held end (length m.log) 0 report (none_parked m end report to.parked r.reported);
+        ended = status_same (Contains m.history) (Held (own_of job) m.log) to.held end status r.ended;
       };
     }
 

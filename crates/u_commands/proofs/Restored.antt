@@ -5,7 +5,7 @@ use Rattle.u_base.specs.Firing.{System, Cl, IsNextFrom, Same}
 use Rattle.u_base.proofs.Member.{Contains-nil}
 use Rattle.u_base.proofs.Held.{Enabled-mono}
 use Rattle.u_base.proofs.Closure.{Cl-mono}
-use Rattle.u_rule.specs.Rule.{system_of}
+use Rattle.u_rule.specs.Rule.{own_of}
 use Rattle.u_rule.specs.declared.firing.Firing.{Firing}
 use Rattle.u_machine.specs.State.{State, Taken, IsMachine, IsSettled}
 use Rattle.u_machine.specs.Calls.{firing_le, Fires, RunAnswer}
@@ -56,20 +56,20 @@ module _ (job : JobParts) (fs gs : List Firing) (old new : State) (takes : Takes
   same_job : new.job ≡ job
   same_job = fires.grows.job ∙ takes.grows.job
 
-  closure : Same (Contains new.history) (Cl (system_of new.job) (SavedOrFired fs gs))
+  closure : Same (Contains new.history) (Cl (own_of new.job) (SavedOrFired fs gs))
   closure e =
       let c = (settled_is_Cl new is.sound settled).0 e in
-      ((λ k. Cl-mono (system_of new.job) (Taken new) (SavedOrFired fs gs) (λ f. (after f).0) e (c.0 k)), (λ k. c.1 (Cl-mono (system_of new.job) (SavedOrFired fs gs) (Taken new) (λ f. (after f).1) e k)))
+      ((λ k. Cl-mono (own_of new.job) (Taken new) (SavedOrFired fs gs) (λ f. (after f).0) e (c.0 k)), (λ k. c.1 (Cl-mono (own_of new.job) (SavedOrFired fs gs) (Taken new) (λ f. (after f).1) e k)))
 
   pub goes_on : GoesOn job fs gs new
   goes_on = record {
     of = same_job;
     limit = fires.grows.limit ∙ takes.grows.limit;
-    each = λ k f e. next_same (system_of job) firing_le (Taken old) (Contains fs) before (take k gs) f (rw takes.grows.job at (fires.each k f e));
+    each = λ k f e. next_same (own_of job) firing_le (Taken old) (Contains fs) before (take k gs) f (rw takes.grows.job at (fires.each k f e));
     taken = after;
     is = is;
     settled = settled;
-    history = subst (λ (j : JobParts). Same (Contains new.history) (Cl (system_of j) (SavedOrFired fs gs))) same_job closure;
+    history = subst (λ (j : JobParts). Same (Contains new.history) (Cl (own_of j) (SavedOrFired fs gs))) same_job closure;
   }
 
 module _ (job : JobParts) (firings : ℕ) (fs : List Firing) (old new : State) (takes : TakesAll (blank job most_taken) fs old) (is : IsMachine new) where

@@ -6,7 +6,7 @@ use Rattle.u_check.specs.Jobs.{JobParts}
 use Rattle.u_base.specs.Firing.{Held}
 use Rattle.u_base.proofs.Held.{Enabled-mono}
 use Rattle.u_sets.specs.Rising.{IsListOf}
-use Rattle.u_rule.specs.Rule.{system_of}
+use Rattle.u_rule.specs.Rule.{own_of}
 use Rattle.u_rule.specs.EntryOrder.{firing_cmp}
 use Rattle.u_rule.specs.declared.entry.Entry.{Entry}
 use Rattle.u_rule.specs.declared.firing.Firing.{Firing}
@@ -32,15 +32,15 @@ of_run job firings m end p P h =
 
 module _ (job : JobParts) (origins : List BlockOrigins) (firings : ℕ) (m : State) (ran : RanPlainly job firings m) (e : Entry) where
   cause_in : (f : Firing) → IsCause job m.history e f → IsCauseIn job m.log e f
-  cause_in f (en, g) = (Enabled-mono (system_of job) (Contains m.history) (Held (system_of job) m.log) (λ x. (ran.held x).0) f en, g)
+  cause_in f (en, g) = (Enabled-mono (own_of job) (Contains m.history) (Held (own_of job) m.log) (λ x. (ran.held x).0) f en, g)
 
   in_cause : (f : Firing) → IsCauseIn job m.log e f → IsCause job m.history e f
-  in_cause f (en, g) = (Enabled-mono (system_of job) (Held (system_of job) m.log) (Contains m.history) (λ x. (ran.held x).1) f en, g)
+  in_cause f (en, g) = (Enabled-mono (own_of job) (Held (own_of job) m.log) (Contains m.history) (λ x. (ran.held x).1) f en, g)
 
   causes_in : (fs : List Firing) → IsListOf firing_cmp (IsCause job m.history e) fs → IsListOf firing_cmp (IsCauseIn job m.log e) fs
   causes_in fs is = record { rises = is.rises; exact = λ f. ((λ c. cause_in f ((is.exact f).0 c)), (λ c. (is.exact f).1 (in_cause f c))) }
 
-  pub traces_run : (causes story : List Firing) (written : List ℕ) → Held (system_of job) m.log e → IsListOf firing_cmp (IsCause job m.history e) causes → IsStory (system_of job) m.log e story → Tells (system_of job) m.log e story → written ≡ traced_text origins causes story → TracesJob job origins firings e written
+  pub traces_run : (causes story : List Firing) (written : List ℕ) → Held (own_of job) m.log e → IsListOf firing_cmp (IsCause job m.history e) causes → IsStory (own_of job) m.log e story → Tells (own_of job) m.log e story → written ≡ traced_text origins causes story → TracesJob job origins firings e written
   traces_run causes story written held exact is tells text = (
     m.log,
     record {

@@ -7,7 +7,7 @@ use Rattle.u_name.specs.NameReading.{IsNameOf, IsNameErrorOf}
 use Rattle.u_name.specs.declared.reading.NameTextError.TheVariants as name_errors
 use Rattle.u_check.specs.Jobs.{JobParts}
 use Rattle.u_base.specs.Firing.{Held, Plain}
-use Rattle.u_rule.specs.Rule.{system_of}
+use Rattle.u_rule.specs.Rule.{own_of}
 use Rattle.u_rule.specs.FiringText.{firing_text}
 use Rattle.u_rule.specs.declared.firing.Firing.{Firing}
 use Rattle.u_rule.specs.declared.parts.Written.{Written}
@@ -50,7 +50,7 @@ blamed_text origins (Some b) = write_lines origins b.cell b.first ++ write_lines
 -- is written is what is to blame for two values at the port in it; if the program is strict or
 -- determinate, that is a cell.
 pub record BlamesRun (job : JobParts) (origins : List BlockOrigins) (n : Activity) (p : ℕ) (fs : List Firing) (written : List ℕ) : Type 0 where
-  pub plain : Plain (system_of job) firing_le most_blamed fs
+  pub plain : Plain (own_of job) firing_le most_blamed fs
   pub found : Option Blame
   pub is_found : IsFoundAt job fs n p found
   pub by_writes : BlamesByWrites job found
@@ -67,8 +67,8 @@ blame_fault blame_errors.NoMemory = faults.NoMemory
 -- the plain run of the job does not hold two values at the port
 abbrev pub LacksClash : JobParts → Activity → ℕ → Type 0
 LacksClash job n p =
-    (fs : List Firing) × Plain (system_of job) firing_le most_blamed fs
-    × (HasTwo (ValueAt (Held (system_of job) fs) n p) → ⊥)
+    (fs : List Firing) × Plain (own_of job) firing_le most_blamed fs
+    × (HasTwo (ValueAt (Held (own_of job) fs) n p) → ⊥)
 
 -- why nothing is blamed in the run of a job
 abbrev pub BlameRefused : JobParts → Activity → ℕ → CommandError → Type 0

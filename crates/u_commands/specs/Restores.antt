@@ -3,7 +3,7 @@
 use Rattle.std.specs.Prelude.{◌≡◌, ℕ, ◌≤◌, ◌<◌, ◌↔◌, ◌⊎◌, List, ◌++◌, Contains, codes, length}
 use Rattle.u_check.specs.Jobs.{JobParts}
 use Rattle.u_base.specs.Firing.{Cl, EachPlace, IsNextFrom, Same, Whole}
-use Rattle.u_rule.specs.Rule.{system_of}
+use Rattle.u_rule.specs.Rule.{own_of}
 use Rattle.u_rule.specs.declared.firing.Firing.{Firing}
 use Rattle.u_machine.specs.State.{State, Taken, IsMachine, IsSettled, IsReady, NothingReady, count_of}
 use Rattle.u_machine.specs.Calls.{firing_le}
@@ -37,11 +37,11 @@ SavedOrFired fs gs f = Contains fs f ⊎ Contains gs f
 pub record GoesOn (job : JobParts) (fs gs : List Firing) (m : State) : Type 0 where
   pub of : m.job ≡ job
   pub limit : m.limit ≡ most_taken
-  pub each : EachPlace (IsNextFrom (system_of job) firing_le (Contains fs)) gs
+  pub each : EachPlace (IsNextFrom (own_of job) firing_le (Contains fs)) gs
   pub taken : (f : Firing) → Taken m f ↔ SavedOrFired fs gs f
   pub is : IsMachine m
   pub settled : IsSettled m
-  pub history : Same (Contains m.history) (Cl (system_of job) (SavedOrFired fs gs))
+  pub history : Same (Contains m.history) (Cl (own_of job) (SavedOrFired fs gs))
 
 -- The report and the status of a machine that took fs and then fired so many at most.
 pub record ReportsOn (job : JobParts) (firings : ℕ) (fs : List Firing) (report : List ℕ) (status : ℕ) : Type 0 where
@@ -53,7 +53,7 @@ pub record ReportsOn (job : JobParts) (firings : ℕ) (fs : List Firing) (report
   pub reported : ReportsMachine machine state report status
   -- it says quiet exactly where nothing is ready, and then the history is the whole one
   pub quiet : (state ≡ states.Quiet) ↔ NothingReady machine
-  pub whole : state ≡ states.Quiet → Same (Contains machine.history) (Whole (system_of job))
+  pub whole : state ≡ states.Quiet → Same (Contains machine.history) (Whole (own_of job))
   -- it says paused only where it fired as often as it may
   pub many : state ≡ states.Paused → length gs ≡ firings
 

@@ -7,7 +7,7 @@ use Rattle.u_check.specs.Rules.{IsChecked}
 use Rattle.u_check.specs.Jobs.{JobParts}
 use Rattle.u_base.specs.Firing.{Held, Whole, Same, Enabled, Plain}
 use Rattle.u_value.specs.declared.value.Value.{Value}
-use Rattle.u_rule.specs.Rule.{system_of}
+use Rattle.u_rule.specs.Rule.{own_of}
 use Rattle.u_rule.specs.declared.parts.Fault.{Fault}
 use Rattle.u_rule.specs.declared.entry.Entry.{Entry}
 use Rattle.u_rule.specs.declared.firing.Firing.{Firing}
@@ -58,13 +58,13 @@ pub record ReportsMachine (m : State) (state : Ending) (report : List ℕ) (stat
 
 -- fs is the plain run of the job: each firing the least that is enabled and new, so many at most
 pub record RunsTo (job : JobParts) (firings : ℕ) (state : Ending) (fs : List Firing) : Type 0 where
-  pub plain : Plain (system_of job) firing_le firings fs
+  pub plain : Plain (own_of job) firing_le firings fs
   -- where it is quiet, fs holds the whole history, and has every firing that is enabled over it
-  pub whole : state ≡ states.Quiet → Same (Held (system_of job) fs) (Whole (system_of job))
-  pub all : state ≡ states.Quiet → (f : Firing) → Enabled (system_of job) (Held (system_of job) fs) f → Contains fs f
+  pub whole : state ≡ states.Quiet → Same (Held (own_of job) fs) (Whole (own_of job))
+  pub all : state ≡ states.Quiet → (f : Firing) → Enabled (own_of job) (Held (own_of job) fs) f → Contains fs f
   -- where it is paused, it fired as often as it may, and more is enabled
   pub many : state ≡ states.Paused → length fs ≡ firings
-  pub more : state ≡ states.Paused → (f : Firing) × Enabled (system_of job) (Held (system_of job) fs) f × (Contains fs f → ⊥)
+  pub more : state ≡ states.Paused → (f : Firing) × Enabled (own_of job) (Held (own_of job) fs) f × (Contains fs f → ⊥)
 
 -- it had taken nothing, and has fired so often since
 abbrev pub HasFired : ℕ → State → Type 0
@@ -76,20 +76,20 @@ pub record RanTo (job : JobParts) (firings : ℕ) (state : Ending) (m : State) :
   pub of : m.job ≡ job
   pub parked : m.parked ≡ []
   pub run : RunsTo job firings state m.log
-  pub held : Same (Contains m.history) (Held (system_of job) m.log)
+  pub held : Same (Contains m.history) (Held (own_of job) m.log)
   pub fired : state ≡ states.Paused → HasFired firings m
 
 -- if the program is strict or determinate, fs holds two values at a port, or two answers, only with two writes of one cell
 abbrev pub ClashesByWrites : JobParts → List Firing → Type 0
 ClashesByWrites job fs =
-    (IsStrict job.program.blocks ⊎ IsDeterminate job.program.blocks) → OnlyWritesClash (Held (system_of job) fs)
+    (IsStrict job.program.blocks ⊎ IsDeterminate job.program.blocks) → OnlyWritesClash (Held (own_of job) fs)
 
 -- The report and the status of such a run: those of what fs holds; no firing is parked.
 pub record IsReportedRun (job : JobParts) (firings : ℕ) (state : Ending) (fs : List Firing) (report : List ℕ) (status : ℕ) : Type 0 where
   pub run : RunsTo job firings state fs
   pub clashes : ClashesByWrites job fs
-  pub reported : IsReportOf (Held (system_of job) fs) state (length fs) 0 report
-  pub ended : IsStatusOf (Held (system_of job) fs) state status
+  pub reported : IsReportOf (Held (own_of job) fs) state (length fs) 0 report
+  pub ended : IsStatusOf (Held (own_of job) fs) state status
 
 -- Some bytes, and behind them the report of a machine that fires what it can, so many at most; and its status.
 pub record RunsBehind (front : List ℕ) (old : State) (firings : ℕ) (written : List ℕ) (status : ℕ) : Type 0 where

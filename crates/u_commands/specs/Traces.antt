@@ -3,7 +3,7 @@ use Rattle.std.specs.Prelude.{◌≡◌, ℕ, ◌⊎◌, List, ◌∷◌, ◌++�
 use Rattle.u_check.specs.Jobs.{JobParts}
 use Rattle.u_base.specs.Firing.{Enabled, Held, Plain, Same}
 use Rattle.u_base.specs.Spaced.{ended}
-use Rattle.u_rule.specs.Rule.{system_of}
+use Rattle.u_rule.specs.Rule.{own_of}
 use Rattle.u_rule.specs.EntryOrder.{firing_cmp}
 use Rattle.u_rule.specs.EntryReading.{IsEntryOf, IsEntryErrorOf}
 use Rattle.u_rule.specs.FiringText.{firing_text}
@@ -37,27 +37,27 @@ traced_text origins causes story =
 
 -- f is a firing of the job whose needs the run fs holds, and it gives e
 abbrev pub IsCauseIn : JobParts → List Firing → Entry → Firing → Type 0
-IsCauseIn job fs e f = Enabled (system_of job) (Held (system_of job) fs) f × Contains ((system_of job).gives f) e
+IsCauseIn job fs e f = Enabled (own_of job) (Held (own_of job) fs) f × Contains ((own_of job).gives f) e
 
 -- fs is the plain run of the job: each firing the least that is enabled and new, so many at most. It holds
 -- the entry. What is written are all firings that give the entry and whose needs the run holds, in order, each
 -- once; and the story of the entry in this run; each with the place of its statement.
 pub record TracesRun (job : JobParts) (origins : List BlockOrigins) (firings : ℕ) (e : Entry) (fs : List Firing) (written : List ℕ) : Type 0 where
-  pub plain : Plain (system_of job) firing_le firings fs
-  pub held : Held (system_of job) fs e
+  pub plain : Plain (own_of job) firing_le firings fs
+  pub held : Held (own_of job) fs e
   pub causes : List Firing
   pub exact : IsListOf firing_cmp (IsCauseIn job fs e) causes
   pub story : List Firing
-  pub is_story : IsStory (system_of job) fs e story
-  pub tells : Tells (system_of job) fs e story
+  pub is_story : IsStory (own_of job) fs e story
+  pub tells : Tells (own_of job) fs e story
   pub is : written ≡ traced_text origins causes story
 
 -- a machine of the job that ran plainly, with so many firings at most: its log is the run, and its history is
 -- what the log holds
 pub record RanPlainly (job : JobParts) (firings : ℕ) (m : State) : Type 0 where
   pub of : m.job ≡ job
-  pub plain : Plain (system_of job) firing_le firings m.log
-  pub held : Same (Contains m.history) (Held (system_of job) m.log)
+  pub plain : Plain (own_of job) firing_le firings m.log
+  pub held : Same (Contains m.history) (Held (own_of job) m.log)
 
 -- the fault that is told if nothing is traced
 abbrev pub trace_fault : TraceError → CommandError
@@ -69,7 +69,7 @@ TracesJob job origins firings e written = (fs : List Firing) × TracesRun job or
 
 -- the plain run of the job does not hold the entry
 abbrev pub LacksEntry : JobParts → ℕ → Entry → Type 0
-LacksEntry job firings e = (fs : List Firing) × Plain (system_of job) firing_le firings fs × (Held (system_of job) fs e → ⊥)
+LacksEntry job firings e = (fs : List Firing) × Plain (own_of job) firing_le firings fs × (Held (own_of job) fs e → ⊥)
 
 -- why an entry of a job is not traced
 abbrev pub TraceRefused : JobParts → ℕ → Entry → CommandError → Type 0

@@ -4,7 +4,7 @@ use Rattle.u_base.specs.Spaced.{ended}
 use Rattle.u_check.specs.Jobs.{JobParts}
 use Rattle.u_base.specs.Firing.{Held, Same}
 use Rattle.u_value.specs.declared.value.Value.{Value}
-use Rattle.u_rule.specs.Rule.{system_of}
+use Rattle.u_rule.specs.Rule.{own_of}
 use Rattle.u_rule.specs.declared.parts.Fault.{Fault}
 use Rattle.u_rule.specs.declared.entry.Entry.{Entry}
 use Rattle.u_rule.specs.declared.firing.Firing.{Firing}
@@ -59,5 +59,5 @@ pub record WaitsAfterRun (job : JobParts) (origins : List BlockOrigins) (firings
   pub fs : List Firing
   pub run : RunsTo job firings state fs
   pub history : List Entry
-  pub held : Same (Contains history) (Held (system_of job) fs)
+  pub held : Same (Contains history) (Held (own_of job) fs)
   pub told : TellsWaits job origins (Contains history) state written status

@@ -10,7 +10,8 @@ use u_compile::Compiled;
 
 /// The text of the program, or its map if that is asked for.
 fn text_of(alloc: Global, compiled: &Compiled, map: bool) -> Result<Vec<u8>, AllocError>
-    ensures { IfOk result (λ v. v.items ≡ compile_text compiled.now.program compiled.now.origins map) }
+    ensures { IfOk result
+        (λ v. v.items ≡ compile_text compiled.now.program compiled.now.origins map) }
 {
     let mut text = Vec::new(alloc);
     if map {
