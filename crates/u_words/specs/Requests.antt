@@ -73,7 +73,6 @@ IsJobRequest word found (DrawStory entry firings) =
     (word ≡ codes "draw")
     × (first_value found (codes "ARG") ≡ None → ⊥)
     × (first_value found (codes "ENTRY") ≡ Some entry.now)
-    × IsFirings firings
     × IsNumberOr 100000 firings (first_value found (codes "firings"))
 IsJobRequest word found (Run firings) = (word ≡ codes "run") × AreFirings found firings
 IsJobRequest word found (Save firings) = (word ≡ codes "save") × AreFirings found firings
@@ -86,49 +85,46 @@ IsJobRequest word found (Trace entry firings) =
 IsJobRequest word found (Blame activity port) =
     (word ≡ codes "blame")
     × (activity.now ≡ word_of found (codes "NAME"))
-    × IsPort port
     × IsNumberText port (word_of found (codes "PORT"))
 IsJobRequest word found (Waits firings) = (word ≡ codes "waits") × AreFirings found firings
 IsJobRequest word found (World w) =
     (word ≡ codes "world")
     × AreFirings found w.firings
-    × IsOneToEight w.replicas
     × IsNumberText w.replicas (word_of found (codes "replicas"))
     × IsNumberText w.seed (word_of found (codes "seed"))
-    × (w.events ≤ 100000)
     × IsNumberText w.events (word_of found (codes "events"))
     × IsFlag w.draw (word_of found (codes "draw"))
     × (option_map (λ s. s.now) w.script ≡ first_value found (codes "script"))
 
--- what the command with that word asks for, with the words that were found for it
-abbrev pub Asks : List ℕ → Found → Request → Type 0
-Asks word found Stored = ⊥
-Asks word found (File file ask) =
+-- what the command with that word asks for, each word and number by the option with its name
+abbrev pub IsRequest : List ℕ → Found → Request → Type 0
+IsRequest word found Stored = ⊥
+IsRequest word found (File file ask) =
     (file.now ≡ word_of found (codes "FILE")) × IsFileRequest word found ask
-Asks word found (Job file argument ask) =
+IsRequest word found (Job file argument ask) =
     (file.now ≡ word_of found (codes "FILE"))
     × (argument.now ≡ word_of found (codes "ARG"))
     × IsJobRequest word found ask
-Asks word found (DrawRun file argument firings) =
+IsRequest word found (DrawRun file argument firings) =
     (word ≡ codes "draw")
     × (file.now ≡ word_of found (codes "FILE"))
     × (first_value found (codes "ARG") ≡ Some argument.now)
     × (first_value found (codes "ENTRY") ≡ None)
-    × IsDrawn firings
     × IsNumberOr 200 firings (first_value found (codes "firings"))
-Asks word found (Fleet file argument workers rounds) =
+IsRequest word found (Fleet file argument workers rounds) =
     (word ≡ codes "fleet")
     × (file.now ≡ word_of found (codes "FILE"))
     × (argument.now ≡ word_of found (codes "ARG"))
-    × IsOneToEight workers
     × IsNumberText workers (word_of found (codes "workers"))
-    × (rounds ≤ 1000)
     × IsNumberText rounds (word_of found (codes "rounds"))
-Asks word found (Share file argument follow burst report) =
+IsRequest word found (Share file argument follow burst report) =
     (word ≡ codes "share")
     × (file.now ≡ word_of found (codes "FILE"))
     × (argument.now ≡ word_of found (codes "ARG"))
     × IsFlag follow (word_of found (codes "follow"))
-    × IsFirings burst
     × IsNumberText burst (word_of found (codes "burst"))
     × (option_map (λ s. s.now) report ≡ first_value found (codes "report"))
+
+-- what the command with that word asks for in range, with the words that were found for it
+abbrev pub Asks : List ℕ → Found → Request → Type 0
+Asks word found request = IsInRange request × IsRequest word found request

@@ -49,26 +49,22 @@ pub fn request_in<'a>(rt: &HostRuntime, words: &'a [String]) -> Result<Request<'
 /// Prints a mistake in the words, or help or the version. A number with a minus is told apart from other words that
 /// look like an option.
 fn show_mistake(rt: &HostRuntime, words: &[String], error: clap::Error) -> NoRequest {
-    let number = match error.kind() {
-        clap::error::ErrorKind::UnknownArgument => number_below_zero(words),
-        _ => None,
-    };
-    match number {
-        Some(word) => match below_zero(rt.alloc(), word) {
-            Ok(mistake) => show(rt, mistake),
-            Err(_) => NoRequest::NoMemory,
-        },
-        None => show(rt, error),
+    if error.kind() == clap::error::ErrorKind::UnknownArgument {
+        if let Some(word) = number_below_zero(words) {
+            return match below_zero(rt.alloc(), word) {
+                Ok(mistake) => show(rt, mistake),
+                Err(_) => NoRequest::NoMemory,
+            };
+        }
     }
+    show(rt, error)
 }
 
 /// The first word that is a minus with a digit after it.
 fn number_below_zero(words: &[String]) -> Option<&str> {
     for word in words {
-        if let [b'-', digit, ..] = word.as_bytes() {
-            if digit.is_ascii_digit() {
-                return Some(word.as_str());
-            }
+        if let [b'-', b'0'..=b'9', ..] = word.as_bytes() {
+            return Some(word.as_str());
         }
     }
     None

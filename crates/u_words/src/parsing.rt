@@ -1,31 +1,20 @@
 //! The words of the command line, read.
 //!
-//! An option that is given twice, also with the same number, and words that are no UTF-8 are a wrong
-//! command line. Without any word the stored program runs, that of `programs/double.u`, with the argument
-//! 4.
-ghost use Rattle.std.specs.Prelude.{◌≡◌, IfOk, IfSome, None, Some, codes};
+//! An option that is given twice, also with the same number, and words that are no UTF-8 are a wrong command line.
+//! Without any word the stored program runs, that of `programs/double.u`, with the argument 4.
+ghost use Rattle.std.specs.Prelude.{◌≡◌, ◌≤◌, IfOk, IfSome, Some, codes};
 ghost use Rattle.clap.specs.Words.{found_of, first_value};
-ghost use Rattle.u_words.specs.Requests.{IsInRange, Asks};
-ghost use Rattle.u_words.specs.Requests.{IsNumberOr, IsFlag, word_of};
-ghost use Rattle.u_words.specs.Numbers.{IsFirings, IsDrawn, IsOneToEight, IsPort, IsNumberText};
+ghost use Rattle.u_words.specs.Requests.{IsInRange, JobInRange, Asks, IsFileRequest, IsJobRequest, AreFirings, IsNumberOr, IsFlag, word_of};
+ghost use Rattle.u_words.specs.Numbers.{IsNumberText};
 
-use crate::number::{firings_of, number_of};
+use crate::number::number_of;
+use crate::options::{commands, mistake};
 use crate::request::{FileRequest, JobRequest, Request, WorldRequest};
-use crate::shapes::{
-    BLAME, CHECK, COMPILE, DRAW, EXPLAIN, FLEET, LIFT, RESTORE, SAVE, SHARE, TRACE, WAITS, WORLD,
-    blame, commands, draw, fleet, restore, run, save, share, trace, usage_error, waits, world,
-};
-use clap::{ArgMatches, Command, Error};
+use clap::{ArgMatches, Error};
 use std::alloc::{AllocError, Global};
 
-/// The most random events of a world.
-const MOST_EVENTS: u64 = 100_000;
-
-/// The most firings in the picture of a run.
-const MOST_DRAWN: usize = 2_000;
-
-/// The most rounds of a worker.
-const MOST_ROUNDS: u64 = 1_000;
+/// What a number that `clap` takes may still have wrong.
+const SPELLING: &str = "a number has no sign and no leading zero";
 
 /// The request in the words of a command line, the first of which is the program's name. The error is a
 /// mistake in the words, or a request for help or the version.
@@ -38,29 +27,19 @@ pub fn parse<'a>(alloc: Global, words: &'a [String]) -> Result<Request<'a>, Erro
     let matches: ArgMatches<'a> = commands(alloc)?.try_get_matches_from(words)?;
     match matches.subcommand() {
         None => Ok(Request::Stored),
-        Some((name, check)) if name == CHECK => Ok(check_request(check)),
-        Some((name, explain)) if name == EXPLAIN => Ok(explain_request(explain)),
-        Some((name, lift)) if name == LIFT => Ok(lift_request(lift)),
-        Some((name, compile)) if name == COMPILE => Ok(compile_request(compile)),
-        Some((name, draw)) if name == DRAW => draw_request(alloc, draw),
-        Some((name, save)) if name == SAVE => save_request(alloc, save),
-        Some((name, restore)) if name == RESTORE => restore_request(alloc, restore),
-        Some((name, trace)) if name == TRACE => trace_request(alloc, trace),
-        Some((name, blame)) if name == BLAME => blame_request(alloc, blame),
-        Some((name, waits)) if name == WAITS => waits_request(alloc, waits),
-        Some((name, world)) if name == WORLD => world_request(alloc, world),
-        Some((name, fleet)) if name == FLEET => fleet_request(alloc, fleet),
-        Some((name, share)) if name == SHARE => share_request(alloc, share),
-        Some((_, run)) => run_request(alloc, run),
+        Some((word, matches)) => CommandWords {
+            alloc,
+            word,
+            matches,
+        }
+        .request(),
     }
 }
 
 /// The mistake that a word is no text.
 pub fn not_text(alloc: Global) -> Result<Error, AllocError> {
-    usage_error(
-        commands(alloc),
-        "invalid UTF-8 was detected in one or more arguments",
-    )
+    let message = "invalid UTF-8 was detected in one or more arguments";
+    mistake(alloc, "", message)
 }
 
 /// The mistake that the word is a number with a minus, which is taken for an option.
@@ -68,369 +47,195 @@ pub fn below_zero(alloc: Global, word: &str) -> Result<Error, AllocError> {
     let message = format!(in alloc;
         "unexpected argument '{word}' found: a number below zero is written with n: n1 is -1"
     )?;
-    usage_error(commands(alloc), message.as_str())
+    mistake(alloc, "", message.as_str())
 }
 
-/// What `check` asks for.
-fn check_request<'a>(matches: &ArgMatches<'a>) -> Request<'a>
-    ensures { Asks (codes "check") (found_of matches.now) result }
-{
-    Request::File {
-        file: text(matches, "FILE"),
-        ask: FileRequest::Check {
-            strict: flag(matches, "strict"),
-            determinate: flag(matches, "determinate"),
-        },
+/// The word of a command, and the words that were found for it.
+#[derive(Drop)]
+struct CommandWords<'a, 'm> {
+    alloc: Global,
+    word: &'m str,
+    matches: &'m ArgMatches<'a>,
+}
+
+impl<'a> CommandWords<'a, '_> {
+    /// What the command asks for.
+    fn request(&self) -> Result<Request<'a>, Error>
+        ensures { IfOk result (Asks self.now.word.now (found_of self.now.matches.now)) }
+    {
+        let (file, argument) = (self.text("FILE"), self.text("ARG"));
+        if let Some(ask) = self.of_file() {
+            return Ok(Request::File { file, ask });
+        }
+        match self.word {
+            "draw" => self.drawing(),
+            "fleet" => Ok(Request::Fleet {
+                file,
+                argument,
+                workers: self.number("workers", "--workers <N>", (1, 8), SPELLING)? as u8,
+                rounds: self.number("rounds", "--rounds <R>", (0, 1_000), SPELLING)? as u32,
+            }),
+            "share" => Ok(Request::Share {
+                file,
+                argument,
+                follow: self.flag("follow"),
+                burst: self.number("burst", "--burst <B>", (1, 1_000_000), SPELLING)? as usize,
+                report: self.matches.get_str("report"),
+            }),
+            _ => Ok(Request::Job {
+                file,
+                argument,
+                ask: self.of_job()?,
+            }),
+        }
     }
-}
 
-/// What `explain` asks for.
-fn explain_request<'a>(matches: &ArgMatches<'a>) -> Request<'a>
-    ensures { Asks (codes "explain") (found_of matches.now) result }
-{
-    Request::File {
-        file: text(matches, "FILE"),
-        ask: FileRequest::Explain {
-            strict: flag(matches, "strict"),
-        },
-    }
-}
-
-/// What `compile` asks for.
-fn compile_request<'a>(matches: &ArgMatches<'a>) -> Request<'a>
-    ensures { Asks (codes "compile") (found_of matches.now) result }
-{
-    Request::File {
-        file: text(matches, "FILE"),
-        ask: FileRequest::Compile {
-            map: flag(matches, "map"),
-        },
-    }
-}
-
-/// What `lift` asks for.
-fn lift_request<'a>(matches: &ArgMatches<'a>) -> Request<'a>
-    ensures { Asks (codes "lift") (found_of matches.now) result }
-{
-    Request::File {
-        file: text(matches, "FILE"),
-        ask: FileRequest::Lift,
-    }
-}
-
-/// What `draw` asks for: the picture of the program if there is no ARG, of a run if there is one, and of a story if
-/// there is an ENTRY too.
-fn draw_request<'a>(alloc: Global, matches: &ArgMatches<'a>) -> Result<Request<'a>, Error>
-    ensures { IfOk result (Asks (codes "draw") (found_of matches.now)) }
-{
-    match (matches.get_str("ARG"), matches.get_str("ENTRY")) {
-        (None, _) => Ok(Request::File {
-            file: text(matches, "FILE"),
-            ask: FileRequest::Draw,
-        }),
-        (Some(argument), None) => drawn_run(alloc, matches, argument),
-        (Some(_), Some(entry)) => drawn_story(alloc, matches, entry),
-    }
-}
-
-/// The number of firings in the picture of a run: 200 where no number stands.
-fn drawn_firings(matches: &ArgMatches<'_>) -> Option<usize>
-    ensures { IfSome result (λ n. IsDrawn n
-        × IsNumberOr 200 n (first_value (found_of matches.now) (codes "firings"))) }
-{
-    match matches.get_str("firings") {
-        None => Some(200),
-        Some(word) => match firings_of(word) {
-            Some(firings) if firings <= MOST_DRAWN => Some(firings),
+    /// What the command asks of FILE, if that is all that it takes.
+    fn of_file(&self) -> Option<FileRequest>
+        ensures { IfSome result (IsFileRequest self.now.word.now (found_of self.now.matches.now)) }
+    {
+        match self.word {
+            "check" => Some(FileRequest::Check {
+                strict: self.flag("strict"),
+                determinate: self.flag("determinate"),
+            }),
+            "explain" => Some(FileRequest::Explain {
+                strict: self.flag("strict"),
+            }),
+            "lift" => Some(FileRequest::Lift),
+            "compile" => Some(FileRequest::Compile {
+                map: self.flag("map"),
+            }),
             _ => None,
-        },
+        }
     }
-}
 
-/// The number of firings of the run that a story is told of: 100000 where no number stands.
-fn told_firings(matches: &ArgMatches<'_>) -> Option<usize>
-    ensures { IfSome result (λ n. IsFirings n
-        × IsNumberOr 100000 n (first_value (found_of matches.now) (codes "firings"))) }
-{
-    match matches.get_str("firings") {
-        None => Some(100_000),
-        Some(word) => firings_of(word),
+    /// What `draw` asks for: the picture of the program if there is no ARG, of a run if there is one, and of a
+    /// story if there is an ENTRY too.
+    fn drawing(&self) -> Result<Request<'a>, Error>
+        requires { self.now.word.now ≡ codes "draw" }
+        ensures { IfOk result (Asks self.now.word.now (found_of self.now.matches.now)) }
+    {
+        let file = self.text("FILE");
+        match (self.matches.get_str("ARG"), self.matches.get_str("ENTRY")) {
+            (None, _) => Ok(Request::File {
+                file,
+                ask: FileRequest::Draw,
+            }),
+            (Some(argument), None) => Ok(Request::DrawRun {
+                file,
+                argument,
+                firings: self.drawn(200, 2_000)? as usize,
+            }),
+            (Some(argument), Some(entry)) => Ok(Request::Job {
+                file,
+                argument,
+                ask: JobRequest::DrawStory {
+                    entry,
+                    firings: self.drawn(100_000, 1_000_000)? as usize,
+                },
+            }),
+        }
     }
-}
 
-/// What `draw` asks for if there is this ARG and no ENTRY.
-fn drawn_run<'a>(
-    alloc: Global,
-    matches: &ArgMatches<'a>,
-    argument: &'a str,
-) -> Result<Request<'a>, Error>
-    requires arg { first_value (found_of matches.now) (codes "ARG") ≡ Some argument.now }
-    requires entry { first_value (found_of matches.now) (codes "ENTRY") ≡ None }
-    ensures { IfOk result (Asks (codes "draw") (found_of matches.now)) }
-{
-    match drawn_firings(matches) {
-        Some(firings) => Ok(Request::DrawRun {
-            file: text(matches, "FILE"),
-            argument,
-            firings,
-        }),
-        None => Err(not_drawn(alloc, matches, "2000")?),
+    /// The number of firings of a drawing, from 1 to `most`: `usual` where no number stands.
+    fn drawn(&self, usual: u64, most: u64) -> Result<u64, Error>
+        requires { (1 ≤ usual) × (usual ≤ most) }
+        ensures { IfOk result (λ n. (1 ≤ n) × (n ≤ most)
+            × IsNumberOr usual n (first_value (found_of self.now.matches.now) (codes "firings"))) }
+    {
+        if self.matches.get_str("firings").is_none() {
+            return Ok(usual);
+        }
+        let why = format!(in self.alloc;
+            "here it is a number from 1 to {most}, without a sign or a leading zero"
+        )?;
+        self.number("firings", "--firings <N>", (1, most), why.as_str())
     }
-}
 
-/// What `draw` asks for if there is an ARG and this ENTRY.
-fn drawn_story<'a>(
-    alloc: Global,
-    matches: &ArgMatches<'a>,
-    entry: &'a str,
-) -> Result<Request<'a>, Error>
-    requires arg { first_value (found_of matches.now) (codes "ARG") ≡ None → ⊥ }
-    requires entry { first_value (found_of matches.now) (codes "ENTRY") ≡ Some entry.now }
-    ensures { IfOk result (Asks (codes "draw") (found_of matches.now)) }
-{
-    match told_firings(matches) {
-        Some(firings) => Ok(Request::Job {
-            file: text(matches, "FILE"),
-            argument: text(matches, "ARG"),
-            ask: JobRequest::DrawStory { entry, firings },
-        }),
-        None => Err(not_drawn(alloc, matches, "1000000")?),
+    /// What the command asks of the job that FILE and ARG give.
+    fn of_job(&self) -> Result<JobRequest<'a>, Error>
+        ensures range { IfOk result JobInRange }
+        ensures asks { IfOk result (IsJobRequest self.now.word.now (found_of self.now.matches.now)) }
+    {
+        match self.word {
+            "blame" => Ok(JobRequest::Blame {
+                activity: self.text("NAME"),
+                port: self.number("PORT", "<PORT>", (1, 5), "a port is 1 to 5")? as u8,
+            }),
+            "world" => Ok(JobRequest::World(WorldRequest {
+                replicas: self.number("replicas", "--replicas <K>", (1, 8), SPELLING)? as u8,
+                seed: self.number("seed", "--seed <S>", (0, u64::MAX), SPELLING)?,
+                events: self.number("events", "--events <N>", (0, 100_000), SPELLING)? as usize,
+                firings: self.firings()?,
+                draw: self.flag("draw"),
+                script: self.matches.get_str("script"),
+            })),
+            _ => self.of_run(self.firings()?),
+        }
     }
-}
 
-/// The mistake that the number of firings is not from 1 to `most`, or has a sign or a leading zero.
-fn not_drawn(alloc: Global, matches: &ArgMatches<'_>, most: &str) -> Result<Error, AllocError> {
-    let word = text(matches, "firings");
-    let message = format!(in alloc;
-        "invalid value '{word}' for '--firings <N>': here it is a number from 1 to {most}, without a sign or a leading zero"
-    )?;
-    usage_error(draw(alloc, "u draw"), message.as_str())
-}
-
-/// What `run` asks for.
-fn run_request<'a>(alloc: Global, matches: &ArgMatches<'a>) -> Result<Request<'a>, Error>
-    ensures { IfOk result (Asks (codes "run") (found_of matches.now)) }
-{
-    match firings(matches) {
-        Some(firings) => Ok(Request::Job {
-            file: text(matches, "FILE"),
-            argument: text(matches, "ARG"),
-            ask: JobRequest::Run { firings },
-        }),
-        None => Err(other_spelling(alloc, run(alloc, "u run"), matches, "firings", "N")?),
-    }
-}
-
-/// What `save` asks for.
-fn save_request<'a>(alloc: Global, matches: &ArgMatches<'a>) -> Result<Request<'a>, Error>
-    ensures { IfOk result (Asks (codes "save") (found_of matches.now)) }
-{
-    match firings(matches) {
-        Some(firings) => Ok(Request::Job {
-            file: text(matches, "FILE"),
-            argument: text(matches, "ARG"),
-            ask: JobRequest::Save { firings },
-        }),
-        None => Err(other_spelling(alloc, save(alloc, "u save"), matches, "firings", "N")?),
-    }
-}
-
-/// What `restore` asks for.
-fn restore_request<'a>(alloc: Global, matches: &ArgMatches<'a>) -> Result<Request<'a>, Error>
-    ensures { IfOk result (Asks (codes "restore") (found_of matches.now)) }
-{
-    match firings(matches) {
-        Some(firings) => Ok(Request::Job {
-            file: text(matches, "FILE"),
-            argument: text(matches, "ARG"),
-            ask: JobRequest::Restore {
-                checkpoint: text(matches, "CHECKPOINT"),
+    /// What the command asks of a run of at most so many firings.
+    fn of_run(&self, firings: usize) -> Result<JobRequest<'a>, Error>
+        requires { AreFirings (found_of self.now.matches.now) firings }
+        ensures range { IfOk result JobInRange }
+        ensures asks { IfOk result (IsJobRequest self.now.word.now (found_of self.now.matches.now)) }
+    {
+        match self.word {
+            "run" => Ok(JobRequest::Run { firings }),
+            "save" => Ok(JobRequest::Save { firings }),
+            "waits" => Ok(JobRequest::Waits { firings }),
+            "restore" => Ok(JobRequest::Restore {
+                checkpoint: self.text("CHECKPOINT"),
                 firings,
-            },
-        }),
-        None => Err(other_spelling(alloc, restore(alloc, "u restore"), matches, "firings", "N")?),
-    }
-}
-
-/// What `trace` asks for.
-fn trace_request<'a>(alloc: Global, matches: &ArgMatches<'a>) -> Result<Request<'a>, Error>
-    ensures { IfOk result (Asks (codes "trace") (found_of matches.now)) }
-{
-    match firings(matches) {
-        Some(firings) => Ok(Request::Job {
-            file: text(matches, "FILE"),
-            argument: text(matches, "ARG"),
-            ask: JobRequest::Trace {
-                entry: text(matches, "ENTRY"),
+            }),
+            "trace" => Ok(JobRequest::Trace {
+                entry: self.text("ENTRY"),
                 firings,
-            },
-        }),
-        None => Err(other_spelling(alloc, trace(alloc, "u trace"), matches, "firings", "N")?),
+            }),
+            _ => Err(mistake(self.alloc, "", "unrecognized subcommand")?),
+        }
     }
-}
 
-/// What `blame` asks for.
-fn blame_request<'a>(alloc: Global, matches: &ArgMatches<'a>) -> Result<Request<'a>, Error>
-    ensures { IfOk result (Asks (codes "blame") (found_of matches.now)) }
-{
-    match port(matches) {
-        Some(port) => Ok(Request::Job {
-            file: text(matches, "FILE"),
-            argument: text(matches, "ARG"),
-            ask: JobRequest::Blame {
-                activity: text(matches, "NAME"),
-                port,
-            },
-        }),
-        None => Err(no_port(alloc, matches)?),
+    /// How many firings there may be.
+    fn firings(&self) -> Result<usize, Error>
+        ensures { IfOk result (AreFirings (found_of self.now.matches.now)) }
+    {
+        Ok(self.number("firings", "--firings <N>", (1, 1_000_000), SPELLING)? as usize)
     }
-}
 
-/// The number of a port, from 1 to 5, that the word is.
-fn port(matches: &ArgMatches<'_>) -> Option<u8>
-    ensures { IfSome result (λ n. IsPort n
-        × IsNumberText n (word_of (found_of matches.now) (codes "PORT"))) }
-{
-    match number_of(text(matches, "PORT"), 9) {
-        Some(number) if 1 <= number && number <= 5 => Some(number as u8),
-        _ => None,
+    /// The number of that name, from the first of the two to the second. The word is read again, since `clap` takes
+    /// a sign and leading zeros; where it is no such number, the mistake calls it as `shown` does and says why.
+    fn number(&self, name: &str, shown: &str, range: (u64, u64), why: &str) -> Result<u64, Error>
+        ensures { IfOk result (λ n. (range.0 ≤ n) × (n ≤ range.1)
+            × IsNumberText n (word_of (found_of self.now.matches.now) name.now)) }
+    {
+        let word = self.text(name);
+        match number_of(word, u64::MAX) {
+            Some(number) if range.0 <= number && number <= range.1 => Ok(number),
+            _ => {
+                let message = format!(in self.alloc;
+                    "invalid value '{word}' for '{shown}': {why}"
+                )?;
+                Err(mistake(self.alloc, self.word, message.as_str())?)
+            }
+        }
     }
-}
 
-/// The mistake that the word is no port.
-fn no_port(alloc: Global, matches: &ArgMatches<'_>) -> Result<Error, AllocError> {
-    let word = text(matches, "PORT");
-    let message = format!(in alloc; "invalid value '{word}' for '<PORT>': a port is 1 to 5")?;
-    usage_error(blame(alloc, "u blame"), message.as_str())
-}
-
-/// What `waits` asks for.
-fn waits_request<'a>(alloc: Global, matches: &ArgMatches<'a>) -> Result<Request<'a>, Error>
-    ensures { IfOk result (Asks (codes "waits") (found_of matches.now)) }
-{
-    match firings(matches) {
-        Some(firings) => Ok(Request::Job {
-            file: text(matches, "FILE"),
-            argument: text(matches, "ARG"),
-            ask: JobRequest::Waits { firings },
-        }),
-        None => Err(other_spelling(alloc, waits(alloc, "u waits"), matches, "firings", "N")?),
+    /// Whether the option stands in the words.
+    fn flag(&self, name: &str) -> bool
+        ensures { IsFlag result (word_of (found_of self.now.matches.now) name.now) }
+    {
+        self.text(name) == "true"
     }
-}
 
-/// What `world` asks for.
-fn world_request<'a>(alloc: Global, matches: &ArgMatches<'a>) -> Result<Request<'a>, Error>
-    ensures asks { IfOk result (Asks (codes "world") (found_of matches.now)) }
-    ensures range { IfOk result IsInRange }
-{
-    let Some(replicas) = one_to_eight(matches, "replicas") else {
-        return Err(other_spelling(alloc, world(alloc, "u world"), matches, "replicas", "K")?);
-    };
-    let Some(seed) = number_of(text(matches, "seed"), u64::MAX) else {
-        return Err(other_spelling(alloc, world(alloc, "u world"), matches, "seed", "S")?);
-    };
-    let Some(events) = number_of(text(matches, "events"), MOST_EVENTS) else {
-        return Err(other_spelling(alloc, world(alloc, "u world"), matches, "events", "N")?);
-    };
-    let Some(firings) = firings(matches) else {
-        return Err(other_spelling(alloc, world(alloc, "u world"), matches, "firings", "N")?);
-    };
-    Ok(Request::Job {
-        file: text(matches, "FILE"),
-        argument: text(matches, "ARG"),
-        ask: JobRequest::World(WorldRequest {
-            replicas,
-            seed,
-            events: events as usize,
-            firings,
-            draw: flag(matches, "draw"),
-            script: matches.get_str("script"),
-        }),
-    })
-}
-
-/// What `fleet` asks for.
-fn fleet_request<'a>(alloc: Global, matches: &ArgMatches<'a>) -> Result<Request<'a>, Error>
-    ensures asks { IfOk result (Asks (codes "fleet") (found_of matches.now)) }
-    ensures range { IfOk result IsInRange }
-{
-    let Some(workers) = one_to_eight(matches, "workers") else {
-        return Err(other_spelling(alloc, fleet(alloc, "u fleet"), matches, "workers", "N")?);
-    };
-    let Some(rounds) = number_of(text(matches, "rounds"), MOST_ROUNDS) else {
-        return Err(other_spelling(alloc, fleet(alloc, "u fleet"), matches, "rounds", "R")?);
-    };
-    Ok(Request::Fleet {
-        file: text(matches, "FILE"),
-        argument: text(matches, "ARG"),
-        workers,
-        rounds: rounds as u32,
-    })
-}
-
-/// What `share` asks for.
-fn share_request<'a>(alloc: Global, matches: &ArgMatches<'a>) -> Result<Request<'a>, Error>
-    ensures asks { IfOk result (Asks (codes "share") (found_of matches.now)) }
-    ensures range { IfOk result IsInRange }
-{
-    let Some(burst) = firings_of(text(matches, "burst")) else {
-        return Err(other_spelling(alloc, share(alloc, "u share"), matches, "burst", "B")?);
-    };
-    Ok(Request::Share {
-        file: text(matches, "FILE"),
-        argument: text(matches, "ARG"),
-        follow: flag(matches, "follow"),
-        burst,
-        report: matches.get_str("report"),
-    })
-}
-
-/// The number from 1 to 8 that an option has.
-fn one_to_eight(matches: &ArgMatches<'_>, option: &str) -> Option<u8>
-    ensures { IfSome result (λ n. IsOneToEight n
-        × IsNumberText n (word_of (found_of matches.now) option.now)) }
-{
-    match number_of(text(matches, option), 9) {
-        Some(number) if 1 <= number && number <= 8 => Some(number as u8),
-        _ => None,
-    }
-}
-
-/// The number of firings. The word is read again, since `clap` takes a sign and leading zeros.
-fn firings(matches: &ArgMatches<'_>) -> Option<usize>
-    ensures { IfSome result (λ n. IsFirings n
-        × IsNumberText n (word_of (found_of matches.now) (codes "firings"))) }
-{
-    firings_of(text(matches, "firings"))
-}
-
-/// The mistake that the number of an option has a sign or a leading zero.
-fn other_spelling(
-    alloc: Global,
-    command: Result<Command<'_>, AllocError>,
-    matches: &ArgMatches<'_>,
-    option: &str,
-    value: &str,
-) -> Result<Error, AllocError> {
-    let word = text(matches, option);
-    let message = format!(in alloc;
-        "invalid value '{word}' for '--{option} <{value}>': a number has no sign and no leading zero"
-    )?;
-    usage_error(command, message.as_str())
-}
-
-/// Whether the option stands in the words.
-fn flag(matches: &ArgMatches<'_>, name: &str) -> bool
-    ensures { IsFlag result (word_of (found_of matches.now) name.now) }
-{
-    text(matches, name) == "true"
-}
-
-fn text<'a>(matches: &ArgMatches<'a>, name: &str) -> &'a str
-    ensures { result.now ≡ word_of (found_of matches.now) name.now }
-{
-    match matches.get_str(name) {
-        Some(text) => text,
-        None => "",
+    /// The word of that name, or else the empty word.
+    fn text(&self, name: &str) -> &'a str
+        ensures { result.now ≡ word_of (found_of self.now.matches.now) name.now }
+    {
+        match self.matches.get_str(name) {
+            Some(text) => text,
+            None => "",
+        }
     }
 }

@@ -1,7 +1,7 @@
 //! What a command line asks for.
 
 /// What a command line asks for.
-#[derive(Clone, Copy, Debug, PartialEq, Eq, Drop)]
+#[derive(Clone, Copy, Debug, Drop)]
 pub enum Request<'a> {
     /// There is no word: the stored run.
     Stored,
@@ -41,7 +41,7 @@ pub enum Request<'a> {
 }
 
 /// What is asked of a file.
-#[derive(Clone, Copy, Debug, PartialEq, Eq, Drop)]
+#[derive(Clone, Copy, Debug, Drop)]
 pub enum FileRequest {
     /// `check FILE`: whether the program is strict, only if `strict` asks for it, and whether it is
     /// determinate, only if `determinate` does.
@@ -56,31 +56,29 @@ pub enum FileRequest {
     Draw,
 }
 
-/// What is asked of a job.
-#[derive(Clone, Copy, Debug, PartialEq, Eq, Drop)]
+/// What is asked of a job. A number of firings is from 1 to 1000000.
+#[derive(Clone, Copy, Debug, Drop)]
 pub enum JobRequest<'a> {
-    /// `draw FILE ARG ENTRY`: the picture of the entry's story, after at most `firings` firings, from 1
-    /// to 1000000.
+    /// `draw FILE ARG ENTRY`: the picture of the entry's story, after at most `firings` firings.
     DrawStory { entry: &'a str, firings: usize },
-    /// `run FILE ARG`: at most `firings` firings, from 1 to 1000000.
+    /// `run FILE ARG`: at most `firings` firings.
     Run { firings: usize },
-    /// `save FILE ARG`: the checkpoint after at most `firings` firings, from 1 to 1000000.
+    /// `save FILE ARG`: the checkpoint after at most `firings` firings.
     Save { firings: usize },
-    /// `restore FILE ARG CHECKPOINT`: at most `firings` firings after those of the checkpoint, from 1 to
-    /// 1000000.
+    /// `restore FILE ARG CHECKPOINT`: at most `firings` firings after those of the checkpoint.
     Restore { checkpoint: &'a str, firings: usize },
-    /// `trace FILE ARG ENTRY`: after at most `firings` firings, from 1 to 1000000.
+    /// `trace FILE ARG ENTRY`: which firings give the entry, after at most `firings` firings.
     Trace { entry: &'a str, firings: usize },
     /// `blame FILE ARG NAME PORT`: the port of an activity, from 1 to 5.
     Blame { activity: &'a str, port: u8 },
-    /// `waits FILE ARG`: what waits after at most `firings` firings, from 1 to 1000000.
+    /// `waits FILE ARG`: what waits after at most `firings` firings.
     Waits { firings: usize },
     /// `world FILE ARG`.
     World(WorldRequest<'a>),
 }
 
 /// What is asked of a world.
-#[derive(Clone, Copy, Debug, PartialEq, Eq, Drop)]
+#[derive(Clone, Copy, Debug, Drop)]
 pub struct WorldRequest<'a> {
     /// How many replicas there are, from 1 to 8.
     pub replicas: u8,
