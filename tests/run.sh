@@ -284,10 +284,6 @@ expect_same 'a file is completed' docs/LANGUAGE.md "$(completed u check docs/LAN
 expect_same 'a number is not completed' '' "$(completed u run programs/double.u '')"
 expect_same 'a checkpoint is completed' docs/LANGUAGE.md "$(completed u restore --help a 3 docs/LANG)"
 
-expect_same 'README counts the definitions of the headline' \
-    "$(tests/definitions.py u_world/Headline | tail -n 1)" \
-    "$(grep -o '[0-9]* pages, [0-9,]* lines' README.md)"
-
 # The programs that tests run by calls of the library are constants of u_plain, and have to be files of programs.
 while read -r name text; do
     expect_same "$name of u_plain is a program" "$(cat "programs/${name,,}.u")" "$(printf '%b' "$text")"
