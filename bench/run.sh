@@ -22,18 +22,8 @@
 #               times as long as a run, and one and a half times its memory
 #   instructions of a firing, if valgrind is there: at most 2,600
 #   looks       the first at a copy of the sources may take three minutes, and the next, which is kept, three seconds
-set -u
-export LC_ALL=C
-
-top=$(cd -P -- "$(dirname -- "${BASH_SOURCE[0]}")/.." && pwd) || exit 2
-binary=${U_BINARY:-$top/crates/u/out/u}
-if [ ! -x "$binary" ]; then
-    echo "$binary is not there: build it first, by ./u --prove or by rt ci" >&2
-    exit 1
-fi
-temp=$(mktemp -d) || exit 2
-trap 'rm -rf -- "$temp"' EXIT
-failed=0
+. "$(dirname -- "${BASH_SOURCE[0]}")/../tests/common.sh" || exit 2
+need_program >&2
 
 fail() {
     echo "$*" >&2
@@ -57,10 +47,7 @@ heading() {
     echo '|'
 }
 
-# Microseconds since some time; the seconds of so many; how many times as much $1 is as $2.
-now() {
-    printf '%s' "${EPOCHREALTIME/[.,]/}"
-}
+# The seconds of so many microseconds; how many times as much $1 is as $2.
 seconds() {
     printf '%d.%03d' $(($1 / 1000000)) $(($1 / 1000 % 1000))
 }
@@ -143,7 +130,7 @@ chain() {
 }
 
 # Times a run of the program $1 on $2, which has to end with one answer after $3 firings, beside the run
-# before.
+# before, if that was of the same program.
 grown() {
     local firings growth=-
     measure run "$1" "$2" --firings 1000000
@@ -151,28 +138,24 @@ grown() {
     if [ "$status" -ne 0 ] || [ "$firings" != "$3" ]; then
         fail "$1 $2 ended with status $status and '$firings' firings"
     fi
-    if [ "$before" -gt 0 ]; then
+    if [ "$1" = "$growing" ]; then
         growth=$(ratio "$spent" "$before")
         ! grows_too_much "$spent" "$3" "$before" "$fired" ||
             fail "$1 $2 took $growth times as long as the run before"
     fi
     row "$(basename -- "$1" .u) $2" "${firings:--}" "$(seconds "$spent")" "$growth" "$memory"
-    before=$spent fired=$3
+    growing=$1 before=$spent fired=$3
 }
 
 # Runs that grow: how many firings each has follows from its program.
 timed_growth() {
-    local size
-    before=0
+    local size growing=''
     for size in 75 150 300 600; do
         chain "$size" >"$temp/chain.u"
         grown "$temp/chain.u" 0 "$size"
     done
-    before=0
     for size in 98 998 9998; do grown "$top/programs/sum.u" "$size" $((10 * size + 15)); done
-    before=0
     for size in '9 1090' '14 12190' '19 135290'; do grown "$top/programs/fibonacci.u" $size; done
-    before=0
     for size in 13 45 147; do
         grown "$top/programs/nested.u" "$size" $((11 + 18 * size + 9 * size * (size + 1) / 2))
     done
@@ -277,7 +260,7 @@ counted() {
 # Times two looks at a copy of the sources: the first is built, and the next is kept.
 timed_looks() {
     local binary=$temp/copy/u limit
-    mkdir -- "$temp/copy" && tar -C "$top" --exclude=out -cf - u crates crates.txt | tar -C "$temp/copy" -xf -
+    mkdir -- "$temp/copy" && copy_crates "$temp/copy" u crates.txt
     for limit in 180 3; do
         measure run "$top/programs/double.ul" 4
         row "$limit seconds" "$(seconds "$spent")"

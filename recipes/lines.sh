@@ -8,9 +8,9 @@ key_of() {
     printf 'u-%s-%s\n' "${sum:0:16}" "$2"
 }
 
-# Sets `host` and `port` by HOST:PORT, of which each part may be left out.
-find_server() {
-    host=127.0.0.1 port=$2
+# Sets `host` and `port` by HOST:PORT, of which each part may be left out; an engine has its own port.
+find_place() {
+    host=127.0.0.1 port=$own_port
     case $1 in
         '') ;;
         *:*) host=${1%:*} port=${1##*:} ;;

@@ -1,10 +1,6 @@
 # The bus is a topic of an MQTT server. The server keeps nothing: a late member works out what it missed,
 # and so does one whose server was away.
-
-# Sets `host` and `port`.
-find_place() {
-    find_server "$1" 1883
-}
+own_port=1883
 
 # Each new line of the topic.
 from() {

@@ -1,10 +1,6 @@
 # The bus is a stream of a NATS server that keeps streams (`nats-server -js`). A late member reads it from its
 # start. The server speaks in lines, so that bash is a client of its own.
-
-# Sets `host` and `port`.
-find_place() {
-    find_server "$1" 4222
-}
+own_port=4222
 
 # Opens a connection, whose number is left in `nats`.
 open_nats() {

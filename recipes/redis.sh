@@ -1,9 +1,5 @@
 # The bus is a stream of a Redis server. The server keeps it, so a late member reads it from its start.
-
-# Sets `host` and `port`.
-find_place() {
-    find_server "$1" 6379
-}
+own_port=6379
 
 # Redis's own client.
 client() {

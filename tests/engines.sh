@@ -17,23 +17,13 @@
 # from which the system takes ports for connections. Each wait has an end, and all of them after five
 # minutes. U_BINARY is the program that is tried, the built one by default, and U_ENGINES_SIZE the argument
 # of the sum. The last line is 'N passed, M failed'.
-set -u
-export LC_ALL=C
-
-top=$(cd -P -- "$(dirname -- "${BASH_SOURCE[0]}")/.." && pwd) || exit 2
-binary=${U_BINARY:-$top/crates/u/out/u}
-if [ ! -x "$binary" ]; then
-    echo "$binary is not there: build it first, by ./u --prove or by rt ci" >&2
-    echo "0 passed, 1 failed"
-    exit 1
-fi
+. "$(dirname -- "${BASH_SOURCE[0]}")/common.sh" || exit 2
+need_program
 program=$top/programs/sum.u
 size=${U_ENGINES_SIZE:-2000}
-temp=$(mktemp -d) || exit 2
 # The numbers of what was started, and those of the members by their names.
 started=() servers=()
 declare -A member=()
-passed=0 failed=0
 
 # Ends what this script started, by number.
 end_all() {
@@ -47,17 +37,7 @@ trap 'exit 2' INT TERM HUP
 
 # Counts whether a command has status 0.
 expect() {
-    if "${@:2}"; then
-        passed=$((passed + 1))
-    else
-        failed=$((failed + 1))
-        echo "$engine: $1: not so"
-    fi
-}
-
-# Milliseconds since some time.
-now() {
-    echo $((${EPOCHREALTIME/[.,]/} / 1000))
+    if "${@:2}"; then count "$1" ''; else count "$engine: $1" 'not so'; fi
 }
 
 # Waits until the command has status 0, for so many tenths of a second at most, and not at all once the
@@ -275,7 +255,7 @@ end() {
     done
     kill -- "-$seeing" 2>/dev/null
     printf '%8s %8s %10s %10d.%02d %10d\n' "$engine" "$1" "$firings" $((lines / firings)) \
-        $((lines * 100 / firings % 100)) $((firings * 1000 / (spent + 1)))
+        $((lines * 100 / firings % 100)) $((firings * 1000000 / (spent + 1)))
 }
 
 # A leader and two followers on a bus that carries all lines. The followers come first, since some buses
@@ -365,5 +345,4 @@ for engine in "$@"; do
     run_away
     run_killed
 done
-echo "$passed passed, $failed failed"
-[ "$failed" -eq 0 ]
+finish

@@ -24,6 +24,7 @@ that a write or a read failed, as one is not that passes over the error: each te
 fail. The last line is 'N passed, M failed'.
 """
 import argparse
+import collections
 import os
 import random
 import re
@@ -33,10 +34,9 @@ import sys
 import tempfile
 from concurrent.futures import ThreadPoolExecutor
 
+from running import BINARY, TOP, finish
 from sources.making import damage
 
-TOP = os.path.dirname(os.path.dirname(os.path.abspath(__file__)))
-BINARY = os.environ.get("U_BINARY", f"{TOP}/crates/u/out/u")
 REFUSED_CALLS = os.environ.get("U_REFUSED", f"{TOP}/crates/u_refused/out/u_refused")
 SAID = re.compile(rb"^(refused|call|allocations) .*\n", re.MULTILINE)
 COUNT = re.compile(rb"^allocations (\d+)$", re.MULTILINE)
@@ -51,6 +51,10 @@ BUS = b"f -.main.1.1 3\nf -.main.2.1 3\n\nf -.main.3.1 3\nf (-.main.L1.1).main.5
 ENTRY = b"t (-.main.L1.1).main.8.2 1 2"
 NOTICE = re.compile(rb"u: line \d+ (too long|not allowed|not of this job|cut short)\n")
 REFUSED = b"u-program 1\nblock main\n1 0 begin -> 2.1\n2 0 add -> 3.1\n3 0 end ->\n"
+PIPED = b"u-program 1\nblock main\n1 0 begin -> 2.1\n2 0 end ->\n"
+# How a run fails: what, by which setting of the library, and what it says then.
+FAILING = {"writes": ("byte", "FAIL_WRITE", b"u: not written\n"), "reads": ("read", "FAIL_READ", b"u: not readable\n")}
+counts = collections.Counter()
 
 
 class Ended:
@@ -79,35 +83,18 @@ def run(words, given=b"", library=None, bounded=False, program=BINARY, **setting
     how = dict(os.environ, **{name: str(value) for name, value in settings.items()})
     if library:
         how["LD_PRELOAD"] = library
-    return Ended(
-        subprocess.run(
-            [program, *words],
-            input=given,
-            capture_output=True,
-            env=how,
-            cwd=TOP,
-            timeout=LIMIT,
-            preexec_fn=bound if bounded else None,
-        )
-    )
+    return Ended(subprocess.run([program, *words], input=given, capture_output=True, env=how, cwd=TOP, timeout=LIMIT,
+                                preexec_fn=bound if bounded else None))
 
 
-class Tally:
-    """What passed and what failed."""
-
-    def __init__(self):
-        self.passed = self.failed = 0
-
-    def add(self, name, count, wrong):
-        """Counts a test, which made so many runs, and shows up to three that ended as none may."""
-        if count and not wrong:
-            self.passed += 1
-            print(f"{name}: {count} runs, each as it must be", flush=True)
-            return
-        self.failed += 1
-        print(f"{name}: {count} runs, {len(wrong)} of them as none may be", flush=True)
-        for what, ended in wrong[:3]:
-            print(f"    {what}: {ended}")
+def tally(name, count, wrong):
+    """Counts a test, which made so many runs, and shows up to three that ended as none may."""
+    passed = count > 0 and not wrong
+    counts[passed] += 1
+    how = "each as it must" if passed else f"{len(wrong)} of them as none may"
+    print(f"{name}: {count} runs, {how} be", flush=True)
+    for what, ended in wrong[:3]:
+        print(f"    {what}: {ended}")
 
 
 def side_by_side(numbers, one):
@@ -116,38 +103,32 @@ def side_by_side(numbers, one):
         return zip(numbers, pool.map(one, numbers))
 
 
+def all_wrong(what, count, one, is_right):
+    """Of so many runs, which `one` makes of their numbers, those that ended as none may."""
+    runs = side_by_side(range(1, count + 1), one)
+    return [(f"{what} {number}", ended) for number, ended in runs if not is_right(number, ended)]
+
+
 def commands(room):
     """Command lines, and what stands on standard input."""
     for words in (
-        [],
-        ["--help"],
-        ["run"],
-        ["check", DOUBLE, "--strict", "--determinate"],
-        ["check", f"{room}/refused"],
-        ["explain", DOUBLE, "--strict"],
-        ["explain", f"{room}/refused"],
+        [], ["--help"], ["run"],
+        ["check", DOUBLE, "--strict", "--determinate"], ["check", f"{room}/refused"],
+        ["explain", DOUBLE, "--strict"], ["explain", f"{room}/refused"],
         ["lift", DOUBLE],
-        ["run", "tests/files/two_arguments.u", "7"],
-        ["draw", DOUBLE],
-        ["draw", DOUBLE, "4"],
-        ["draw", WRITERS, "0", "a 20"],
-        ["run", DOUBLE, "4"],
-        ["run", SUM, "3"],
-        ["run", WRITERS, "0"],
-        ["run", "programs/factorial.u", "2", "--firings", "30"],
-        ["run", DOUBLE, "01"],
+        ["draw", DOUBLE], ["draw", DOUBLE, "4"], ["draw", WRITERS, "0", "a 20"],
+        ["run", "tests/files/two_arguments.u", "7"], ["run", "programs/factorial.u", "2", "--firings", "30"],
+        ["run", DOUBLE, "4"], ["run", SUM, "3"], ["run", WRITERS, "0"], ["run", DOUBLE, "01"],
         ["save", SUM, "2", "--firings", "9"],
         ["restore", SUM, "3", f"{room}/checkpoint", "--firings", "9"],
-        ["trace", DOUBLE, "4", "a 8", "--firings", "3"],
-        ["trace", DOUBLE, "4", "a 9"],
+        ["trace", DOUBLE, "4", "a 8", "--firings", "3"], ["trace", DOUBLE, "4", "a 9"],
         ["blame", WRITERS, "0", "-.main.10.1", "1"],
         ["waits", SUM, "2", "--firings", "9"],
         ["world", DOUBLE, "4", "--events", "20", "--firings", "3"],
-        ["fleet", DOUBLE, "4"],
-        ["fleet", SUM, "3", "--workers", "2", "--rounds", "8"],
+        ["fleet", DOUBLE, "4"], ["fleet", SUM, "3", "--workers", "2", "--rounds", "8"],
     ):
         yield words, b""
-    yield ["run", "stdin", "4"], b"u-program 1\nblock main\n1 0 begin -> 2.1\n2 0 end ->\n"
+    yield ["run", "stdin", "4"], PIPED
     yield ["share", SUM, "3", "--burst", "5"], BUS
 
 
@@ -165,81 +146,73 @@ def ends_without_memory(words, ended):
     return ended.status == 5 and ended.error in faults and ended.out == b""
 
 
-def refuse_calls(tally, seed, library):
+def refuse_calls(asked):
     """Refuses each allocation of the calls, and pairs that lie near each other, which a call made again meets."""
 
     def refused(numbers):
-        return run([], library=library, program=REFUSED_CALLS, FAIL_AT=numbers)
+        return run([], library=asked.library, program=REFUSED_CALLS, FAIL_AT=numbers)
 
     whole = refused("0")
     with open(f"{TOP}/crates/u_refused/stdout", "rb") as file:
         wrong = [] if whole.status == 0 and whole.out == file.read() else [("nothing refused", whole)]
-    tally.add("calls: nothing refused", 1, wrong)
+    tally("calls: nothing refused", 1, wrong)
     wrong = [] if whole.in_calls == [0] else [(f"allocations in calls {whole.in_calls}", whole)]
-    tally.add("calls: those that take no memory", 1, wrong)
-    chance = random.Random(seed)
+    tally("calls: those that take no memory", 1, wrong)
+    chance = random.Random(asked.seed)
     singles = [str(number) for number in range(1, whole.allocations + 1)]
     firsts = [chance.randint(1, whole.allocations) for _ in range(PAIRS)]
     pairs = [f"{first},{first + chance.randint(1, APART)}" for first in firsts]
     for name, numbers in (("each allocation", singles), ("pairs of allocations", pairs)):
         wrong = [(at, ended) for at, ended in side_by_side(numbers, refused) if not ended.is_same(whole)]
-        tally.add(f"calls: {name}", len(numbers), wrong)
+        tally(f"calls: {name}", len(numbers), wrong)
 
 
-def refuse_memory(tally, room, library):
+def refuse_memory(asked):
     """Refuses each allocation. A fleet's allocations differ from run to run, so it gets half as many again."""
-    for words, given in commands(room):
-        whole = run(words, given, library, FAIL_AT=0)
+    for words, given in commands(asked.room):
+        whole = run(words, given, asked.library, FAIL_AT=0)
         count = whole.allocations * 3 // 2 if words[:1] == ["fleet"] else whole.allocations
-        wrong = [
-            (f"allocation {number}", ended)
-            for number, ended in side_by_side(
-                range(1, count + 1), lambda number: run(words, given, library, FAIL_AT=number)
-            )
-            if not ended.is_same(whole) and not ends_without_memory(words, ended)
-        ]
-        tally.add(f"memory: {shown(words, room)}", count, wrong)
+        wrong = all_wrong("allocation", count, lambda number: run(words, given, asked.library, FAIL_AT=number),
+                          lambda _, ended: ended.is_same(whole) or ends_without_memory(words, ended))
+        tally(f"memory: {shown(words, asked.room)}", count, wrong)
 
 
-def fail_writes(tally, room, library, hidden):
+def fail_bytes(asked, part, words, given, count, is_front):
+    """Lets bytes go one at a time, and fails at each in turn. What was written by then has to be a front of all."""
+    what, setting, fault = FAILING[part]
+    whole, slow = run(words, given), run(words, given, asked.library, SHORT=1)
+
+    def fail(number):
+        return run(words, given, asked.library, SHORT=1, HIDDEN=int(asked.planted), **{setting: number})
+
+    def is_right(number, ended):
+        return ended.status == 5 and ended.error.endswith(fault) and is_front(number, whole.out, ended.out)
+
+    wrong = [] if slow.is_same(whole) else [("a byte at a time", slow)]
+    wrong += all_wrong(what, count, fail, is_right)
+    tally(f"{part}: {shown(words, asked.room)}", count + 1, wrong)
+
+
+def fail_writes(asked):
     """Lets standard output take a byte at a time, and fail at each byte."""
-    for words, given in commands(room):
-        whole = run(words, given)
-        if not whole.out:
-            continue
-        slow = run(words, given, library, SHORT=1)
-        wrong = [] if slow.is_same(whole) else [("a byte at a time", slow)]
-        for number, ended in side_by_side(
-            range(1, len(whole.out) + 1),
-            lambda number: run(words, given, library, SHORT=1, FAIL_WRITE=number, HIDDEN=hidden),
-        ):
-            front = ended.out == whole.out[: number - 1]
-            if ended.status != 5 or not ended.error.endswith(b"u: not written\n") or not front:
-                wrong.append((f"byte {number}", ended))
-        tally.add(f"writes: {shown(words, room)}", len(whole.out) + 1, wrong)
+    for words, given in commands(asked.room):
+        count = len(run(words, given).out)
+        if count:
+            fail_bytes(asked, "writes", words, given, count, lambda number, whole, out: out == whole[:number - 1])
 
 
-def fail_reads(tally, room, library, hidden):
+def fail_reads(asked):
     """Lets input come a byte at a time, and fail at each byte."""
-    inputs = (
-        (["run", SUM, "3"], b"", os.path.getsize(f"{TOP}/{SUM}")),
-        (["check", DOUBLE], b"", os.path.getsize(f"{TOP}/{DOUBLE}")),
-        (["run", "stdin", "4"], b"u-program 1\nblock main\n1 0 begin -> 2.1\n2 0 end ->\n", 50),
-        (["restore", DOUBLE, "4", f"{room}/double"], b"", os.path.getsize(f"{TOP}/{DOUBLE}") + 18),
-        (["share", DOUBLE, "4", "--follow"], b"f -.main.1.1 4\nf -.main.2.1 4 4\n", os.path.getsize(f"{TOP}/{DOUBLE}") + 33),
-    )
-    for words, given, count in inputs:
-        whole = run(words, given)
-        slow = run(words, given, library, SHORT=1)
-        wrong = [] if slow.is_same(whole) else [("a byte at a time", slow)]
-        for number, ended in side_by_side(
-            range(1, count + 1),
-            lambda number: run(words, given, library, SHORT=1, FAIL_READ=number, HIDDEN=hidden),
-        ):
-            front = whole.out.startswith(ended.out) if is_share(words) else ended.out == b""
-            if ended.status != 5 or not ended.error.endswith(b"u: not readable\n") or not front:
-                wrong.append((f"read {number}", ended))
-        tally.add(f"reads: {shown(words, room)}", count + 1, wrong)
+    double, total = (os.path.getsize(f"{TOP}/{program}") for program in (DOUBLE, SUM))
+    for words, given, count in (
+        (["run", SUM, "3"], b"", total),
+        (["check", DOUBLE], b"", double),
+        (["run", "stdin", "4"], PIPED, 50),
+        (["restore", DOUBLE, "4", f"{asked.room}/double"], b"", double + 18),
+        (["share", DOUBLE, "4", "--follow"], b"f -.main.1.1 4\nf -.main.2.1 4 4\n", double + 33),
+    ):
+        fail_bytes(asked, "reads", words, given, count,
+                   lambda _, whole, out: whole.startswith(out) if is_share(words) else out == b"")
 
 
 def shown(words, room):
@@ -273,15 +246,15 @@ def damaged_run(chance, room, number):
     return text, ended, refused or usage or (same if kind == "restore" else told)
 
 
-def damage_texts(tally, room, seed, count):
+def damage_texts(asked):
     """Runs over that many damaged texts."""
 
     def one(number):
-        return damaged_run(random.Random(f"{seed} {number}"), room, number)
+        return damaged_run(random.Random(f"{asked.seed} {number}"), asked.room, number)
 
-    wrong = [(f"number {number}, {text[:400]}", ended) for number, (text, ended, right) in side_by_side(range(count), one)
-             if not right]
-    tally.add(f"damaged: seed {seed}", count, wrong)
+    runs = side_by_side(range(asked.damaged), one)
+    wrong = [(f"number {number}, {text[:400]}", ended) for number, (text, ended, right) in runs if not right]
+    tally(f"damaged: seed {asked.seed}", asked.damaged, wrong)
 
 
 def program_text(statements, loops=()):
@@ -329,20 +302,17 @@ def switches_to_one():
 def leaves_of_one_loop():
     """Switches, and behind them 300 `enter` of one loop, and 300 `leave`, each of which sends to 15 statements."""
     enters, lasts, leaves = 342, 642, 661
-    switches = [
-        f"0 switch ->{to((number + 3, 2), (enters + number % 300, 1))} /{to((number + 3, 1))}"
-        for number in range(339)
-    ]
+    switches = [f"0 switch ->{to((number + 3, 2), (enters + number % 300, 1))} /{to((number + 3, 1))}"
+                for number in range(339)]
     enter = [f"0 enter 1 ->{to((lasts + number % 19, 1))}" for number in range(300)]
-    last = [f"1 last ->{to(*((number, 1) for number in range(leaves + first, leaves + 300, 19)))}" for first in range(19)]
-    leave = [
-        f"1 leave ->{to(*((2 + (number * 15 + place) % 340, 1) for place in range(15)))}" for number in range(300)
-    ]
+    last = [f"1 last ->{to(*((number, 1) for number in range(leaves + first, leaves + 300, 19)))}"
+            for first in range(19)]
+    leave = [f"1 leave ->{to(*((2 + (number * 15 + place) % 340, 1) for place in range(15)))}" for number in range(300)]
     statements = ["0 begin -> 2.1 2.2", *switches, "0 switch -> 961.1 /", *enter, *last, *leave, "0 end ->"]
     return program_text(statements, ["loop 1 0"])
 
 
-def check_large(tally):
+def check_large(asked):
     """Programs that are dear to check."""
     for made in (chain_backwards, conditionals, switches_to_many, switches_to_one, leaves_of_one_loop):
         text, wrong = made(), []
@@ -350,7 +320,7 @@ def check_large(tally):
             ended = run(words, text, bounded=True)
             if ended.status != 0 or ended.error:
                 wrong.append((" ".join(words), ended))
-        tally.add(f"large: {made.__name__.replace('_', ' ')}", 2, wrong)
+        tally(f"large: {made.__name__.replace('_', ' ')}", 2, wrong)
 
 
 def built_library(room):
@@ -362,13 +332,13 @@ def built_library(room):
 
 
 def make_files(room):
-    for name, text in (
-        ("checkpoint", CHECKPOINT),
-        ("refused", REFUSED),
-        ("double", b"u-history 1\nend 0\n"),
-    ):
+    for name, text in (("checkpoint", CHECKPOINT), ("refused", REFUSED), ("double", b"u-history 1\nend 0\n")):
         with open(f"{room}/{name}", "wb") as file:
             file.write(text)
+
+
+PARTS = {"calls": refuse_calls, "memory": refuse_memory, "writes": fail_writes, "reads": fail_reads,
+         "large": check_large, "damaged": damage_texts}
 
 
 def main():
@@ -376,33 +346,21 @@ def main():
     parser.add_argument("--seed", type=int, default=1)
     parser.add_argument("--damaged", type=int, default=2000, metavar="N")
     parser.add_argument("--planted", action="store_true")
-    parser.add_argument("parts", nargs="*", metavar="PART", help="calls, memory, writes, reads, large, damaged")
+    parser.add_argument("parts", nargs="*", metavar="PART", help=", ".join(PARTS))
     asked = parser.parse_args()
-    parts = asked.parts or ["calls", "memory", "writes", "reads", "large", "damaged"]
-    tally = Tally()
-    with tempfile.TemporaryDirectory() as room:
-        make_files(room)
-        library = built_library(room)
+    parts = asked.parts or PARTS
+    with tempfile.TemporaryDirectory() as asked.room:
+        make_files(asked.room)
+        asked.library = built_library(asked.room)
         programs = [BINARY, REFUSED_CALLS] if "calls" in parts else [BINARY]
-        if library is None or not all(os.access(it, os.X_OK) for it in programs):
+        if asked.library is None or not all(os.access(it, os.X_OK) for it in programs):
             print(f"{' or '.join(programs)} or the library is not built", file=sys.stderr)
-            print("0 passed, 1 failed")
-            return 1
-        hidden = int(asked.planted)
-        if "calls" in parts:
-            refuse_calls(tally, asked.seed, library)
-        if "memory" in parts:
-            refuse_memory(tally, room, library)
-        if "writes" in parts:
-            fail_writes(tally, room, library, hidden)
-        if "reads" in parts:
-            fail_reads(tally, room, library, hidden)
-        if "large" in parts:
-            check_large(tally)
-        if "damaged" in parts:
-            damage_texts(tally, room, asked.seed, asked.damaged)
-    print(f"{tally.passed} passed, {tally.failed} failed")
-    return 0 if tally.failed == 0 else 1
+            finish(0, 1)
+        for name, look in PARTS.items():
+            if name in parts:
+                look(asked)
+    finish(counts[True], counts[False])
 
 
-sys.exit(main())
+if __name__ == "__main__":
+    main()

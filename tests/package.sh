@@ -3,14 +3,8 @@
 # what the recipes use, copied from this machine, and nothing of the kit. The .deb is installed, run, shares a run
 # over a file, and is removed; then the same of what the .tar.xz has. It needs root, or spaces of names for users.
 # The last line is 'N passed, M failed'.
-set -u
-export LC_ALL=C
-
-top=$(cd -P -- "$(dirname -- "${BASH_SOURCE[0]}")/.." && pwd) || exit 2
-temp=$(mktemp -d) || exit 2
-trap 'rm -rf -- "$temp"' EXIT
+. "$(dirname -- "${BASH_SOURCE[0]}")/common.sh" || exit 2
 root=$temp/root
-passed=0 failed=0
 
 # Copies programs of this machine to the root folder, with the libraries that they load.
 fill_root() {
@@ -33,14 +27,7 @@ inside() {
 
 # Counts whether what a script of the shell prints in the root folder, on a line, is that.
 expect() {
-    local got
-    got=$(inside bash -c "$3" 2>&1 | paste -sd ' ')
-    if [ "$got" = "$2" ]; then
-        passed=$((passed + 1))
-    else
-        failed=$((failed + 1))
-        printf 'FAILED: %s\n  wanted: %s\n  got: %s\n' "$1" "$2" "$got"
-    fi
+    expect_same "$1" "$2" "$(inside bash -c "$3" 2>&1 | paste -sd ' ')"
 }
 
 # Tries the program, which is installed below a folder.
@@ -72,9 +59,8 @@ cp -- "$temp/made"/*.deb "$root/tmp/u.deb"
 expect 'no kit is there' '' 'command -v rt; ls /opt'
 expect 'it is installed' 0 'dpkg -i /tmp/u.deb >/tmp/said 2>&1; echo $?'
 try /usr
-expect 'it is removed' '0 none' 'dpkg -r u-dataflow >/tmp/said 2>&1; echo $?; ls -d /usr/*/u /usr/share/doc/u 2>/dev/null || echo none'
+expect 'it is removed' '0 none' \
+    'dpkg -r u-dataflow >/tmp/said 2>&1; echo $?; ls -d /usr/*/u /usr/share/doc/u 2>/dev/null || echo none'
 tar -C "$root/opt" --strip-components=1 -xf "$temp/made"/*.tar.xz
 try /opt
-
-echo "$passed passed, $failed failed"
-[ "$failed" -eq 0 ]
+finish

@@ -83,188 +83,171 @@ class Block:
             lines.append(f"{number} {region} {kind} ->{sent[0]}" + (f" /{sent[1]}" if kind == "switch" else ""))
         return "\n".join(lines) + "\n"
 
-    def place_of(self, *kinds):
-        """The place of a statement of one of these kinds. An IndexError is raised if there is none."""
-        words = [kind.split(" ")[0] for kind, _, _ in self.statements]
-        return self.chance.choice([place for place, word in enumerate(words) if word in kinds])
+    def place_of(self, word):
+        """The place of a statement of this kind. An IndexError is raised if there is none."""
+        places = [place for place, (kind, _, _) in enumerate(self.statements) if kind.split(" ")[0] == word]
+        return self.chance.choice(places)
 
+    def operate(self, region, values, depth):
+        kind = self.chance.choice(NUMBERS[:3] if self.chance.random() < 0.9 else NUMBERS)
+        values.append(self.add(kind, region, self.number(region, values), self.number(region, values)))
 
-def operate(block, region, values, depth):
-    kind = block.chance.choice(NUMBERS[:3] if block.chance.random() < 0.9 else NUMBERS)
-    values.append(block.add(kind, region, block.number(region, values), block.number(region, values)))
+    def hand_on(self, region, values, depth):
+        value = self.chance.choice(values[-4:])
+        values.append(self.add("pass", region, value, type=value.type))
 
+    def negate(self, region, values, depth):
+        values.append(self.add("not", region, self.test(region, values), type="truth"))
 
-def hand_on(block, region, values, depth):
-    value = block.chance.choice(values[-4:])
-    values.append(block.add("pass", region, value, type=value.type))
+    def select(self, region, values, depth):
+        numbers = [self.number(region, values) for _ in range(2)]
+        values.append(self.add("select", region, self.test(region, values), *numbers))
 
+    def switch(self, region, values, depth):
+        """Sends a value one of two ways, and lets what comes of it meet again."""
+        if not self.sides:
+            return self.call_selected(region, values, depth)
+        control = self.pick(values, "truth") or self.test(region, values)
+        for _ in range(self.chance.choice((0, 0, 0, 1, 2))):
+            control = self.add("pass", region, control, type="truth")
+        place = self.add("switch", region, self.number(region, values), control).statement
+        ends = []
+        for side in range(2):
+            inside = values[-3:] + [Value(place, side, "number")]
+            for _ in range(self.chance.randint(0, 2)):
+                self.extend(region, inside, depth + 1)
+            ends.append(self.one_of_side(region, inside, Value(place, side, "number")))
+        kind = self.chance.choice(("pass", "pass", "add"))
+        met = self.add(kind, region, ends[0], *([self.number(region, values)] if kind == "add" else []))
+        self.send(ends[1], met.statement, 1)
+        values.append(met)
 
-def negate(block, region, values, depth):
-    values.append(block.add("not", region, block.test(region, values), type="truth"))
+    def one_of_side(self, region, inside, first):
+        """A number that is there only on that side: what was made last there, with what the side begins with."""
+        if inside[-1] == first or self.chance.random() < 0.3:
+            return first
+        return self.add("add", region, first, self.number(region, inside))
 
+    def loop(self, region, values, depth):
+        """A loop that counts down, with one or two more variables, of which it hands one out."""
+        if len(self.loops) >= 3:
+            return self.operate(region, values, depth)
+        self.loops.append(region)
+        inner = len(self.loops)
+        count = self.constant(region, values, 0, 3)
+        entered = [count] + [self.number(region, values) for _ in range(self.chance.randint(1, 2))]
+        heads = [self.add("pass", inner, self.add(f"enter {inner}", region, value)) for value in entered]
+        zero = self.add("const 0", inner, heads[0])
+        test = self.add("lt", inner, zero, heads[0], type="truth")
+        inside = heads + [test]
+        for _ in range(self.chance.randint(0, 3)):
+            self.extend(inner, inside, depth + 1)
+        less = self.add("sub", inner, heads[0], self.add("const 1", inner, heads[0]))
+        for head in heads:
+            new = less if head is heads[0] else self.number(inner, inside)
+            sent = self.add("switch", inner, new, test)
+            back = self.add("next", inner, sent)
+            self.send(back, head.statement, 1)
+        if self.sides and self.chance.random() < 0.2:
+            for kind in ("not", "not") if self.chance.random() < 0.3 else ("pass",):
+                test = self.add(kind, inner, test, type="truth")
+        handed = self.add("switch", inner, heads[-1], test).statement
+        last = self.add("last", inner, Value(handed, 1, "number"))
+        values.append(self.add("leave", inner, last))
 
-def select(block, region, values, depth):
-    numbers = [block.number(region, values) for _ in range(2)]
-    values.append(block.add("select", region, block.test(region, values), *numbers))
+    def apply(self, region, procedure, argument):
+        back = self.add("back", region)
+        self.add(f"apply {back.statement + 1}", region, procedure, argument)
+        return back
 
+    def call(self, region, values, depth):
+        if not self.procedures:
+            return self.operate(region, values, depth)
+        name = self.chance.choice(self.procedures)
+        procedure = self.add(f"const @{name}", region, self.chance.choice(values[-3:]), type="procedure")
+        values.append(self.apply(region, procedure, self.number(region, values)))
 
-def switch(block, region, values, depth):
-    """Sends a value one of two ways, and lets what comes of it meet again."""
-    if not block.sides:
-        return call_selected(block, region, values, depth)
-    control = block.pick(values, "truth") or block.test(region, values)
-    for _ in range(block.chance.choice((0, 0, 0, 1, 2))):
-        control = block.add("pass", region, control, type="truth")
-    place = block.add("switch", region, block.number(region, values), control).statement
-    ends = []
-    for side in range(2):
-        inside = values[-3:] + [Value(place, side, "number")]
-        for _ in range(block.chance.randint(0, 2)):
-            extend(block, region, inside, depth + 1)
-        ends.append(one_of_side(block, region, inside, Value(place, side, "number")))
-    kind = block.chance.choice(("pass", "pass", "add"))
-    met = block.add(kind, region, ends[0], *([block.number(region, values)] if kind == "add" else []))
-    block.send(ends[1], met.statement, 1)
-    values.append(met)
+    def call_selected(self, region, values, depth):
+        """Chooses a procedure and calls it."""
+        if not self.procedures:
+            return self.select(region, values, depth)
+        control = self.test(region, values)
+        choice = [self.add(f"const @{self.chance.choice(self.procedures)}", region, values[-1]) for _ in range(2)]
+        procedure = self.add("select", region, control, *choice, type="procedure")
+        values.append(self.apply(region, procedure, self.number(region, values)))
 
+    def structure(self, region, values, depth):
+        """Makes a structure, writes one or two cells of it, and reads one."""
+        made = self.add("alloc", region, self.constant(region, values, 2, 4), type="structure")
+        cell = self.constant(region, values, 0, 1)
+        self.add("store", region, made, cell, self.number(region, values))
+        if self.chance.random() < self.twice:
+            self.add("store", region, made, cell, self.number(region, values))
+        elif self.chance.random() < 0.5:
+            other = self.add("add", region, cell, self.add("const 1", region, cell))
+            self.add("store", region, made, other, self.number(region, values))
+        values.append(self.add("fetch", region, made, cell))
 
-def one_of_side(block, region, inside, first):
-    """A number that is there only on that side: what was made last there, with what the side begins with."""
-    if inside[-1] == first or block.chance.random() < 0.3:
-        return first
-    return block.add("add", region, first, block.number(region, inside))
+    def extend(self, region, values, depth):
+        """Adds something to the block, and what it gives to the values."""
+        ways = [self.operate, self.operate, self.hand_on, self.negate, self.select, self.switch, self.switch, self.call,
+                self.structure, self.structure]
+        if depth < 2:
+            ways += [self.loop, self.loop]
+        self.chance.choice(ways if depth < 3 else ways[:5])(region, values, depth)
 
+    def fill(self, size):
+        """Adds all that a block has, from its `begin` to its `end`."""
+        values = [self.add("begin", 0)]
+        for _ in range(size):
+            self.extend(0, values, 0)
+        numbers = [value for value in values if value.type == "number"][-3:]
+        result = numbers.pop()
+        for number in numbers:
+            if self.chance.random() < 0.7:
+                result = self.add("add", 0, result, number)
+        self.add("end", 0, result)
 
-def loop(block, region, values, depth):
-    """A loop that counts down, with one or two more variables, of which it hands one out."""
-    if len(block.loops) >= 3:
-        return operate(block, region, values, depth)
-    block.loops.append(region)
-    inner = len(block.loops)
-    count = block.constant(region, values, 0, 3)
-    entered = [count] + [block.number(region, values) for _ in range(block.chance.randint(1, 2))]
-    heads = [block.add("pass", inner, block.add(f"enter {inner}", region, value)) for value in entered]
-    zero = block.add("const 0", inner, heads[0])
-    test = block.add("lt", inner, zero, heads[0], type="truth")
-    inside = heads + [test]
-    for _ in range(block.chance.randint(0, 3)):
-        extend(block, inner, inside, depth + 1)
-    less = block.add("sub", inner, heads[0], block.add("const 1", inner, heads[0]))
-    for head in heads:
-        new = less if head is heads[0] else block.number(inner, inside)
-        sent = block.add("switch", inner, new, test)
-        back = block.add("next", inner, sent)
-        block.send(back, head.statement, 1)
-    if block.sides and block.chance.random() < 0.2:
-        for kind in ("not", "not") if block.chance.random() < 0.3 else ("pass",):
-            test = block.add(kind, inner, test, type="truth")
-    handed = block.add("switch", inner, heads[-1], test).statement
-    last = block.add("last", inner, Value(handed, 1, "number"))
-    values.append(block.add("leave", inner, last))
+    def send_more(self):
+        """Sends a value to one port more."""
+        senders = [(region, lists) for kind, region, lists in self.statements
+                   if lists[0] and kind.split(" ")[0] not in ("last", "enter", "leave")]
+        region, lists = self.chance.choice(senders)
+        to = self.chance.choice([place for place, (kind, own, _) in enumerate(self.statements)
+                                  if own == region and kind not in ("begin", "back", "leave")])
+        lists[0].append((to, self.chance.randint(1, PORTS.get(self.statements[to][0].split(" ")[0], 1))))
 
+    def turn_switch(self):
+        lists = self.statements[self.place_of("switch")][2]
+        lists[0][:], lists[1][:] = lists[1][:], lists[0][:]
 
-def apply(block, region, procedure, argument):
-    back = block.add("back", region)
-    block.add(f"apply {back.statement + 1}", region, procedure, argument)
-    return back
+    def stay_in_turn(self):
+        self.statements[self.place_of("next")][0] = "pass"
 
+    def end_again(self):
+        kinds = NUMBERS + ("pass", "begin", "const")
+        places = [place for place, (kind, own, _) in enumerate(self.statements)
+                  if own == 0 and kind.split(" ")[0] in kinds]
+        self.add("end", 0, Value(self.chance.choice(places), 0, "number"))
 
-def call(block, region, values, depth):
-    if not block.procedures:
-        return operate(block, region, values, depth)
-    name = block.chance.choice(block.procedures)
-    procedure = block.add(f"const @{name}", region, block.chance.choice(values[-3:]), type="procedure")
-    values.append(apply(block, region, procedure, block.number(region, values)))
+    def apply_again(self):
+        """Calls a second time what is called, with the same argument and back to the same place."""
+        call = self.place_of("apply")
+        again = self.add(*self.statements[call][:2]).statement
+        for _, _, lists in self.statements:
+            for sent in lists:
+                sent += [(again, port) for to, port in sent if to == call]
 
-
-def call_selected(block, region, values, depth):
-    """Chooses a procedure and calls it."""
-    if not block.procedures:
-        return select(block, region, values, depth)
-    control = block.test(region, values)
-    choice = [block.add(f"const @{block.chance.choice(block.procedures)}", region, values[-1]) for _ in range(2)]
-    procedure = block.add("select", region, control, *choice, type="procedure")
-    values.append(apply(block, region, procedure, block.number(region, values)))
-
-
-def structure(block, region, values, depth):
-    """Makes a structure, writes one or two cells of it, and reads one."""
-    made = block.add("alloc", region, block.constant(region, values, 2, 4), type="structure")
-    cell = block.constant(region, values, 0, 1)
-    block.add("store", region, made, cell, block.number(region, values))
-    if block.chance.random() < block.twice:
-        block.add("store", region, made, cell, block.number(region, values))
-    elif block.chance.random() < 0.5:
-        other = block.add("add", region, cell, block.add("const 1", region, cell))
-        block.add("store", region, made, other, block.number(region, values))
-    values.append(block.add("fetch", region, made, cell))
-
-
-def extend(block, region, values, depth):
-    """Adds something to the block."""
-    ways = [operate, operate, hand_on, negate, select, switch, switch, call, structure, structure]
-    if depth < 2:
-        ways += [loop, loop]
-    block.chance.choice(ways if depth < 3 else ways[:5])(block, region, values, depth)
-
-
-def fill(block, size):
-    """Adds all that a block has, from its `begin` to its `end`."""
-    values = [block.add("begin", 0)]
-    for _ in range(size):
-        extend(block, 0, values, 0)
-    numbers = [value for value in values if value.type == "number"][-3:]
-    result = numbers.pop()
-    for number in numbers:
-        if block.chance.random() < 0.7:
-            result = block.add("add", 0, result, number)
-    block.add("end", 0, result)
-
-
-def send_more(block):
-    """Sends a value to one port more."""
-    senders = [(region, lists) for kind, region, lists in block.statements
-               if lists[0] and kind.split(" ")[0] not in ("last", "enter", "leave")]
-    region, lists = block.chance.choice(senders)
-    to = block.chance.choice([place for place, (kind, own, _) in enumerate(block.statements)
-                              if own == region and kind not in ("begin", "back", "leave")])
-    lists[0].append((to, block.chance.randint(1, PORTS.get(block.statements[to][0].split(" ")[0], 1))))
-
-
-def turn_switch(block):
-    lists = block.statements[block.place_of("switch")][2]
-    lists[0][:], lists[1][:] = lists[1][:], lists[0][:]
-
-
-def stay_in_turn(block):
-    block.statements[block.place_of("next")][0] = "pass"
-
-
-def end_again(block):
-    kinds = NUMBERS + ("pass", "begin", "const")
-    places = [place for place, (kind, own, _) in enumerate(block.statements)
-              if own == 0 and kind.split(" ")[0] in kinds]
-    block.add("end", 0, Value(block.chance.choice(places), 0, "number"))
-
-
-def apply_again(block):
-    """Calls a second time what is called, with the same argument and back to the same place."""
-    call = block.place_of("apply")
-    again = block.add(*block.statements[call][:2]).statement
-    for _, _, lists in block.statements:
-        for sent in lists:
-            sent += [(again, port) for to, port in sent if to == call]
-
-
-def send_on_both(block):
-    """Sends on both sides of a `switch` what one side sends."""
-    lists = block.statements[block.place_of("switch")][2]
-    side, sent = block.chance.choice([(side, sent) for side in range(2) for sent in lists[side]])
-    lists[1 - side].append(sent)
+    def send_on_both(self):
+        """Sends on both sides of a `switch` what one side sends."""
+        lists = self.statements[self.place_of("switch")][2]
+        side, sent = self.chance.choice([(side, sent) for side in range(2) for sent in lists[side]])
+        lists[1 - side].append(sent)
 
 
 # What may be done to a block, so that it need not keep its promise.
-SPOILT = (send_more, send_more, turn_switch, stay_in_turn, end_again, apply_again, send_on_both)
+SPOILT = (Block.send_more, Block.send_more, Block.turn_switch, Block.stay_in_turn, Block.end_again, Block.apply_again,
+          Block.send_on_both)
 
 
 def make_program(chance):
@@ -273,16 +256,15 @@ def make_program(chance):
     for name in [*("one", "two")[:chance.choice((0, 1, 1, 2))], "main"]:
         block = Block(name, chance, sides, twice, [block.name for block in blocks])
         blocks.append(block)
-        fill(block, chance.randint(1, 6) if name == "main" else chance.randint(0, 2))
+        block.fill(chance.randint(1, 6) if name == "main" else chance.randint(0, 2))
     if chance.random() < 0.4:
         for _ in range(chance.randint(1, 2)):
             block = blocks[-1] if chance.random() < 0.8 else chance.choice(blocks)
             # Nothing takes this number; without it the seeds would stand for other programs.
             chance.randrange(len(block.statements))
-            way = SPOILT[chance.randrange(len(SPOILT))]
             # The block may have no statement that the change is for.
             with contextlib.suppress(IndexError):
-                way(block)
+                chance.choice(SPOILT)(block)
     return "u-program 1\n" + "".join(block.text() for block in blocks)
 
 

@@ -25,36 +25,9 @@
 #   two spaces and TEXT   a line of standard output
 # Lines that begin with `#` and empty lines say nothing. CASES names the files of cases that are run, and nothing
 # else is then looked at.
-set -u
-export LC_ALL=C
-
-top=$(cd -P -- "$(dirname -- "${BASH_SOURCE[0]}")/.." && pwd) || exit 2
+. "$(dirname -- "${BASH_SOURCE[0]}")/common.sh" || exit 2
 cd -- "$top" || exit 2
-binary=${U_BINARY:-$top/crates/u/out/u}
-if [ ! -x "$binary" ]; then
-    echo "$binary is not there: build it first, by ./u --prove or by rt ci" >&2
-    echo "0 passed, 1 failed"
-    exit 1
-fi
-temp=$(mktemp -d) || exit 2
-trap 'rm -rf -- "$temp"' EXIT
-passed=0
-failed=0
-
-# Counts a test of that name, which passed if nothing is said to be wrong with it.
-count() {
-    if [ -z "$2" ]; then
-        passed=$((passed + 1))
-    else
-        failed=$((failed + 1))
-        printf 'FAILED: %s\n%s\n' "$1" "$(sed 's/^/  /' <<<"$2")"
-    fi
-}
-
-# Counts whether two texts are the same.
-expect_same() {
-    count "$1" "$(diff <(printf '%s\n' "$2") <(printf '%s\n' "$3"))"
-}
+need_program
 
 # The files that are too large or too odd to stand in the repository.
 make_files() {
@@ -163,34 +136,31 @@ start_in() {
     esac
 }
 
+# Says what stands in a file, its first 4,000 bytes at most.
+show() {
+    echo "$1"
+    head -c 4000 -- "$temp/$2" | sed 's/^/    /'
+}
+
+# Compares what came on a stream, which a file has, with the whole text that is wanted, or looks for texts in it.
+judge_whole() {
+    printf '%s' "$3" >"$temp/wanted"
+    cmp -s -- "$temp/wanted" "$temp/$2" || { show "standard $1, wanted:" wanted && show 'got:' "$2"; }
+}
+judge_parts() {
+    local text
+    for text in "${@:3}"; do
+        grep -qF -- "$text" "$temp/$2" || show "standard $1 has no '$text':" "$2"
+    done
+}
+
 # What is wrong, a line each, on standard output.
 judge() {
-    local text
     [ "$1" = "$status" ] || echo "the status is $1, not $status"
-    if [ -n "$error" ] || [ ${#error_has[@]} -eq 0 ]; then
-        printf '%s' "${error:+$error$'\n'}" >"$temp/wanted"
-        cmp -s -- "$temp/wanted" "$temp/err" || {
-            echo 'standard error, wanted:'; sed 's/^/    /' "$temp/wanted"
-            echo 'got:'; sed 's/^/    /' "$temp/err"
-        }
-    fi
-    for text in "${error_has[@]}"; do
-        grep -qF -- "$text" "$temp/err" || {
-            echo "standard error has no '$text':"; sed 's/^/    /' "$temp/err"
-        }
-    done
-    if [ ${#output_has[@]} -eq 0 ]; then
-        printf '%s' "$output" >"$temp/wanted"
-        cmp -s -- "$temp/wanted" "$temp/out" || {
-            echo 'standard output, wanted:'; sed 's/^/    /' "$temp/wanted"
-            echo 'got:'; head -c 2000 "$temp/out" | sed 's/^/    /'
-        }
-    fi
-    for text in "${output_has[@]}"; do
-        grep -qF -- "$text" "$temp/out" || {
-            echo "standard output has no '$text':"; head -c 2000 "$temp/out" | sed 's/^/    /'
-        }
-    done
+    [ -z "$error" ] && [ ${#error_has[@]} -gt 0 ] || judge_whole error err "${error:+$error$'\n'}"
+    judge_parts error err "${error_has[@]}"
+    [ ${#output_has[@]} -gt 0 ] || judge_whole output out "$output"
+    judge_parts output out "${output_has[@]}"
 }
 
 end_case() {
@@ -212,25 +182,20 @@ while IFS= read -r row || [ -n "$row" ]; do
     case $row in
         'case: '*) end_case; begin_case "${row#case: }" ;;
         'words:') ;;
-        'words: '*) words=${row#words: } ;;
-        'stdin: '*) stdin=${row#stdin: } ;;
+        words:\ * | stdin:\ * | stdout:\ * | folder:\ * | by:\ * | memory:\ * | error:\ * | status:\ *)
+            printf -v "${row%%: *}" '%s' "${row#*: }"
+            ;;
         'input:'*) stdin=TEMP/input; add_line "$row" ;;
         'line '*) add_line "${row#line }" ;;
-        'stdout: '*) stdout=${row#stdout: } ;;
-        'folder: '*) folder=${row#folder: } ;;
-        'by: '*) by=${row#by: } ;;
-        'memory: '*) memory=${row#memory: } ;;
         'output has: '*) output_has+=("${row#output has: }") ;;
-        'error: '*) error=${row#error: } ;;
         'error has: '*) error_has+=("${row#error has: }") ;;
-        'status: '*) status=${row#status: } ;;
         '  '*) output+=${row:2}$'\n' ;;
         '' | '#'*) ;;
         *) echo "tests/cases has a line that says nothing: $row" >&2; failed=$((failed + 1)) ;;
     esac
 done < <(cat ${CASES:-tests/cases/*.txt})
 end_case
-[ -z "${CASES:-}" ] || { echo "$passed passed, $failed failed"; exit "$((failed > 0))"; }
+[ -z "${CASES:-}" ] || finish
 
 # Runs the example whose command and wanted output stand in `command` and `wanted`.
 end_example() {
@@ -295,12 +260,9 @@ for file in tests/determinate/*.u; do
     expect_same "what check says of $file" "$(cat "${file%.u}.out")" \
         "$("$binary" check "$file" --strict --determinate 2>&1)"
 done
+# The programs, and the pictures of their runs, stories and worlds: what tests/drawn.py finds wrong with them.
 for file in programs/*.u; do
     expect_same "$file is determinate" determinate "$("$binary" check "$file" --determinate | tail -n 1)"
-done
-
-# The pictures of runs, stories and worlds: what tests/drawn.py finds wrong with them.
-for file in programs/*.u; do
     expect_same "the pictures of runs and worlds of $file" '' "$(U_BINARY=$binary tests/drawn.py "$file" 2>&1)"
 done
 
@@ -335,6 +297,4 @@ expect_same 'restore says how far it is' '' \
 # The example of docs/LIBRARY.md is a program that the gate runs.
 expect_same 'the example of docs/LIBRARY.md is u_example' "$(cat crates/u_example/src/main.rt)" \
     "$(sed -n '/^```rust$/,/^```$/p' docs/LIBRARY.md | sed '1d;$d')"
-
-echo "$passed passed, $failed failed"
-[ "$failed" -eq 0 ]
+finish

@@ -7,7 +7,7 @@ Runs the command behind a pseudo terminal, and stops it for two seconds in its m
 longer than two. Meanwhile it runs once more, with a pipe in the terminal's place. Prints what is wrong, a line
 each, and nothing where nothing is.
 """
-
+import contextlib
 import os
 import pty
 import re
@@ -24,14 +24,11 @@ STOPPED = 2.0
 def read_all(end):
     """What was written behind the terminal, and when it came."""
     parts = []
-    while True:
-        try:
-            part = os.read(end, 4096)
-        except OSError:
-            return parts
-        if not part:
-            return parts
-        parts.append((time.monotonic(), part))
+    # At the end a read of the terminal fails.
+    with contextlib.suppress(OSError):
+        while part := os.read(end, 4096):
+            parts.append((time.monotonic(), part))
+    return parts
 
 
 def watched(words):
@@ -51,8 +48,7 @@ def watched(words):
 
 
 def judge(words):
-    pipe = {"stdin": subprocess.DEVNULL, "stdout": subprocess.PIPE, "stderr": subprocess.PIPE}
-    plain = subprocess.Popen(words, **pipe)
+    plain = subprocess.Popen(words, stdin=subprocess.DEVNULL, stdout=subprocess.PIPE, stderr=subprocess.PIPE)
     output, status, parts = watched(words)
     wanted, error = plain.communicate(timeout=60)
     if error:

@@ -4,7 +4,7 @@
 shows a clash of kinds. Of an accepted one each node of a name, a `next`, a variable and a definition has in
 `refers` the declaration that it means, or the node of a procedure.
 """
-from .parsing import parse
+from .parsing import COMPARISONS, parse
 from .tokens import Refused, refuse
 
 PROCEDURES = 64
@@ -38,10 +38,6 @@ def is_choice(node):
     _, then, other = node.parts
     return other is not None and other.form == "block" and all(
         not side.parts[0] and side.parts[1] is not None and is_atom(side.parts[1]) for side in (then, other))
-
-
-def variables_of(loop):
-    return loop.parts[3] if loop.form == "for" else loop.parts[0]
 
 
 class Faults:
@@ -139,8 +135,7 @@ class Names(Faults):
         if node.form in WHOLE:
             self.whole(node, known, False)
         else:
-            for part in node.parts:
-                self.value(part, known)
+            self.value(node, known)
         if node.form == "define":
             node.refers = self.declare(node.name, known)
             if is_atom(node.parts[0]):
@@ -174,29 +169,26 @@ class Names(Faults):
             self.refuse(node.token, "`if` without `else` gives no value")
 
     def loop(self, node, known):
-        block, given = node.parts[-2:]
+        variables, test, block, given = node.parts
         inside, own, seen = dict(known), {}, {}
-        if node.form == "for":
-            counter, start, limit = node.parts[:3]
-            self.value(start, known)
-            self.value(limit, known)
-            counter.refers = own[counter.name.text] = self.declare(counter.name, inside)
-            seen[counter.name.text] = counter.name.line
         having = {item.name.text for item in block.parts[0] if item.form == "next"}
-        for variable in variables_of(node):
+        for variable in variables:
             name = variable.name
-            self.value(variable.parts[0], known)
+            self.value(variable, known)
             twice = name.text in self.by_name or name.text in inside
             variable.refers = own[name.text] = self.declare(name, inside)
-            if not twice and name.text not in having:
+            if variable.form == "counter":
+                seen[name.text] = name.line
+            elif not twice and name.text not in having:
                 self.refuse(name, f"loop variable `{name.text}` has no `next`")
-        if node.form == "loop":
-            self.value(node.parts[1], inside)
+        if test is not None:
+            self.value(test, inside)
         self.block(block, inside, False, (own, seen))
         if given is not None:
             self.value(given, inside)
 
     def value(self, node, known):
+        """Checks a value, or those in an item or a variable."""
         if node.form == "name":
             self.use(node, known)
         elif node.form in WHOLE:
@@ -218,11 +210,9 @@ def collect(node, names):
     """Appends the tokens of the names that are declared in a node, in the order in which that ends."""
     for part in node.parts:
         for one in part if isinstance(part, list) else [part]:
-            if one is not None and one.form != "counter":
+            if one is not None:
                 collect(one, names)
-            if one is not None and node.form == "for" and one is node.parts[2]:
-                names.append(node.parts[0].name)
-    if node.form in ("define", "variable"):
+    if node.form in ("define", "variable", "counter"):
         names.append(node.name)
 
 
@@ -239,16 +229,14 @@ def closing_braces(tokens):
 
 NUMBER, TRUTH, PROCEDURE, STRUCTURE = "a number", "a truth value", "a procedure", "a structure"
 # For each form the kinds that its parts have to be of, and the kind of its value.
-OPERATORS = {sign: ((NUMBER, NUMBER), NUMBER) for sign in "+-*/%"}
-OPERATORS.update({sign: ((NUMBER, NUMBER), TRUTH) for sign in ("<", "<=", ">", ">=", "==", "!=")})
-OPERATORS.update({sign: ((TRUTH, TRUTH), TRUTH) for sign in ("and", "or")})
-OPERATORS.update({sign: ((), NUMBER) for sign in ("number", "negative")})
-OPERATORS.update({sign: ((), TRUTH) for sign in ("true", "false")})
-OPERATORS.update({
+OPERATORS = {
+    **dict.fromkeys((*"+-*/%", "counter"), ((NUMBER, NUMBER), NUMBER)),
+    **dict.fromkeys(COMPARISONS, ((NUMBER, NUMBER), TRUTH)),
+    **dict.fromkeys(("and", "or"), ((TRUTH, TRUTH), TRUTH)),
+    "number": ((), NUMBER), "negative": ((), NUMBER), "true": ((), TRUTH), "false": ((), TRUTH),
     "not": ((TRUTH,), TRUTH), "negate": ((NUMBER,), NUMBER), "array": ((NUMBER,), STRUCTURE),
     "length": ((STRUCTURE,), NUMBER), "index": ((STRUCTURE, NUMBER), None),
-    "call": ((PROCEDURE, None, None, None, None), None),
-    "write": ((None, None), None), "statement": ((None,), None)})
+    "call": ((PROCEDURE, None, None, None, None), None), "write": ((None, None), None), "statement": ((None,), None)}
 
 
 class Kinds(Faults):
@@ -299,16 +287,11 @@ class Kinds(Faults):
         return None if value is None else self.value(value)
 
     def loop(self, node):
-        if node.form == "for":
-            counter, start, limit = node.parts[:3]
-            self.want(start, NUMBER)
-            self.want(limit, NUMBER)
-            counter.refers.kind = NUMBER
-        for variable in variables_of(node):
-            variable.refers.kind = self.value(variable.parts[0])
-        if node.form == "loop":
-            self.want(node.parts[1], TRUTH)
-        block, given = node.parts[-2:]
+        variables, test, block, given = node.parts
+        for variable in variables:
+            variable.refers.kind = self.value(variable if variable.form == "counter" else variable.parts[0])
+        if test is not None:
+            self.want(test, TRUTH)
         self.side(block)
         return None if given is None else self.value(given)
 

@@ -7,7 +7,7 @@ what comes from what came, and the order in which the rules are followed doesn't
 import collections
 import operator
 
-from .checking import WHOLE, constant_of, is_atom, is_choice, variables_of
+from .checking import WHOLE, constant_of, is_atom, is_choice
 
 LEAST, MOST = -2 ** 63, 2 ** 63 - 1
 DEEPEST = 64
@@ -279,26 +279,23 @@ class Loop:
 
     def __init__(self, evaluation, node, scope):
         self.evaluation, self.node, self.scope = evaluation, node, scope
+        self.variables, self.test, self.block, self.gives = node.parts
         self.counts = node.form == "for"
-        self.names = [variable.refers for variable in variables_of(node)]
-        if self.counts:
-            self.names.insert(0, node.parts[0].refers)
-        self.clock = self.names[0] if self.counts else first_used(node.parts[1], self.names) or self.names[0]
+        self.names = [variable.refers for variable in self.variables]
+        self.clock = self.names[0] if self.counts else first_used(self.test, self.names) or self.names[0]
         self.lasts, self.limit = {name: Future() for name in self.names}, None
 
     def value(self):
         """Enters the first turn. Returns the value of the `give`, or None."""
         evaluation, scope = self.evaluation, self.scope
-        starts = [evaluation.value(variable.parts[0], scope) for variable in variables_of(self.node)]
+        starts = [evaluation.value(variable.parts[0], scope) for variable in self.variables]
         if self.counts:
-            starts.insert(0, evaluation.value(self.node.parts[1], scope))
-            self.limit = evaluation.value(self.node.parts[2], scope)
+            self.limit = evaluation.value(self.variables[0].parts[1], scope)
         if scope.depth == DEEPEST:
             evaluation.fault_with(starts + self.carried(), "deep")
         else:
             self.enter(dict(zip(self.names, starts)))
-        given = self.node.parts[-1]
-        return None if given is None else evaluation.value(given, scope.side(self.lasts))
+        return None if self.gives is None else evaluation.value(self.gives, scope.side(self.lasts))
 
     def outside(self):
         """The names from outside that the turns need."""
@@ -317,7 +314,7 @@ class Loop:
         if self.counts:
             test = evaluation.given([values[self.names[0]], self.limit], lambda *sides: operate("<", *sides))
         else:
-            test = evaluation.value(self.node.parts[1], turn)
+            test = evaluation.value(self.test, turn)
         evaluation.when(test, lambda truth: self.go_on(truth, turn, values))
 
     def go_on(self, truth, turn, values):
@@ -326,15 +323,14 @@ class Loop:
             evaluation.no_truth(self.sent(), turn, False)
         elif truth:
             block = turn.side()
-            evaluation.block(self.node.parts[-2], block)
+            evaluation.block(self.block, block)
             self.enter(self.next_values(block, values))
         else:
             for name in self.names:
                 evaluation.hand_on(values[name], self.lasts[name])
 
     def next_values(self, block, values):
-        items = self.node.parts[-2].parts[0]
-        following = {item.refers: block.values[item] for item in items if item.form == "next"}
+        following = {item.refers: block.values[item] for item in self.block.parts[0] if item.form == "next"}
         if self.counts:
             one = self.evaluation.given([block.clock], lambda _: 1)
             following[self.names[0]] = self.evaluation.given(
@@ -344,8 +340,8 @@ class Loop:
     def sent(self):
         """What the test sends on or out of the loop: what the block and the `give` need, and what is carried."""
         sent, given = Sent(), Sent()
-        sent.side(self.node.parts[-2])
-        given.value(self.node.parts[-1])
+        sent.side(self.block)
+        given.value(self.gives)
         sent.names |= given.names & set(self.names) | self.outside()
         return sent
 
@@ -369,7 +365,7 @@ class Sent:
             self.value(node)
 
     def value(self, node):
-        """What the value of a node needs, if there is one."""
+        """What the value of a node needs, if there is one, or those in an item or a variable."""
         if node is None:
             return
         if is_atom(node):
@@ -380,14 +376,10 @@ class Sent:
         elif node.form == "if":
             self.value(node.parts[0])
             for side in node.parts[1:]:
-                if is_choice(node):
-                    self.value(side.parts[1])
-                else:
-                    self.side(side)
+                self.side(side)
         elif node.form in WHOLE:
             # What a loop begins with, what its turns need, and what its `give` does.
-            self.values(node.parts[1:3] if node.form == "for" else ())
-            self.values(variable.parts[0] for variable in variables_of(node))
+            self.values(node.parts[0])
             self.turn(node)
             self.value(node.parts[-1])
         else:
@@ -405,10 +397,8 @@ class Sent:
         self.value(value)
 
     def item(self, node):
-        if node.form == "write":
-            self.values((*node.parts[0].parts, node.parts[1]))
-        elif node.form != "define":
-            self.values(node.parts if node.form in ("next", "statement") else [node])
+        if node.form != "define":
+            self.value(node)
         elif node.refers.constant is None:
             self.value(node.parts[0])
             self.inside.add(node.refers)
@@ -416,12 +406,9 @@ class Sent:
     def turn(self, node):
         """What the turns of a loop need from outside of it; their constants come with one of its variables."""
         inner = Sent()
-        inner.inside.update(variable.refers for variable in variables_of(node))
-        if node.form == "for":
-            inner.inside.add(node.parts[0].refers)
-        else:
-            inner.value(node.parts[1])
-        inner.side(node.parts[-2])
+        inner.inside.update(variable.refers for variable in node.parts[0])
+        inner.value(node.parts[1])
+        inner.side(node.parts[2])
         self.names |= inner.names - self.inside
         self.inside |= inner.inside
 

@@ -207,16 +207,15 @@ class Maker:
             sides = [self.atom(here, kind) for _ in range(2)]
             if self.often(self.wrong):
                 sides[1] = self.atom(here, self.chance.choice(("number", "truth")))
-            bodies = [f"{{ {text} }}" for text, _ in sides]
+            sides = [(f"{{ {text} }}", known) for text, known in sides]
         else:
             sides = [self.side(here, kind) for _ in range(2)]
-            bodies = [text for text, _ in sides]
+        (then, first), (other, second) = sides
         if self.often(0.15):
             last, known = self.side(here, kind)
-            bodies[1] = f"if {self.truth(here, depth + 1)[0]} {bodies[1]} else {last}"
-            sides[1] = (bodies[1], sides[1][1] if sides[1][1] == known else None)
-        same = sides[0][1] if sides[0][1] == sides[1][1] else None
-        return f"if {control} {bodies[0]} else {bodies[1]}", same
+            other = f"if {self.truth(here, depth + 1)[0]} {other} else {last}"
+            second = second if second == known else None
+        return f"if {control} {then} else {other}", first if first == second else None
 
     def side(self, here, kind):
         """A block with a value, and the kind of that."""
@@ -463,9 +462,9 @@ def repeat(words, chance):
     words[at:at] = words[at:at + chance.choice((1, 3, 10, 30))]
 
 
-def exchange(words, chance):
-    first, second = chance.randrange(len(words)), chance.randrange(len(words))
-    words[first], words[second] = words[second], words[first]
+def exchange(parts, chance):
+    first, second = chance.randrange(len(parts)), chance.randrange(len(parts))
+    parts[first], parts[second] = parts[second], parts[first]
 
 
 def rename(words, chance):
@@ -477,8 +476,7 @@ def rename(words, chance):
 
 def exchange_lines(words, chance):
     lines = "".join(words).split("\n")
-    first, second = chance.randrange(len(lines)), chance.randrange(len(lines))
-    lines[first], lines[second] = lines[second], lines[first]
+    exchange(lines, chance)
     words[:] = words_of("\n".join(lines))
 
 

@@ -9,11 +9,9 @@ A node has a form, the token that shows it in an error, and parts. The forms and
     index                         a structure, an index
     call                          what is called, then the arguments
     if                            the control, a block, and a block, an `if` or None
-    loop                          the variables (a list), the test, a block, a `give` or None
-    for                           the counter, the first number, the limit, the other variables (a list),
-                                  a block, a `give` or None
-    variable                      the value that it begins with; the node's `name` is its token
-    define, next                  the value; the node's `name` is the token of the name
+    loop, for                     the variables (a list), the test (None in a `for`), a block, a `give` or None
+    counter                       the first variable of a `for`: the first number, the limit; `name` is its token
+    variable, define, next        the value, which a variable begins with; `name` is the token of the name
     write                         an index node, the value
     statement                     a call
     block                         the items (a list), and the value at its end or None
@@ -175,24 +173,22 @@ class Parser:
 
     def loop(self, level):
         inner = self.deepen(level)
-        first = self.take()
-        if first.text == "for":
-            counter = Node("counter", first, name=self.expect_name())
-            self.expect("in")
-            start = self.expression(inner)
-            self.expect("..")
-            front = [counter, start, self.expression(inner), self.variables([], inner)]
-        else:
-            front = [self.variables([self.variable(first, inner)], inner)]
-            self.expect("while")
-            front.append(self.expression(inner))
-        block = self.block(inner)
-        return Node(first.text, first, *front, block, self.expression(inner) if self.takes("give") else None)
-
-    def variables(self, variables, level):
+        first, test = self.take(), None
+        variables = [(self.counter if first.text == "for" else self.variable)(first, inner)]
         while self.sees(","):
-            variables.append(self.variable(self.take(), level))
-        return variables
+            variables.append(self.variable(self.take(), inner))
+        if first.text == "loop":
+            self.expect("while")
+            test = self.expression(inner)
+        block = self.block(inner)
+        return Node(first.text, first, variables, test, block, self.expression(inner) if self.takes("give") else None)
+
+    def counter(self, first, level):
+        name = self.expect_name()
+        self.expect("in")
+        start = self.expression(level)
+        self.expect("..")
+        return Node("counter", first, start, self.expression(level), name=name)
 
     def variable(self, first, level):
         name = self.expect_name()
