@@ -11,7 +11,7 @@ ghost use Rattle.u_outlet.specs.Sound.{IsSound};
 use crate::answer::PullFault;
 use crate::ends::{Inlet, Notice};
 use crate::named::Named;
-use crate::reading::{Question, read};
+use crate::reading::{Pull, read};
 use crate::rule::FiringReader;
 use core::mem::replace_with;
 use std::alloc::Global;
@@ -51,12 +51,12 @@ impl<J: Named> Inlet<J> {
         ensures unread { IfErr result
             (λ e. e ≡ PullFault.NoReading → seen_by self.new ≡ seen_by self.old) }
     {
-        let question = Question {
+        let pull = Pull {
             alloc: self.alloc,
             place,
             count: self.count,
         };
-        let (count, copies) = replace_with(&mut self.reader, question, read);
+        let (count, copies) = replace_with(&mut self.reader, pull, read);
         self.count = count;
         copies
     }

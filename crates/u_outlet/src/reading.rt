@@ -12,7 +12,7 @@ use std::alloc::Global;
 use u_rule::Firing;
 
 /// From which place on firings are wanted, and how many the reader saw before.
-pub struct Question {
+pub struct Pull {
     pub alloc: Global,
     pub place: usize,
     pub count: usize,
@@ -22,20 +22,20 @@ pub struct Question {
 pub type Pulled = (usize, Result<Vec<Firing>, PullFault>);
 
 /// Looks once.
-pub fn read<J: Named>(reader: FiringReader<J>, question: Question) -> (FiringReader<J>, Pulled)
-    requires { length (view reader.place) ≡ question.count }
+pub fn read<J: Named>(reader: FiringReader<J>, pull: Pull) -> (FiringReader<J>, Pulled)
+    requires { length (view reader.place) ≡ pull.count }
     ensures later { StartsWith (view result.0.place) (view reader.place) }
     ensures count { result.1.0 ≡ length (view result.0.place) }
-    ensures firings { IfOk result.1.1 (λ v. v.items ≡ drop question.place (view result.0.place)) }
+    ensures firings { IfOk result.1.1 (λ v. v.items ≡ drop pull.place (view result.0.place)) }
     ensures sound { IfOk result.1.1 (λ v. All (IsSound J.job) v.items) }
     ensures unread { IfErr result.1.1
         (λ e. e ≡ PullFault.NoReading → view result.0.place ≡ view reader.place) }
 {
-    let Question {
+    let Pull {
         alloc,
         place,
         count,
-    } = question;
+    } = pull;
     match reader.enter_as::<Sees>() {
         Ok(reading) => {
             let all: &Published<J> = reading.get();
