@@ -10,12 +10,11 @@ use Rattle.u_name.specs.Name.{Activity, activity}
 use Rattle.u_value.specs.declared.value.Value.{Value}
 use Rattle.u_value.specs.declared.value.Value.TheVariants as values
 use Rattle.u_program.specs.declared.program.Kind.{Kind}
-use Rattle.u_program.specs.declared.program.Kind.TheVariants.{Binary, Select, Switch, Enter, Next, Last, Leave, Apply, Store, Fetch, Ask}
-use Rattle.u_program.specs.declared.program.Arguments.TheVariants as arguments
+use Rattle.u_program.specs.declared.program.Kind.TheVariants.{Enter, Next, Last, Leave}
 use Rattle.u_program.specs.Parts.{StatementParts}
-use Rattle.u_check.specs.Kinds.{ports_of}
 use Rattle.u_check.specs.Rules.{main_name, IsChecked}
 use Rattle.u_check.specs.Jobs.{JobParts}
+use Rattle.u_check.proofs.KindTests.{few_ports}
 use Rattle.u_rule.specs.Parts.{TokenParts, token, ValueList}
 use Rattle.u_rule.specs.Fits.{statement_of}
 use Rattle.u_rule.specs.Rule.{needs_of, reached, start_of, system_of}
@@ -95,22 +94,6 @@ start_place job t e =
     let z : t ≡ token (activity Top main_name 1 1) 1 (values.Int job.argument) = cc in
     (ap (λ (x : TokenParts). x.activity) z, ap (λ (x : TokenParts). x.port) z)
 
-some_port : (k : Kind) → 1 ≤ ports_of k
-some_port (Binary o) = omega arith
-some_port Select = omega arith
-some_port Switch = omega arith
-some_port (Apply b arguments.One) = omega arith
-some_port (Apply b arguments.Two) = omega arith
-some_port (Apply b arguments.Three) = omega arith
-some_port (Apply b arguments.Four) = omega arith
-some_port Store = omega arith
-some_port Fetch = omega arith
-some_port (Ask s arguments.One) = omega arith
-some_port (Ask s arguments.Two) = omega arith
-some_port (Ask s arguments.Three) = omega arith
-some_port (Ask s arguments.Four) = omega arith
-some_port k = omega arith
-
 -- a firing needs a token at its first port
 pub first_token : (job : JobParts) (sound : IsChecked job.program.blocks) (H : Entry → Type 0) (f : Firing) → Enabled (system_of job) H f → (v : Value) × H (entries.Token (token f.activity 1 v))
 unfolding needs_of
@@ -120,7 +103,7 @@ first_token job sound H f en = at f.values refl (fires_of job sound f en.0)
     need v vs e = rw e (Contains-head _ _)
 
     at : (vs : ValueList) → f.values ≡ vs → Fires job f → (v : Value) × H (entries.Token (token f.activity 1 v))
-    at [] e r = let l = some_port r.it.kind in absurd (omega (arith, l, r.count, ap length e))
+    at [] e r = let l = (few_ports r.it.kind).0 in absurd (omega (arith, l, r.count, ap length e))
     at (v ∷ vs) e r = (v, en.1 _ (need v vs e))
 
 module _ (job : JobParts) (fs : List Firing) (f : Firing) (m : Contains fs f) (r : RootedAt job fs f.activity) where

@@ -11,17 +11,17 @@ use Rattle.u_value.specs.declared.fault_kind.FaultKind.{FaultKind}
 use Rattle.u_value.specs.declared.fault_kind.FaultKind.TheVariants as faults
 use Rattle.u_program.specs.Limits.{IsBlockOf, IsProgram, the_limits}
 use Rattle.u_program.specs.Parts.{StatementParts, BlockParts}
-use Rattle.u_program.specs.declared.program.Arguments.TheVariants as arguments
 use Rattle.u_program.specs.declared.program.Destination.{Destination}
 use Rattle.u_program.specs.declared.program.Version.{Version}
 use Rattle.u_program.specs.declared.program.Kind.{Kind}
-use Rattle.u_program.specs.declared.program.Kind.TheVariants.{Binary, Select, Switch, Enter, Next, Last, Leave, Apply, Store, Fetch, Ask}
+use Rattle.u_program.specs.declared.program.Kind.TheVariants.{Switch, Enter, Next, Last, Leave, Apply}
 use Rattle.u_check.specs.Kinds.{ports_of, back_named, is_apply, is_end, is_of_loop, crosses, is_store}
 use Rattle.u_check.specs.Rules.{sends, main_name, block_named, statement_at, held_by, IsChecked}
 use Rattle.u_check.proofs.Arcs.{numbered}
 use Rattle.u_check.proofs.Blocks.{named_member}
 use Rattle.u_check.proofs.Facts.{Target, Returned, main_block, in_to, in_otherwise, held_is_loop, begin_first, enter_held, apply_returned, lies_in_loop, end_outside, target_exists, target_of_enter, target_of_leave, target_region}
 use Rattle.u_base.proofs.Member.{Contains-nil, Contains-cons_cases}
+use Rattle.u_check.proofs.KindTests.{few_ports}
 use Rattle.u_rule.specs.Parts.{TokenParts, token, ValueList}
 use Rattle.u_rule.specs.Fits.{statement_in, statement_of, holder_in, holder_of, fits, fits_at, IsPlaced, IsFitting, AllFit}
 use Rattle.u_rule.specs.Rule.{is_firing_of, is_firing_at, has_its_form, given_with, beside, reached, refusal_of, list_of, result_of, first_of, delivered, handed_on, arguments_from, called_first, begun, called_on, called, back_of, brought_back, finished, ended, given, fault_of}
@@ -38,23 +38,6 @@ use Rattle.u_rule.proofs.Places.{Standing, standing, Looping, looping, Calling, 
 use Rattle.u_rule.specs.Parameters.{parameters_of}
 use Rattle.u_rule.proofs.Firings.{at_statement}
 use Rattle.u_rule.proofs.ParameterLaws.{Taker, named_by, takes}
-
--- every kind has a port
-ports_some : (k : Kind) → 1 ≤ ports_of k
-ports_some (Binary o) = omega arith
-ports_some Select = omega arith
-ports_some Switch = omega arith
-ports_some (Apply n arguments.One) = omega arith
-ports_some (Apply n arguments.Two) = omega arith
-ports_some (Apply n arguments.Three) = omega arith
-ports_some (Apply n arguments.Four) = omega arith
-ports_some Store = omega arith
-ports_some Fetch = omega arith
-ports_some (Ask s arguments.One) = omega arith
-ports_some (Ask s arguments.Two) = omega arith
-ports_some (Ask s arguments.Three) = omega arith
-ports_some (Ask s arguments.Four) = omega arith
-ports_some k = omega arith
 
 -- a token at that statement of the block
 placed : (p : List BlockParts) (b : BlockParts) (n : Activity) (port : ℕ) (v : Value) (t : StatementParts) → block_named p n.block ≡ Some b → statement_at b.statements n.statement ≡ Some t → fits_at p t.region n ≡ true → 1 ≤ port → port ≤ ports_of t.kind → IsPlaced p (token n port v)
@@ -226,7 +209,7 @@ module _ (p : List BlockParts) (c : IsChecked p) where
       argument_fits k v low high =
           let w = taken k low high in
           placed p b (beside (called_first a name) k) 1 v w.it n w.stands
-          (rw w.region (calling_fits p a.context a.block a.statement a.initiation s name e q (named_by p name b n) f)) (omega arith) (ports_some w.it.kind)
+          (rw w.region (calling_fits p a.context a.block a.statement a.initiation s name e q (named_by p name b n) f)) (omega arith) (few_ports w.it.kind).0
 
       arguments_fit : (k : ℕ) (vs : ValueList) → 1 ≤ k → k + length vs ≤ parameters_of b + 1 → AllFit p (arguments_from (called_first a name) k vs)
       unfolding IsFitting
@@ -270,7 +253,7 @@ module _ (p : List BlockParts) (c : IsChecked p) where
         back : (n : ℕ) → Returned there.block.statements w.by.region n → IsPlaced p (token (returned a n) 1 v)
         back n g =
             let l : returned a n ≡ activity outer from n turn = rw z refl in
-            rw l (placed p there.block (activity outer from n turn) 1 v g.it there.named g.stands (rw g.in_region w.fit) (omega arith) (ports_some g.it.kind))
+            rw l (placed p there.block (activity outer from n turn) 1 v g.it there.named g.stands (rw g.in_region w.fit) (omega arith) (few_ports g.it.kind).0)
 
         by_kind : (k : Kind) → w.by.kind ≡ k → AllFit p (brought_back a v (back_named k))
         by_kind (Apply n i) q =
@@ -317,7 +300,7 @@ module _ (p : List BlockParts) (c : IsChecked p) where
       first (begins lim main_name m.0 m.1)
     where
       first : Begun p main_name → IsPlaced p (token (activity Top main_name 1 1) 1 v)
-      first w = placed p w.block (activity Top main_name 1 1) 1 v w.first w.named w.stands (rw w.region refl) (omega arith) (ports_some w.first.kind)
+      first w = placed p w.block (activity Top main_name 1 1) 1 v w.first w.named w.stands (rw w.region refl) (omega arith) (few_ports w.first.kind).0
 
   pub start_fits : (e : Entry) (v : Value) → e ≡ entries.Token (token (activity Top main_name 1 1) 1 v) → IsProgram the_limits p → IsFitting p e
   unfolding IsFitting
