@@ -1,6 +1,6 @@
 -- What a machine that ran says of what is to blame.
-use Rattle.std.proofs.Common.{◌≡◌, refl, sym, subst, ℕ, List, ◌++◌, inl, inr, append_assoc}
-use Rattle.std.specs.Prelude.{Option, Some, None, Ok, Err}
+use Rattle.std.proofs.Common.{◌≡◌, sym, subst, ℕ, List, ◌++◌, append_assoc}
+use Rattle.std.specs.Prelude.{Option, Ok, Err}
 use Rattle.u_name.specs.Name.{Activity}
 use Rattle.u_compile.specs.declared.origins.BlockOrigins.{BlockOrigins}
 use Rattle.u_machine.specs.State.{State}
@@ -9,7 +9,6 @@ use Rattle.u_trace.specs.declared.blamed.Blame.{Blame}
 use Rattle.u_trace.specs.declared.blame_error.BlameError.{BlameError}
 use Rattle.u_trace.specs.declared.blame_error.BlameError.TheVariants.{NotClashed, NoMemory}
 use Rattle.u_commands.specs.declared.command_error.CommandError.{CommandError}
-use Rattle.u_commands.specs.declared.command_error.CommandError.TheVariants as faults
 use Rattle.u_commands.specs.Traces.{RanPlainly}
 use Rattle.u_commands.specs.Blaming.{most_blamed, blamed_text, blame_fault, BlamesJob, BlameRefused}
 

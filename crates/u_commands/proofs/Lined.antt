@@ -1,5 +1,5 @@
 -- A line for each of some things, with something at its end.
-use Rattle.std.proofs.Common.{◌≡◌, ◌∙◌, sym, ap, refl, ℕ, ◌+◌, ◌<◌, List, [], ◌∷◌, ◌++◌, append_assoc, length, take, get_or, map}
+use Rattle.std.proofs.Common.{◌≡◌, ◌∙◌, ap, ℕ, ◌+◌, ◌<◌, List, [], ◌∷◌, ◌++◌, append_assoc, length, take, get_or, map}
 use Rattle.u_base.specs.Spaced.{ended}
 use Rattle.u_trace.proofs.Texts.{lines_more}
 

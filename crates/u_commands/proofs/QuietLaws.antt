@@ -1,7 +1,7 @@
 -- Quiet machines of one job, whatever firings each of them took, and its plain run: their reports are the same, but for
 -- how many firings are parked.
-use Rattle.std.specs.Prelude.{◌≡◌, ◌↔◌, ℕ, ◌≤◌, refl, List, ◌++◌, length, take, drop, Contains}
-use Rattle.std.proofs.Common.{sym, ◌∙◌, ap, subst, arith, inl, inr, take-append-drop}
+use Rattle.std.specs.Prelude.{◌≡◌, ◌↔◌, ℕ, refl, List, length, take, drop, Contains}
+use Rattle.std.proofs.Common.{sym, subst, arith, inl, inr, take-append-drop}
 use Rattle.std.proofs.lemmas.List.Elements.{Contains-append_left, Contains-append_cases}
 use Rattle.u_base.specs.Firing.{Held, Enabled, Same, Whole, Derivation, Distinct}
 use Rattle.u_base.proofs.Plain.{Plain-derivation, Plain-distinct}
@@ -15,7 +15,7 @@ use Rattle.u_rule.specs.declared.firing.Firing.{Firing}
 use Rattle.u_history.specs.Report.{IsReportOf}
 use Rattle.u_history.specs.declared.report.Ending.TheVariants.{Quiet}
 use Rattle.u_history.proofs.Reports.{report_one}
-use Rattle.u_machine.specs.State.{State, Taken, IsMachine, IsQuiet}
+use Rattle.u_machine.specs.State.{State, IsMachine, IsQuiet}
 use Rattle.u_machine.proofs.Counting.{no_more}
 use Rattle.u_machine.proofs.States.{settled_is_Cl, quiet_whole}
 use Rattle.u_machine.specs.Calls.{firing_le}

@@ -28,7 +28,7 @@ use Rattle.u_history.specs.Report.{IsReportOf}
 use Rattle.u_history.proofs.Reports.{report_same, outcome_same}
 use Rattle.u_commands.specs.Runs.{RunsTo, HasFired, RanTo, RunRefused, IsStatusOf, ReportsMachine, ReportsRunOfJob, ending_of}
 use Rattle.u_commands.specs.Restores.{fault_of}
-use Rattle.u_commands.proofs.InPieces.{HasRun, run_ends}
+use Rattle.u_commands.proofs.InPieces.{run_ends}
 
 -- one set, two predicates: one status
 status_same : (H K : Entry → Type 0) → Same H K → (s : _) (n : ℕ) → IsStatusOf H s n → IsStatusOf K s n

@@ -18,7 +18,6 @@ use Rattle.u_trace.specs.Stories.{IsStory, Tells}
 use Rattle.u_trace.specs.declared.trace_error.TraceError.{TraceError}
 use Rattle.u_trace.specs.declared.trace_error.TraceError.TheVariants.{NotHeld, NoMemory}
 use Rattle.u_commands.specs.declared.command_error.CommandError.{CommandError}
-use Rattle.u_commands.specs.declared.command_error.CommandError.TheVariants as faults
 use Rattle.u_commands.specs.Traces.{firing_line, traced_text, trace_fault, IsCauseIn, RanPlainly, TracesJob, TraceRefused}
 use Rattle.u_commands.specs.Runs.{RanTo}
 

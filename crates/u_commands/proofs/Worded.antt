@@ -1,9 +1,8 @@
 -- What `strict` and `determinate` say of a program is so of its jobs.
-use Rattle.std.specs.Prelude.{◌≡◌, List}
+use Rattle.std.specs.Prelude.{List}
 use Rattle.std.proofs.Common.{sym, subst}
 use Rattle.u_program.specs.Parts.{BlockParts}
 use Rattle.u_check.specs.Rules.{IsChecked}
-use Rattle.u_check.specs.Jobs.{JobParts}
 use Rattle.u_determinate.specs.Strict.{IsStrict}
 use Rattle.u_determinate.specs.Determinate.{IsDeterminate}
 use Rattle.u_determinate.specs.Breaches as breaches
