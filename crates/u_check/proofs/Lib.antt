@@ -6,3 +6,5 @@ pub mod JobLaws
 pub mod KindTests
 pub mod Lists
 pub mod Order
+pub mod TableLaws
+pub mod QuestionLaws

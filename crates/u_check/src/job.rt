@@ -7,6 +7,7 @@ ghost use Rattle.u_check.specs.Rules.{IsChecked};
 ghost use Rattle.u_program.specs.Limits.{IsProgram, the_limits};
 ghost use Rattle.u_program.specs.Equality.{text_of};
 
+use crate::table::Table;
 use std::marker::Model;
 use u_program::{Block, Program};
 
@@ -27,11 +28,12 @@ impl Model for Checked {
     ghost invariant = { λ c. IsChecked c.program.blocks };
 }
 
-/// A checked program with the argument that it runs on.
+/// A checked program with the argument that it runs on, and a table of replies.
 #[derive(Drop)]
 pub struct Job {
     checked: Checked,
     argument: i64,
+    table: Table,
 }
 
 impl Model for Job {
@@ -39,7 +41,7 @@ impl Model for Job {
 
     ghost Value = { JobParts };
 
-    ghost view = { λ j. job j.checked j.argument };
+    ghost view = { λ j. job j.checked j.argument j.table };
 }
 
 impl Checked {
@@ -69,11 +71,15 @@ impl Checked {
 }
 
 impl Job {
-    /// The job of running the program on the argument.
-    pub fn new(checked: Checked, argument: i64) -> Job
-        ensures { result ≡ job checked argument }
+    /// The job of running the program on the argument, where that table is known of the outside.
+    pub fn new(checked: Checked, argument: i64, table: Table) -> Job
+        ensures { result ≡ job checked argument table }
     {
-        Job { checked, argument }
+        Job {
+            checked,
+            argument,
+            table,
+        }
     }
 
     /// The program.
@@ -92,6 +98,13 @@ impl Job {
     {
         self.argument
     }
+
+    /// What is known beforehand of the outside.
+    pub fn table(&self) -> &Table
+        ensures { result.now ≡ self.now.table }
+    {
+        &self.table
+    }
 }
 
 impl PartialEq for Job {
@@ -101,7 +114,7 @@ impl PartialEq for Job {
 
     /// Compares the jobs. It takes no memory.
     ///
-    /// Promise jobs-are-equal: two jobs are equal exactly if their programs and their arguments are.
+    /// Promise jobs-are-equal: two jobs are equal exactly if their programs and their arguments are, whatever their tables.
     fn eq(&self, other: &Job) -> bool {
         self.argument == other.argument && *self.program() == *other.program()
     }

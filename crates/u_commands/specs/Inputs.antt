@@ -1,7 +1,7 @@
 -- What a file stands for: the program with that text, or the one that a source compiles to.
 use Rattle.std.specs.Prelude.{◌≡◌, ◌⊎◌, ℕ, IsTrue, nat_eq, codes, List, [], ℤ}
 use Rattle.std.specs.List.{ends_with, starts_with}
-use Rattle.u_program.specs.Parts.{BlockParts, ProgramParts}
+use Rattle.u_program.specs.Parts.{ProgramParts}
 use Rattle.u_program.specs.declared.program.Version.TheVariants as versions
 use Rattle.u_program.specs.declared.read_error.ReadError.{ReadError}
 use Rattle.u_program.specs.declared.read_error.ReadError.TheVariants as read_errors
@@ -82,14 +82,15 @@ InputRefused path bytes fault =
     (IsSource path bytes × IsCompileFault bytes fault)
     ⊎ ((IsSource path bytes → ⊥) × CheckRefused bytes fault)
 
--- The job is of what the file stands for, on the argument that the word gives. That is where its statements come
--- from.
+-- The job is of what the file stands for, on the argument that the word gives, and nothing is known beforehand of
+-- the outside. That is where its statements come from.
 pub record IsTaskOf (path bytes word : List ℕ) (job : JobParts) (origins : List BlockOrigins) : Type 0 where
   pub input : Input
   pub is : IsInputOf path bytes input
   pub program : job.program ≡ input.checked
   pub from : origins ≡ input.origins.items
   pub argument : IsArgumentOf word job.argument
+  pub table : job.table ≡ []
 
 -- the file stands for something, and the word gives no argument
 pub record LacksArgument (path bytes word : List ℕ) (fault : CommandError) : Type 0 where

@@ -30,11 +30,13 @@ use Rattle.u_commands.specs.Inputs.{BreaksRule}
 use Rattle.u_commands.specs.declared.command_error.CommandError.{CommandError}
 use Rattle.u_commands.specs.declared.command_error.CommandError.TheVariants as faults
 
--- the bytes are the text of the job's program, which breaks no rule, and the word gives its argument
+-- The bytes are the text of the job's program, which breaks no rule, and the word gives its argument. Nothing is
+-- known beforehand of the outside.
 pub record IsJobOf (bytes word : List ℕ) (job : JobParts) : Type 0 where
   pub text : IsTextOf bytes job.program
   pub checked : IsChecked job.program.blocks
   pub argument : IsArgumentOf word job.argument
+  pub table : job.table ≡ []
 
 -- The status is that of the verdict on what is held.
 pub record IsStatusOf (H : Entry → Type 0) (state : Ending) (status : ℕ) : Type 0 where

@@ -8,7 +8,7 @@ ghost use Rattle.u_commands.specs.Inputs.{IsTaskOf, TaskRefused};
 use crate::argument::argument_of;
 use crate::command_error::CommandError;
 use std::alloc::Global;
-use u_check::{Checked, Job, check};
+use u_check::{Checked, Job, Table, check};
 use u_compile::BlockOrigins;
 use u_program::{ReadError, read};
 
@@ -134,7 +134,7 @@ impl Task {
         };
         match argument_of(word) {
             Some(argument) => Ok(Task {
-                job: Job::new(input.checked, argument),
+                job: Job::new(input.checked, argument, Table::new(alloc)),
                 origins: input.origins,
             }),
             None => Err(CommandError::ArgumentNotAllowed),

@@ -16,7 +16,7 @@ use crate::running::run_watched;
 use crate::told::Told;
 use crate::watch::Watch;
 use std::alloc::{AllocError, Global};
-use u_check::Job;
+use u_check::{Job, Table};
 use u_determinate::only_writes_clash;
 use u_history::{Counts, Ending, Verdict, report_of_outcome};
 use u_machine::{Machine, Ran, Refusal};
@@ -38,7 +38,7 @@ pub fn job_of(alloc: Global, bytes: &[u8], word: &[u8]) -> Result<Job, CommandEr
         Err(fault) => return Err(fault),
     };
     match argument_of(word) {
-        Some(argument) => Ok(Job::new(checked, argument)),
+        Some(argument) => Ok(Job::new(checked, argument, Table::new(alloc))),
         None => Err(CommandError::ArgumentNotAllowed),
     }
 }

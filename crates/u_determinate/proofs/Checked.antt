@@ -25,13 +25,13 @@ use Rattle.u_check.proofs.Facts.{begin_first, region_exists, lies_in_loop, end_o
 use Rattle.u_determinate.proofs.KindFacts.{named_apply}
 use Rattle.u_rule.specs.Fits.{statement_of, fits, fits_at}
 use Rattle.u_rule.specs.Structures.{has_its_write}
-use Rattle.u_rule.specs.Rule.{is_firing_of, is_firing_at, is_own_of, is_own_at, has_its_values, has_its_form}
+use Rattle.u_rule.specs.Rule.{is_firing_of, is_firing_at, is_inner_of, is_inner_at, has_its_values, has_its_form}
 use Rattle.u_rule.specs.Replies.{IsReply}
 use Rattle.u_rule.specs.declared.firing.Firing.{Firing}
 use Rattle.u_rule.specs.declared.parts.Written.{Written}
 use Rattle.u_rule.proofs.Places.{looping}
 use Rattle.u_determinate.proofs.Named.{named}
-use Rattle.u_rule.proofs.Firings.{at_statement, own_at_statement, own_or_reply}
+use Rattle.u_rule.proofs.Firings.{at_statement, inner_at_statement, inner_or_reply}
 
 pub record Keeps (b : BlockParts) (n : ℕ) (s : StatementParts) : Type 0 where
   pub begin_first : n ≡ 1 → s.kind ≡ Begin
@@ -59,7 +59,7 @@ pub record Fires (job : JobParts) (f : Firing) : Type 0 where
   pub it : StatementParts
   pub stands : statement_of job.program.blocks f.activity.block f.activity.statement ≡ Some it
   pub count : length f.values ≡ ports_of it.kind
-  pub write : is_own_of job f ≡ true → has_its_write it.kind f.values f.write ≡ true
+  pub write : is_inner_of job f ≡ true → has_its_write it.kind f.values f.write ≡ true
   pub in_loop : 1 ≤ it.region → (outer : Tree) × (turn : ℕ) × (f.activity.context ≡ InLoop outer f.activity.block it.region turn)
   pub outside : it.region ≡ 0 → f.activity.initiation ≡ 1
   pub in_main : f.activity.context ≡ Top → f.activity.block ≡ main_name
@@ -81,17 +81,17 @@ module _ (job : JobParts) where
   main_alone (InLoop outer from number turn) block region i e z = cc
   main_alone (InCall outer from caller turn) block region i e z = cc
 
-  -- an own firing of a statement
-  own_parts : (f : Firing) (s : StatementParts) → statement_of job.program.blocks f.activity.block f.activity.statement ≡ Some s → is_own_of job f ≡ true → (length f.values ≡ ports_of s.kind) × (has_its_write s.kind f.values f.write ≡ true)
-  own_parts f s q o =
-      let k : is_own_at job.program.blocks (Some s) f ≡ true = rw q at (own_at_statement job f o) in
+  -- an inner firing of a statement
+  inner_parts : (f : Firing) (s : StatementParts) → statement_of job.program.blocks f.activity.block f.activity.statement ≡ Some s → is_inner_of job f ≡ true → (length f.values ≡ ports_of s.kind) × (has_its_write s.kind f.values f.write ≡ true)
+  inner_parts f s q o =
+      let k : is_inner_at job.program.blocks (Some s) f ≡ true = rw q at (inner_at_statement job f o) in
       let a = and_parts (fits_at job.program.blocks s.region f.activity) (has_its_values s f) k in
       let b = and_parts (length f.values == ports_of s.kind) (has_its_write s.kind f.values f.write) a.1 in
       (eqb-true (length f.values) (ports_of s.kind) b.0, b.1)
 
-  -- an own firing and a reply have one value for each port
+  -- an inner firing and a reply have one value for each port
   counted : (f : Firing) (s : StatementParts) → statement_of job.program.blocks f.activity.block f.activity.statement ≡ Some s → is_firing_of job f ≡ true → length f.values ≡ ports_of s.kind
-  counted f s q e = elim (own_or_reply job f e) [ inl o ↦ (own_parts f s q o).0 | inr r ↦ of_reply r ]
+  counted f s q e = elim (inner_or_reply job f e) [ inl o ↦ (inner_parts f s q o).0 | inr r ↦ of_reply r ]
     where
       of_reply : IsReply job f → length f.values ≡ ports_of s.kind
       of_reply r =
@@ -109,7 +109,7 @@ module _ (job : JobParts) where
             it = s;
             stands = q;
             count = counted f s q is;
-            write = λ o. (own_parts f s q o).1;
+            write = λ o. (inner_parts f s q o).1;
             in_loop = λ l. (let r = looping job.program.blocks f.activity.context f.activity.block s.region f.activity.initiation a.0 l in (r.outer, r.turn, r.is));
             outside = first_turn f.activity.context f.activity.block s.region f.activity.initiation a.0;
             in_main = main_alone f.activity.context f.activity.block s.region f.activity.initiation a.0;

@@ -29,7 +29,7 @@ use Rattle.u_determinate.proofs.Named.{named}
 use Rattle.u_determinate.proofs.Checked.{keeps, fires_of}
 use Rattle.u_determinate.proofs.Givers.{Giver, ByEnd}
 use Rattle.u_determinate.proofs.Parameters.{takes_argument}
-use Rattle.u_determinate.proofs.Owning.{own_of_statement}
+use Rattle.u_determinate.proofs.Owning.{inner_of_statement}
 use Rattle.u_determinate.proofs.Same.{Trouble, same_activity}
 use Rattle.u_determinate.proofs.Rooted.{Rooted, Called, Entered, given_token, start_place, first_token, all_rooted, enabled_rooted}
 use Rattle.u_determinate.proofs.Senders.{Placed, placed, Sent, sent, sender, looped}
@@ -404,7 +404,7 @@ module _ (job : JobParts) (sound : IsChecked job.program.blocks) (fs : List Firi
       let same : p.firing.activity ≡ q.firing.activity = same_reached p.firing q.firing x y p.it p.stands names number p.it.kind refl p.no_last c
       (p.context ∙ sym q.context ∙ ap (λ (s : StatementParts). (reached s.kind q.firing.activity c).context) it)
       (p.initiation ∙ sym q.initiation ∙ ap (λ (s : StatementParts). (reached s.kind q.firing.activity c).initiation) it) in
-      elim (same_activity job sound (Held (system_of job) fs) p.firing q.firing x y same (own_of_statement job p.firing x.0 p.it p.stands p.no_answer) (own_of_statement job q.firing y.0 q.it q.stands q.no_answer)) [
+      elim (same_activity job sound (Held (system_of job) fs) p.firing q.firing x y same (inner_of_statement job p.firing x.0 p.it p.stands p.no_answer) (inner_of_statement job q.firing y.0 q.it q.stands q.no_answer)) [
         | inr z ↦ z
         | inl z ↦ absurd (no_negation b (differ it z))
       ]

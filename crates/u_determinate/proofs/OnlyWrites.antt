@@ -15,7 +15,7 @@ use Rattle.u_rule.specs.declared.firing.Firing.{Firing}
 use Rattle.u_determinate.specs.Determinate.{IsDeterminate}
 use Rattle.u_determinate.proofs.Clash.{Clash, Cells}
 use Rattle.u_determinate.proofs.Givers.{Giver, giver}
-use Rattle.u_determinate.proofs.Owning.{giver_is_own}
+use Rattle.u_determinate.proofs.Owning.{giver_is_inner}
 use Rattle.u_determinate.proofs.Same.{Trouble, same_activity}
 use Rattle.u_determinate.proofs.Senders.{placed, sent, not_first, back_not_first}
 use Rattle.u_determinate.proofs.SourceLaws.{same_source, one_value}
@@ -54,7 +54,7 @@ module _ (job : JobParts) (sound : IsChecked job.program.blocks) where
         by : Giver job f t → Giver job g u → (f.activity ≡ g.activity) ⊎ Trouble (Held (system_of job) fs) → Trouble (Held (system_of job) fs)
         by p q (inr z) = z
         by p q (inl z) =
-            elim (same_activity job sound (Held (system_of job) fs) f g x y z (giver_is_own job f x.0 t p) (giver_is_own job g y.0 u q))
+            elim (same_activity job sound (Held (system_of job) fs) f g x y z (giver_is_inner job f x.0 t p) (giver_is_inner job g y.0 u q))
             [ inr k ↦ k | inl k ↦ absurd (c.2 (one_value job sound f x.0 t u p (subst (λ (h : Firing). Giver job h u) (sym k) q) c.0)) ]
     origin fs d f g x y a b m n c = absurd c
 

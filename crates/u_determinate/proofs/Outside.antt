@@ -1,13 +1,9 @@
--- Two runs at their end whose replies are those of one function hold the same.
-use Rattle.std.proofs.Common.{◌≡◌, ℕ, ◌+◌, refl, ap, sym, ◌∙◌, subst, eq-eqb, Bool, true, false, ◌&&◌, ◌==◌, cond, List, [], ◌∷◌, length, map, Option, Some, None, Result, Ok, Err, inl, inr}
-use Rattle.std.specs.Prelude.{Contains, is_some}
-use Rattle.std.specs.List.{list_all}
-use Rattle.std.proofs.lemmas.Bool.{false≢true, and_parts}
-use Rattle.std.proofs.lemmas.List.Elements.{Contains-append_left, Contains-append_cases}
-use Rattle.u_base.specs.Firing.{Held, Enabled, Same}
+-- A quiet run with replies is whole; and an activity that asks writes by its replies alone.
+use Rattle.std.proofs.Common.{◌≡◌, ℕ, ◌+◌, refl, ap, sym, ◌∙◌, subst, Bool, true, false, ◌==◌, cond, List, [], ◌∷◌, length, map, Option, Some, None, Result, Ok, Err, inl, inr}
+use Rattle.std.specs.Prelude.{Contains}
+use Rattle.std.proofs.lemmas.Bool.{false≢true}
 use Rattle.u_base.proofs.Member.{Contains-nil, Contains-cons_cases}
-use Rattle.u_base.proofs.Held.{Held-nil, Follows-from_Derivation}
-use Rattle.u_base.proofs.Closure.{Follows-sound, Settled-is_Cl}
+use Rattle.u_base.proofs.Closure.{Settled-is_Cl}
 use Rattle.u_base.proofs.Determinate.{Derivation-enabled}
 use Rattle.u_name.specs.Context.{Tree, Top, InLoop, InCall, depth}
 use Rattle.u_name.specs.Name.{Activity}
@@ -21,29 +17,23 @@ use Rattle.u_program.specs.declared.program.Kind.TheVariants.{Ask}
 use Rattle.u_program.specs.declared.program.Destination.{Destination}
 use Rattle.u_program.specs.declared.program.Version.{Version}
 use Rattle.u_program.specs.Parts.{StatementParts, BlockParts}
-use Rattle.u_check.specs.Kinds.{ports_of, is_apply, is_end, is_store, is_ask}
-use Rattle.u_check.specs.Rules.{block_named, IsChecked}
+use Rattle.u_check.specs.Kinds.{is_apply, is_end, is_store, is_ask}
+use Rattle.u_check.specs.Rules.{block_named}
 use Rattle.u_check.specs.Jobs.{JobParts}
 use Rattle.u_rule.specs.Parts.{ValueList}
-use Rattle.u_rule.specs.Fits.{statement_of, fits_at}
-use Rattle.u_rule.specs.Initiations.{is_turn, has_turns, wrote_in_turns, fires_in_turns}
+use Rattle.u_rule.specs.Fits.{statement_of}
 use Rattle.u_rule.specs.Parameters.{parameters_of}
-use Rattle.u_rule.specs.Structures.{cell_named, stored, stored_in, wrote, has_its_write, is_answer, replied, write_read}
-use Rattle.u_rule.specs.Rule.{is_firing_of, is_own_of, is_own_at, has_its_values, tokens_from, needs_of, first_of, result_of, list_of, reached, refusal_of, sent, fault_of, delivered, handed_on, called_first, arguments_from, begun, called_on, called, back_of, brought_back, finished, ended, given, given_at, gives_of, start_of, system_of}
-use Rattle.u_rule.specs.Replies.{IsReply, question_of}
+use Rattle.u_rule.specs.Structures.{cell_named, stored, stored_in, wrote, is_answer, replied}
+use Rattle.u_rule.specs.Rule.{is_firing_of, is_inner_of, first_of, result_of, list_of, reached, refusal_of, sent, fault_of, delivered, handed_on, called_first, arguments_from, begun, called_on, called, back_of, brought_back, finished, ended, given, given_at, gives_of, start_of, system_of}
+use Rattle.u_rule.specs.Replies.{IsReply}
 use Rattle.u_rule.specs.declared.entry.Entry.{Entry}
 use Rattle.u_rule.specs.declared.entry.Entry.TheVariants as entries
 use Rattle.u_rule.specs.declared.firing.Firing.{Firing}
 use Rattle.u_rule.specs.declared.parts.Write.{Write}
 use Rattle.u_rule.specs.declared.parts.Written.{Written}
-use Rattle.u_rule.proofs.Firings.{own_at_statement, in_turns, own_or_reply}
-use Rattle.u_rule.proofs.Follow.{firing_fits}
-use Rattle.u_rule.proofs.Own.{own_no_answer, reply_answers}
-use Rattle.u_determinate.specs.Determinate.{IsDeterminate}
-use Rattle.u_determinate.specs.Outside.{service_of, Oracle, IsReplied, EndsBy, HasOneOutcome, MayFire, QuietIsWhole, RepliesAloneWrite}
-use Rattle.u_determinate.proofs.Same.{same_values}
-use Rattle.u_determinate.proofs.OnlyWrites.{derivation_determinate}
-use Rattle.u_determinate.proofs.Theorem.{two_writes}
+use Rattle.u_rule.proofs.Firings.{inner_or_reply}
+use Rattle.u_rule.proofs.Own.{inner_no_answer, reply_answers}
+use Rattle.u_determinate.specs.Outside.{MayFire, QuietIsWhole, RepliesAloneWrite}
 
 -- entries that are no writes
 abbrev IsNoWrite : Entry → Type 0
@@ -126,7 +116,7 @@ stored_by a (Ok cell) (x ∷ y ∷ u ∷ vs) c w v m = same_writer cell c a w u 
 stored_by a (Ok cell) vs c w v m = absurd (fault_none a faults.Kind (wrote c w v) m)
 stored_by a (Err why) vs c w v m = absurd (fault_none a why (wrote c w v) m)
 
--- of what a statement gives to an own firing, a `store` alone gives a write
+-- of what a statement gives to an inner firing, a `store` alone gives a write
 given_write : (version : Version) (p : List BlockParts) (s : StatementParts) (a : Activity) (vs : ValueList) (write : Option Written) (c : CellOf) (w : Activity) (v : Value) → Contains (given version p s a vs write) (wrote c w v) → (is_store s.kind ≡ true) × (a ≡ w)
 given_write version p s a vs write c w v m = at (is_apply s.kind) (is_end s.kind) (is_store s.kind) refl m
   where
@@ -139,14 +129,6 @@ given_write version p s a vs write c w v m = at (is_apply s.kind) (is_end s.kind
 no_store : (k : Kind) → is_ask k ≡ true → is_store k ≡ true → ⊥
 no_store (Ask s n) e q = false≢true q
 no_store k e q = false≢true e
-
-both : (a b : Bool) → a ≡ true → b ≡ true → (a && b) ≡ true
-both a b p q = rw (p, q) refl
-
--- a question has no write
-asks_without : (k : Kind) (vs : ValueList) → is_ask k ≡ true → has_its_write k vs None ≡ true
-asks_without (Ask s n) vs e = refl
-asks_without k vs e = absurd (false≢true e)
 
 module _ (job : JobParts) where
   -- what a reply gives
@@ -161,7 +143,7 @@ module _ (job : JobParts) where
   -- a write by an activity that asks is what a reply of it gives
   pub reply_wrote : (g : Firing) → is_firing_of job g ≡ true → (a : Activity) (s : StatementParts) → statement_of job.program.blocks a.block a.statement ≡ Some s → is_ask s.kind ≡ true → (c : CellOf) (v : Value) → Contains (gives_of job g) (wrote c a v) → (r : IsReply job g) × (g.activity ≡ a) × (r.by.value ≡ v)
   unfolding gives_of
-  reply_wrote g x a s e q c v m = elim (own_or_reply job g x) [ inr r ↦ by_reply r | inl o ↦ at o (statement_of job.program.blocks g.activity.block g.activity.statement) refl m ]
+  reply_wrote g x a s e q c v m = elim (inner_or_reply job g x) [ inr r ↦ by_reply r | inl o ↦ at o (statement_of job.program.blocks g.activity.block g.activity.statement) refl m ]
     where
       by_reply : IsReply job g → (r : IsReply job g) × (g.activity ≡ a) × (r.by.value ≡ v)
       by_reply r =
@@ -174,85 +156,13 @@ module _ (job : JobParts) where
           let it : s ≡ t = (let i = n in let j = e in cc) in
           no_store t.kind (ap (λ (z : StatementParts). is_ask z.kind) (sym it) ∙ q) y.0
 
-      at : is_own_of job g ≡ true → (o : Option StatementParts) → statement_of job.program.blocks g.activity.block g.activity.statement ≡ o → Contains (given_at job.program.version job.program.blocks o g) (wrote c a v) → (r : IsReply job g) × (g.activity ≡ a) × (r.by.value ≡ v)
+      at : is_inner_of job g ≡ true → (o : Option StatementParts) → statement_of job.program.blocks g.activity.block g.activity.statement ≡ o → Contains (given_at job.program.version job.program.blocks o g) (wrote c a v) → (r : IsReply job g) × (g.activity ≡ a) × (r.by.value ≡ v)
       at o None n m = absurd (Contains-nil (wrote c a v) m)
       at o (Some t) n m = by (is_answer t.kind g.write) refl m
         where
           by : (y : Bool) → is_answer t.kind g.write ≡ y → Contains (cond y (replied g.activity g.write) (given job.program.version job.program.blocks t g.activity g.values g.write)) (wrote c a v) → (r : IsReply job g) × (g.activity ≡ a) × (r.by.value ≡ v)
-          by true z m = absurd (own_no_answer job g o t n z)
+          by true z m = absurd (inner_no_answer job g o t n z)
           by false z m = absurd (stores t n (given_write job.program.version job.program.blocks t g.activity g.values g.write c a v m))
-
-  turns : (f : Firing) → fires_in_turns job.program.version f ≡ true → fires_in_turns job.program.version (question_of f) ≡ true
-  unfolding fires_in_turns
-  turns f h =
-      let a = and_parts (is_turn job.program.version f.activity) (list_all (has_turns job.program.version) f.values && wrote_in_turns job.program.version f.write) h in
-      let b = and_parts (list_all (has_turns job.program.version) f.values) (wrote_in_turns job.program.version f.write) a.1 in
-      both (is_turn job.program.version f.activity) (list_all (has_turns job.program.version) f.values && true) a.0 (both (list_all (has_turns job.program.version) f.values) true b.0 refl)
-
-  -- the question of a reply is an own firing
-  pub question_is_own : (f : Firing) → is_firing_of job f ≡ true → IsReply job f → is_own_of job (question_of f) ≡ true
-  unfolding is_own_of
-  question_is_own f x r =
-      let fit = firing_fits job f r.it x r.stands in
-      let form : has_its_values r.it (question_of f) ≡ true = both (length f.values == ports_of r.it.kind) (has_its_write r.it.kind f.values None) (eq-eqb (length f.values) (ports_of r.it.kind) r.count) (asks_without r.it.kind f.values r.asks) in
-      let here : is_own_at job.program.blocks (Some r.it) (question_of f) ≡ true = both (fits_at job.program.blocks r.it.region f.activity) (has_its_values r.it (question_of f)) fit form in
-      let there : is_own_at job.program.blocks (statement_of job.program.blocks f.activity.block f.activity.statement) (question_of f) ≡ true = ap (λ (o : Option StatementParts). is_own_at job.program.blocks o (question_of f)) r.stands ∙ here in
-      both (is_own_at job.program.blocks (statement_of job.program.blocks f.activity.block f.activity.statement) (question_of f)) (fires_in_turns job.program.version (question_of f)) there (turns f (in_turns job f x))
-
-  -- and needs no more than the reply
-  pub question_needs : (f : Firing) (e : Entry) → Contains (needs_of (question_of f)) e → Contains (needs_of f) e
-  unfolding needs_of
-  question_needs f e m =
-      Contains-append_left (tokens_from f.activity 1 f.values) (write_read f.values f.write) e
-      (elim (Contains-append_cases (tokens_from f.activity 1 f.values) [] e m) [ inl k ↦ k | inr n ↦ absurd (Contains-nil e n) ])
-
-module _ (job : JobParts) (sound : IsChecked job.program.blocks) (determinate : IsDeterminate job.program.blocks) (F : Oracle) where
-  -- what the replies of one run give, the other holds
-  module _ (fs gs : List Firing) (a : EndsBy job F fs) (b : EndsBy job F gs) where
-    by_reply : (f : Firing) → Contains fs f → Enabled (system_of job) (Held (system_of job) gs) f → IsReply job f → (e : Entry) → Contains (gives_of job f) e → Held (system_of job) gs e
-    unfolding start_of
-    by_reply f m en r e c =
-        found (b.none_open f.activity f.values (record { it = r.it; stands = r.stands; asks = r.asks; plain = r.plain }) (question_is_own job f en.0 r, λ x k. en.1 x (question_needs job f x k)))
-      where
-        same : (v : Value) → Held (system_of job) gs (wrote (cell_of f.activity 0) f.activity v) → r.by.value ≡ v → Held (system_of job) gs e
-        same v h q =
-            let z : wrote (cell_of f.activity 0) f.activity r.by.value ≡ e = one _ e (subst (λ (es : List Entry). Contains es e) (reply_gives job f r) c) in
-            subst (λ (x : Entry). Held (system_of job) gs x) (sym (ap (λ (u : Value). wrote (cell_of f.activity 0) f.activity u) q) ∙ z) h
-
-        told : (g : Firing) → Contains gs g → (t : IsReply job g) → g.activity ≡ f.activity → (v : Value) → t.by.value ≡ v → f.values ≡ g.values → r.by.value ≡ v
-        told g n t y v q w =
-            let there : statement_of job.program.blocks f.activity.block f.activity.statement ≡ statement_of job.program.blocks g.activity.block g.activity.statement = ap (λ (z : Activity). statement_of job.program.blocks z.block z.statement) (sym y) in
-            let it : r.it ≡ t.it = (let i = r.stands in let j = t.stands in cc) in
-            a.replies f m r
-            ∙ ap (λ (s : StatementParts). F (service_of s.kind) f.values) it
-            ∙ ap (λ (vs : ValueList). F (service_of t.it.kind) vs) w
-            ∙ sym (b.replies g n t)
-            ∙ q
-
-        found : IsReplied (Held (system_of job) gs) f.activity → Held (system_of job) gs e
-        found (v, inl s) = absurd (cc)
-        found (v, inr (g, n, k)) =
-            let x = Derivation-enabled (system_of job) gs b.run g n in
-            let t = reply_wrote job g x.0 f.activity r.it r.stands r.asks (cell_of f.activity 0) v k in
-            elim (same_values job sound (Held (system_of job) gs) f g en x (sym t.1)) [
-              | inl w ↦ same v (inr (g, n, k)) (told g n t.0 t.1 v t.2 w)
-              | inr z ↦ absurd (b.no_clash (two_writes (Held (system_of job) gs) (derivation_determinate job sound determinate gs b.run z)))
-            ]
-
-    one_way : (e : Entry) → Held (system_of job) fs e → Held (system_of job) gs e
-    one_way e h =
-        Follows-sound (system_of job) (Held (system_of job) gs) [] fs given_there (λ x k. inl (Held-nil (system_of job) x k)) (Follows-from_Derivation (system_of job) fs a.run) e h
-      where
-        given_there : (f : Firing) → Contains fs f → Enabled (system_of job) (Held (system_of job) gs) f → (x : Entry) → Contains (gives_of job f) x → Held (system_of job) gs x
-        given_there f m en x c = elim (own_or_reply job f en.0) [ inl o ↦ inr (f, b.quiet f (o, en.1), c) | inr r ↦ by_reply f m en r x c ]
-
-  -- the two hold the same
-  pub one_outcome : (fs gs : List Firing) → EndsBy job F fs → EndsBy job F gs → Same (Held (system_of job) fs) (Held (system_of job) gs)
-  one_outcome fs gs a b e = (one_way fs gs a b e, one_way gs fs b a e)
-
--- so a determinate job has one outcome
-pub has_one_outcome : (job : JobParts) → IsChecked job.program.blocks → IsDeterminate job.program.blocks → HasOneOutcome job
-has_one_outcome job sound determinate F fs gs a b = one_outcome job sound determinate F fs gs a b
 
 -- a quiet run with replies holds all that any run with them holds
 pub quiet_is_whole : (job : JobParts) → QuietIsWhole job

@@ -1,5 +1,5 @@
 -- The statements that take the arguments of a call: `begin`, and each `param` that is counted.
-use Rattle.std.proofs.Common.{◌≡◌, ℕ, zero, suc, ◌+◌, ◌<◌, refl, ap, sym, ◌∙◌, arith, Bool, true, false, List, length, Option, Some}
+use Rattle.std.proofs.Common.{◌≡◌, ℕ, zero, suc, ◌+◌, ◌<◌, refl, ap, sym, ◌∙◌, arith, true, false, List, length, Some}
 use Rattle.std.proofs.lemmas.Option.{slice_get_within}
 use Rattle.u_name.specs.Name.{Activity}
 use Rattle.u_program.specs.declared.program.Kind.TheVariants.{Param}

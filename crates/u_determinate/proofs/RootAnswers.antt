@@ -34,7 +34,7 @@ use Rattle.u_determinate.specs.Determinate.{IsDeterminate}
 use Rattle.u_determinate.proofs.Clash.{Cells}
 use Rattle.u_determinate.proofs.Named.{block_of}
 use Rattle.u_determinate.proofs.Checked.{keeps, fires_of}
-use Rattle.u_determinate.proofs.Owning.{end_is_own}
+use Rattle.u_determinate.proofs.Owning.{end_is_inner}
 use Rattle.u_determinate.proofs.Same.{same_activity}
 use Rattle.u_determinate.proofs.Senders.{placed}
 use Rattle.u_determinate.proofs.GuardsTell.{same_place}
@@ -168,7 +168,7 @@ module _ (job : JobParts) (sound : IsChecked job.program.blocks) (determinate : 
           let q = placed job g.activity c.it c.stands in
           let k : q.block ≡ p.block = (let a = p.named in let e = q.named in cc) in
           let m = (block_of job determinate f.activity.block p.block p.named).one_end f.activity.statement g.activity.statement (record { it = b.it; stands = p.stands; kind = b.is_end }) (record { it = c.it; stands = ap (λ (z : BlockParts). statement_at z.statements g.activity.statement) (sym k) ∙ q.stands; kind = c.is_end }) in
-          elim (same_activity job sound (Held (system_of job) fs) f g x y (same_place f.activity g.activity (b.context ∙ sym c.context) n m (i.1 ∙ sym j.1)) (end_is_own job f x.0 b.it b.stands b.is_end) (end_is_own job g y.0 c.it c.stands c.is_end)) [
+          elim (same_activity job sound (Held (system_of job) fs) f g x y (same_place f.activity g.activity (b.context ∙ sym c.context) n m (i.1 ∙ sym j.1)) (end_is_inner job f x.0 b.it b.stands b.is_end) (end_is_inner job g y.0 c.it c.stands c.is_end)) [
             | inl z ↦ inl (let a = b.result in let e = c.result in cc)
             | inr t ↦ elim t [ inl z ↦ inr (derivation_determinate job sound determinate fs d z) | inr z ↦ inr z ]
           ]

@@ -1,4 +1,4 @@
--- Two own firings of one activity, both enabled over one history, are one, or the history has trouble. Of
+-- Two inner firings of one activity, both enabled over one history, are one, or the history has trouble. Of
 -- any two, as of a question and a reply, the values are.
 use Rattle.std.proofs.Common.{◌≡◌, ℕ, ◌+◌, refl, ap, sym, ◌∙◌, arith, Bool, true, false, List, [], ◌∷◌, length, Option, Some, None, Result, Ok, Err, cond, inl, inr, ◌⊎◌}
 use Rattle.std.specs.Prelude.{Contains, is_ok, is_some, is_none}
@@ -19,7 +19,7 @@ use Rattle.u_check.specs.Jobs.{JobParts}
 use Rattle.u_rule.specs.Parts.{token, ValueList}
 use Rattle.u_rule.specs.Fits.{statement_of}
 use Rattle.u_rule.specs.Structures.{cell_named, has_its_write, reads_cell, write_read, wrote}
-use Rattle.u_rule.specs.Rule.{tokens_from, needs_of, is_own_of, system_of}
+use Rattle.u_rule.specs.Rule.{tokens_from, needs_of, is_inner_of, system_of}
 use Rattle.u_rule.specs.declared.entry.Entry.{Entry}
 use Rattle.u_rule.specs.declared.entry.Entry.TheVariants as entries
 use Rattle.u_rule.specs.declared.firing.Firing.{Firing}
@@ -107,7 +107,7 @@ module _ (job : JobParts) (sound : IsChecked job.program.blocks) (H : Entry → 
             let l : length f.values ≡ length g.values = a.count ∙ ap (λ (z : StatementParts). ports_of z.kind) (same_it a b) ∙ sym b.count in
             compare_values f.activity 1 f.values g.values l (tokens f x) (rw e (tokens g y))
 
-    pub same_activity : is_own_of job f ≡ true → is_own_of job g ≡ true → (f ≡ g) ⊎ Trouble H
+    pub same_activity : is_inner_of job f ≡ true → is_inner_of job g ≡ true → (f ≡ g) ⊎ Trouble H
     same_activity own other = by (fires_of job sound f x.0) (fires_of job sound g y.0)
       where
         by : Fires job f → Fires job g → (f ≡ g) ⊎ Trouble H

@@ -21,7 +21,7 @@ use Rattle.u_determinate.proofs.Named.{block_of}
 use Rattle.u_determinate.proofs.GuardsTell.{same_place, same_destination, last_kind, member_enabled, moved, arc_guard_gave, gave_both, same_reached}
 use Rattle.u_determinate.proofs.Checked.{keeps, fires_of}
 use Rattle.u_determinate.proofs.Givers.{Giver, ByArc, ByApply, ByEnd}
-use Rattle.u_determinate.proofs.Owning.{call_is_own}
+use Rattle.u_determinate.proofs.Owning.{call_is_inner}
 use Rattle.u_determinate.proofs.Same.{Trouble, same_activity}
 use Rattle.u_determinate.proofs.Rooted.{Rooted, Called, all_rooted, enabled_rooted}
 use Rattle.u_determinate.proofs.Senders.{Placed, placed, Sent, sent, looped, not_back}
@@ -180,7 +180,7 @@ module _ (job : JobParts) (sound : IsChecked job.program.blocks) (determinate : 
   one_called : (a : Activity) (b c : List ℕ) → Called fs a b → Called fs a c → (b ≡ c) ⊎ Troubled
   unfolding Troubled
   one_called a b c p q =
-      elim (same_activity job sound (Held (system_of job) fs) p.firing q.firing (member_enabled job sound fs d p.firing p.fired) (member_enabled job sound fs d q.firing q.fired) (p.activity ∙ sym q.activity) (call_is_own job p.firing (member_enabled job sound fs d p.firing p.fired).0 b p.rest p.values) (call_is_own job q.firing (member_enabled job sound fs d q.firing q.fired).0 c q.rest q.values)) [
+      elim (same_activity job sound (Held (system_of job) fs) p.firing q.firing (member_enabled job sound fs d p.firing p.fired) (member_enabled job sound fs d q.firing q.fired) (p.activity ∙ sym q.activity) (call_is_inner job p.firing (member_enabled job sound fs d p.firing p.fired).0 b p.rest p.values) (call_is_inner job q.firing (member_enabled job sound fs d q.firing q.fired).0 c q.rest q.values)) [
         | inr z ↦ inr z
         | inl z ↦ inl (let i = p.values in let j = q.values in cc)
       ]

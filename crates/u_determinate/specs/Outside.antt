@@ -1,68 +1,17 @@
--- Replies by a function: what a run comes to depends on the program, the argument and the function alone.
---
--- A question is a firing of an `ask`. It gives a structure of one cell, and a reply to it writes that
--- cell. A run is at its end where none of its own firings is left, and no question is open.
-use Rattle.std.specs.Prelude.{◌≡◌, ◌⊎◌, ℕ, Bool, true, IsTrue, List, [], Some, None, Contains}
-use Rattle.std.specs.List.{list_all}
+-- Runs with replies that are there from the first: what they come to; and who writes the cell of a question.
+use Rattle.std.specs.Prelude.{◌≡◌, ◌⊎◌, Bool, true, IsTrue, List, Some, Contains}
 use Rattle.u_base.specs.Firing.{Held, Enabled, Derivation, Cl, Same}
 use Rattle.u_name.specs.Name.{Activity}
-use Rattle.u_name.specs.Cell.{CellOf, cell_of}
+use Rattle.u_name.specs.Cell.{CellOf}
 use Rattle.u_value.specs.declared.value.Value.{Value}
-use Rattle.u_program.specs.declared.program.Kind.{Kind}
-use Rattle.u_program.specs.declared.program.Kind.TheVariants.{Ask}
 use Rattle.u_program.specs.Parts.{StatementParts}
 use Rattle.u_check.specs.Kinds.{is_ask}
 use Rattle.u_check.specs.Jobs.{JobParts}
-use Rattle.u_rule.specs.Parts.{ValueList}
 use Rattle.u_rule.specs.Fits.{statement_of}
-use Rattle.u_rule.specs.EntryOrder.{firing}
-use Rattle.u_rule.specs.Structures.{is_plain, wrote}
+use Rattle.u_rule.specs.Structures.{wrote}
 use Rattle.u_rule.specs.Rule.{is_own_of, system_of, own_of}
 use Rattle.u_rule.specs.Replies.{IsReply}
-use Rattle.u_rule.specs.declared.entry.Entry.{Entry}
 use Rattle.u_rule.specs.declared.firing.Firing.{Firing}
-use Rattle.u_determinate.specs.Theorem.{TwoWrites}
-
--- the service that a statement of that kind asks
-abbrev pub service_of : Kind → List ℕ
-service_of (Ask service n) = service
-service_of k = []
-
--- what services say: a value for each service and each list of values
-abbrev pub Oracle : Type 0
-Oracle = List ℕ → ValueList → Value
-
--- each reply among the firings is what the services say
-abbrev pub RepliesBy : JobParts → Oracle → List Firing → Type 0
-RepliesBy job F fs = (f : Firing) → Contains fs f → (r : IsReply job f) → r.by.value ≡ F (service_of r.it.kind) f.values
-
--- the activity asks about these values, which are numbers and truth values
-pub record Asks (job : JobParts) (a : Activity) (vs : ValueList) : Type 0 where
-  pub it : StatementParts
-  pub stands : statement_of job.program.blocks a.block a.statement ≡ Some it
-  pub asks : is_ask it.kind ≡ true
-  pub plain : list_all is_plain vs ≡ true
-
--- The question has a reply: the activity itself wrote the cell. That another one did is not enough. If it
--- were, two runs could each take one reply, store it for the other question, and end apart.
-abbrev pub IsReplied : (Entry → Type 0) → Activity → Type 0
-IsReplied H a = (v : Value) × H (wrote (cell_of a 0) a v)
-
--- no question is open
-abbrev pub NoneOpen : JobParts → (Entry → Type 0) → Type 0
-NoneOpen job H = (a : Activity) (vs : ValueList) → Asks job a vs → Enabled (own_of job) H (firing a vs None) → IsReplied H a
-
--- a run at its end, whose replies the services say, and which writes no cell twice
-pub record EndsBy (job : JobParts) (F : Oracle) (fs : List Firing) : Type 0 where
-  pub run : Derivation (system_of job) fs
-  pub quiet : (f : Firing) → Enabled (own_of job) (Held (system_of job) fs) f → Contains fs f
-  pub none_open : NoneOpen job (Held (system_of job) fs)
-  pub replies : RepliesBy job F fs
-  pub no_clash : TwoWrites (Held (system_of job) fs) → ⊥
-
--- Two such runs hold the same, in whatever order, by whichever workers and how often the replies came.
-abbrev pub HasOneOutcome : JobParts → Type 0
-HasOneOutcome job = (F : Oracle) (fs gs : List Firing) → EndsBy job F fs → EndsBy job F gs → Same (Held (system_of job) fs) (Held (system_of job) gs)
 
 -- what may fire where these replies are there: the job's own firings, and the replies
 abbrev pub MayFire : JobParts → (Firing → Bool) → Firing → Type 0

@@ -6,7 +6,8 @@
 ghost use Rattle.u_determinate.specs.Strict.{IsStrict};
 ghost use Rattle.u_determinate.specs.Determinate.{IsDeterminate};
 ghost use Rattle.u_determinate.specs.Theorem.{IsDeterminateJob};
-ghost use Rattle.u_determinate.specs.Outside.{HasOneOutcome, QuietIsWhole, RepliesAloneWrite};
+ghost use Rattle.u_determinate.specs.Outside.{QuietIsWhole, RepliesAloneWrite};
+ghost use Rattle.u_rule.specs.Outside.{HasOneOutcome, EndsWhole};
 
 use u_check::Job;
 
@@ -16,15 +17,16 @@ use u_check::Job;
 /// Promise only-writes-clash: if the program is strict or determinate, two values at one port, or two
 /// answers, come only with two writes of one cell.
 ///
-/// Promise one-outcome: two runs of a determinate program at their end, with no question open, no cell written
-/// twice, and replies that one function says, hold the same.
+/// Promise one-outcome: a run at its end, with no question open, whose replies one function says, holds all that
+/// any run with such replies holds. Two such runs hold the same and fired the same, whatever their tables.
 ///
 /// Promise whole-with-replies: a run of own firings and of these replies, of which nothing is left, holds all
 /// that such runs hold.
 pub fn only_writes_clash(job: &Job)
     ensures determinate { IsDeterminate job.now.program.blocks → IsDeterminateJob job.now }
     ensures strict { IsStrict job.now.program.blocks → IsDeterminateJob job.now }
-    ensures outcome { IsDeterminate job.now.program.blocks → HasOneOutcome job.now }
+    ensures ends { EndsWhole job.now }
+    ensures outcome { HasOneOutcome job.now }
     ensures whole { QuietIsWhole job.now }
     ensures asked { RepliesAloneWrite job.now }
 {

@@ -7,7 +7,7 @@ use anyhow::{Result, anyhow};
 use std::alloc::{AllocError, Global};
 use std::io;
 use std::io::Write;
-use u_check::{Job, check};
+use u_check::{Job, Table, check};
 use u_machine::Machine;
 use u_program::read;
 use u_rule::Firing;
@@ -22,7 +22,7 @@ const LIMIT: usize = 100;
 fn main(rt: HostRuntime) -> Result<()> {
     let program = read(rt.alloc(), DOUBLE)?;
     let job = match check(program) {
-        Ok(checked) => Job::new(checked, 4),
+        Ok(checked) => Job::new(checked, 4, Table::new(rt.alloc())),
         Err(refused) => return Err(anyhow!("{}", refused.breach)),
     };
     let text = second_text(rt.alloc(), &job)?;

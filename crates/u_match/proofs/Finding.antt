@@ -1,27 +1,23 @@
 -- Which cell a firing reads, and when it is enabled.
-use Rattle.std.proofs.Common.{◌≡◌, ◌↔◌, ◌∙◌, ◌≤◌, ◌+◌, ◌-◌, get_or, take, drop, inl, inr, sym, ap, subst, refl, arith, ℕ, true, List, [], ◌∷◌, length, Some, None, Option}
-use Rattle.std.specs.Prelude.{◌==◌}
-use Rattle.std.proofs.lemmas.Bool.{and_parts, eqb-true}
+use Rattle.std.proofs.Common.{◌≡◌, ◌↔◌, ◌∙◌, ◌≤◌, ◌+◌, ◌-◌, get_or, take, drop, inl, inr, sym, ap, subst, refl, arith, ℕ, Bool, true, IsTrue, Result, Ok, Err, List, [], ◌∷◌, length}
 use Rattle.std.proofs.lemmas.List.{take_all}
 use Rattle.std.proofs.lemmas.List.Elements.{Contains-append_left, Contains-append_right, Contains-append_cases}
 use Rattle.u_base.specs.Firing.{Enabled, Within}
-use Rattle.u_base.proofs.Member.{Contains-head, Contains-tail, Contains-cons_cases}
+use Rattle.u_base.proofs.Member.{Contains-nil, Contains-head, Contains-tail, Contains-cons_cases}
 use Rattle.u_name.specs.Name.{Activity}
 use Rattle.u_value.specs.declared.value.Value.{Value}
 use Rattle.u_value.specs.declared.value.Value.TheVariants as values
-use Rattle.u_program.specs.Parts.{StatementParts, BlockParts}
 use Rattle.u_check.specs.Jobs.{JobParts}
-use Rattle.u_check.specs.Kinds.{ports_of}
 use Rattle.u_rule.specs.Parts.{token, ValueList}
-use Rattle.u_rule.specs.Rule.{own_of, is_own_of, is_own_at, needs_of, tokens_from}
-use Rattle.u_rule.specs.Fits.{statement_of, fits_at}
-use Rattle.u_rule.specs.Structures.{cell_named, reads_cell, has_its_write, write_read}
+use Rattle.u_rule.specs.Rule.{own_of, is_own_of, needs_of, tokens_from}
+use Rattle.u_rule.specs.Structures.{cell_named, wrote, read_from, write_read}
 use Rattle.u_rule.specs.declared.entry.Entry.{Entry}
 use Rattle.u_rule.specs.declared.entry.Entry.TheVariants as entries
 use Rattle.u_rule.specs.declared.firing.Firing.{Firing}
-use Rattle.u_match.specs.ReadCells.{HasReadCell}
-use Rattle.u_rule.proofs.FiringShapes.{read_or_none, reads}
-use Rattle.u_rule.proofs.Firings.{own_at_statement}
+use Rattle.u_rule.proofs.FiringShapes.{one_member}
+use Rattle.u_rule.specs.declared.parts.Written.{Written}
+use Rattle.u_name.specs.Cell.{CellOf}
+use Rattle.u_value.specs.declared.fault_kind.FaultKind.{FaultKind}
 
 -- each of a list, the first and the others
 pub within_cons : {X : Type 0} (P : X → Type 0) (x : X) (xs : List X) → Within P (x ∷ xs) ↔ (P x × Within P xs)
@@ -35,20 +31,16 @@ pub named_two : (v w : Value) (vs : ValueList) → cell_named (v ∷ w ∷ vs) �
 named_two (values.Ref p) (values.Int z) vs = refl
 named_two v w vs = refl
 
-read_of : (p : List BlockParts) (s : Option StatementParts) (f : Firing) → is_own_at p s f ≡ true → HasReadCell f
-read_of p None f h w e = cc
-read_of p (Some s) f h w e =
-    let r = (and_parts (fits_at p s.region f.activity) _ h).1 in
-    let q = and_parts (length f.values == ports_of s.kind) (has_its_write s.kind f.values f.write) r in
-    let n = eqb-true (length f.values) (ports_of s.kind) q.0 in
-    elim (read_or_none (reads_cell s.kind f.values) f.write q.1) [
-      | inl t ↦ (let k = reads s.kind f.values t.0 in (omega (arith, n, k.0), k.1))
-      | inr none ↦ absurd (cc)
-    ]
+-- the write of the cell that the two values name, where they name one
+pub reads_named : (H : Entry → Type 0) (r : Result CellOf FaultKind) (c : CellOf) (w : Written) (b : Bool) → r ≡ Ok c → (IsTrue b ↔ H (wrote c w.writer w.value)) → IsTrue b ↔ Within H (read_from r w)
+reads_named H r c w b e h = rw e (
+  (λ t x m. subst H ((one_member (wrote c w.writer w.value) x).0 m) (h.0 t)),
+  (λ all. h.1 (all (wrote c w.writer w.value) (Contains-head (wrote c w.writer w.value) []))),
+)
 
--- a firing that read a write has a cell
-pub reads_its_cell : (job : JobParts) (f : Firing) → is_own_of job f ≡ true → HasReadCell f
-reads_its_cell job f h = read_of job.program.blocks (statement_of job.program.blocks f.activity.block f.activity.statement) f (own_at_statement job f h)
+pub reads_none : (H : Entry → Type 0) (r : Result CellOf FaultKind) (w : Written) → ((c : CellOf) → r ≡ Ok c → ⊥) → IsTrue true ↔ Within H (read_from r w)
+reads_none H (Ok c) w n = absurd (n c refl)
+reads_none H (Err k) w n = ((λ t x m. absurd (Contains-nil x m)), λ all. refl)
 
 -- a firing of the job is enabled where its tokens and the write that it read are there
 pub enabled_if : (job : JobParts) (f : Firing) (H : Entry → Type 0) → is_own_of job f ≡ true → Enabled (own_of job) H f ↔ (Within H (tokens_from f.activity 1 f.values) × Within H (write_read f.values f.write))

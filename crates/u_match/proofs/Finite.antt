@@ -1,5 +1,5 @@
 -- The firings that a token wakes are those of a list, which nothing makes.
-use Rattle.std.proofs.Common.{◌≡◌, ◌↔◌, ◌⊎◌, inl, inr, sym, subst, ap, refl, ℕ, ◌<◌, List, [], ◌∷◌, ◌++◌, length, get_or, Bool, true, false, IsTrue, Contains, Result, Ok, Err, Some, None}
+use Rattle.std.proofs.Common.{◌≡◌, ◌↔◌, ◌⊎◌, inl, inr, sym, subst, ap, refl, ℕ, ◌<◌, List, [], ◌∷◌, ◌++◌, length, get_or, Bool, true, false, IsTrue, Contains, Result, Ok, Err, Option, Some, None}
 use Rattle.std.specs.Prelude.{IfErr}
 use Rattle.std.specs.Ordering.{is_eq}
 use Rattle.std.proofs.lemmas.Result.{IfErr-weaker}
@@ -10,6 +10,9 @@ use Rattle.u_value.specs.declared.value.Value.{Value}
 use Rattle.u_value.specs.declared.fault_kind.FaultKind.{FaultKind}
 use Rattle.u_check.specs.Jobs.{JobParts}
 use Rattle.u_rule.specs.Parts.{TokenParts, ValueList}
+use Rattle.u_program.specs.Parts.{StatementParts}
+use Rattle.u_rule.specs.Fits.{statement_of}
+use Rattle.u_rule.specs.Replies.{told_to}
 use Rattle.u_rule.specs.Rule.{is_own_of}
 use Rattle.u_rule.specs.EntryOrder.{entry_cmp, firing, write_of, written}
 use Rattle.u_rule.specs.Structures.{cell_named}
@@ -26,12 +29,13 @@ use Rattle.u_history.specs.Outcomes.{PairIn}
 use Rattle.u_match.specs.declared.halt.Halt.{Halt}
 use Rattle.u_match.specs.declared.halt.Halt.TheVariants.{TooMany}
 use Rattle.u_match.specs.Finite.{HasSome}
-use Rattle.u_match.specs.Joins.{IsKept, IsOne, IsTwo, IsReading, ReadsCell, JoinsTwo, JoinsSome, JoinsAll}
+use Rattle.u_match.specs.Joins.{IsSame, IsSomeSame, IsKept, IsOne, IsTwo, IsReading, ReadsCell, JoinsTwo, JoinsSome, JoinsAll}
 use Rattle.u_match.specs.Waking.{WakesSome}
 use Rattle.u_match.proofs.Choices.{joins_none, joins_more}
 use Rattle.u_match.proofs.MetValues.{Held}
 use Rattle.u_match.proofs.Made.{Woken}
 use Rattle.u_match.proofs.Wakes.{same_entry}
+use Rattle.u_match.proofs.Steps.{told_made, kept_is}
 
 -- some has P of a member of the list
 pub some_at : {Y F : Type 0} (P : Y → F → Type 0) (ys : List Y) (i : ℕ) (y : Y) → i < length ys → y ≡ get_or ys i y → HasSome (P y) → HasSome (SomeOf ys P)
@@ -78,15 +82,40 @@ module _ {X : Type 0} where
       back x (z, m, p) = elim (Contains-cons_cases y z ys m) [ inl e ↦ inl (subst (λ (w : Y). P w x) (sym e) p) | inr k ↦ inr (z, k, p) ]
 
 -- the firing, or none
-kept : (job : JobParts) (g : Firing) → Finite (IsKept job g)
-kept job g = at (is_own_of job g) refl
+same : (job : JobParts) (g : Firing) → Finite (IsSame job g)
+same job g = at (is_own_of job g) refl
   where
     moved : (f : Firing) → g ≡ f → IsTrue (is_own_of job g) ↔ IsTrue (is_own_of job f)
     moved f e = (subst (λ (x : Firing). IsTrue (is_own_of job x)) e, subst (λ (x : Firing). IsTrue (is_own_of job x)) (sym e))
 
-    at : (b : Bool) → is_own_of job g ≡ b → Finite (IsKept job g)
+    at : (b : Bool) → is_own_of job g ≡ b → Finite (IsSame job g)
     at true e = (g ∷ [], λ f. ((λ m. let h = (one_member g f).0 m in (h, (moved f h).0 e)), λ k. (one_member g f).1 k.0))
-    at false e = none (IsKept job g) (λ f k. let h = (moved f k.0).1 k.1 in cc)
+    at false e = none (IsSame job g) (λ f k. let h = (moved f k.0).1 k.1 in cc)
+
+-- the reply, or none
+some_same : (job : JobParts) (o : Option Firing) → Finite (IsSomeSame job o)
+some_same job None = none (IsSomeSame job None) (λ f k. k)
+some_same job (Some g) = same job g
+
+-- the firing and the reply that the table has to it
+kept : (job : JobParts) (g : Firing) → Finite (IsKept job g)
+kept job g = at (statement_of job.program.blocks g.activity.block g.activity.statement) refl
+  where
+    at : (o : Option StatementParts) → statement_of job.program.blocks g.activity.block g.activity.statement ≡ o → Finite (IsKept job g)
+    at (Some s) e =
+        let o = told_to job.table s.kind g in
+        alike (λ f. IsSame job g f ⊎ IsSomeSame job o f) (IsKept job g) (λ f. (to f, kept_is job g s e o refl f)) (either (IsSame job g) (IsSomeSame job o) (same job g) (some_same job o))
+      where
+        to : (f : Firing) → IsSame job g f ⊎ IsSomeSame job (told_to job.table s.kind g) f → IsKept job g f
+        to f (inl k) = (inl k.0, k.1)
+        to f (inr k) = told_made job g s e (told_to job.table s.kind g) refl f k
+    at None e = alike (IsSame job g) (IsKept job g) (λ f. ((λ k. (inl k.0, k.1)), back f)) (same job g)
+      where
+        back : (f : Firing) → IsKept job g f → IsSame job g f
+        back f (inl q, is) = (q, is)
+        back f (inr (t, q), is) =
+            let there : statement_of job.program.blocks f.activity.block f.activity.statement ≡ None = subst (λ (x : Firing). statement_of job.program.blocks x.activity.block x.activity.statement ≡ None) q e in
+            (let p = t.reply.stands in absurd (cc))
 
 -- the writer and the value of an entry that is a write of the cell
 pair_in : (cell : CellOf) (e : Entry) → Finite (λ (x : Written). e ≡ entries.Write (write_of cell x.writer x.value))

@@ -19,6 +19,9 @@ use Rattle.u_match.specs.Keys.{ReadTable, read, IsComplete}
 use Rattle.u_match.specs.Joins.{IsWoken}
 use Rattle.u_match.specs.Waking.{IsWokenBy}
 use Rattle.u_rule.proofs.FiringShapes.{TwoValues, Reading, Shape, shape_of, rebuilt, needs_read}
+use Rattle.u_rule.specs.Replies.{IsTold, question_of}
+use Rattle.u_rule.proofs.Firings.{inner_or_told}
+use Rattle.u_rule.proofs.Told.{question_needs}
 use Rattle.u_match.proofs.Choices.{is_token, needs_tokens}
 
 -- a need of a firing is a token or the write that it reads
@@ -29,13 +32,18 @@ a_token : (f : Firing) (e : Entry) (t : TokenParts) → entries.Token t ≡ e �
 a_token f e t h = record { kind = inl (t, sym h) }
 
 pub need_of : (job : JobParts) (H : Entry → Type 0) (f : Firing) (e : Entry) → IsWokenBy job e H f → IsNeed f e
-need_of job H f e w = by_shape (shape_of job f w.1.0)
+need_of job H f e w = elim (inner_or_told job f w.1.0) [ inl i ↦ by_shape (shape_of job f i) | inr t ↦ told t ]
   where
     moved : (g : Firing) → f ≡ g → Contains (needs_of g) e
     moved g h = subst (λ (x : Firing). Contains (needs_of x) e) h w.0
 
     plain : f.write ≡ None → IsNeed f e
     plain n = let (t, h) = is_token f.activity 1 f.values e ((needs_tokens f.activity f.values e).0 (moved (firing f.activity f.values None) (rebuilt f f.values None n refl))) in record { kind = inl (t, h) }
+
+    told : IsTold job f → IsNeed f e
+    told t =
+        let m : Contains (needs_of (question_of f)) e = subst (λ (es : List Entry). Contains es e) (sym (question_needs job f t.reply)) w.0 in
+        let (x, h) = is_token f.activity 1 f.values e ((needs_tokens f.activity f.values e).0 m) in record { kind = inl (x, h) }
 
     reading : (r : Reading f) → TwoValues f.values → IsNeed f e
     reading r (v, u, h) =

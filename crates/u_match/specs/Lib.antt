@@ -4,5 +4,4 @@ pub mod ReadOrder
 pub mod Finite
 pub mod Joins
 pub mod Waking
-pub mod ReadCells
 pub mod Numbers

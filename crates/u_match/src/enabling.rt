@@ -7,9 +7,8 @@ ghost use Rattle.u_rule.specs.declared.entry.Entry.{Entry};
 ghost use Rattle.u_rule.specs.declared.entry.Entry.TheVariants as entries;
 ghost use Rattle.u_rule.specs.Parts.{token, most_ports};
 ghost use Rattle.u_rule.specs.Rule.{own_of, tokens_from};
-ghost use Rattle.u_rule.specs.Structures.{cell_named, wrote, write_read};
+ghost use Rattle.u_rule.specs.Structures.{cell_named, wrote, read_from, write_read};
 ghost use Rattle.u_base.specs.Firing.{Enabled, Within};
-ghost use Rattle.u_match.specs.ReadCells.{HasCell, HasReadCell};
 
 use std::alloc::AllocError;
 use u_check::Job;
@@ -66,26 +65,10 @@ fn has_tokens(
     Ok(others)
 }
 
-/// The cell that the two values name.
-fn named_cell(structure: &Value, index: &Value) -> Result<Cell, AllocError>
-    requires { HasCell structure.now index.now }
-    ensures { IfOk result (λ x. cell_named (structure.now ∷ index.now ∷ []) ≡ Ok x) }
+/// That write of the cell.
+fn write_of(cell: Cell, by: &Written) -> Result<Entry, AllocError>
+    ensures { IfOk result (λ e. e ≡ wrote cell by.now.writer by.now.value) }
 {
-    let found = cell_at(structure, index)?;
-    match found {
-        Some(cell) => Ok(cell),
-        None => unreachable!(),
-    }
-}
-
-/// That write of the cell that the two values name.
-fn write_of(structure: &Value, index: &Value, by: &Written) -> Result<Entry, AllocError>
-    requires { HasCell structure.now index.now }
-    ensures { IfOk result (λ e. (c : CellOf)
-        → cell_named (structure.now ∷ index.now ∷ []) ≡ Ok c
-        → e ≡ wrote c by.now.writer by.now.value) }
-{
-    let cell = named_cell(structure, index)?;
     let writer = by.writer.copy()?;
     let value = by.value.copy()?;
     Ok(Entry::Write(Write {
@@ -95,25 +78,29 @@ fn write_of(structure: &Value, index: &Value, by: &Written) -> Result<Entry, All
     }))
 }
 
-/// Whether the history has that write of the cell that the two values name.
+/// Whether the history has that write of the cell that the two values name, where they name one.
 fn has_write(
     history: &History,
     structure: &Value,
     index: &Value,
     by: &Written,
 ) -> Result<bool, AllocError>
-    requires { HasCell structure.now index.now }
-    ensures { IfOk result (λ b. (c : CellOf)
-        → cell_named (structure.now ∷ index.now ∷ []) ≡ Ok c
-        → IsTrue b ↔ Contains history.now (wrote c by.now.writer by.now.value)) }
+    ensures { IfOk result (λ b. IsTrue b
+        ↔ Within (Contains history.now)
+        (read_from (cell_named (structure.now ∷ index.now ∷ [])) by.now)) }
 {
-    let write = write_of(structure, index, by)?;
-    Ok(history.contains(&write))
+    let found = cell_at(structure, index)?;
+    match found {
+        None => Ok(true),
+        Some(cell) => {
+            let write = write_of(cell, by)?;
+            Ok(history.contains(&write))
+        }
+    }
 }
 
-/// Whether the history has the write that the firing read, where it has one.
+/// Whether the history has the write that the firing read, where it read one.
 fn has_read(history: &History, firing: &Firing) -> Result<bool, AllocError>
-    requires { HasReadCell firing.now }
     ensures { IfOk result (λ b. IsTrue b
         ↔ Within (Contains history.now) (write_read firing.now.values firing.now.write)) }
 {
@@ -121,7 +108,7 @@ fn has_read(history: &History, firing: &Firing) -> Result<bool, AllocError>
         return Ok(true);
     };
     let [structure, index, ..] = firing.values.as_slice() else {
-        unreachable!();
+        return Ok(true);
     };
     let there = has_write(history, structure, index, by.get())?;
     Ok(there)

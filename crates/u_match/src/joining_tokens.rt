@@ -3,16 +3,17 @@
 //! are gathered in no order, and put in order once all are there.
 //!
 //! The loops over values and over writes have one form. What differs is in their clauses.
-ghost use Rattle.std.specs.Prelude.{◌≡◌, ◌↔◌, ◌⊎◌, ◌+◌, [], ◌∷◌, length, OnOk, IfOk, IfErr, Contains};
+ghost use Rattle.std.specs.Prelude.{◌≡◌, ◌↔◌, ◌⊎◌, ◌+◌, [], ◌∷◌, length, OnOk, IfOk, IfErr, IfSome, Contains};
 ghost use Rattle.u_name.specs.Context.{IsBetween};
 ghost use Rattle.u_rule.specs.declared.entry.Entry.TheVariants.{Token as token_entry};
 ghost use Rattle.u_rule.specs.EntryOrder.{firing_cmp};
 ghost use Rattle.u_rule.specs.Rule.{is_own_of};
+ghost use Rattle.u_rule.specs.Replies.{told_to};
 ghost use Rattle.u_sets.specs.Rising.{Rises};
 ghost use Rattle.u_sets.specs.Members.{SomeOf, AreThose, Gains, HasOr};
 ghost use Rattle.u_sets.specs.Columns.{MayNumber};
 ghost use Rattle.u_match.specs.Finite.{HasSome};
-ghost use Rattle.u_match.specs.Joins.{IsKnown, IsKept, IsOne, IsReading, ReadsCell, JoinsTwo, JoinsSome, JoinsAll};
+ghost use Rattle.u_match.specs.Joins.{IsKnown, IsSame, IsSomeSame, IsKept, IsOne, IsReading, ReadsCell, JoinsTwo, JoinsSome, JoinsAll};
 ghost use Rattle.u_match.specs.Keys.{lent_lists};
 ghost use Rattle.u_match.specs.Ports.{ports_at};
 ghost use Rattle.u_rule.specs.Parts.{most_ports};
@@ -26,7 +27,7 @@ use std::alloc::{AllocError, Global};
 use u_check::{Job, ports_of};
 use u_history::NumberedHistory;
 use u_program::Statement;
-use u_rule::{Firing, NameRef, TokenRef, Written, cell_at, is_own, is_own_of_statement};
+use u_rule::{Firing, NameRef, TokenRef, Written, cell_at, is_own, is_own_of_statement, told_to};
 use u_value::Value;
 
 /// How firings of an activity are made.
@@ -77,6 +78,56 @@ impl Joining<'_> {
     }
 
     /// Adds the firing, if it is one of the job.
+    fn keep(&self, found: &mut Vec<Firing>, firing: Firing) -> Result<(), Halt>
+        requires known { IsKnown self.now.making.is_executable self.now.job.now
+            self.now.activity.now self.now.statement.now }
+        requires own { firing.activity ≡ self.now.activity.now }
+        ensures ok { OnOk result
+            (Gains found.old.items (IsSame self.now.job.now firing) found.new.items) }
+        ensures many { IfErr result
+            (λ e. e ≡ Halt.TooMany → HasSome
+            (IsSame self.now.job.now firing)) }
+    {
+        if !self.is_one(&firing) {
+            return Ok(());
+        }
+        if found.len() >= self.making.most {
+            return Err(Halt::TooMany);
+        }
+        found.push(firing)?;
+        Ok(())
+    }
+
+    /// The reply to the firing that the table of the job has.
+    fn told(&self, firing: &Firing) -> Result<Option<Firing>, Halt>
+        requires own { firing.now.activity ≡ self.now.activity.now }
+        ensures told { IfOk result (λ o. o
+            ≡ told_to self.now.job.now.table self.now.statement.now.kind firing.now) }
+        ensures own { IfOk result (λ o. IfSome o (λ f. f.activity ≡ self.now.activity.now)) }
+        ensures many { IfErr result (λ e. e ≡ Halt.TooMany → ⊥) }
+    {
+        let reply = told_to(self.alloc, self.job, self.statement, firing)?;
+        Ok(reply)
+    }
+
+    /// Adds the reply to a firing, if there is one.
+    fn keep_told(&self, found: &mut Vec<Firing>, told: Option<Firing>) -> Result<(), Halt>
+        requires known { IsKnown self.now.making.is_executable self.now.job.now
+            self.now.activity.now self.now.statement.now }
+        requires own { IfSome told (λ f. f.activity ≡ self.now.activity.now) }
+        ensures ok { OnOk result
+            (Gains found.old.items (IsSomeSame self.now.job.now told) found.new.items) }
+        ensures many { IfErr result
+            (λ e. e ≡ Halt.TooMany → HasSome
+            (IsSomeSame self.now.job.now told)) }
+    {
+        match told {
+            None => Ok(()),
+            Some(reply) => self.keep(found, reply),
+        }
+    }
+
+    /// Adds the firing, if it is one of the job, and the reply to it that the table of the job has.
     fn add(&self, found: &mut Vec<Firing>, firing: Firing) -> Result<(), Halt>
         requires known { IsKnown self.now.making.is_executable self.now.job.now
             self.now.activity.now self.now.statement.now }
@@ -87,13 +138,9 @@ impl Joining<'_> {
             (λ e. e ≡ Halt.TooMany → HasSome
             (IsKept self.now.job.now firing)) }
     {
-        if !self.is_one(&firing) {
-            return Ok(());
-        }
-        if found.len() >= self.making.most {
-            return Err(Halt::TooMany);
-        }
-        found.push(firing)?;
+        let told = self.told(&firing)?;
+        self.keep(found, firing)?;
+        self.keep_told(found, told)?;
         Ok(())
     }
 

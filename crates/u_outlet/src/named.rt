@@ -16,5 +16,5 @@ impl Named for Brand {
     ghost use Rattle.u_program.specs.Parts.{program};
     ghost use Rattle.u_program.specs.declared.program.Version.TheVariants as versions;
 
-    ghost job = { job (program versions.One []) (pos 0) };
+    ghost job = { job (program versions.One []) (pos 0) [] };
 }

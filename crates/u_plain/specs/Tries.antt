@@ -1,9 +1,10 @@
 -- The firings that a list of entries makes: each grows from its first token.
-use Rattle.std.specs.Prelude.{◌≡◌, ◌+◌, List, [], ◌∷◌, ◌++◌, length, Some, None, Contains}
+use Rattle.std.specs.Prelude.{◌≡◌, ◌⊎◌, ◌↔◌, ◌+◌, List, [], ◌∷◌, ◌++◌, length, IsTrue, Option, Some, None, Contains}
 use Rattle.u_value.specs.declared.value.Value.{Value}
 use Rattle.u_check.specs.Jobs.{JobParts}
 use Rattle.u_rule.specs.Parts.{TokenParts, ValueList}
-use Rattle.u_rule.specs.Rule.{own_of}
+use Rattle.u_rule.specs.Rule.{own_of, is_own_of}
+use Rattle.u_rule.specs.Replies.{IsTold, question_of}
 use Rattle.u_rule.specs.EntryOrder.{firing, written}
 use Rattle.u_rule.specs.declared.parts.Write.{Write}
 use Rattle.u_rule.specs.declared.entry.Entry.{Entry}
@@ -26,6 +27,15 @@ with_write made w = firing made.activity made.values (Some (written w.writer w.v
 -- the record with one more value
 abbrev pub longer : Firing → Value → Firing
 longer made v = firing made.activity (made.values ++ (v ∷ [])) None
+
+-- enabled, and the record itself, or the reply to it that the table of the job has
+abbrev pub FitsItself : JobParts → List Entry → Firing → Firing → Type 0
+FitsItself job held made f = ((made ≡ f) ⊎ (IsTold job f × (made ≡ question_of f))) × EnabledOver job held f
+
+-- it is the reply to the record that the table has, where it has one: an own firing of the job
+abbrev pub IsReplyTo : JobParts → Firing → Option Firing → Type 0
+IsReplyTo job made told =
+    (f : Firing) → IsTrue (is_own_of job f) → (told ≡ Some f) ↔ (IsTold job f × (made ≡ question_of f))
 
 -- enabled, and the record with the entry as its write
 abbrev pub FitsRead : JobParts → List Entry → Firing → Entry → Firing → Type 0

@@ -13,13 +13,14 @@ ghost use Rattle.u_rule.specs.declared.entry.Entry.{Entry};
 ghost use Rattle.u_rule.specs.declared.firing.Firing.{Firing};
 ghost use Rattle.u_sets.specs.Members.{SomeOf};
 ghost use Rattle.u_base.specs.Firing.{Enabled};
-ghost use Rattle.u_plain.specs.Tries.{EnabledOver, Extends, with_write, longer, FitsRead, FitsLonger, FitsFirst};
+ghost use Rattle.u_plain.specs.Tries.{EnabledOver, Extends, with_write, longer, FitsItself, IsReplyTo, FitsRead, FitsLonger, FitsFirst};
 
 use crate::among::add_new;
 use std::alloc::{AllocError, Global};
 use u_check::Job;
 use u_rule::{
-    Entry, Firing, MOST_PORTS, SharedWritten, Token, Values, Write, Written, is_own, needed_by,
+    Entry, Firing, MOST_PORTS, NameRef, SharedWritten, Token, Values, Write, Written, is_own,
+    needed_by, statement_at, told_to,
 };
 use u_value::Value;
 
@@ -132,6 +133,39 @@ fn add(job: &Job, held: &[Entry], made: Firing, found: &mut Vec<Firing>) -> Resu
     Ok(())
 }
 
+/// The reply to the record that the table of the job has, if it has one.
+fn told(alloc: Global, job: &Job, made: &Firing) -> Result<Option<Firing>, AllocError>
+    ensures { IfOk result (λ o. IsReplyTo job.now made.now o) }
+{
+    let Some(statement) = statement_at(job, &NameRef::of(&made.activity)) else {
+        return Ok(None);
+    };
+    let reply = told_to(alloc, job, statement, made)?;
+    Ok(reply)
+}
+
+/// Adds the record, and the reply to it that the table of the job has, as far as they are enabled firings.
+fn add_itself(
+    job: &Job,
+    held: &[Entry],
+    made: &Firing,
+    found: &mut Vec<Firing>,
+) -> Result<(), AllocError>
+    ensures { OnOk result
+        ((f : Firing)
+        → Contains found.new.items f
+        ↔ (Contains found.old.items f ⊎ FitsItself job.now held.now made.now f)) }
+{
+    let alloc = *found.allocator();
+    let reply = told(alloc, job, made)?;
+    let alone = made.copy(alloc)?;
+    add(job, held, alone, found)?;
+    if let Some(known) = reply {
+        add(job, held, known, found)?;
+    }
+    Ok(())
+}
+
 /// Adds the record with the entry as its write, if it is one and that is an enabled firing.
 fn add_read(
     job: &Job,
@@ -190,8 +224,8 @@ fn next_token<'a>(made: &Firing, entry: &'a Entry) -> Option<&'a Token>
     None
 }
 
-/// Adds the enabled firings that the record grows into: itself, itself with a write, and those with more
-/// values.
+/// Adds the enabled firings that the record grows into: itself, the table's reply to it, itself with a write,
+/// and those with more values.
 fn grow(job: &Job, held: &[Entry], made: &Firing, found: &mut Vec<Firing>) -> Result<(), AllocError>
     requires { made.now.write ≡ None }
     ensures { OnOk result
@@ -199,16 +233,14 @@ fn grow(job: &Job, held: &[Entry], made: &Firing, found: &mut Vec<Firing>) -> Re
         → Contains found.new.items f
         ↔ (Contains found.old.items f ⊎ (Extends made.now f × EnabledOver job.now held.now f))) }
 {
-    let alloc = *found.allocator();
-    let alone = made.copy(alloc)?;
-    add(job, held, alone, found)?;
+    add_itself(job, held, made, found)?;
     add_reads(job, held, made, found)?;
     if made.values.as_slice().len() == MOST_PORTS {
         return Ok(());
     }
     for entry in held {
         if let Some(token) = next_token(made, entry) {
-            let more = longer(alloc, made, token.value())?;
+            let more = longer(*found.allocator(), made, token.value())?;
             grow(job, held, &more, found)?;
         }
     }

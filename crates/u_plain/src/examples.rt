@@ -1,6 +1,6 @@
 //! Programs of the folder programs, byte by byte, which tests run by calls of the library.
 use std::alloc::{AllocError, Global};
-use u_check::{Job, check};
+use u_check::{Job, Table, check};
 use u_program::read;
 
 /// Twice its argument.
@@ -39,5 +39,5 @@ pub const FIRINGS: [usize; 5] = [3, 45, 51, 12, 4];
 pub fn job(alloc: Global, text: &[u8], argument: i64) -> Result<Job, AllocError> {
     let program = read(alloc, text).map_err(|_| AllocError)?;
     let checked = check(program).map_err(|_| AllocError)?;
-    Ok(Job::new(checked, argument))
+    Ok(Job::new(checked, argument, Table::new(alloc)))
 }

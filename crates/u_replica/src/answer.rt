@@ -9,7 +9,7 @@ use thiserror::Error;
 /// Why a replica was not merged.
 #[derive(Clone, Copy, PartialEq, Eq, Debug, Error)]
 pub enum MergeRefusal {
-    /// The other replica runs another program, or runs it on another argument.
+    /// The other replica runs another program, or runs it on another argument or with another table.
     #[error("another job")]
     OtherJob,
     /// The replica may not have as many firings besides as the other has new ones.

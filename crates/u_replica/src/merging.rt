@@ -33,15 +33,18 @@ fn all_taken(alloc: Global, machine: &Machine<'_>) -> Result<Vec<Firing>, AllocE
     Ok(all)
 }
 
-/// Whether the two jobs are one: the same program on the same argument.
-#[tactic(auto, using(u_check::proofs::JobLaws::same_exactly))]
+/// Whether the two jobs are one, with one table: the same program on the same argument, and the same known
+/// beforehand of the outside.
 fn is_same(left: &Job, right: &Job) -> bool
     ensures { IsTrue result ↔ (right.now ≡ left.now) }
 {
     // Brings in that the programs are within their limits.
     let _left = left.program().blocks();
     let _right = right.program().blocks();
-    *right == *left
+    if *right == *left {
+        return right.table().is_same(left.table());
+    }
+    false
 }
 
 /// Takes all that the other machine took, which runs the same job. Whether there is room for it is asked

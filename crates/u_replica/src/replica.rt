@@ -267,8 +267,8 @@ impl<'a> Replica<'a> {
     /// the union of what the two took.
     ///
     /// # Errors
-    /// `OtherJob` exactly where the other replica runs another program or runs it on another argument;
-    /// nothing changes then. `Full` where the replica may not take as many besides as the other has new
+    /// `OtherJob` exactly where the other replica runs another program, or runs it on another argument or with
+    /// another table; nothing changes then. `Full` where the replica may not take as many besides as the other has new
     /// ones; nothing is taken then, and no memory is taken to find it out. `NoMemory` where there is room
     /// and no memory; some of the first ones may have been taken then.
     pub fn merge(&mut self, other: &Replica<'_>) -> Result<(), MergeRefusal>

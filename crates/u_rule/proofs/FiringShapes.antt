@@ -11,7 +11,7 @@ use Rattle.u_check.specs.Jobs.{JobParts}
 use Rattle.u_check.specs.Kinds.{ports_of}
 use Rattle.u_check.proofs.KindTests.{few_ports}
 use Rattle.u_rule.specs.Parts.{token, ValueList}
-use Rattle.u_rule.specs.Rule.{is_own_of, is_own_at, needs_of}
+use Rattle.u_rule.specs.Rule.{is_inner_of, is_inner_at, needs_of}
 use Rattle.u_rule.specs.Fits.{statement_of, fits_at}
 use Rattle.u_rule.specs.Structures.{cell_named, reads_cell, has_its_write, read_from, wrote}
 use Rattle.u_name.specs.Cell.{CellOf}
@@ -22,7 +22,7 @@ use Rattle.u_rule.specs.declared.entry.Entry.TheVariants as entries
 use Rattle.u_rule.specs.declared.firing.Firing.{Firing}
 use Rattle.u_rule.specs.declared.parts.Written.{Written}
 use Rattle.u_base.proofs.Member.{Contains-nil, Contains-head, Contains-tail, Contains-cons_cases}
-use Rattle.u_rule.proofs.Firings.{own_at_statement}
+use Rattle.u_rule.proofs.Firings.{inner_at_statement}
 
 -- the members of a list of one, two, three, four and five
 cons_member : {X : Type 0} (P : Type 0) (x e : X) (xs : List X) → Contains xs e ↔ P → Contains (x ∷ xs) e ↔ ((x ≡ e) ⊎ P)
@@ -117,11 +117,11 @@ pub record Reading (f : Firing) : Type 0 where
   pub cell : CellOf
   pub names : cell_named f.values ≡ Ok cell
 
--- the shape of an own firing
+-- the shape of an inner firing
 abbrev pub Shape : Firing → Type 0
 Shape f = Plain f ⊎ Reading f
 
-shape_at : (p : List BlockParts) (s : Option StatementParts) (f : Firing) → is_own_at p s f ≡ true → Shape f
+shape_at : (p : List BlockParts) (s : Option StatementParts) (f : Firing) → is_inner_at p s f ≡ true → Shape f
 shape_at p None f h = cc
 shape_at p (Some s) f h =
     let r = (and_parts (fits_at p s.region f.activity) _ h).1 in
@@ -132,8 +132,8 @@ shape_at p (Some s) f h =
       | inr e ↦ inl (record { write = e; values = listed f.values (omega (arith, n, few.0)) (omega (arith, n, few.1)) })
     ]
 
-pub shape_of : (job : JobParts) (f : Firing) → IsTrue (is_own_of job f) → Shape f
-shape_of job f h = shape_at job.program.blocks (statement_of job.program.blocks f.activity.block f.activity.statement) f (own_at_statement job f h)
+pub shape_of : (job : JobParts) (f : Firing) → IsTrue (is_inner_of job f) → Shape f
+shape_of job f h = shape_at job.program.blocks (statement_of job.program.blocks f.activity.block f.activity.statement) f (inner_at_statement job f h)
 
 -- a firing is its activity with its values and its write
 pub rebuilt : (f : Firing) (vs : ValueList) (w : Option Written) → f.write ≡ w → f.values ≡ vs → f ≡ firing f.activity vs w

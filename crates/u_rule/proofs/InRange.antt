@@ -27,7 +27,7 @@ use Rattle.u_base.proofs.Held.{Held-nil, Held-push}
 use Rattle.u_base.proofs.Determinate.{Derivation-along}
 use Rattle.u_rule.specs.Parts.{most_ports, ValueList}
 use Rattle.u_rule.specs.Fits.{statement_of, fits_at}
-use Rattle.u_rule.specs.Rule.{has_its_values, is_own_at, is_firing_of, tokens_from, needs_of, given_at, gives_of, start_of, system_of}
+use Rattle.u_rule.specs.Rule.{has_its_values, is_inner_at, is_firing_of, tokens_from, needs_of, given_at, gives_of, start_of, system_of}
 use Rattle.u_rule.specs.Structures.{cell_named, has_its_write, wrote, read_from, write_read}
 use Rattle.u_rule.specs.EntryReading.{IsEntry}
 use Rattle.u_rule.specs.FiringReading.{AreValues, IsWritten, IsFiring}
@@ -36,7 +36,7 @@ use Rattle.u_rule.specs.declared.firing.Firing.{Firing}
 use Rattle.u_rule.specs.declared.parts.Written.{Written}
 use Rattle.u_rule.proofs.GivenInRange.{AreEntries, statement_in_range, given_with_in_range}
 use Rattle.u_rule.specs.Replies.{IsReply, HasFineReplies}
-use Rattle.u_rule.proofs.Firings.{own_at_statement, own_or_reply}
+use Rattle.u_rule.proofs.Firings.{inner_at_statement, inner_or_reply}
 
 -- a statement has one port to five
 ports_between : (k : Kind) → IsBetween 1 (ports_of k) most_ports
@@ -96,9 +96,9 @@ replying job f r i each =
 pub firing_in_range : (job : JobParts) (f : Firing) → is_firing_of job f ≡ true → (IsReply job f → IsWritten f.write) → AreEntries (needs_of f) → IsFiring f
 unfolding needs_of
 firing_in_range job f h outside each =
-    elim (own_or_reply job f h) [ inl o ↦ at (statement_of job.program.blocks f.activity.block f.activity.statement) (own_at_statement job f o) | inr r ↦ replying job f r (outside r) each ]
+    elim (inner_or_reply job f h) [ inl o ↦ at (statement_of job.program.blocks f.activity.block f.activity.statement) (inner_at_statement job f o) | inr r ↦ replying job f r (outside r) each ]
   where
-    at : (o : Option StatementParts) → is_own_at job.program.blocks o f ≡ true → IsFiring f
+    at : (o : Option StatementParts) → is_inner_at job.program.blocks o f ≡ true → IsFiring f
     at None h = absurd (false≢true h)
     at (Some s) h = needing s f (and_parts (fits_at job.program.blocks s.region f.activity) (has_its_values s f) h).1 each
 

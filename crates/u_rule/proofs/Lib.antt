@@ -11,6 +11,8 @@ pub mod FiringShapes
 pub mod Lists
 pub mod Firings
 pub mod Own
+pub mod Told
+pub mod Outcome
 pub mod FirstByteLaws
 pub mod StepLaws
 pub mod PortLaws

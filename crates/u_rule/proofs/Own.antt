@@ -1,4 +1,4 @@
--- Own firings and replies: no firing is both, and a run of own firings is a run of the job.
+-- Inner firings and replies: no firing is both; and a run of own firings is a run of the job.
 use Rattle.std.proofs.Common.{◌≡◌, ◌==◌, ◌&&◌, ◌↔◌, ap, sym, refl, ◌∙◌, Bool, true, IsTrue, length, List, Option, Some, None, inl, inr}
 use Rattle.std.specs.Prelude.{is_some}
 use Rattle.std.proofs.lemmas.Bool.{false≢true, and_parts}
@@ -11,12 +11,12 @@ use Rattle.u_check.specs.Jobs.{JobParts}
 use Rattle.u_rule.specs.Parts.{ValueList}
 use Rattle.u_rule.specs.Fits.{statement_of, fits_at}
 use Rattle.u_rule.specs.Structures.{has_its_write, is_answer}
-use Rattle.u_rule.specs.Rule.{is_firing_of, is_own_of, is_own_at, has_its_values, system_of, own_of}
+use Rattle.u_rule.specs.Rule.{is_firing_of, is_inner_of, is_inner_at, has_its_values, system_of, own_of}
 use Rattle.u_rule.specs.Replies.{IsReply}
 use Rattle.u_rule.specs.declared.entry.Entry.{Entry}
 use Rattle.u_rule.specs.declared.firing.Firing.{Firing}
 use Rattle.u_rule.specs.declared.parts.Written.{Written}
-use Rattle.u_rule.proofs.Firings.{own_at_statement, own_is_firing, own_or_reply}
+use Rattle.u_rule.proofs.Firings.{inner_at_statement, own_is_firing, inner_or_reply}
 
 -- a question has no write
 asks_nothing : (k : Kind) (vs : ValueList) (write : Option Written) → is_answer k write ≡ true → has_its_write k vs write ≡ true → ⊥
@@ -28,10 +28,10 @@ both : (a b : Bool) → a ≡ true → b ≡ true → (a && b) ≡ true
 both a b p q = rw (p, q) refl
 
 module _ (job : JobParts) (f : Firing) where
-  -- an own firing of an `ask` has no write
-  pub own_no_answer : is_own_of job f ≡ true → (s : StatementParts) → statement_of job.program.blocks f.activity.block f.activity.statement ≡ Some s → is_answer s.kind f.write ≡ true → ⊥
-  own_no_answer o s q z =
-      let k : is_own_at job.program.blocks (Some s) f ≡ true = rw q at (own_at_statement job f o) in
+  -- an inner firing of an `ask` has no write
+  pub inner_no_answer : is_inner_of job f ≡ true → (s : StatementParts) → statement_of job.program.blocks f.activity.block f.activity.statement ≡ Some s → is_answer s.kind f.write ≡ true → ⊥
+  inner_no_answer o s q z =
+      let k : is_inner_at job.program.blocks (Some s) f ≡ true = rw q at (inner_at_statement job f o) in
       let a = and_parts (fits_at job.program.blocks s.region f.activity) (has_its_values s f) k in
       let b = and_parts (length f.values == ports_of s.kind) (has_its_write s.kind f.values f.write) a.1 in
       asks_nothing s.kind f.values f.write z b.1
@@ -43,13 +43,13 @@ module _ (job : JobParts) (f : Firing) where
       both (is_ask r.it.kind) (is_some f.write) r.asks some
 
   -- so none is both
-  pub own_is_no_reply : is_own_of job f ≡ true → IsReply job f → ⊥
-  own_is_no_reply o r = own_no_answer o r.it r.stands (reply_answers r)
+  pub inner_is_no_reply : is_inner_of job f ≡ true → IsReply job f → ⊥
+  inner_is_no_reply o r = inner_no_answer o r.it r.stands (reply_answers r)
 
   -- a firing of the job is a reply exactly where its statement asks and it has a write
   pub reply_if_answers : is_firing_of job f ≡ true → (s : StatementParts) → statement_of job.program.blocks f.activity.block f.activity.statement ≡ Some s → IsTrue (is_answer s.kind f.write) ↔ IsReply job f
   reply_if_answers is s q = (
-    (λ z. elim (own_or_reply job f is) [ inl o ↦ absurd (own_no_answer o s q z) | inr r ↦ r ]),
+    (λ z. elim (inner_or_reply job f is) [ inl o ↦ absurd (inner_no_answer o s q z) | inr r ↦ r ]),
     (λ r. let it : r.it ≡ s = (let p = r.stands in cc) in ap (λ (t : StatementParts). is_answer t.kind f.write) (sym it) ∙ reply_answers r),
   )
 

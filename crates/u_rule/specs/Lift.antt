@@ -8,9 +8,9 @@ use Rattle.u_rule.specs.Fits.{statement_of}
 use Rattle.u_rule.specs.Initiations.{last_turn}
 use Rattle.u_rule.specs.declared.firing.Firing.{Firing}
 
--- the same blocks and the same argument, under version 2
+-- the same blocks, the same argument and the same table, under version 2
 abbrev pub lifted : JobParts → JobParts
-lifted j = job (program versions.Two j.program.blocks) j.argument
+lifted j = job (program versions.Two j.program.blocks) j.argument j.table
 
 -- The firing is of a `next` at the last turn of version 1: there it gives a fault, and under version 2 it goes on.
 pub record TurnsLast (j : JobParts) (f : Firing) : Type 0 where

@@ -1,4 +1,5 @@
 -- The firing rule: which firings a job has, what each needs and what each gives.
+use Rattle.std.specs.Ordering.{eq_by_cmp}
 use Rattle.std.specs.Prelude.{ℕ, ◌+◌, Bool, false, ◌&&◌, ◌||◌, ◌==◌, nat_le, if◌then◌else◌, List, [], ◌∷◌, length, map, Option, Some, None, Result, Ok, Err, ◌++◌}
 use Rattle.u_name.specs.Context.{Tree, Top, InLoop, InCall, depth}
 use Rattle.u_name.specs.Name.{Activity, activity, loop_context, call_context, left, returned}
@@ -8,6 +9,7 @@ use Rattle.u_value.specs.declared.fault_kind.FaultKind.{FaultKind}
 use Rattle.u_value.specs.declared.fault_kind.FaultKind.TheVariants as faults
 use Rattle.u_value.specs.declared.operators.UnaryOperator.{UnaryOperator}
 use Rattle.u_value.specs.declared.operators.BinaryOperator.{BinaryOperator}
+use Rattle.u_value.specs.Values.{value_cmp}
 use Rattle.u_value.specs.Operators.{applied1, applied2, chosen}
 use Rattle.u_program.specs.declared.program.Constant.{Constant}
 use Rattle.u_program.specs.declared.program.Constant.TheVariants as constants
@@ -19,12 +21,14 @@ use Rattle.u_program.specs.Parts.{StatementParts, BlockParts}
 use Rattle.u_check.specs.Kinds.{ports_of, back_named, is_end, is_apply, is_store, is_ask}
 use Rattle.u_check.specs.Rules.{main_name, block_named}
 use Rattle.u_check.specs.Jobs.{JobParts}
+use Rattle.u_check.specs.Tables.{TableRows}
 use Rattle.u_base.specs.Firing.{System}
 use Rattle.u_rule.specs.Parts.{ValueList, token}
 use Rattle.u_rule.specs.Fits.{statement_of, fits_at}
 use Rattle.u_rule.specs.Initiations.{last_turn, fires_in_turns}
 use Rattle.u_rule.specs.Parameters.{parameters_of}
 use Rattle.u_rule.specs.Structures.{cell_named, has_its_write, write_read, allocated, fetched, stored, answers, is_answer, asked, replied}
+use Rattle.u_rule.specs.Replies.{value_for}
 use Rattle.u_rule.specs.declared.entry.Entry.{Entry}
 use Rattle.u_rule.specs.declared.entry.Entry.TheVariants as entries
 use Rattle.u_rule.specs.declared.firing.Firing.{Firing}
@@ -41,24 +45,53 @@ is_reply_at s f = is_ask s.kind && (length f.values == ports_of s.kind && answer
 abbrev pub has_its_form : StatementParts → Firing → Bool
 has_its_form s f = has_its_values s f || is_reply_at s f
 
--- an own firing of that statement has one value for each port, and a write exactly where it reads a cell
-abbrev pub is_own_at : List BlockParts → Option StatementParts → Firing → Bool
-is_own_at p None f = false
-is_own_at p (Some s) f = fits_at p s.region f.activity && has_its_values s f
+-- that the value is the one that is known
+abbrev pub is_known : Option Value → Value → Bool
+is_known None v = false
+is_known (Some u) v = eq_by_cmp value_cmp u v
+
+-- the firing has a write, of the value that the table says
+abbrev pub says : TableRows → Kind → ValueList → Option Written → Bool
+says table k vs None = false
+says table k vs (Some w) = is_known (value_for table k vs) w.value
+
+-- a reply that the table has
+abbrev pub is_told_at : TableRows → StatementParts → Firing → Bool
+is_told_at table s f = is_reply_at s f && says table s.kind f.values f.write
+
+abbrev pub has_own_form : TableRows → StatementParts → Firing → Bool
+has_own_form table s f = has_its_values s f || is_told_at table s f
+
+-- An inner firing of that statement is no reply: it has one value for each port, and a write exactly where
+-- it reads a cell.
+abbrev pub is_inner_at : List BlockParts → Option StatementParts → Firing → Bool
+is_inner_at p None f = false
+is_inner_at p (Some s) f = fits_at p s.region f.activity && has_its_values s f
+
+-- an own firing of that statement is an inner one, or a reply that the table has
+abbrev pub is_own_at : TableRows → List BlockParts → Option StatementParts → Firing → Bool
+is_own_at table p None f = false
+is_own_at table p (Some s) f = fits_at p s.region f.activity && has_own_form table s f
 
 -- a firing of that statement is an own one or a reply
 abbrev pub is_firing_at : List BlockParts → Option StatementParts → Firing → Bool
 is_firing_at p None f = false
 is_firing_at p (Some s) f = fits_at p s.region f.activity && has_its_form s f
 
--- The job's own firings, which a machine fires by itself: all that are no replies. A reply comes from
--- outside, and is taken.
-unfoldable pub is_own_of : JobParts → Firing → Bool
-is_own_of job f =
-    is_own_at job.program.blocks (statement_of job.program.blocks f.activity.block f.activity.statement) f
+-- The job's inner firings: all that are no replies.
+unfoldable pub is_inner_of : JobParts → Firing → Bool
+is_inner_of job f =
+    is_inner_at job.program.blocks (statement_of job.program.blocks f.activity.block f.activity.statement) f
     && fires_in_turns job.program.version f
 
--- its firings: its own, and replies
+-- The job's own firings, which a machine fires by itself: the inner ones, and the replies that the job's
+-- table has. All other replies come from outside, and are taken.
+unfoldable pub is_own_of : JobParts → Firing → Bool
+is_own_of job f =
+    is_own_at job.table job.program.blocks (statement_of job.program.blocks f.activity.block f.activity.statement) f
+    && fires_in_turns job.program.version f
+
+-- its firings: the inner ones, and replies, whatever the table has
 unfoldable pub is_firing_of : JobParts → Firing → Bool
 is_firing_of job f =
     is_firing_at job.program.blocks (statement_of job.program.blocks f.activity.block f.activity.statement) f
@@ -227,6 +260,6 @@ start_of job = entries.Token (token (activity Top main_name 1 1) 1 (values.Int j
 abbrev pub system_of : JobParts → System Entry Firing
 system_of job = record { start = start_of job; is_firing = is_firing_of job; needs = needs_of; gives = gives_of job }
 
--- the same without replies: what a machine fires by itself
+-- the same with own firings alone: what a machine fires by itself
 abbrev pub own_of : JobParts → System Entry Firing
 own_of job = record { start = start_of job; is_firing = is_own_of job; needs = needs_of; gives = gives_of job }

@@ -1,5 +1,6 @@
 -- Structures of cells: which cell two values name, and what statements do with structures.
-use Rattle.std.specs.Prelude.{ℕ, ℤ, pos, unsigned_abs, int_le, int_lt, Bool, true, false, ◌&&◌, if◌then◌else◌, is_ok, is_some, is_none}
+pub use Rattle.u_check.specs.Plain.{is_plain}
+use Rattle.std.specs.Prelude.{ℕ, ℤ, pos, unsigned_abs, int_le, int_lt, Bool, false, ◌&&◌, if◌then◌else◌, is_ok, is_some, is_none}
 use Rattle.std.specs.Prelude.{List, [], ◌∷◌, Option, Some, None, Result, Ok, Err}
 use Rattle.std.specs.List.{list_all}
 use Rattle.std.specs.Ordering.{eq_by_cmp}
@@ -36,12 +37,6 @@ reads_cell k vs = false
 -- a firing has a write exactly where its statement reads a cell
 abbrev pub has_its_write : Kind → ValueList → Option Written → Bool
 has_its_write k vs write = if reads_cell k vs then is_some write else is_none write
-
--- a number or a truth value, which is all that is sent outside and comes from there
-abbrev pub is_plain : Value → Bool
-is_plain (values.Int z) = true
-is_plain (values.Bool b) = true
-is_plain v = false
 
 -- whether the write is one that the activity itself makes of a plain value, about plain values
 abbrev pub answers : Activity → ValueList → Option Written → Bool

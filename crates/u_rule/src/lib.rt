@@ -21,6 +21,7 @@ mod lent;
 mod parameters;
 mod parts;
 mod reading;
+mod replies;
 mod rule;
 mod shared_written;
 mod structures;
@@ -33,6 +34,7 @@ pub use held::{Given, Sending};
 pub use lent::{NameRef, TokenRef};
 pub use parts::{Fault, MOST_PORTS, Token, Write, Written};
 pub use reading::TextError;
+pub use replies::{question_of, reply_to, told_to};
 pub use rule::{
     RuleError, given, given_by, gives, is_firing, is_fitting, is_own, is_own_of_statement,
     is_reply, needed_by, needs, start, statement_at,

@@ -15,7 +15,7 @@ ghost use Rattle.u_rule.specs.Fits.{statement_of, fits_at, IsExecutable, IsPlace
 ghost use Rattle.u_rule.specs.HeldEntries.{entries_given};
 ghost use Rattle.u_rule.specs.Parts.{most_ports};
 ghost use Rattle.u_rule.specs.Replies.{IsReply};
-ghost use Rattle.u_rule.specs.Rule.{tokens_from, start_of, needs_of, gives_of, is_firing_of, is_firing_at, is_own_of, is_own_at, is_reply_at, has_its_values, has_its_form};
+ghost use Rattle.u_rule.specs.Rule.{tokens_from, start_of, needs_of, gives_of, is_firing_of, is_firing_at, is_own_of, is_own_at, is_reply_at, is_known, says, is_told_at, has_its_values, has_own_form, has_its_form};
 
 use crate::entry::Entry;
 use crate::firing::Firing;
@@ -25,10 +25,11 @@ use crate::held::Given;
 use crate::initiations::fires_in_turns;
 use crate::lent::NameRef;
 use crate::parts::Token;
+use crate::replies::value_for;
 use crate::structures::{add_write, answers, has_its_write, is_answer};
 use std::alloc::{AllocError, AllocFailed, Global};
 use thiserror::Error;
-use u_check::{Job, is_ask, ports_of};
+use u_check::{Job, Table, is_ask, ports_of};
 use u_name::{BlockName, Context, Name};
 use u_program::{Program, Statement};
 use u_value::Value;
@@ -117,18 +118,56 @@ pub fn is_firing(job: &Job, firing: &Firing) -> bool
     }
 }
 
-/// Whether the firing is an own one of that statement: its activity fits, it has one value for each port,
-/// and a write exactly where the statement is a `fetch` and its values name a cell. The place is looked at
-/// last.
-#[tactic(auto, using(crate::proofs::Both::with_true, crate::proofs::Both::with_false))]
-fn is_own_at(program: &Program, statement: &Statement, firing: &Firing) -> bool
-    ensures { result ≡ is_own_at program.now.blocks (Some statement.now) firing.now }
+/// Whether the value is the one that is known.
+fn is_known(known: Option<Value>, value: &Value) -> bool
+    ensures { result ≡ is_known known value.now }
 {
-    has_its_values(statement, firing) && fits_at(program, statement.region(), &firing.activity)
+    match known {
+        None => false,
+        Some(other) => other.compare(value).is_eq(),
+    }
+}
+
+/// Whether the firing has a write, of the value that the table says to the statement about the firing's values.
+fn says(table: &Table, statement: &Statement, firing: &Firing) -> bool
+    ensures { result ≡ says table.now statement.now.kind firing.now.values firing.now.write }
+{
+    match &firing.write {
+        None => false,
+        Some(write) => {
+            let known = value_for(table, statement.kind(), firing.values.as_slice());
+            is_known(known, &write.get().value)
+        }
+    }
+}
+
+/// Whether the firing has what a reply of the statement has, and the table has it.
+fn is_told_at(table: &Table, statement: &Statement, firing: &Firing) -> bool
+    ensures { result ≡ is_told_at table.now statement.now firing.now }
+{
+    is_reply_at(statement, firing) && says(table, statement, firing)
+}
+
+/// Whether the firing has what an inner firing of the statement has, or what a reply has that the table has.
+fn has_own_form(table: &Table, statement: &Statement, firing: &Firing) -> bool
+    ensures { result ≡ has_own_form table.now statement.now firing.now }
+{
+    has_its_values(statement, firing) || is_told_at(table, statement, firing)
+}
+
+/// Whether the firing is an own one of that statement: its activity fits, and it has one value for each port,
+/// and a write exactly where the statement is a `fetch` and its values name a cell; or it is a reply that the
+/// table has. The place is looked at last.
+#[tactic(auto, using(crate::proofs::Both::with_true, crate::proofs::Both::with_false))]
+fn is_own_at(table: &Table, program: &Program, statement: &Statement, firing: &Firing) -> bool
+    ensures { result
+        ≡ is_own_at table.now program.now.blocks (Some statement.now) firing.now }
+{
+    has_own_form(table, statement, firing) && fits_at(program, statement.region(), &firing.activity)
 }
 
 /// Whether it is an own firing of the job, which a machine fires by itself: all firings are own ones but the
-/// replies, which come from outside.
+/// replies that the table of the job lacks, which come from outside.
 #[tactic(auto, unfolding(crate::specs::Rule::is_own_of))]
 pub fn is_own(job: &Job, firing: &Firing) -> bool
     ensures { result ≡ is_own_of job.now firing.now }
@@ -136,7 +175,8 @@ pub fn is_own(job: &Job, firing: &Firing) -> bool
     let program = job.program();
     match executed(program, &firing.activity) {
         None => false,
-        Some(statement) => is_own_at(program, statement, firing) && fires_in_turns(program, firing),
+        Some(statement) => is_own_at(job.table(), program, statement, firing)
+            && fires_in_turns(program, firing),
     }
 }
 
@@ -182,11 +222,11 @@ pub fn is_fitting(job: &Job, entry: &Entry) -> bool
 }
 
 /// Whether the firing is an own one of that statement, where its activity fits.
-fn is_fitting_firing_at(statement: &Statement, firing: &Firing) -> bool
+fn is_fitting_firing_at(table: &Table, statement: &Statement, firing: &Firing) -> bool
     ensures { (p : List BlockParts) → fits_at p statement.now.region firing.now.activity ≡ true
-        → result ≡ is_own_at p (Some statement.now) firing.now }
+        → result ≡ is_own_at table.now p (Some statement.now) firing.now }
 {
-    has_its_values(statement, firing)
+    has_own_form(table, statement, firing)
 }
 
 /// Whether it is an own firing of the job, as `is_own` answers, where its activity may execute the statement
@@ -199,7 +239,7 @@ pub fn is_own_of_statement(job: &Job, statement: &Statement, firing: &Firing) ->
         firing.now.activity.statement ≡ Some statement.now }
     ensures { result ≡ is_own_of job.now firing.now }
 {
-    is_fitting_firing_at(statement, firing) && fires_in_turns(job.program(), firing)
+    is_fitting_firing_at(job.table(), statement, firing) && fires_in_turns(job.program(), firing)
 }
 
 /// Why a list of entries could not be made.

@@ -24,6 +24,8 @@ mod program_tests;
 #[cfg(test)]
 mod sets_tests;
 #[cfg(test)]
+mod table_tests;
+#[cfg(test)]
 mod text_tests;
 #[cfg(test)]
 mod thread_tests;

@@ -3,7 +3,7 @@ use crate::answers::is_printed;
 use std::alloc::{AllocError, Global};
 use std::str;
 use std::test::Fail;
-use u_check::{Checked, Job, check};
+use u_check::{Checked, Job, Table, check};
 use u_determinate::{Determinacy, Meeting, determinacy, strictness, strictness_of_job};
 use u_plain::examples::DOUBLE;
 use u_program::{Program, ReadError, read};
@@ -47,7 +47,7 @@ fn is_judged(alloc: Global, checked: &Checked, wanted: bool) -> Result<bool, All
 /// Whether that is said of the strictness of the program, and of that of a job of it.
 fn is_strict_so(alloc: Global, checked: Checked, wanted: &str) -> Result<bool, AllocError> {
     let said = strictness(alloc, &checked)?;
-    let job = Job::new(checked, 5);
+    let job = Job::new(checked, 5, Table::new(alloc));
     let again = strictness_of_job(alloc, &job)?;
     Ok(said == again && job.argument() == 5 && is_printed(alloc, &said, wanted)?)
 }

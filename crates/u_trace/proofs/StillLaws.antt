@@ -1,7 +1,7 @@
 -- What is listed cannot fire: a firing needs a token at each port, and a write of the cell that it reads.
 use Rattle.std.proofs.Common.{◌≡◌, ◌⊎◌, inl, inr, ℕ, ◌<◌, ◌≤◌, ◌+◌, ◌==◌, [], ◌∷◌, length, Option, Some, None, Result, Ok, true, sym, subst, arith, cond}
-use Rattle.std.specs.Prelude.{Contains, is_some, is_none, is_ok, ◌&&◌}
-use Rattle.std.proofs.lemmas.Bool.{false≢true, and_parts, eqb-true}
+use Rattle.std.specs.Prelude.{Contains, is_some, is_none, is_ok}
+use Rattle.std.proofs.lemmas.Bool.{false≢true, and_parts}
 use Rattle.std.proofs.lemmas.List.Elements.{Contains-append_left, Contains-append_right}
 use Rattle.u_base.proofs.Member.{Contains-head, Contains-tail}
 use Rattle.u_base.specs.Firing.{Enabled}
@@ -13,8 +13,8 @@ use Rattle.u_program.specs.declared.program.Kind.{Kind}
 use Rattle.u_program.specs.declared.program.Kind.TheVariants.{Fetch}
 use Rattle.u_program.specs.Parts.{StatementParts}
 use Rattle.u_check.specs.Jobs.{JobParts}
-use Rattle.u_check.specs.Kinds.{ports_of}
-use Rattle.u_rule.specs.Fits.{statement_of, fits_at}
+use Rattle.u_check.specs.Kinds.{ports_of, is_ask}
+use Rattle.u_rule.specs.Fits.{statement_of}
 use Rattle.u_rule.specs.Parts.{ValueList, token}
 use Rattle.u_rule.specs.Rule.{own_of, is_own_of, needs_of, tokens_from}
 use Rattle.u_rule.specs.Structures.{cell_named, has_its_write, write_read, read_from, wrote}
@@ -29,13 +29,17 @@ use Rattle.u_trace.specs.Still.{AreStill}
 use Rattle.u_trace.specs.declared.activities.WaitingActivity.{WaitingActivity}
 use Rattle.u_trace.specs.declared.reads.DeferredRead.{DeferredRead}
 use Rattle.u_trace.proofs.ReadLaws.{fetches}
-use Rattle.u_rule.proofs.Firings.{own_at_statement}
+use Rattle.u_rule.proofs.Firings.{inner_or_told, inner_values, own_counted}
 
--- a firing has a value for each port of its statement, and a write where it reads a cell
-values_fit : (job : JobParts) (f : Firing) (s : StatementParts) → is_own_of job f ≡ true → statement_of job.program.blocks f.activity.block f.activity.statement ≡ Some s → ((length f.values == ports_of s.kind) ≡ true) × (has_its_write s.kind f.values f.write ≡ true)
-values_fit job f s e q =
-    let both = and_parts (fits_at job.program.blocks s.region f.activity) (length f.values == ports_of s.kind && has_its_write s.kind f.values f.write) (rw q at (own_at_statement job f e)) in
-    and_parts (length f.values == ports_of s.kind) (has_its_write s.kind f.values f.write) both.1
+asks_no_fetch : (k : Kind) → k ≡ Fetch → is_ask k ≡ true → ⊥
+asks_no_fetch k e h = false≢true (subst (λ (j : Kind). is_ask j ≡ true) e h)
+
+-- an own firing of a `fetch` has a write where it reads a cell
+reading_has_write : (job : JobParts) (f : Firing) (s : StatementParts) → is_own_of job f ≡ true → statement_of job.program.blocks f.activity.block f.activity.statement ≡ Some s → s.kind ≡ Fetch → has_its_write s.kind f.values f.write ≡ true
+reading_has_write job f s e q k = elim (inner_or_told job f e) [
+  | inl i ↦ (and_parts (length f.values == ports_of s.kind) (has_its_write s.kind f.values f.write) (inner_values job f s q i)).1
+  | inr t ↦ (let it : t.reply.it ≡ s = (let p = t.reply.stands in cc) in absurd (asks_no_fetch s.kind k (subst (λ (z : StatementParts). is_ask z.kind ≡ true) it t.reply.asks)))
+]
 
 -- it needs the token of each of its values
 token_needed : (a : Activity) (from : ℕ) (vs : ValueList) (j : ℕ) → from ≤ j → j < from + length vs → (v : Value) × Contains (tokens_from a from vs) (entries.Token (token a j v))
@@ -70,7 +74,7 @@ module _ (job : JobParts) (H : Entry → Type 0) where
       let p = (is.lacks k).0 is.missing.1 in
       let s = p.0.0 in
       let e = subst (λ (a : Activity). statement_of job.program.blocks a.block a.statement ≡ Some s) (sym q) p.0.1 in
-      let n : length f.values ≡ ports_of s.kind = eqb-true (length f.values) (ports_of s.kind) (values_fit job f s en.0 e).0 in
+      let n : length f.values ≡ ports_of s.kind = own_counted job f s e en.0 in
       let low : 1 ≤ k = p.0.2.0 in
       let high : k ≤ ports_of s.kind = p.0.2.1 in
       let t = token_needed f.activity 1 f.values k low (omega (arith, n, high)) in
@@ -79,8 +83,8 @@ module _ (job : JobParts) (H : Entry → Type 0) where
   deferred_still : (r : DeferredRead) (f : Firing) → IsDeferred job.program.blocks H r → Enabled (own_of job) H f → f.activity ≡ r.reader → cell_named f.values ≡ Ok r.cell → ⊥
   deferred_still r f d en q c =
       let e = subst (λ (a : Activity). statement_of job.program.blocks a.block a.statement ≡ Some d.statement) (sym q) d.executes in
-      let h = (values_fit job f d.statement en.0 e).1 in
-      let o = reads_a_write d.statement.kind f.values f.write r.cell (fetches d.statement.kind (d.structure ∷ d.index ∷ []) d.reads) c h in
+      let k = fetches d.statement.kind (d.structure ∷ d.index ∷ []) d.reads in
+      let o = reads_a_write d.statement.kind f.values f.write r.cell k c (reading_has_write job f d.statement en.0 e k) in
       let t = write_needed f.values f.write r.cell c o in
       d.unwritten t.0 (needs_write f en (entries.Write (write_of r.cell t.0.writer t.0.value)) t.1)
 

@@ -4,11 +4,8 @@ use Rattle.std.proofs.lemmas.Bool.{false≢true}
 use Rattle.u_base.specs.Firing.{Within}
 use Rattle.u_rule.specs.Parts.{ValueList}
 use Rattle.u_rule.specs.Rule.{tokens_from}
-use Rattle.u_match.proofs.Finding.{reads_its_cell, enabled_if}
+use Rattle.u_match.proofs.Finding.{enabled_if}
 use Rattle.u_match.proofs.enabling.has_all_of.Goals as goal
-
-pub has_read-requires : goal.has_read-requires
-has_read-requires c = reads_its_cell c.args.job.now c.args.firing.now (sym c.is_own.ensures ∙ c.if-not-is_own.false)
 
 pub returns-then-not-there : goal.returns-then-not-there
 returns-then-not-there c =

@@ -3,7 +3,7 @@ use Rattle.u_rule.specs.Parts.{most_ports}
 use Rattle.u_rule.specs.declared.entry.Entry.{Entry}
 use Rattle.u_rule.specs.declared.firing.Firing.{Firing}
 use Rattle.u_sets.proofs.Gathering.{scan_more, scan_all}
-use Rattle.u_plain.specs.Tries.{EnabledOver, longer, FitsLonger}
+use Rattle.u_plain.specs.Tries.{longer, FitsLonger}
 use Rattle.u_plain.proofs.Growing.{grown_all, grown_full, stepped, passed_over}
 use Rattle.u_plain.proofs.enabling.+grow.Goals as goal
 use Rattle.u_plain.proofs.enabling.+grow.Goals.{in-Some+in_ok-more+in_ok-grow+in-Some-1, in-Some+in_ok-more+in_ok-grow+in-None-1, in_default}
@@ -12,15 +12,13 @@ pub returns-then-as_slice-eq-MOST_PORTS : goal.returns-then-as_slice-eq-MOST_POR
 returns-then-as_slice-eq-MOST_PORTS t c f =
     let g = c.args.made.now in
     let l : length g.values ≡ most_ports = search rules in
-    let b = subst (λ (x : Firing). Contains c.add.new.found.items f ↔ (Contains c.args.found.now.items f ⊎ ((x ≡ f) × EnabledOver c.args.job.now c.args.held.now f))) c.in_ok-alone.ensures (c.in_ok-add.ensures f) in
-    grown_full c.args.job.now c.args.held.now g c.requires l f (Contains c.args.found.now.items f) (Contains c.add.new.found.items f) (Contains c.add_reads.new.found.items f) b (c.in_ok-add_reads.ensures f)
+    grown_full c.args.job.now c.args.held.now g c.requires l f (Contains c.args.found.now.items f) (Contains c.add_itself.new.found.items f) (Contains c.add_reads.new.found.items f) (c.in_ok-add_itself.ensures f) (c.in_ok-add_reads.ensures f)
 
 pub returns : goal.returns
 returns t c f =
     let g = c.args.made.now in
-    let b = subst (λ (x : Firing). Contains c.add.new.found.items f ↔ (Contains c.args.found.now.items f ⊎ ((x ≡ f) × EnabledOver c.args.job.now c.args.held.now f))) c.in_ok-alone.ensures (c.in_ok-add.ensures f) in
     let d = scan_all (FitsLonger c.args.job.now c.args.held.now g) c.add_reads.new.found.items c.args.held.now c.loop-entry.entry-index c.loop-entry.found.items c.loop-entry-test.false c.loop-entry.invariant f in
-    grown_all c.args.job.now c.args.held.now g c.requires f (Contains c.args.found.now.items f) (Contains c.add.new.found.items f) (Contains c.add_reads.new.found.items f) (Contains c.loop-entry.found.items f) b (c.in_ok-add_reads.ensures f) d
+    grown_all c.args.job.now c.args.held.now g c.requires f (Contains c.args.found.now.items f) (Contains c.add_itself.new.found.items f) (Contains c.add_reads.new.found.items f) (Contains c.loop-entry.found.items f) (c.in_ok-add_itself.ensures f) (c.in_ok-add_reads.ensures f) d
 
 pub loop-entry-preserved : goal.loop-entry-preserved
 loop-entry-preserved t c =

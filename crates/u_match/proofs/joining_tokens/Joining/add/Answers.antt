@@ -1,13 +1,23 @@
-use Rattle.std.proofs.Common.{sym, ◌∙◌, refl}
-use Rattle.std.proofs.lemmas.Bool.{false≢true}
-use Rattle.u_match.proofs.Steps.{put_in, put_last, left_out}
+use Rattle.std.proofs.Common.{rules, ◌≡◌, sym, subst, Some}
+use Rattle.u_name.specs.Name.{Activity}
+use Rattle.u_rule.specs.Fits.{statement_of}
+use Rattle.u_match.specs.Finite.{HasSome}
+use Rattle.u_match.specs.Joins.{IsSomeSame, IsKept}
+use Rattle.u_match.proofs.Steps.{told_made, with_told}
+use Rattle.u_match.proofs.Finite.{too_many}
 use Rattle.u_match.proofs.joining_tokens.Joining.add.Goals as goal
 
+pub returns-in_err-keep_told-clause-many : goal.returns-in_err-keep_told-clause-many
+returns-in_err-keep_told-clause-many c =
+    let job = c.args.self.now.job.now in
+    let s = c.args.self.now.statement.now in
+    let stands = subst (λ (a : Activity). statement_of job.program.blocks a.block a.statement ≡ Some s) (sym c.requires.own) c.requires.known.0 in
+    too_many c.from_residual-in_err-keep_told.result (HasSome (IsSomeSame job c.in_ok-told.told)) (HasSome (IsKept job c.args.firing))
+    (λ (f, k). (f, told_made job c.args.firing s stands c.in_ok-told.told c.in_ok-told.ensures.told f k)) (search rules)
+
 pub returns-clause-ok : goal.returns-clause-ok
-returns-clause-ok c = put_in c.args.self.now.job.now c.args.firing c.args.found.now.items c.push.new.self.items (sym c.is_one.ensures ∙ c.if-not-is_one.false) (put_last c.args.firing c.args.found.now.items c.push.new.self.items c.in_ok-push.ensures.items)
-
-pub returns-then-len-self-clause-many : goal.returns-then-len-self-clause-many
-returns-then-len-self-clause-many c e = (c.args.firing, (refl, sym c.is_one.ensures ∙ c.if-not-is_one.false))
-
-pub returns-then-not-is_one-clause-ok : goal.returns-then-not-is_one-clause-ok
-returns-then-not-is_one-clause-ok c = left_out c.args.self.now.job.now c.args.firing c.args.found.now.items (λ is. false≢true (sym c.if-not-is_one.true ∙ (c.is_one.ensures ∙ is)))
+returns-clause-ok c =
+    let job = c.args.self.now.job.now in
+    let s = c.args.self.now.statement.now in
+    let stands = subst (λ (a : Activity). statement_of job.program.blocks a.block a.statement ≡ Some s) (sym c.requires.own) c.requires.known.0 in
+    with_told job c.args.firing s stands c.in_ok-told.told c.args.found.now.items c.keep.new.found.items c.keep_told.new.found.items c.in_ok-told.ensures.told c.in_ok-keep.ensures.ok c.in_ok-keep_told.ensures.ok
